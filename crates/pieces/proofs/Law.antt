@@ -100,8 +100,7 @@ module _ {case : Case} {hot cold : List Piece} {exchanges : List Exchange} (can 
   -- the lines of the network make the values of the courses
   network-makes : Make case network_here (map first_value case.streams) network_here.lines (courses_values courses_here)
   network-makes =
-      let start = map first_value case.streams in
-      let made = courses_values courses_here in
+      let start = map first_value case.streams in let made = courses_values courses_here in
       let led = courses_lines (length case.streams) 0 (courses_along courses_here) in
       let many = sym (length-map case.streams first_value) in
       let drawn = courses_made case network_here courses_here start (length case.streams) 0 many (own_start case) all-led in
@@ -160,8 +159,6 @@ module _ {case : Case} {hot cold : List Piece} {exchanges : List Exchange} (can 
       let runs = courses_run case network_here IsRun courses_here start [] values_here n 0 many (own_start case) all-led each-runs all in
       subst (All Runs) (sym lines-are) (All-append Runs (map declared_line (declared_here can)) (courses_lines n 0 (courses_along courses_here))
       (All-map Runs declared_line (declared_here can) (λ k x within. tt)) runs)
-
--- Pieces that are led draw a network that is valid and has no finding.
 
 -- ---- the balance is that of the exchanges
 
@@ -259,8 +256,7 @@ module _ {case : Case} {hot cold : List Piece} {exchanges : List Exchange} (can 
 
   exchange-keeps : (number : ℕ) (e : Exchange) → slice_get exchanges number ≡ Some e → KeepsApproach case network values number (exchanger_for can (number, e))
   exchange-keeps number e at =
-      let j = joined-at can number e at in
-      let a = j.hot_piece in let b = j.cold_piece in
+      let j = joined-at can number e at in let a = j.hot_piece in let b = j.cold_piece in
       let a_is = sym (source_at-piece hot e.hot a j.hot_there) in let b_is = sym (source_at-piece cold e.cold b j.cold_there) in
       let giving = runs-through side.Hot number e a at j.hot_there in let taking = runs-through side.Cold number e b at j.cold_there in
       let run = side_run case network values number in
@@ -309,8 +305,7 @@ module _ {case : Case} {hot cold : List Piece} {exchanges : List Exchange} (can 
     changes = λ k from exchanger to here.
         let run : IsRun can _ exchanger (value_at values from).t (value_at values to).t =
         all_at (RunsAs case network (IsRun can) values) network.lines k (line.Pass from exchanger to) (passes-run can) here in
-        let fine = run.is.fine in
-        let of = branch_side case network from in
+        let fine = run.is.fine in let of = branch_side case network from in
         subst₂ (λ t u. IsWithinLimits (change of t u)) (sym run.before_is) (sym run.after_is)
         (sized_change fine.size_den fine.most_size fine.state_den fine.most_state of run.p.before run.p.after fine.small fine.before fine.after);
   }
@@ -328,8 +323,7 @@ module _ {case : Case} {hot cold : List Piece} {exchanges : List Exchange} (can 
 
   keeps-loads : KeepLoads case network values
   keeps-loads =
-      let lines = network.lines in let shape = HasShape-pieces can in
-      let Keeps = PassKeepsLoad case network values in
+      let lines = network.lines in let shape = HasShape-pieces can in let Keeps = PassKeepsLoad case network values in
       let each : All Keeps lines = λ k l within. line-keeps (get_or lines k l) (passes-run can k l within) (shape.one_stream k l within) in
       loads_kept case network (length lines) values shape (network-valued can shape).valuation
       (subst (All Keeps) (sym (take_all (length lines) lines (omega arith))) each)
@@ -385,8 +379,7 @@ module _ {case : Case} {hot cold : List Piece} {exchanges : List Exchange} (can 
 
   led-network : IsLedNetwork case hot cold exchanges network
   led-network =
-      let shape = HasShape-pieces can in
-      let valuation = (network-valued can shape).valuation in
+      let shape = HasShape-pieces can in let valuation = (network-valued can shape).valuation in
       record {
         shape = shape;
         values = values;

@@ -9,7 +9,7 @@ use Rattle.pieces.proofs.Words.{shares_of, side_of, size_on, slice_get-numbered,
 use Rattle.pieces.proofs.Words.{sum_by-cons, sum_by-le, sum_by-le-sum_by, sum_by-reverse, turns}
 use Rattle.std.proofs.Common.{All, Bool, List, None, Option, Some, [], ap, arith, cond, false, get_or, if◌then◌else◌, inl, inr, length, length-append, map}
 use Rattle.std.proofs.Common.{refl, slice_get, subst, suc, sym, true, zero, ℕ, ◌&&◌, ◌*◌, ◌+◌, ◌<◌, ◌==◌, ◌∙◌, ◌∷◌, ◌≡◌, ◌≤◌}
-use Rattle.pieces.proofs.PieceStages.{All-numbered, each-share, each-stage, numbered-each, shares_along-course, source_at-piece, source_there, sources-on_side}
+use Rattle.pieces.proofs.PieceStages.{All-numbered, each-share, each-stage, numbered-each, on_side-ap, shares_along-course, source_at-piece, source_there}
 use Rattle.stream_case.specs.declared.source.Side.TheVariants as side
 use Rattle.stream_case.specs.declared.source.Source.TheVariants as source
 
@@ -49,9 +49,8 @@ module _ {X : Type 0} where
       → sum_by (λ e. cond (j == e.0) (weight e.1) 0) (enumerate_from n xs) ≡ option_map_or weight (slice_get xs i) 0
   one_at weight j n i [] is = refl
   one_at weight j n zero (x ∷ xs) is =
-      let one = cond-true (j == n) (weight x) 0 (eq-eqb j n (omega (arith, is))) in
       let all = sum_by-cons (λ (e : ℕ × X). cond (j == e.0) (weight e.1) 0) (n, x) (enumerate_from (n + 1) xs) in
-      omega (arith, one, all, none_at weight j (n + 1) xs (omega (arith, is)))
+      omega (arith, cond-true (j == n) (weight x) 0 (eq-eqb j n (omega (arith, is))), all, none_at weight j (n + 1) xs (omega (arith, is)))
   one_at weight j n (suc i) (x ∷ xs) is =
       let none = cond-false (j == n) (weight x) 0 (ne_eqb j n (λ same. absurd (omega (arith, is, same)))) in
       let all = sum_by-cons (λ (e : ℕ × X). cond (j == e.0) (weight e.1) 0) (n, x) (enumerate_from (n + 1) xs) in
@@ -76,8 +75,7 @@ module _ {X Y : Type 0} where
   sum-kept f test item h is [] = refl
   sum-kept f test item h is (x ∷ xs) =
       let one = ap (λ (o : Option Y). sum_by f (cons_option o (filter_map h xs))) (is x) in
-      let all = sum_by-cons (λ (z : X). cond (test z) (f (item z)) 0) x xs in
-      omega (arith, one, by (test x) (item x) (filter_map h xs), all, sum-kept f test item h is xs)
+      omega (arith, one, by (test x) (item x) (filter_map h xs), sum_by-cons (λ (z : X). cond (test z) (f (item z)) 0) x xs, sum-kept f test item h is xs)
     where
       by : (b : Bool) (y : Y) (rest : List Y) → sum_by f (cons_option (if b then Some y else None) rest) ≡ cond b (f y) 0 + sum_by f rest
       by true y rest = sum_by-cons f y rest
@@ -216,8 +214,6 @@ few-branches case hot cold exchanges some =
 pub length-courses_of : (case : Case) (hot cold : List Source) (exchanges : List Exchange) → length (courses_of case hot cold exchanges) ≡ length case.streams
 length-courses_of case hot cold exchanges = length-map (enumerate_from 0 case.streams) (stream_course hot cold exchanges) ∙ length-enumerate_from 0 case.streams
 
--- The network of pieces has the shape of a network.
-
 -- ---- any exchanges
 
 pub exchangers_of-network_of : (case : Case) (hot cold : List Source) (exchanges : List Exchange)
@@ -230,8 +226,7 @@ pub length-network_of : (case : Case) (hot cold : List Source) (exchanges : List
     → length (network_of case hot cold exchanges).lines ≤ 7 * length exchanges + length case.streams
 unfolding network_of
 length-network_of case hot cold exchanges =
-    let declared = exchangers_for hot cold exchanges in
-    let courses = courses_of case hot cold exchanges in
+    let declared = exchangers_for hot cold exchanges in let courses = courses_of case hot cold exchanges in
     let lines = length-append (map declared_line declared) (courses_lines (length case.streams) 0 courses) in
     let declarations = length-map declared declared_line in let names = length-map (enumerate_from 0 exchanges) (exchanger_of hot cold) in
     let few = few-courses (length case.streams) 0 courses in let shares = few-shares case hot cold exchanges in
@@ -307,8 +302,7 @@ module _ {case : Case} {hot cold : List Piece} {exchanges : List Exchange} (can 
 
   course-is : (stream : ℕ) (s : Stream) → IsCourseOf declared_here stream (course_for (stream, s))
   course-is stream s =
-      let pieces = on_side s.side hot cold in
-      let led = led_course hot cold exchanges (stream, s) in
+      let pieces = on_side s.side hot cold in let led = led_course hot cold exchanges (stream, s) in
       let IsUsed : List Share → Type 0 = λ ss. 0 < length ss in
       let IsOwn : List Share → Type 0 = λ ss. All (IsShareOf declared_here stream) ss in
       let used = each-stage exchanges (λ stage. IsUsed stage.shares) s.side pieces stream (λ index p there own some. some) in
@@ -325,8 +319,7 @@ module _ {case : Case} {hot cold : List Piece} {exchanges : List Exchange} (can 
       → Joins (exchanger_for (number, e)) stream → turns number (course_for (stream, s)) ≡ 1
   once number stream e s at here joins =
       let sources = λ (of : Side). on_side of (sources_of hot) (sources_of cold) in
-      let (of, from) = side-joined (exchanger_for (number, e)) stream joins in
-      let has = piece-for of number e at in
+      let (of, from) = side-joined (exchanger_for (number, e)) stream joins in let has = piece-for of number e at in
       let p = has.piece in
       let source_is : p.source ≡ source.Stream stream = sym (exchanger-source of number e p has.there) ∙ from in
       let here_on : side_of case p.source ≡ Some s.side = ap (side_of case) source_is ∙ ap (option_map (λ (r : Stream). r.side)) here in
@@ -335,7 +328,7 @@ module _ {case : Case} {hot cold : List Piece} {exchanges : List Exchange} (can 
       let there = source_there (on_side of hot cold) (piece_on of e) p has.there in
       (λ i. turns number (course_of (side_is i) (sources (side_is i)) exchanges stream))
       ∙ turns-course of (sources of) exchanges number e stream p.source at
-      (ap (λ ss. slice_get ss (piece_on of e)) (sym (sources-on_side exchanges hot cold of)) ∙ there) own
+      (ap (λ ss. slice_get ss (piece_on of e)) (on_side-ap of sources_of hot cold) ∙ there) own
 
   pub HasShape-pieces : HasShape case (network_of case (sources_of hot) (sources_of cold) exchanges)
   unfolding network_of
