@@ -63,9 +63,8 @@ duties_have : (hot cold : List Part) (index n : ℕ) (ts : List Transfer) → Al
 duties_have hot cold index n [] heats = record { sum = refl; few = omega arith; each = All-nil (IsSized 1 (unsigned_abs MOST_HEAT)) }
 duties_have hot cold index n (t ∷ ts) heats =
     let duties = filter_map (duty_with index) (map (exchanger_of hot cold) (enumerate_from (n + 1) ts)) in
-    let rest = duties_have hot cold index (n + 1) ts (All-tail (λ (u : Transfer). IsHeat u.heat) t ts heats) in
     one_more (joins_utility hot cold index t) t.heat (int_sum_by (utility_heat hot cold index) ts) (length ts) duties
-    (All-head (λ (u : Transfer). IsHeat u.heat) t ts heats) rest
+    (All-head (λ (u : Transfer). IsHeat u.heat) t ts heats) (duties_have hot cold index (n + 1) ts (All-tail (λ (u : Transfer). IsHeat u.heat) t ts heats))
 
 -- the heat of a utility in the network
 pub heats-have : (hot cold : List Part) (ts : List Transfer) (index : ℕ) → All (λ t. IsHeat t.heat) ts

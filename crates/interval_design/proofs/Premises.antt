@@ -4,13 +4,13 @@ use Rattle.interval_design.proofs.Words.{HaveParts, IsAtMost, IsComplete, IsHeat
 use Rattle.interval_design.proofs.Words.{JoinsPieces, Part, Piece, Rational, Side, Source, Stream, Transfer, Utility, and_parts, at_most-whole, both_reach}
 use Rattle.interval_design.proofs.Words.{contribution_of, entered_at, entered_state, exchange_of, fixed_level-latent, fixed_level-sensible, int_eq, int_le}
 use Rattle.interval_design.proofs.Words.{int_le-true, ints, is_forbidden, left_at, left_state, length-map, level_in, map-map, mapped_item, not, on_side}
-use Rattle.interval_design.proofs.Words.{option_map, option_map_or, or_cases, part_index, part_reaches, part_sources, passes_heat, piece_of, piece_on, plus}
-use Rattle.interval_design.proofs.Words.{positive-ratio, positive_num, ratio, reach_between, shifted, side_of_part, slice_get-map, sources_of, temperature}
-use Rattle.interval_design.proofs.Words.{unshifted, whole, whole-plus, width_at, width_of, within-ratio, within-whole, ◌&&◌}
+use Rattle.interval_design.proofs.Words.{on_side-ap, option_map, option_map_or, or_cases, part_index, part_reaches, part_sources, passes_heat, piece_of}
+use Rattle.interval_design.proofs.Words.{piece_on, plus, positive-ratio, positive_num, ratio, reach_between, shifted, side_of_part, slice_get-map, sources_of}
+use Rattle.interval_design.proofs.Words.{temperature, unshifted, whole, whole-plus, width_at, width_of, within-ratio, within-whole, ◌&&◌}
 use Rattle.std.proofs.Common.{All, AllPairs, Bool, List, Some, ap, arith, false, get_or, inl, inr, length, map, pos, refl, slice_get, subst, subst₂, sym, true}
 use Rattle.std.proofs.Common.{ℕ, ℤ, ⊎_elim, ◌+ℤ◌, ◌-ℤ◌, ◌<ℤ◌, ◌<◌, ◌^◌, ◌∙◌, ◌≡◌, ◌≤ℤ◌, ◌≤◌, ◌⊎◌}
 use Rattle.interval_design.proofs.CaseFlow.{IsCaseFlow, most_transfers, part_on, part_there, places, places_fall, valid_stream}
-use Rattle.interval_design.proofs.StreamCourses.{LiesAtLevel, LiesOnInterval, entered-sensible, fits, high_end-latent, joined, left-sensible, lies, on_side-ap}
+use Rattle.interval_design.proofs.StreamCourses.{LiesAtLevel, LiesOnInterval, entered-sensible, fits, high_end-latent, joined, left-sensible, lies}
 use Rattle.interval_design.proofs.StreamCourses.{own_heat, piece_falls, state_is, stream_piece}
 use Rattle.interval_design.proofs.Balances.{utility_has_heat}
 use Rattle.stream_case.specs.declared.source.Side.TheVariants as side
@@ -107,8 +107,7 @@ passes-order p q hot_order cold_order passes =
     (λ above. let from = int_le-true q.high p.low above in (omega (arith, ints), omega (arith, ints)))
     (λ same.
     let tests = and_parts (int_eq p.high q.high) (int_eq p.low q.low) same in
-    let high = (Decides-int_eq p.high q.high).0 tests.0 in
-    let low = (Decides-int_eq p.low q.low).0 tests.1 in
+    let high = (Decides-int_eq p.high q.high).0 tests.0 in let low = (Decides-int_eq p.low q.low).0 tests.1 in
     (omega (arith, ints), omega (arith, ints)))
     (or_cases (int_le q.high p.low) (int_eq p.high q.high && int_eq p.low q.low) passes)
 
@@ -134,8 +133,7 @@ record JoinsParts (case : Case) (hot cold : List Part) (t : Transfer) (p q : Par
 joined_parts : (case : Case) (hot cold : List Part) (t : Transfer) → t.hot < length hot → t.cold < length cold
     → IsTrue (reach_between case hot cold t.hot t.cold) → (p : Part) × (q : Part) × JoinsParts case hot cold t p q
 joined_parts case hot cold t hot_within cold_within reach =
-    let (p, hot_part) = part_there hot t.hot hot_within in
-    let (q, cold_part) = part_there cold t.cold cold_within in
+    let (p, hot_part) = part_there hot t.hot hot_within in let (q, cold_part) = part_there cold t.cold cold_within in
     let reached : reach_between case hot cold t.hot t.cold ≡ part_reaches case p q = λ i. both_reach case (hot_part i) (cold_part i) in
     let both = and_parts (passes_heat p q) (not (is_forbidden case.forbids p.source q.source)) (sym reached ∙ reach) in
     (p, q, record { hot_part = hot_part; cold_part = cold_part; passes = both.0; permitted = refused (is_forbidden case.forbids p.source q.source) both.1 })
@@ -176,8 +174,7 @@ module _ (case : Case) (hot cold : List Part) (ts : List Transfer) (given : IsCa
   -- each exchange joins a hot and a cold piece that may meet
   pub exchanges_join : All (JoinsPieces case (map (piece_of case) hot) (map (piece_of case) cold)) (map (exchange_of hot cold) ts)
   exchanges_join = All-map (JoinsPieces case (map (piece_of case) hot) (map (piece_of case) cold)) (exchange_of hot cold) ts (λ k d within.
-      let t = get_or ts k d in
-      let positive = given.flow.positive k d within in let heat = given.heats k d within in
+      let t = get_or ts k d in let positive = given.flow.positive k d within in let heat = given.heats k d within in
       let flow = given.flow in
       let (p, q, joined) = joined_parts case hot cold t (flow.hot_indexes k d within) (flow.cold_indexes k d within) (flow.joined k d within) in
       let hot_part = part_on case hot cold ts given side.Hot t.hot p joined.hot_part in
@@ -215,8 +212,7 @@ pieces_within of hot cold ts sources exchanges sources_are exchanges_are have =
     subst₂ (λ (ss : List Source) (es : List Exchange). All (λ e. piece_on of e < length ss) es) (sym sources_are) (sym exchanges_are)
     (All-map (λ e. piece_on of e < length (part_sources (on_side of hot cold))) (exchange_of hot cold) ts (λ k d within.
     let long = length-map (on_side of hot cold) (λ (p : Part). p.source) in
-    let index = have k d within in
-    let same = piece_on-exchange of hot cold (get_or ts k d) in
+    let index = have k d within in let same = piece_on-exchange of hot cold (get_or ts k d) in
     omega arith))
 
 module _ (case : Case) (hot cold : List Part) (ts : List Transfer) (given : IsCaseFlow case hot cold ts) (few : length ts ≤ most_transfers) where

@@ -8,11 +8,11 @@ use Rattle.interval_design.proofs.Words.{enumerate_from, exchange_of, false_from
 use Rattle.interval_design.proofs.Words.{first_state, first_state-latent, first_state-sized, full_size, full_size-most, full_size-positive, heat_at, high_end}
 use Rattle.interval_design.proofs.Words.{holds_ends, interval_below, interval_ends, interval_falls, ints, is_hot, is_latent, is_latent-latent}
 use Rattle.interval_design.proofs.Words.{is_latent-sensible, kept_hold, last_part_of_load, last_state, last_state-latent, led_course, led_piece, led_stage}
-use Rattle.interval_design.proofs.Words.{left_at, left_state, level-latent, low_end, lt-ltb, mapped_item, nat_lt, nat_tests, on_side, on_the_way, option_map_or}
-use Rattle.interval_design.proofs.Words.{part_index, piece_heat, piece_of, piece_on, plus, plus-ratio_same_den, range-length, ratio, ratio-multiple}
-use Rattle.interval_design.proofs.Words.{ratio-times_den, ratio-zero, rational_zero, reverse, reverse-append, same_Some, same_source, same_source-same}
-use Rattle.interval_design.proofs.Words.{same_source-true, share_of, shares_of, shifted, size_of, size_on, sized-whole, slice_get-get_or, source_state}
-use Rattle.interval_design.proofs.Words.{state_behind, stream_part, times, unshifted, whole, whole-minus, width_at, width_of}
+use Rattle.interval_design.proofs.Words.{left_at, left_state, level-latent, low_end, lt-ltb, mapped_item, nat_lt, nat_tests, on_side, on_side-ap, on_the_way}
+use Rattle.interval_design.proofs.Words.{option_map_or, part_index, piece_heat, piece_of, piece_on, plus, plus-ratio_same_den, range-length, ratio}
+use Rattle.interval_design.proofs.Words.{ratio-multiple, ratio-times_den, ratio-zero, rational_zero, reverse, reverse-append, same_Some, same_source}
+use Rattle.interval_design.proofs.Words.{same_source-same, same_source-true, share_of, shares_of, shifted, size_of, size_on, sized-whole, slice_get-get_or}
+use Rattle.interval_design.proofs.Words.{source_state, state_behind, stream_part, times, unshifted, whole, whole-minus, width_at, width_of}
 use Rattle.std.proofs.Common.{All, AllPairs, Bool, List, None, Option, Some, [], ap, arith, false, get_or, if◌then◌else◌, inl, inr, length, map, pos, refl}
 use Rattle.std.proofs.Common.{slice_get, subst, subst₂, sym, true, unsigned_abs, ℕ, ℤ, ⊎_elim, ◌&&◌, ◌*ℤ◌, ◌++◌, ◌+ℤ◌, ◌+◌, ◌-ℤ◌, ◌<ℤ◌, ◌<◌, ◌==◌, ◌∙◌, ◌∷◌}
 use Rattle.std.proofs.Common.{◌≡◌, ◌≤ℤ◌, ◌≤◌, ◌⊎◌}
@@ -42,8 +42,7 @@ sensible_interval places s high low sensible (inr latent) =
 pub latent_level : (places : List ℤ) (s : Stream) (p : Part) → IsLatent s → AllPairs (λ a b. b <ℤ a) places → IsPiece places s p.high p.low
     → low_end s ≤ℤ p.low → p.high ≤ℤ high_end s → LiesAtLevel s p
 latent_level places s p latent falls (inl interval) from upto =
-    let level = level-latent s latent in
-    let less = interval_falls places p.high p.low falls interval in
+    let level = level-latent s latent in let less = interval_falls places p.high p.low falls interval in
     absurd (omega (arith, ints))
 latent_level places s p latent falls (inr is) from upto =
     let level = level-latent s latent in let same = is.1 in
@@ -143,12 +142,6 @@ fits places s p valid falls is = by (lies places s p valid falls is)
         ((λ i. change s.side (entered i) (left i)) ∙ load_change s.side ∙ ap (λ w. whole (pos w)) (sym one)) (omega (arith, one))
 
 -- ---- the shares of a part are the whole stream, and bring it from the one state to the other
-
-pub on_side-ap : {X Y : Type 0} (of : Side) (f : X → Y) (hot cold : X) → on_side of (f hot) (f cold) ≡ f (on_side of hot cold)
-on_side-ap side.Hot f hot cold = refl
-on_side-ap side.Cold f hot cold = refl
-
--- ---- the shares of a part
 
 -- the share of an own transfer, over the width of the part
 abbrev pub own_share : Side → ℕ → ℕ → ℕ × Transfer → Option Share
@@ -311,8 +304,7 @@ module _ (case : Case) (hot cold : List Part) (ts : List Transfer) (number : ℕ
   fine : IsFine s.side (map (exchange_of hot cold) ts) index piece s
   unfolding shares_of
   fine =
-      let width = width_at (on_side s.side hot cold) index in
-      let ends = AreEnds-IsValidStream s valid in
+      let width = width_at (on_side s.side hot cold) index in let ends = AreEnds-IsValidStream s valid in
       let lowest = ends.from in let top = ends.upto in let from = own.from in let upto = own.upto in let order = own.order in
       let high : IsShifted p.high = record { from = omega (arith, ints); upto = omega (arith, ints) } in
       let low : IsShifted p.low = record { from = omega (arith, ints); upto = omega (arith, ints) } in
@@ -425,8 +417,7 @@ module _ (streams : List Stream) (utilities : List Utility) (grid : List ℤ) (o
     pub one_part : (ps : List Part) → AreParts streams utilities grid of ps
         → (i : ℕ) × (p : Part) × (slice_get ps i ≡ Some p) × IsOwn p × (own_items number 0 ps ≡ (i, p) ∷ [])
     one_part ps are =
-        let p = level_part in
-        let (i, within, found) = are.every p (inl (number, s, level_own)) in
+        let p = level_part in let (i, within, found) = are.every p (inl (number, s, level_own)) in
         let at : slice_get ps i ≡ Some p = slice_get-get_or ps i p within ∙ ap (λ (q : Part). Some q) found in
         let first : 0 + i ≡ i = omega arith in
         let kept = ap (λ b. if b then Some (0 + i, p) else None) (own_is p level_own) ∙ ap (λ (k : ℕ). Some (k, p)) first in (
@@ -549,8 +540,7 @@ module _ (streams : List Stream) (utilities : List Utility) (grid : List ℤ) (o
           by lower false other = lower x (past_other x p ps lie other)
           by lower true is =
               let own = own_part p (All-head (IsPartOf streams utilities grid of) p ps lie.each) is in
-              let (top, rest) = past_own x p ps lie own in
-              let items = map stage (own_items number (n + 1) ps) in
+              let (top, rest) = past_own x p ps lie own in let items = map stage (own_items number (n + 1) ps) in
               fall_more of (state x) (state (low_end s)) (stage (n, p)) items (hot n p own ∙ ap state top)
               (subst (λ from. Fall of from items (state (low_end s))) (sym (cold n p own)) (lower p.low rest))
 
@@ -626,8 +616,7 @@ module _ (case : Case) (hot cold : List Part) (ts : List Transfer) (given : IsCa
   pub own_heat : (index : ℕ) (p : Part) → slice_get ps index ≡ Some p → p.source ≡ source.Stream number → IsOwnPart s ts index p
   own_heat index p at own =
       let is = part_of_stream {utilities = case.utilities} grid s.side number s p here (part_on case hot cold ts given s.side index p at) own in
-      let fit = fits grid s p valid falls is in
-      let range = side_ranges case hot cold ts given s.side index p at in
+      let fit = fits grid s p valid falls is in let range = side_ranges case hot cold ts given s.side index p at in
       record {
         fits = fit;
         heat = between (heat_at s.side ts index) p.least p.most ((s.cp +ℤ s.load) *ℤ pos (width_of p)) fit.least fit.most range.from range.upto;

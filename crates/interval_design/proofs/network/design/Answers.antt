@@ -46,8 +46,7 @@ lead-requires-clause-cold c =
 
 pub lead-requires-clause-few : goal.lead-requires-clause-few
 lead-requires-clause-few c =
-    let parts = c.args.parts.now in
-    let few = few_flow c.requires.flow parts.few_hot parts.few_cold in
+    let parts = c.args.parts.now in let few = few_flow c.requires.flow parts.few_hot parts.few_cold in
     let streams = length-AreStreams c.args.case.now.streams (AreStreams-IsComplete c.args.case.now c.requires.complete) in
     let exchanges = ap length (exchanges_given c) in
     let long = length-map c.args.flow.now.transfers (exchange_of parts.hot parts.cold) in
@@ -97,8 +96,7 @@ returns-clause-shape c = (led c).shape
 
 pub returns-clause-few_lines : goal.returns-clause-few_lines
 returns-clause-few_lines c few =
-    let parts = c.args.parts.now in
-    let lines = c.in_ok-network.ensures.few_lines in
+    let parts = c.args.parts.now in let lines = c.in_ok-network.ensures.few_lines in
     let streams = length-AreStreams c.args.case.now.streams (AreStreams-IsComplete c.args.case.now c.requires.complete) in
     let exchanges = ap length (exchanges_led c) in
     let long = length-map c.args.flow.now.transfers (exchange_of parts.hot parts.cold) in
@@ -106,8 +104,7 @@ returns-clause-few_lines c few =
 
 pub returns-clause-counts : goal.returns-clause-counts
 returns-clause-counts c few =
-    let parts = c.args.parts.now in let ts = c.args.flow.now.transfers in
-    let lines = returns-clause-few_lines c few in
+    let parts = c.args.parts.now in let ts = c.args.flow.now.transfers in let lines = returns-clause-few_lines c few in
     let many = ap length (returns-clause-exchangers c) in
     let long = length-map (enumerate_from 0 ts) (exchanger_of parts.hot parts.cold) in
     let count = length-enumerate_from 0 ts in
