@@ -1,8 +1,11 @@
--- A heat flow of the parts of a case, and what holds of the parts of both sides.
+-- A heat flow of the parts of a case, the order of the parts of a side, and how few transfers there are.
 use Rattle.interval_design.proofs.Words.{All-slice_get, AreCaseParts, AreParts, AreStreams-IsComplete, Case, HaveParts, IsComplete, IsHeat, IsHeatFlow}
-use Rattle.interval_design.proofs.Words.{IsPartOf, IsValidStream, KeepsRanges, Part, Side, Source, Stream, Transfer, on_side, option_map, part_sources}
-use Rattle.interval_design.proofs.Words.{reach_between, side_of, side_of_part, slice_get-get_or, slice_get-map, source_at, unwrap_or}
-use Rattle.std.proofs.Common.{All, AllPairs, List, Some, [], ap, arith, get_or, length, slice_get, ℕ, ℤ, ◌<ℤ◌, ◌<◌, ◌∙◌, ◌∷◌, ◌≡◌}
+use Rattle.interval_design.proofs.Words.{IsPartOf, IsStreamPart, IsValidStream, KeepsRanges, MOST_PARTS, Part, Side, Source, Stream, Transfer, Utility}
+use Rattle.interval_design.proofs.Words.{cases_order, comes_before, comes_before_source, cons_option, enumerate_from, filter_map, get_or_from_slice_get, ints}
+use Rattle.interval_design.proofs.Words.{mul-le-mul, on_side, option_map, part_sources, precedes, reach_between, same_Some, side_of, side_of_part}
+use Rattle.interval_design.proofs.Words.{slice_get-get_or, slice_get-map, slice_get_within, source_at, unwrap_or, utility_part}
+use Rattle.std.proofs.Common.{All, AllPairs, Bool, List, None, Option, Some, [], ap, arith, get_or, inl, inr, length, refl, slice_get, subst₂, suc, sym, zero}
+use Rattle.std.proofs.Common.{ℕ, ℤ, ⊎_elim, ◌*◌, ◌+◌, ◌-◌, ◌<ℤ◌, ◌<◌, ◌∙◌, ◌∷◌, ◌≡◌, ◌≢◌, ◌≤◌}
 use Rattle.stream_case.specs.declared.source.Side.TheVariants as side
 use Rattle.stream_case.specs.declared.source.Source.TheVariants as source
 
@@ -53,3 +56,132 @@ module _ (case : Case) (hot cold : List Part) (ts : List Transfer) (given : IsCa
   source_side of index within =
       let (p, at) = part_there (on_side of hot cold) index within in
       ap (side_of case) (source_there (on_side of hot cold) index p at) ∙ side_of_part case places of p (part_on of index p at)
+
+-- ---- parts of a side in their order: each stands at one place of the list, and a source tells whose part one is
+
+-- what holds of each item and each later one holds of two at indexes
+pub pairs_at : {X : Type 0} (R : X → X → Type 0) (xs : List X) (i j : ℕ) (x y : X) → AllPairs R xs → slice_get xs i ≡ Some x → slice_get xs j ≡ Some y
+    → i < j → R x y
+pairs_at R xs i j x y pairs one other less =
+    subst₂ R (get_or_from_slice_get xs i x y one) (get_or_from_slice_get xs j y y other) (pairs i j y less (slice_get_within xs j y other))
+
+-- where a test keeps one numbered item alone
+none_kept : {X Y : Type 0} (h : ℕ × X → Option Y) (n : ℕ) (xs : List X) → ((i : ℕ) (x : X) → slice_get xs i ≡ Some x → h (n + i, x) ≡ None)
+    → filter_map h (enumerate_from n xs) ≡ []
+none_kept h n [] none = refl
+none_kept {X} {Y} h n (x ∷ xs) none =
+    let first : n ≡ n + 0 = omega arith in
+    let rest = none_kept h (n + 1) xs (λ i y at.
+    let next : n + 1 + i ≡ n + suc i = omega arith in
+    ap (λ (k : ℕ). h (k, y)) next ∙ none (suc i) y at) in
+    ap (λ (o : Option Y). cons_option o (filter_map h (enumerate_from (n + 1) xs))) (ap (λ (k : ℕ). h (k, x)) first ∙ none 0 x refl) ∙ rest
+
+pub one_kept : {X Y : Type 0} (h : ℕ × X → Option Y) (n : ℕ) (xs : List X) (i : ℕ) (x : X) (y : Y) → slice_get xs i ≡ Some x → h (n + i, x) ≡ Some y
+    → ((j : ℕ) (z : X) → slice_get xs j ≡ Some z → j ≢ i → h (n + j, z) ≡ None) → filter_map h (enumerate_from n xs) ≡ y ∷ []
+one_kept h n [] i x y at is none = cc at
+one_kept {X} {Y} h n (z ∷ xs) zero x y at is none =
+    let first : n ≡ n + 0 = omega arith in
+    let rest = none_kept h (n + 1) xs (λ j w there.
+    let next : n + 1 + j ≡ n + suc j = omega arith in
+    ap (λ (k : ℕ). h (k, w)) next ∙ none (suc j) w there (λ same. absurd (omega (arith, same)))) in
+    let here : h (n, z) ≡ Some y = (λ k. h (first k, same_Some z x at k)) ∙ is in
+    (λ k. cons_option (here k) (rest k))
+one_kept {X} {Y} h n (z ∷ xs) (suc i) x y at is none =
+    let first : n ≡ n + 0 = omega arith in
+    let next : (j : ℕ) → n + 1 + j ≡ n + suc j = λ j. omega arith in
+    let rest = one_kept h (n + 1) xs i x y at (ap (λ (k : ℕ). h (k, x)) (next i) ∙ is)
+    (λ j w there other. ap (λ (k : ℕ). h (k, w)) (next j) ∙ none (suc j) w there (λ same. other (omega (arith, same)))) in
+    let here : h (n, z) ≡ None = ap (λ (k : ℕ). h (k, z)) first ∙ none 0 z refl (λ same. absurd (omega (arith, same))) in
+    (λ k. cons_option (here k) (rest k))
+
+-- ---- the place of a part
+
+not_before_itself : (p : Part) → comes_before p p → ⊥
+not_before_itself p (inl less) = omega (arith, ints)
+not_before_itself p (inr (inl same)) = let less = same.1 in omega (arith, ints)
+not_before_itself p (inr (inr same)) = by p.source same.2
+  where
+    by : (a : Source) → comes_before_source a a → ⊥
+    by (source.Stream i) less = omega (arith, less)
+    by (source.Utility i) less = omega (arith, less)
+
+module _ {streams : List Stream} {utilities : List Utility} (grid : List ℤ) (of : Side) where
+  -- a part stands at one index
+  pub one_place : (parts : List Part) (a b : ℕ) (p : Part) → AreParts streams utilities grid of parts
+      → slice_get parts a ≡ Some p → slice_get parts b ≡ Some p → a ≡ b
+  one_place parts a b p are first second =
+      ⊎_elim (λ equal. equal)
+      (⊎_elim (λ less. absurd (not_before_itself p (pairs_at comes_before parts a b p p are.ordered first second less)))
+      (λ more. absurd (not_before_itself p (pairs_at comes_before parts b a p p are.ordered second first more))))
+      (cases_order a b)
+
+  -- whose part one is
+  pub part_of_stream : (number : ℕ) (s : Stream) (p : Part) → slice_get streams number ≡ Some s → IsPartOf streams utilities grid of p
+      → p.source ≡ source.Stream number → IsStreamPart streams grid of number s p
+  part_of_stream number s p here (inl (i, r, is)) own =
+      let both : source.Stream i ≡ source.Stream number = sym (ap (λ (q : Part). q.source) is.is) ∙ own in
+      let number_is : i ≡ number = cc both in
+      let same : r ≡ s = same_Some r s (sym is.stream ∙ ap (slice_get streams) number_is ∙ here) in
+      subst₂ (λ k t. IsStreamPart streams grid of k t p) number_is same is
+  part_of_stream number s p here (inr (i, u, is)) own =
+      let clash : source.Utility i ≡ source.Stream number = sym (ap (λ (q : Part). q.source) is.is) ∙ own in absurd (cc clash)
+
+  pub part_of_utility : (index : ℕ) (u : Utility) (p : Part) → slice_get utilities index ≡ Some u → IsPartOf streams utilities grid of p
+      → p.source ≡ source.Utility index → p ≡ utility_part index u
+  part_of_utility index u p here (inl (i, s, is)) own =
+      let clash : source.Stream i ≡ source.Utility index = sym (ap (λ (q : Part). q.source) is.is) ∙ own in absurd (cc clash)
+  part_of_utility index u p here (inr (i, v, is)) own =
+      let both : source.Utility i ≡ source.Utility index = sym (ap (λ (q : Part). q.source) is.is) ∙ own in
+      let number : i ≡ index = cc both in
+      let same : v ≡ u = same_Some v u (sym is.utility ∙ ap (slice_get utilities) number ∙ here) in
+      is.is ∙ (λ j. utility_part (number j) (same j))
+
+-- ---- a heat flow has few transfers: each is another pair of a hot and a cold part
+
+-- the index of a pair in a table with so many columns
+key : ℕ → Transfer → ℕ
+key columns t = t.hot * columns + t.cold
+
+key-rises : (columns : ℕ) (s t : Transfer) → s.cold < columns → precedes s t → key columns s < key columns t
+unfolding key
+key-rises columns s t within (inl later) =
+    let row : t.hot ≡ s.hot + 1 + (t.hot - s.hot - 1) = omega arith in
+    let product = ap (λ n. n * columns) row in
+    omega arith
+key-rises columns s t within (inr (same, later)) = let product = ap (λ n. n * columns) same in omega arith
+
+index-le-key : (columns : ℕ) (ts : List Transfer) → AllPairs precedes ts → All (λ t. t.cold < columns) ts → (i : ℕ) (d : Transfer)
+    → i < length ts → i ≤ key columns (get_or ts i d)
+index-le-key columns ts pairs cold zero d within = omega arith
+index-le-key columns ts pairs cold (suc i) d within =
+    let before = index-le-key columns ts pairs cold i d (omega arith) in
+    let rise = key-rises columns (get_or ts i d) (get_or ts (suc i) d) (cold i d (omega arith)) (pairs i (suc i) d (omega arith) within) in
+    omega arith
+
+key-below : (rows columns : ℕ) (t : Transfer) → t.hot < rows → t.cold < columns → key columns t < rows * columns
+unfolding key
+key-below rows columns t hot cold =
+    let row : rows ≡ t.hot + 1 + (rows - t.hot - 1) = omega arith in
+    let product = ap (λ n. n * columns) row in
+    omega arith
+
+few_transfers : (hot cold : List Part) (ts : List Transfer) → AllPairs precedes ts → HaveParts side.Hot hot ts → HaveParts side.Cold cold ts
+    → length ts ≤ length hot * length cold
+few_transfers hot cold [] pairs rows columns = omega arith
+few_transfers hot cold (t ∷ ts) pairs rows columns =
+    let n = length ts in
+    let within : n < length (t ∷ ts) = omega arith in
+    let least = index-le-key (length cold) (t ∷ ts) pairs columns n t within in
+    let below = key-below (length hot) (length cold) (get_or (t ∷ ts) n t) (rows n t within) (columns n t within) in
+    omega arith
+
+-- a transfer for each pair of parts, which is the most that a flow can have
+abbrev pub most_transfers : ℕ
+most_transfers = MOST_PARTS * MOST_PARTS
+
+pub few_flow : {reach : ℕ → ℕ → Bool} {hot cold : List Part} {ts : List Transfer} → IsHeatFlow reach hot cold ts
+    → length hot ≤ MOST_PARTS → length cold ≤ MOST_PARTS → length ts ≤ most_transfers
+few_flow {reach} {hot} {cold} {ts} flow rows columns =
+    let pairs = few_transfers hot cold ts flow.ordered flow.hot_indexes flow.cold_indexes in
+    let product : length hot * length cold ≤ most_transfers = mul-le-mul rows columns in
+    omega arith

@@ -1,12 +1,5 @@
-pub mod CaseFlow
-pub mod FewTransfers
-pub mod OwnParts
-pub mod PartOrder
-pub mod StreamWays
-pub mod StreamPieces
-pub mod StreamCourses
-pub mod Reaching
-pub mod Utilities
 pub mod Balances
+pub mod CaseFlow
 pub mod Premises
+pub mod StreamCourses
 pub mod Words

@@ -1,28 +1,164 @@
--- Pieces that are led draw a network that is valid and has no finding.
-use Rattle.pieces.proofs.Words.{All-append, All-map, All-weaker, AreFormed, AreLedPieces, AreSmall, AreStreams-IsComplete, Case, Exchange, Exchanger}
-use Rattle.pieces.proofs.Words.{HIGHEST_LEVEL, HasRoom, HasUtilityHeat, HaveWholeHeats, IsComplete, IsInRange, IsLedNetwork, IsOfOneStream, IsPermitted}
-use Rattle.pieces.proofs.Words.{IsPlaced, IsPlaced-IsComplete, IsRoomy, IsSized, IsStreamPiece, IsValidNetwork, IsValidStream, Line}
-use Rattle.pieces.proofs.Words.{MOST_LINES, MOST_LOAD, Network, Piece, RunsAs, RunsThrough, Share, Side, Source, Stream, Utility, all_at, at_most-whole}
-use Rattle.pieces.proofs.Words.{at_most_trans, balance_of, cost_of, courses_values, duties_with, duty_with, enters-run, enumerate_from, exchange_balance}
-use Rattle.pieces.proofs.Words.{exchangers_of, filter_map, first_state-sized, full_size-sized, grouped_utility_formed, heat-sized, heat_with}
-use Rattle.pieces.proofs.Words.{heats_with, hot_target, is_forbidden, is_latent_branch-is, leaves-run, led_course, led_piece, level_in, loads_kept, network_of}
-use Rattle.pieces.proofs.Words.{no_finding_from_room, on_side, piece_on, ratio-one, same_Some, shares_of, side_of, sized-between, sized_change, sized_roomy}
-use Rattle.pieces.proofs.Words.{sources_of, stage_values, take_all, temperature, the_pass_of, unwrap_or, utility_items_at, utility_part}
-use Rattle.design_lines.proofs.StageSizes.{CourseHolds, IsOver, IsStageBranch, StageHolds, course_holds, courses_hold, stage_sized}
-use Rattle.fractions.specs.Rationals.{IsAtMost, IsWithinLimits, Rational, minus, plus, ratio, rational_sum, rational_sum_by, times, whole}
-use Rattle.network_values.specs.Sides.{KeepApproaches, KeepsApproach, SideRun, approach_of, enters, fixed_level, leaves, level_or, pass_run, passed_run}
-use Rattle.network_values.specs.Sides.{run_between, side_run}
-use Rattle.network_values.specs.Values.{IsPartOfLoad, KeepLoads, PassKeepsLoad, Valuation, branch_side, change, first_value, full_size, value_at}
+-- The network of pieces carries the states of its pieces, each stream from its first state to its last; so where the pieces are led it is valid, and its
+-- audit has no finding.
+use Rattle.pieces.proofs.Words.{All-append, All-map, All-weaker, AreFormed, AreLed, AreLedPieces, AreSmall, AreStreams-IsComplete, AreValues, Case, Contains}
+use Rattle.pieces.proofs.Words.{Course, EachRuns, Exchange, Exchanger, HIGHEST_LEVEL, HasRoom, HasShape, HasUtilityHeat, HaveWholeHeats, IsComplete, IsInRange}
+use Rattle.pieces.proofs.Words.{IsLedNetwork, IsLedStage, IsLedStream, IsOfOneStream, IsPermitted, IsPlaced, IsPlaced-IsComplete, IsRoomy, IsSized}
+use Rattle.pieces.proofs.Words.{IsStreamPiece, IsValidNetwork, IsValidStream, LedStage, Line, MOST_LINES, MOST_LOAD, Make, Network, Piece, RunsAs, RunsThrough}
+use Rattle.pieces.proofs.Words.{Share, Side, Source, StageRuns, Stream, Utility, all_at, at_most-whole, at_most_trans, balance_of, cost_of, courses_along}
+use Rattle.pieces.proofs.Words.{courses_lines, courses_made, courses_of, courses_run, courses_values, declared_line, declared_make, duties_with, duty_with}
+use Rattle.pieces.proofs.Words.{each_ended, enters-run, enumerate_from, exchange_balance, exchangers_of, filter_map, first_state-sized, full_size-sized}
+use Rattle.pieces.proofs.Words.{grouped_utility_formed, heat-sized, heat_with, heats_with, hot_target, is_forbidden, is_latent_branch-is, leaves-run}
+use Rattle.pieces.proofs.Words.{led_course, led_courses, led_piece, length-enumerate_from, length-map, level_in, loads_kept, made_branches, make_append}
+use Rattle.pieces.proofs.Words.{network_of, no_end-declared, no_finding_from_room, on_side, own_branches, own_start, piece_on, positive-is, ratio-one}
+use Rattle.pieces.proofs.Words.{same_Some, shares_of, side_of, size_on, sized-between, sized_change, sized_roomy, sources_of, stage_values, take_all}
+use Rattle.pieces.proofs.Words.{temperature, the_pass_of, unwrap_or, utility_items_at, utility_part, values_made}
+use Rattle.std.proofs.Common.{All, List, None, Option, Some, [], ap, append-nil, ap₂, arith, get_or, length, map, option_map, pos, refl, slice_get, subst}
+use Rattle.std.proofs.Common.{subst₂, sym, unsigned_abs, ℕ, ℤ, ⊎_elim, ◌*◌, ◌++◌, ◌+◌, ◌<◌, ◌∙◌, ◌≡◌, ◌≤◌}
 use Rattle.pieces.proofs.PieceShape.{CanBeLed, HasShape-pieces, declared_here, exchanger-at, exchanger-joins, exchanger_for, exchangers_of-network_of}
 use Rattle.pieces.proofs.PieceShape.{joined-at, piece-for}
-use Rattle.pieces.proofs.PieceStages.{All-numbered, numbered-each, source_at-piece}
-use Rattle.pieces.proofs.PieceValues.{IsRun, courses_here, each-piece, network-valued, network_here, passes-run, stage-led, streams-ended, values_here}
-use Rattle.std.proofs.Common.{All, List, None, Option, Some, ap, ap₂, arith, get_or, length, map, option_map, pos, refl, slice_get, subst, subst₂, sym}
-use Rattle.std.proofs.Common.{unsigned_abs, ℕ, ℤ, ⊎_elim, ◌*◌, ◌+◌, ◌<◌, ◌∙◌, ◌≡◌, ◌≤◌}
 pub use Rattle.pieces.proofs.PieceShape.{exchangers_of-network_of, length-network_of}
+use Rattle.pieces.proofs.PieceStages.{All-numbered, courses_along-led, each-share, each-stage, numbered-each, source_at-piece}
+use Rattle.design_lines.proofs.BranchStreams.{IsEachLed, are_led, length-own_branches, stream_at-own}
+use Rattle.design_lines.proofs.StageSizes.{CourseHolds, IsOver, IsStageBranch, StageHolds, course_holds, courses_hold, stage_sized}
+use Rattle.fractions.specs.Rationals.{IsAtMost, IsBelow, IsWithinLimits, Rational, minus, plus, ratio, rational_sum, rational_sum_by, rational_zero, times}
+use Rattle.fractions.specs.Rationals.{whole}
+use Rattle.network_values.specs.Sides.{KeepApproaches, KeepsApproach, SideRun, approach_of, enters, fixed_level, leaves, level_or, pass_run, passed_run}
+use Rattle.network_values.specs.Sides.{run_between, side_run}
+use Rattle.network_values.specs.Values.{IsPartOfLoad, KeepLoads, PassKeepsLoad, Valuation, branch_side, change, duty_at, duty_of, ended_streams, first_value}
+use Rattle.network_values.specs.Values.{full_size, value_at}
 use Rattle.networks.specs.declared.network.Line.TheVariants as line
 use Rattle.stream_case.specs.declared.source.Side.TheVariants as side
 use Rattle.stream_case.specs.declared.source.Source.TheVariants as source
+
+module _ {case : Case} {hot cold : List Piece} {exchanges : List Exchange} (can : CanBeLed case hot cold exchanges) where
+  abbrev pub network_here : Network
+  network_here = network_of case (sources_of hot) (sources_of cold) exchanges
+
+  abbrev pub courses_here : List (List LedStage)
+  courses_here = led_courses case hot cold exchanges
+
+  abbrev pub values_here : Valuation
+  values_here = map first_value case.streams ++ courses_values courses_here
+
+  -- the lines declare the exchangers and then lead the streams
+  lines-are : network_here.lines ≡ map declared_line (declared_here can) ++ courses_lines (length case.streams) 0 (courses_along courses_here)
+  unfolding network_of
+  lines-are = ap (λ cs. map declared_line (declared_here can) ++ courses_lines (length case.streams) 0 cs) (sym (courses_along-led exchanges hot cold case))
+
+  -- ---- streams that are led
+
+  duty-is : (number : ℕ) (e : Exchange) → slice_get exchanges number ≡ Some e → duty_at network_here number ≡ e.heat
+  unfolding duty_at
+  duty-is number e at =
+      ap (λ (xs : List Exchanger). duty_of (slice_get xs number)) (exchangers_of-network_of case (sources_of hot) (sources_of cold) exchanges)
+      ∙ ap duty_of (exchanger-at can number e at)
+
+  pub stage-led : (s : Stream) (index : ℕ) (p : Piece) → 0 < length (shares_of s.side index exchanges) → IsStreamPiece s.side exchanges index p s
+      → IsLedStage network_here s.side (full_size s) (led_piece s.side exchanges (index, p))
+  stage-led s index p some is = record {
+    some = some;
+    positive = each-share exchanges (λ a. IsBelow rational_zero a.cp) s.side index
+        (λ number e at on. positive-is (size_on s.side e) (piece-for can s.side number e at).size.above);
+    sizes = is.sizes;
+    duties = each-share exchanges (λ a. times a.cp (change s.side p.before p.after) ≡ duty_at network_here a.exchanger) s.side index
+        (λ number e at on. is.heats number e at on ∙ sym (duty-is number e at));
+  }
+
+  -- what holds of each piece of a stream that exchanges heat holds of each stage of its course
+  pub each-piece : (P : LedStage → Type 0) (stream : ℕ) (s : Stream) → slice_get case.streams stream ≡ Some s
+      → ((index : ℕ) (p : Piece) → slice_get (on_side s.side hot cold) index ≡ Some p → 0 < length (shares_of s.side index exchanges)
+      → IsStreamPiece s.side exchanges index p s → P (led_piece s.side exchanges (index, p)))
+      → All P (led_course hot cold exchanges (stream, s))
+  each-piece P stream s here each =
+      each-stage exchanges P s.side (on_side s.side hot cold) stream
+      (λ index p there own some. each index p there some (can.led.pieces stream s index p here there own some))
+
+  each-led : IsEachLed case network_here 0 courses_here
+  each-led =
+      let IsLed = λ (k : ℕ) (course : List LedStage). (s : Stream) × (slice_get case.streams (0 + k) ≡ Some s) × IsLedStream network_here s course in
+      numbered-each (led_course hot cold exchanges) case.streams IsLed (λ k s here.
+      let number : k ≡ 0 + k = omega arith in
+      let joined = can.led.joined k s here in (
+        s,
+        ap (slice_get case.streams) (sym number) ∙ here,
+        record {
+          led = each-piece (IsLedStage network_here s.side (full_size s)) k s here (λ index p at some piece. stage-led s index p some piece);
+          joined = joined.meet;
+          ends = joined.ends;
+        },
+      ))
+
+  all-led : AreLed case network_here (length case.streams) 0 courses_here
+  unfolding network_of
+  all-led =
+      are_led case network_here courses_here (own_branches case) 0 (length case.streams) 0
+      (ap (λ (cs : List Course). own_branches case ++ made_branches 0 0 cs) (sym (courses_along-led exchanges hot cold case)))
+      (length-own_branches case) (stream_at-own case (made_branches 0 0 (courses_of case (sources_of hot) (sources_of cold) exchanges))) each-led
+
+  -- ---- values
+
+  -- the lines of the network make the values of the courses
+  network-makes : Make case network_here (map first_value case.streams) network_here.lines (courses_values courses_here)
+  network-makes =
+      let start = map first_value case.streams in let made = courses_values courses_here in
+      let led = courses_lines (length case.streams) 0 (courses_along courses_here) in
+      let many = sym (length-map case.streams first_value) in
+      let drawn = courses_made case network_here courses_here start (length case.streams) 0 many (own_start case) all-led in
+      subst (λ ls. Make case network_here start ls made) (sym lines-are)
+      (make_append case network_here start (map declared_line (declared_here can)) led [] made (declared_make case network_here start (declared_here can))
+      (subst (λ (vs : Valuation). Make case network_here vs led made) (sym (append-nil start)) drawn))
+
+  -- they are its valuation, and each end has its whole stream in its last state
+  pub network-valued : (shape : HasShape case network_here) → AreValues case network_here shape (courses_values courses_here)
+  network-valued shape = values_made case network_here shape (courses_values courses_here) can.complete network-makes
+
+  pub streams-ended : (stream : ℕ) → stream < length case.streams → Contains (ended_streams network_here) stream
+  streams-ended stream within =
+      let many = length-map (enumerate_from 0 case.streams) (led_course hot cold exchanges) in
+      each_ended case network_here (map declared_line (declared_here can)) courses_here (length case.streams) (no_end-declared (declared_here can))
+      lines-are all-led stream (omega (arith, within, many, length-enumerate_from 0 case.streams))
+
+  -- ---- passes
+
+  -- a stream passes an exchanger from the one state of the piece of its exchange to the other
+  pub record IsRun (stream exchanger : ℕ) (before after : Rational) : Type 0 where
+    pub s : Stream
+    pub here : slice_get case.streams stream ≡ Some s
+    pub e : Exchange
+    pub at : slice_get exchanges exchanger ≡ Some e
+    pub p : Piece
+    pub there : slice_get (on_side s.side hot cold) (piece_on s.side e) ≡ Some p
+    pub is : IsStreamPiece s.side exchanges (piece_on s.side e) p s
+    pub before_is : before ≡ p.before
+    pub after_is : after ≡ p.after
+
+  each-runs : EachRuns case network_here IsRun 0 courses_here
+  each-runs =
+      let Runs = λ (k : ℕ). StageRuns case network_here IsRun (0 + k) in
+      numbered-each (led_course hot cold exchanges) case.streams (λ k. All (Runs k)) (λ k s here.
+      let number : k ≡ 0 + k = omega arith in
+      each-piece (Runs k) k s here (λ index p found some piece.
+      each-share exchanges (λ a. IsRun (0 + k) a.exchanger p.before p.after) s.side index (λ i e at on. record {
+        s = s;
+        here = ap (slice_get case.streams) (sym number) ∙ here;
+        e = e;
+        at = at;
+        p = p;
+        there = ap (slice_get (on_side s.side hot cold)) on ∙ found;
+        is = subst (λ j. IsStreamPiece s.side exchanges j p s) (sym on) piece;
+        before_is = refl;
+        after_is = refl;
+      })))
+
+  pub passes-run : All (RunsAs case network_here IsRun values_here) network_here.lines
+  passes-run =
+      let Runs = RunsAs case network_here IsRun values_here in
+      let start = map first_value case.streams in let made = courses_values courses_here in
+      let n = length case.streams in let many = sym (length-map case.streams first_value) in
+      let all : values_here ≡ start ++ (made ++ []) = ap (λ vs. start ++ vs) (sym (append-nil made)) in
+      let runs = courses_run case network_here IsRun courses_here start [] values_here n 0 many (own_start case) all-led each-runs all in
+      subst (All Runs) (sym lines-are) (All-append Runs (map declared_line (declared_here can)) (courses_lines n 0 (courses_along courses_here))
+      (All-map Runs declared_line (declared_here can) (λ k x within. tt)) runs)
 
 -- ---- the balance is that of the exchanges
 
@@ -120,8 +256,7 @@ module _ {case : Case} {hot cold : List Piece} {exchanges : List Exchange} (can 
 
   exchange-keeps : (number : ℕ) (e : Exchange) → slice_get exchanges number ≡ Some e → KeepsApproach case network values number (exchanger_for can (number, e))
   exchange-keeps number e at =
-      let j = joined-at can number e at in
-      let a = j.hot_piece in let b = j.cold_piece in
+      let j = joined-at can number e at in let a = j.hot_piece in let b = j.cold_piece in
       let a_is = sym (source_at-piece hot e.hot a j.hot_there) in let b_is = sym (source_at-piece cold e.cold b j.cold_there) in
       let giving = runs-through side.Hot number e a at j.hot_there in let taking = runs-through side.Cold number e b at j.cold_there in
       let run = side_run case network values number in
@@ -170,8 +305,7 @@ module _ {case : Case} {hot cold : List Piece} {exchanges : List Exchange} (can 
     changes = λ k from exchanger to here.
         let run : IsRun can _ exchanger (value_at values from).t (value_at values to).t =
         all_at (RunsAs case network (IsRun can) values) network.lines k (line.Pass from exchanger to) (passes-run can) here in
-        let fine = run.is.fine in
-        let of = branch_side case network from in
+        let fine = run.is.fine in let of = branch_side case network from in
         subst₂ (λ t u. IsWithinLimits (change of t u)) (sym run.before_is) (sym run.after_is)
         (sized_change fine.size_den fine.most_size fine.state_den fine.most_state of run.p.before run.p.after fine.small fine.before fine.after);
   }
@@ -189,8 +323,7 @@ module _ {case : Case} {hot cold : List Piece} {exchanges : List Exchange} (can 
 
   keeps-loads : KeepLoads case network values
   keeps-loads =
-      let lines = network.lines in let shape = HasShape-pieces can in
-      let Keeps = PassKeepsLoad case network values in
+      let lines = network.lines in let shape = HasShape-pieces can in let Keeps = PassKeepsLoad case network values in
       let each : All Keeps lines = λ k l within. line-keeps (get_or lines k l) (passes-run can k l within) (shape.one_stream k l within) in
       loads_kept case network (length lines) values shape (network-valued can shape).valuation
       (subst (All Keeps) (sym (take_all (length lines) lines (omega arith))) each)
@@ -246,8 +379,7 @@ module _ {case : Case} {hot cold : List Piece} {exchanges : List Exchange} (can 
 
   led-network : IsLedNetwork case hot cold exchanges network
   led-network =
-      let shape = HasShape-pieces can in
-      let valuation = (network-valued can shape).valuation in
+      let shape = HasShape-pieces can in let valuation = (network-valued can shape).valuation in
       record {
         shape = shape;
         values = values;

@@ -1,6 +1,4 @@
-pub mod StageSums
+pub mod Law
 pub mod PieceStages
 pub mod PieceShape
-pub mod PieceValues
-pub mod Law
 pub mod Words

@@ -112,6 +112,10 @@ mapped_item f (x ∷ xs) (suc i) y at = mapped_item f xs i y at
 
 -- ---- the source of a piece
 
+pub on_side-ap : {X Y : Type 0} (of : Side) (f : X → Y) (hot cold : X) → on_side of (f hot) (f cold) ≡ f (on_side of hot cold)
+on_side-ap side.Hot f hot cold = refl
+on_side-ap side.Cold f hot cold = refl
+
 module _ (pieces : List Piece) (index : ℕ) (p : Piece) (there : slice_get pieces index ≡ Some p) where
   pub source_there : slice_get (sources_of pieces) index ≡ Some p.source
   source_there = slice_get-map (λ (q : Piece). q.source) pieces index ∙ ap (option_map (λ (q : Piece). q.source)) there
@@ -184,14 +188,10 @@ module _ (exchanges : List Exchange) where
       ∙ ap (on_the_way of) (source_stages of stream 0 pieces) ∙ sym (filter_map-way (stage_of of exchanges stream) of (enumerate_from 0 (sources_of pieces)))
 
   module _ (hot cold : List Piece) where
-    pub sources-on_side : (of : Side) → sources_of (on_side of hot cold) ≡ on_side of (sources_of hot) (sources_of cold)
-    sources-on_side side.Hot = refl
-    sources-on_side side.Cold = refl
-
     pub shares_along-course : (stream : ℕ) (s : Stream)
         → shares_along (led_course hot cold exchanges (stream, s)) ≡ stream_course (sources_of hot) (sources_of cold) exchanges (stream, s)
     shares_along-course stream s =
-        shares_along-led s.side (on_side s.side hot cold) stream ∙ ap (λ ss. course_of s.side ss exchanges stream) (sources-on_side s.side)
+        shares_along-led s.side (on_side s.side hot cold) stream ∙ ap (λ ss. course_of s.side ss exchanges stream) (sym (on_side-ap s.side sources_of hot cold))
 
     pub courses_along-led : (case : Case) → courses_along (led_courses case hot cold exchanges) ≡ courses_of case (sources_of hot) (sources_of cold) exchanges
     courses_along-led case =

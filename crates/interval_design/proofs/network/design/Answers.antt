@@ -1,11 +1,9 @@
 use Rattle.interval_design.proofs.Words.{AreLedPieces, AreStreams-IsComplete, Balance, Case, HasCost-flow, IsBounded, IsHeat, IsHeatFlow, IsLedNetwork, Part}
 use Rattle.interval_design.proofs.Words.{Piece, Transfer, enumerate_from, exchange_balance, exchange_of, exchanger_of, exchangers_for, heats_within}
 use Rattle.interval_design.proofs.Words.{length-AreStreams, length-enumerate_from, length-map, part_sources, piece_of, reach_between}
-use Rattle.interval_design.proofs.Balances.{balance-is, no_excess}
-use Rattle.interval_design.proofs.CaseFlow.{IsCaseFlow}
-use Rattle.interval_design.proofs.FewTransfers.{few_flow}
+use Rattle.interval_design.proofs.Balances.{balance-is, exchangers-are, no_excess}
+use Rattle.interval_design.proofs.CaseFlow.{IsCaseFlow, few_flow}
 use Rattle.interval_design.proofs.Premises.{flow_led, pieces_within, sources-are}
-use Rattle.interval_design.proofs.Utilities.{exchangers-are}
 use Rattle.std.proofs.Common.{All, List, ap, arith, length, map, subst, sym, ◌∙◌, ◌≡◌}
 use Rattle.interval_design.proofs.network.design.Goals as goal
 use Rattle.stream_case.specs.declared.source.Side.TheVariants as side
@@ -48,8 +46,7 @@ lead-requires-clause-cold c =
 
 pub lead-requires-clause-few : goal.lead-requires-clause-few
 lead-requires-clause-few c =
-    let parts = c.args.parts.now in
-    let few = few_flow c.requires.flow parts.few_hot parts.few_cold in
+    let parts = c.args.parts.now in let few = few_flow c.requires.flow parts.few_hot parts.few_cold in
     let streams = length-AreStreams c.args.case.now.streams (AreStreams-IsComplete c.args.case.now c.requires.complete) in
     let exchanges = ap length (exchanges_given c) in
     let long = length-map c.args.flow.now.transfers (exchange_of parts.hot parts.cold) in
@@ -99,8 +96,7 @@ returns-clause-shape c = (led c).shape
 
 pub returns-clause-few_lines : goal.returns-clause-few_lines
 returns-clause-few_lines c few =
-    let parts = c.args.parts.now in
-    let lines = c.in_ok-network.ensures.few_lines in
+    let parts = c.args.parts.now in let lines = c.in_ok-network.ensures.few_lines in
     let streams = length-AreStreams c.args.case.now.streams (AreStreams-IsComplete c.args.case.now c.requires.complete) in
     let exchanges = ap length (exchanges_led c) in
     let long = length-map c.args.flow.now.transfers (exchange_of parts.hot parts.cold) in
@@ -108,8 +104,7 @@ returns-clause-few_lines c few =
 
 pub returns-clause-counts : goal.returns-clause-counts
 returns-clause-counts c few =
-    let parts = c.args.parts.now in let ts = c.args.flow.now.transfers in
-    let lines = returns-clause-few_lines c few in
+    let parts = c.args.parts.now in let ts = c.args.flow.now.transfers in let lines = returns-clause-few_lines c few in
     let many = ap length (returns-clause-exchangers c) in
     let long = length-map (enumerate_from 0 ts) (exchanger_of parts.hot parts.cold) in
     let count = length-enumerate_from 0 ts in

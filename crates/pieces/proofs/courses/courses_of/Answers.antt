@@ -5,11 +5,8 @@ use Rattle.pieces.proofs.courses.courses_of.Goals as goal
 
 pub loop-number-preserved : goal.loop-number-preserved
 loop-number-preserved c =
-    let s = c.stream-item.result in
-    let number = c.loop-number.number in
-    let streams = c.args.case.now.streams in
-    let hot = c.args.hot.now in let cold = c.args.cold.now in
-    let exchanges = c.args.exchanges.now in
+    let s = c.stream-item.result in let number = c.loop-number.number in let streams = c.args.case.now.streams in
+    let hot = c.args.hot.now in let cold = c.args.cold.now in let exchanges = c.args.exchanges.now in
     let (within, is) = item_there number s c.as_slice-stream-items.ensures c.loop-number-test.true c.stream-item.is in
     let sources : c.match-stream.sources.now ≡ on_side s.side hot cold = elim c.match-stream.branch [
       | in-Hot w ↦ (λ i. (w.sources-is i).now) ∙ ap (λ d. on_side d hot cold) (sym w.in-Hot.is)

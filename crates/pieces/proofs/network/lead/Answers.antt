@@ -2,7 +2,7 @@ use Rattle.pieces.proofs.Words.{AreStages, Course, IsLedNetwork, Network, all_br
 use Rattle.pieces.proofs.Words.{network_of, own_branches}
 use Rattle.pieces.proofs.Law.{balance-network_of, exchangers_of-network_of, led_network, length-network_of}
 use Rattle.pieces.proofs.PieceStages.{courses-used}
-use Rattle.pieces.proofs.StageSums.{few-branches, length-courses_of}
+use Rattle.pieces.proofs.PieceShape.{few-branches, length-courses_of}
 use Rattle.std.proofs.Common.{All, List, ap, arith, length, subst, sym, ◌++◌, ◌∙◌}
 use Rattle.pieces.proofs.network.lead.Goals as goal
 
@@ -18,9 +18,8 @@ draw-requires-clause-all c =
 pub draw-requires-clause-fits : goal.draw-requires-clause-fits
 draw-requires-clause-fits c =
     let case = c.args.case.now in let hot = c.args.hot.now in let cold = c.args.cold.now in let exchanges = c.args.exchanges.now in
-    let courses = c.as_slice.ensures.value ∙ c.in_ok-courses.ensures in
     let few = few-branches case hot cold exchanges (courses-used exchanges case hot cold) in
-    omega (arith, ap all_branches courses, few, c.requires.few)
+    omega (arith, ap all_branches (c.as_slice.ensures.value ∙ c.in_ok-courses.ensures), few, c.requires.few)
 
 -- the network is the one that the sources and the exchanges draw
 pub returns-clause-drawn : goal.returns-clause-drawn
