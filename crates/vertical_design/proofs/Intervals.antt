@@ -359,8 +359,9 @@ module _ (axis : Axis) where
           let (begin, end, is) = gap_segment of axis.case.streams (streams_are axis) (low_at axis number) (high_at axis number) gap from upto in
           let scale = segment_scale of axis.case.streams (streams_are axis) (low_at axis number) (high_at axis number) gap begin end is
           (no_end_between axis number within of) in
-          (scale.0, λ r runs. subst (λ f. IsScale of axis.case.streams (streams_are axis) (low_at axis number) (high_at axis number) f scale.0)
-          (sym (side_flow-curve axis number within of from upto)) scale.1)
+          let is = subst (λ f. IsScale of axis.case.streams (streams_are axis) (low_at axis number) (high_at axis number) f scale.0)
+          (sym (side_flow-curve axis number within of from upto)) scale.1 in
+          (scale.0, λ r runs. is)
 
   scale_by : (of : Side) (number : ℕ) → (number < length axis.cuts - 1) ⊎ (length axis.cuts - 1 ≤ number) → ℤ → Rational
   scale_by of number (inl within) = (side_scale of number within).0

@@ -138,9 +138,9 @@ few_steps : (high : ℕ) (ps : List Pair) → AllPairs (λ p q. steps p < steps 
 few_steps high [] rise upto low from le = omega (arith, le)
 few_steps high (p ∷ ps) rise upto low from le =
     let last = All-head (λ q. steps q < high) p ps upto in
-    omega (arith, All-head (λ q. low ≤ steps q) p ps from, few_steps high ps (AllPairs-tail (λ a b. steps a < steps b) p ps rise)
-    (All-tail (λ q. steps q < high) p ps upto) (steps p + 1)
-    (λ k o within. let less = AllPairs-head (λ a b. steps a < steps b) p ps rise k o within in omega arith) (omega arith))
+    let rest = few_steps high ps (AllPairs-tail (λ a b. steps a < steps b) p ps rise) (All-tail (λ q. steps q < high) p ps upto) (steps p + 1)
+    (λ k o within. let less = AllPairs-head (λ a b. steps a < steps b) p ps rise k o within in omega arith) (omega arith) in
+    omega (arith, rest, All-head (λ q. low ≤ steps q) p ps from)
 
 pub few_pairs : (us vs : List ℤ) → NotNegative us → NotNegative vs → length (pairs_of us vs) ≤ length us + length vs
 few_pairs us vs some_us some_vs =
@@ -317,8 +317,9 @@ unfolding matches_in
 few_matches number low high hot cold are_hot are_cold =
     let us = amounts_in low high hot cold in
     let vs = amounts_in low high cold hot in
-    omega (arith, few_pairs us vs (amounts-positive low high hot cold are_hot are_cold) (amounts-positive low high cold hot are_cold are_hot), are_hot.few,
-    are_cold.few, length-map (pairs_of us vs) (match_of number low high hot cold), length-amounts low high hot cold, length-amounts low high cold hot)
+    let few = few_pairs us vs (amounts-positive low high hot cold are_hot are_cold) (amounts-positive low high cold hot are_cold are_hot) in
+    let made = length-map (pairs_of us vs) (match_of number low high hot cold) in
+    omega (arith, few, made, length-amounts low high hot cold, length-amounts low high cold hot, are_hot.few, are_cold.few)
 
 -- The pairs of one source of an interval share out its flow times that of the other side.
 
@@ -439,7 +440,9 @@ only_row {X} f a (suc count) n from upto others =
     no_rows : (b k : ℕ) → n < b → flat_map f (range_with_len b k) ≡ []
     no_rows b zero past = refl
     no_rows b (suc k) past = ap (λ (xs : List X). xs ++ flat_map f (range_with_len (b + 1) k)) (others b (λ same. absurd (omega (arith, same, past))))
-        ∙ no_rows (b + 1) k (omega (arith, past))-- few in each row, and so in all
+        ∙ no_rows (b + 1) k (omega (arith, past))
+
+-- few in each row, and so in all
 pub few-rows : {X : Type 0} (f : ℕ → List X) (most : ℕ) → ((n : ℕ) → length (f n) ≤ most) → (a count : ℕ)
     → length (flat_map f (range_with_len a count)) ≤ count * most
 few-rows f most each a zero = omega arith

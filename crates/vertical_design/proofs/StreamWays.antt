@@ -222,7 +222,6 @@ module _ (axis : Axis) where
           let gap = cut_below axis number within in
           let above = flow_above axis number within (other s.side) in
           let some = flow_above axis number within s.side in
-
           let states = either_cut (λ q. IsSized (unsigned_abs (flow_at axis s.side number)) highest (state_at axis s.side number q is.span)) s.side number
           (state_sized low (omega (arith, ints)) (omega (arith, ints, gap))) (state_sized high (omega (arith, ints, gap)) (omega (arith, ints))) in
           let across = unsigned_abs (flow_at axis (other s.side) number) in

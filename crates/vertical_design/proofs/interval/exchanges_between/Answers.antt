@@ -23,13 +23,13 @@ push_matches-requires-clause-gap c =
 
 pub push_matches-requires-clause-number : goal.push_matches-requires-clause-number
 push_matches-requires-clause-number c =
-    omega (arith, few_cuts c.args.hot.now c.args.cold.now c.args.cuts.now c.requires.hot c.requires.cold c.requires.cuts,
-    few (goal.at.push_matches-requires-clause-number c).In-loop-number)
+    let all = few_cuts c.args.hot.now c.args.cold.now c.args.cuts.now c.requires.hot c.requires.cold c.requires.cuts in
+    omega (arith, all, few (goal.at.push_matches-requires-clause-number c).In-loop-number)
 
 pub overflow_cast-number : goal.overflow_cast-number
 overflow_cast-number c =
-    omega (arith, few_cuts c.args.hot.now c.args.cold.now c.args.cuts.now c.requires.hot c.requires.cold c.requires.cuts,
-    few (goal.at.overflow_cast-number c).In-loop-number)
+    let all = few_cuts c.args.hot.now c.args.cold.now c.args.cuts.now c.requires.hot c.requires.cold c.requires.cuts in
+    omega (arith, all, few (goal.at.overflow_cast-number c).In-loop-number)
 
 pub loop-number-preserved : goal.loop-number-preserved
 loop-number-preserved c =
