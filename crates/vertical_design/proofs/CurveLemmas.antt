@@ -1,4 +1,4 @@
--- The heat of streams below a shifted temperature, and the curve of a side at whole temperatures.
+-- The shifted curves of both sides: their heats, their order and their straight parts; and what a range of the axis has between two cuts.
 use Rattle.vertical_design.proofs.Words.{*ℤ-+ℤ, *ℤ--ℤ, *ℤ-<ℤ_right, *ℤ-zero, *ℤ-≤ℤ_left, *ℤ-≤ℤ_right, *ℤ_cancel_right, +ℤ-*ℤ, All-contains, All-head, All-tail}
 use Rattle.vertical_design.proofs.Words.{All-weaker, AreEnds-IsValidStream, AreSensibleStreams, Contains, Contains-get_or, HIGHEST_SHIFTED, IsAtMost, IsBelow}
 use Rattle.vertical_design.proofs.Words.{IsBetween, IsSensibleStream, IsStreamHeat, IsValidStream, LOWEST_SHIFTED, Rational, Side, Stream, at_most_below_trans}

@@ -1,4 +1,4 @@
--- Each exchange is that of two sources that meet in an interval and run from its one cut to the other: their pieces, and the sizes and the heat.
+-- Each exchange is that of two pieces that meet in an interval: their sizes and heat, what a piece's exchanges add up to, and that both pieces face each other.
 use Rattle.vertical_design.proofs.Words.{*ℤ_comm, All-flat_map, All-head, All-map, All-range, All-tail, AreFacing, Contains-slice_get, Exchange, IsAtUtility}
 use Rattle.vertical_design.proofs.Words.{IsGap, IsMet, IsPositive, IsSensibleStream, Option, Pair, Rational, Share, Side, Source, Span, Stream, Utility, all_at}
 use Rattle.vertical_design.proofs.Words.{amounts_in, cases_eq, cons_option, contribution_of, curve_heat, enumerate_from, eq-eqb, eqb-true, exchanges_at}

@@ -1,4 +1,4 @@
--- A hot and a cold source that face each other at both ends keep their approach, where each stream is within its range.
+-- The temperatures of both sides in an interval, and its pieces; two that face each other at both ends keep their approach.
 use Rattle.vertical_design.proofs.Words.{*ℤ_cancel_right, *ℤ_comm, -ℤ-*ℤ, All-contains, AreApart, AreFacing, AreSensible, AreSensibleStreams}
 use Rattle.vertical_design.proofs.Words.{AreSensibleStreams-both, Case, Contains-slice_get, HasValidStreams, IsAtMost, IsAtUtility, IsBelow, IsGap, IsOutermost}
 use Rattle.vertical_design.proofs.Words.{IsOutermost-outermost, IsOver, IsSensible, IsStandard, Piece, Rational, Side, Source, Span, Stream, Utility, all_at}

@@ -1,4 +1,4 @@
--- The heats of the exchanges with a utility add up to the heat between the cuts where it lies, and so to its target in all.
+-- The heats with a utility add up to its target; the pieces and exchanges are led; and the network that they draw is vertical.
 use Rattle.vertical_design.proofs.Words.{*ℤ-+ℤ, *ℤ-zero, *ℤ_comm, ALL_SENSIBLE_HEAT, All-cons, All-head, All-map, All-nil, All-range, All-tail, AreFacing}
 use Rattle.vertical_design.proofs.Words.{AreLedPieces, Case, Exchange, HasShape, HasUtilityHeat, HasValidStreams-IsComplete, IsLedNetwork, IsSized, IsVertical}
 use Rattle.vertical_design.proofs.Words.{IsVerticalAt, IsWholeGroup, JoinsPieces, LedPiecesDrawLedNetworks, MOST_CUTS, MOST_HEAT, MOST_SPANS, Network, Option}
@@ -7,11 +7,11 @@ use Rattle.vertical_design.proofs.Words.{contribution_of, cost_of, count_of, dut
 use Rattle.vertical_design.proofs.Words.{exchangers_for, exchangers_of, exchanges_at, exit, false_from_ne_true, filter, filter_map, flat_map, flat_map-map}
 use Rattle.vertical_design.proofs.Words.{heat_price, heat_with, heats_with, hot_heat-is, hot_target, int_le, int_sum_by, intervals_of, ints, is_forbidden}
 use Rattle.vertical_design.proofs.Words.{length-AreStreams, length-map, length-numbers, matches_in, minus, minus-self, mul-le-mul, mul-le-mul_right, network_of}
-use Rattle.vertical_design.proofs.Words.{none-some, numbered-item, on_scale, one_times, piece_on, plus, plus-zero, range_with_len, ratio, ratio-multiple}
-use Rattle.vertical_design.proofs.Words.{ratio-zero, rational_sum, rational_sum_by, rational_sum_by-append, rational_zero, same_Some, same_source}
-use Rattle.vertical_design.proofs.Words.{same_source-true, side_flow, side_of, slice_get_within, source_at, source_at-piece, sources_between, sources_in}
-use Rattle.vertical_design.proofs.Words.{sources_of, spans_of, standard_utility, target_balance, times, unsigned_abs, unsigned_abs-mul, utility_from}
-use Rattle.vertical_design.proofs.Words.{utility_to, whole, whole-plus, whole-times, zero_times, ◌&&◌}
+use Rattle.vertical_design.proofs.Words.{none-some, numbered-item, on_scale, one_times, or-false, piece_on, plus, plus-zero, range_with_len, ratio}
+use Rattle.vertical_design.proofs.Words.{ratio-multiple, ratio-zero, rational_sum, rational_sum_by, rational_sum_by-append, rational_zero, same_Some}
+use Rattle.vertical_design.proofs.Words.{same_source, same_source-true, side_flow, side_of, slice_get_within, source_at, source_at-piece, sources_between}
+use Rattle.vertical_design.proofs.Words.{sources_in, sources_of, spans_of, standard_utility, target_balance, times, unsigned_abs, unsigned_abs-mul}
+use Rattle.vertical_design.proofs.Words.{utility_from, utility_to, whole, whole-plus, whole-times, zero_times, ◌&&◌}
 use Rattle.std.proofs.Common.{All, Bool, List, None, Some, [], ap, ap₂, arith, false, get_or, if◌then◌else◌, length, map, option_map, pos, refl, slice_get}
 use Rattle.std.proofs.Common.{subst, subst₂, suc, sym, true, zero, ℕ, ℤ, ⊎_elim, ◌*ℤ◌, ◌*◌, ◌+ℤ◌, ◌+◌, ◌-ℤ◌, ◌-◌, ◌<ℤ◌, ◌<◌, ◌==◌, ◌^◌, ◌||◌, ◌∙◌, ◌∷◌, ◌≡◌}
 use Rattle.std.proofs.Common.{◌≢◌, ◌≤ℤ◌, ◌≤◌}
@@ -44,10 +44,6 @@ by_exchanges : (hot cold : List Source) (index n : ℕ) (es : List Exchange) →
     ≡ filter_map (heat_for hot cold index) es
 by_exchanges hot cold index n [] = refl
 by_exchanges hot cold index n (e ∷ es) = ap (cons_option (heat_for hot cold index e)) (by_exchanges hot cold index (n + 1) es)
-
-or_none : (b : Bool) → (b || false) ≡ b
-or_none true = refl
-or_none false = refl
 
 -- what is kept of a list, where whether it is kept is known of each item
 kept_all : {X : Type 0} (Q : Rational → Type 0) (h : X → Option Rational) (own : X → Bool) (f : X → Rational) (xs : List X)
@@ -153,7 +149,7 @@ module _ (axis : Axis) where
         → joins_utility hot_sources cold_sources index (match_in axis number p) ≡ (index_on of p == k)
     joins_own number within p met side.Hot side_is k there =
         ap₂ ◌||◌ (on_side_test side.Hot number within p met k there)
-        (other_test side.Cold number within p met (λ is. let clash : side.Hot ≡ side.Cold = sym side_is ∙ is in cc clash)) ∙ or_none (p.first == k)
+        (other_test side.Cold number within p met (λ is. let clash : side.Hot ≡ side.Cold = sym side_is ∙ is in cc clash)) ∙ or-false (p.first == k)
     joins_own number within p met side.Cold side_is k there =
         ap₂ ◌||◌ (other_test side.Hot number within p met (λ is. let clash : side.Cold ≡ side.Hot = sym side_is ∙ is in cc clash))
         (on_side_test side.Cold number within p met k there)

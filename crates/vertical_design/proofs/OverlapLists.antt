@@ -1,4 +1,4 @@
--- The pairs of two lists of amounts, as a list, and how many they are.
+-- The pairs of two lists of amounts, flows and shares within the limits, and lists that are made row by row.
 use Rattle.vertical_design.proofs.Words.{*ℤ-zero, *ℤ_comm, +ℤ-*ℤ, All-cons, All-flat_map, All-head, All-map, All-nil, All-tail, All-take, All-weaker}
 use Rattle.vertical_design.proofs.Words.{AllPairs-append, AllPairs-cons, AllPairs-nil, AreCuts, AreSpans, Contains-flat_map, IsBetween, IsFlow, IsGap}
 use Rattle.vertical_design.proofs.Words.{IsOverlap, IsPlace, IsSideFlow, IsSpan, Lists, ListsOverlaps, MOST_CP, MOST_FLOW, MOST_SPANS, NotNegative, Option}

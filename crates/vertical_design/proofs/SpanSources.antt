@@ -1,4 +1,4 @@
--- The heat axis: it goes from 0 to the end of the hot utility, which is that of the cold curve.
+-- The heat axis, the spans of a side source by source, and the cuts: what runs between two neighbouring ones.
 use Rattle.vertical_design.proofs.Words.{ALL_SENSIBLE_HEAT, All-append, All-cons, All-contains, All-flat_map, All-nil, All-slice_get, All-weaker}
 use Rattle.vertical_design.proofs.Words.{AllPairs-append, AllPairs-cons, AllPairs-nil, AreCuts, AreSensibleStreams, AreSensibleStreams-case, AreSpans, Case}
 use Rattle.vertical_design.proofs.Words.{Contains, Contains-append_left, Contains-append_right, Contains-flat_map, Contains-slice_get, IsBetween, IsPlace}

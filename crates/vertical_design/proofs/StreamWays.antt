@@ -1,5 +1,4 @@
--- The pieces of a stream: in an interval in which it runs its shares are the whole stream, and each exchange brings it from the temperature of the one cut to
--- that of the other.
+-- The pieces of a stream, and its way through them: from interval to interval, from its supply to its target.
 use Rattle.vertical_design.proofs.Words.{All-contains, AreEnds, AreEnds-IsValidStream, AreJoined, AreSmall, Contains, Contains-slice_get, Exchange}
 use Rattle.vertical_design.proofs.Words.{HIGHEST_SHIFTED, IsAtMost, IsContribution, IsFine, IsSensibleStream, IsSized, IsStreamPiece, LedStage}
 use Rattle.vertical_design.proofs.Words.{MOST_CONTRIBUTION, MOST_CP, MOST_FLOW, Meet, Piece, Rational, Share, Side, Span, Stream, all_at, at_most-whole}
