@@ -1,4 +1,4 @@
--- The heat of streams below a shifted temperature, and the curve of a side at whole temperatures.
+-- The shifted curves of both sides: their heats, their order and their straight parts; and what a range of the axis has between two cuts.
 use Rattle.vertical_design.proofs.Words.{*ℤ-+ℤ, *ℤ--ℤ, *ℤ-<ℤ_right, *ℤ-zero, *ℤ-≤ℤ_left, *ℤ-≤ℤ_right, *ℤ_cancel_right, +ℤ-*ℤ, All-contains, All-head, All-tail}
 use Rattle.vertical_design.proofs.Words.{All-weaker, AreEnds-IsValidStream, AreSensibleStreams, Contains, Contains-get_or, HIGHEST_SHIFTED, IsAtMost, IsBelow}
 use Rattle.vertical_design.proofs.Words.{IsBetween, IsSensibleStream, IsStreamHeat, IsValidStream, LOWEST_SHIFTED, Rational, Side, Stream, at_most_below_trans}
@@ -20,43 +20,36 @@ use Rattle.stream_case.specs.declared.source.Side.TheVariants as side
 
 pub heat_below-between : (t : ℤ) (s : Stream) → IsValidStream s → IsStreamHeat (heat_below t s)
 heat_below-between t s h =
-    let range = range-length s h in
-    let ends = AreEnds-IsValidStream s h in
+    let range = range-length s h in let ends = AreEnds-IsValidStream s h in
     let heat = heat-between s (length_below (low_end s) (high_end s) t) h (record { from = omega (arith, ints, clamps); upto = omega (arith, ints, clamps) }) in
     record { from = heat.from; upto = omega (arith, ints, heat.upto) }
 
 -- all of it lies below a temperature that is not below its range, and none below one that is not above it
 pub heat_below-all : (t : ℤ) (s : Stream) → IsSensibleStream s → high_end s ≤ℤ t → heat_below t s ≡ heat_of s
 heat_below-all t s h above =
-    let ends = AreEnds-IsValidStream s h.valid in
-    let whole : length_below (low_end s) (high_end s) t ≡ high_end s -ℤ low_end s = omega (arith, ints, clamps) in
+    let ends = AreEnds-IsValidStream s h.valid in let whole : length_below (low_end s) (high_end s) t ≡ high_end s -ℤ low_end s = omega (arith, ints, clamps) in
     ap (λ l. s.cp *ℤ l) whole ∙ sym (heat_of-sensible s h.sensible)
 
 heat_below-none : (t : ℤ) (s : Stream) → IsSensibleStream s → t ≤ℤ low_end s → heat_below t s ≡ pos 0
 heat_below-none t s h under =
-    let ends = AreEnds-IsValidStream s h.valid in
-    let nothing : length_below (low_end s) (high_end s) t ≡ pos 0 = omega (arith, ints, clamps) in
+    let ends = AreEnds-IsValidStream s h.valid in let nothing : length_below (low_end s) (high_end s) t ≡ pos 0 = omega (arith, ints, clamps) in
     ap (λ l. s.cp *ℤ l) nothing ∙ *ℤ-zero s.cp
 
 -- the heat below and that above are all of it
 pub below_and_above : (t : ℤ) (s : Stream) → IsSensibleStream s → heat_of s ≡ heat_below t s +ℤ heat_above t s
 below_and_above t s h =
-    let ends = AreEnds-IsValidStream s h.valid in
-    let below = length_below (low_end s) (high_end s) t in
-    let above = length_above (low_end s) (high_end s) t in
+    let ends = AreEnds-IsValidStream s h.valid in let below = length_below (low_end s) (high_end s) t in let above = length_above (low_end s) (high_end s) t in
     let parts : high_end s -ℤ low_end s ≡ below +ℤ above = omega (arith, ints, clamps) in
     heat_of-sensible s h.sensible ∙ ap (λ l. s.cp *ℤ l) parts ∙ *ℤ-+ℤ s.cp below above
     ∙ ap (λ z. heat_below t s +ℤ z) (sym (heat_over-sensible false t s h.sensible))
 
 heat_below-le : (t : ℤ) (s : Stream) → IsSensibleStream s → heat_below t s ≤ℤ heat_of s
-heat_below-le t s h =
-    omega (arith, ints, below_and_above t s h, (heat_over-between false t s h.valid).from)
+heat_below-le t s h = omega (arith, ints, below_and_above t s h, (heat_over-between false t s h.valid).from)
 
 -- ---- sums
 
 -- where f is g and c times h for each stream of a side, so it is in their sums
-pub sum_side-linear : (of : Side) (f g h : Stream → ℤ) (c : ℤ) (streams : List Stream)
-    → All (λ s. same_side s.side of ≡ true → f s ≡ g s +ℤ h s *ℤ c) streams
+pub sum_side-linear : (of : Side) (f g h : Stream → ℤ) (c : ℤ) (streams : List Stream) → All (λ s. same_side s.side of ≡ true → f s ≡ g s +ℤ h s *ℤ c) streams
     → sum_side of f streams ≡ sum_side of g streams +ℤ sum_side of h streams *ℤ c
 sum_side-linear of f g h c [] each = omega (arith, ints)
 sum_side-linear of f g h c (s ∷ ss) each =
@@ -83,8 +76,7 @@ module _ (of : Side) (streams : List Stream) (are : AreSensibleStreams streams) 
   curve_begins =
       let nothing = λ (s : Stream) (h : IsSensibleStream s). heat_below-none LOWEST_SHIFTED s h (AreEnds-IsValidStream s h.valid).from in
       let none = sum_side-zero of (heat_below LOWEST_SHIFTED) streams
-      (All-weaker IsSensibleStream (λ s. heat_below LOWEST_SHIFTED s ≡ pos 0) nothing streams are.each) in
-      omega (arith, ints, none)
+      (All-weaker IsSensibleStream (λ s. heat_below LOWEST_SHIFTED s ≡ pos 0) nothing streams are.each) in omega (arith, ints, none)
 
   pub curve_ends : heat_at of streams HIGHEST_SHIFTED ≡ end_of of streams
   curve_ends =
@@ -128,8 +120,7 @@ positive_part-ratio m d some =
     (λ above. let more = positive_from_ratio m d some above in let same : m ≡ int_max m (pos 0) = omega (arith, ints, clamps) in ap (λ z. ratio z d) same)
     (λ upto.
     let most = at_most_from_ratio m (pos 0) d some (subst (IsAtMost (ratio m d)) (sym (ratio-zero d)) upto) in
-    let none : pos 0 ≡ int_max m (pos 0) = omega (arith, ints, clamps) in
-    sym (ratio-zero d) ∙ ap (λ z. ratio z d) none)
+    let none : pos 0 ≡ int_max m (pos 0) = omega (arith, ints, clamps) in sym (ratio-zero d) ∙ ap (λ z. ratio z d) none)
 
 module _ (d : ℕ) (some : 0 < d) where
   distance-ratio : (n x : ℤ) → positive_part (minus (ratio n d) (whole x)) ≡ ratio (distance_above n (x *ℤ pos d)) d
@@ -140,8 +131,7 @@ module _ (d : ℕ) (some : 0 < d) where
   stream_heat-ratio : (n : ℤ) (s : Stream) → IsSensibleStream s → stream_heat (ratio n d) s ≡ ratio (parts_below d n s) d
   stream_heat-ratio n s h =
       let ends = ap₂ minus (distance-ratio n (low_end s)) (distance-ratio n (high_end s)) in
-      let range : range_below (ratio n d) s ≡ ratio (length_parts d n s) d = ends ∙ minus-ratio_same_den _ _ d in
-      let one : 1 * d ≡ d = omega arith in
+      let range : range_below (ratio n d) s ≡ ratio (length_parts d n s) d = ends ∙ minus-ratio_same_den _ _ d in let one : 1 * d ≡ d = omega arith in
       let size = full_size-sensible s h.sensible ∙ sym (ratio-one s.cp) in
       ap₂ times size range ∙ times-ratio s.cp (length_parts d n s) 1 d (omega arith) some ∙ ap (ratio (parts_below d n s)) one
 
@@ -166,12 +156,10 @@ module _ (d : ℕ) (some : 0 < d) where
 -- ---- at whole temperatures
 
 -- the curve is the one of the axis
-pub whole_heat : (of : Side) (streams : List Stream) (t : ℤ) → All IsSensibleStream streams
-    → curve_heat of streams (whole t) ≡ whole (heat_at of streams t)
+pub whole_heat : (of : Side) (streams : List Stream) (t : ℤ) → All IsSensibleStream streams → curve_heat of streams (whole t) ≡ whole (heat_at of streams t)
 whole_heat of streams t valid =
     let one : (s : Stream) → length_parts 1 (t *ℤ pos 1) s ≡ length_below (low_end s) (high_end s) t = λ s. omega (arith, ints, clamps) in
-    let sums = sum_side-same of (parts_below 1 (t *ℤ pos 1)) (heat_below t) streams
-    (λ k o within. let s = get_or streams k o in ap (λ l. s.cp *ℤ l) (one s)) in
+    let sums = sum_side-same of (parts_below 1 (t *ℤ pos 1)) (heat_below t) streams (λ k o within. let s = get_or streams k o in ap (λ l. s.cp *ℤ l) (one s)) in
     let is : curve_parts 1 of streams (t *ℤ pos 1) ≡ heat_at of streams t = omega (arith, ints, sums) in
     ap (curve_heat of streams) (sym (ratio-multiple t 1 (omega arith))) ∙ curve_heat-ratio 1 (omega arith) of streams (t *ℤ pos 1) valid
     ∙ ap (λ z. ratio z 1) is ∙ ratio-one (heat_at of streams t)
@@ -179,8 +167,7 @@ whole_heat of streams t valid =
 pub curve_parts-whole : (d : ℕ) (of : Side) (streams : List Stream) (t : ℤ) → 0 < d → All IsSensibleStream streams
     → curve_parts d of streams (t *ℤ pos d) ≡ heat_at of streams t *ℤ pos d
 curve_parts-whole d of streams t some valid =
-    let parts = curve_parts d of streams (t *ℤ pos d) in
-    let heat = heat_at of streams t *ℤ pos d in
+    let parts = curve_parts d of streams (t *ℤ pos d) in let heat = heat_at of streams t *ℤ pos d in
     *ℤ_cancel_right (pos d) parts heat (pos_above d some) (same_from_ratio parts heat d d some some
     (sym (curve_heat-ratio d some of streams (t *ℤ pos d) valid) ∙ ap (curve_heat of streams) (ratio-multiple t d some)
     ∙ whole_heat of streams t valid ∙ sym (ratio-multiple (heat_at of streams t) d some)))
@@ -199,23 +186,20 @@ module _ (d : ℕ) where
       → curve_parts d of streams n ≤ℤ curve_parts d of streams m
   curve_rises of streams n m valid upto =
       let sums = sum_side-le of (parts_below d n) (parts_below d m) streams
-      (All-weaker IsSensibleStream (λ s. parts_below d n s ≤ℤ parts_below d m s) (parts_rise n m upto) streams valid) in
-      omega (arith, ints, sums)
+      (All-weaker IsSensibleStream (λ s. parts_below d n s ≤ℤ parts_below d m s) (parts_rise n m upto) streams valid) in omega (arith, ints, sums)
 
   -- strictly where a stream of the side has a part of its range
   pub curve_rises_along : 0 < d → (streams : List Stream) (n m : ℤ) (r : Stream) → All IsSensibleStream streams → Contains streams r
       → n <ℤ m → low_parts d r <ℤ m → n <ℤ high_parts d r → curve_parts d r.side streams n <ℤ curve_parts d r.side streams m
   curve_rises_along some streams n m r valid member less from upto =
-      strictly (curve_parts d r.side streams n) (curve_parts d r.side streams m) (curve_rises r.side streams n m valid (omega (arith, ints, less)))
-      (λ same.
+      strictly (curve_parts d r.side streams n) (curve_parts d r.side streams m) (curve_rises r.side streams n m valid (omega (arith, ints, less))) (λ same.
       let term = λ (x : ℤ) (s : Stream). if same_side s.side r.side then parts_below d x s else pos 0 in
       let rise = All-weaker IsSensibleStream (λ s. term n s ≤ℤ term m s)
       (λ s h. either (same_side s.side r.side) (parts_rise n m (omega (arith, ints, less)) s h)) streams valid in
       let equal = int_sum_by-equal (term n) (term m) streams rise (omega (arith, ints, same)) in
       let own : parts_below d n r ≡ parts_below d m r = rw own_side at (All-contains (λ s. term n s ≡ term m s) streams r equal member) in
       let h = All-contains IsSensibleStream streams r valid member in
-      let order = *ℤ-<ℤ_right (pos d) (low_end r) (high_end r) (pos_above d some) (order-sensible r h.sensible) in
-      let here = length_parts d n r in
+      let order = *ℤ-<ℤ_right (pos d) (low_end r) (high_end r) (pos_above d some) (order-sensible r h.sensible) in let here = length_parts d n r in
       let there = length_parts d m r in
       let more = product_positive r.cp (there -ℤ here) (omega (arith, ints, h.sensible.cp.from)) (omega (arith, ints, clamps, from, less, upto, order)) in
       omega (arith, ints, own, more, *ℤ--ℤ r.cp there here))
@@ -233,15 +217,12 @@ IsOutside a b x = (x ≤ℤ a) ⊎ (b ≤ℤ x)
 -- ---- numbers in a row that are straight wherever they are below 0, with steps to either side and an end
 
 module _ (f on back left : ℤ → ℤ) (returns : (n : ℤ) → back (on n) ≡ n) (nearer : (n : ℤ) → left (on n) ≡ left n -ℤ pos 1)
-    (last : (n : ℤ) → left n ≤ℤ pos 0 → pos 0 ≤ℤ f n)
-    (straight : (n : ℤ) → f n <ℤ pos 0 → f (on n) +ℤ f (back n) ≡ f n +ℤ f n) where
+    (last : (n : ℤ) → left n ≤ℤ pos 0 → pos 0 ≤ℤ f n) (straight : (n : ℤ) → f n <ℤ pos 0 → f (on n) +ℤ f (back n) ≡ f n +ℤ f n) where
   -- they would fall on for ever
   never_falls : (k : ℕ) (n : ℤ) → left n ≤ℤ pos k → f n <ℤ pos 0 → f n ≤ℤ f (back n) → ⊥
   never_falls zero n near below falls = let end = last n near in omega (arith, ints, end, below)
   never_falls (suc k) n near below falls =
-      let line = straight n below in
-      let same = ap f (returns n) in
-      let next = nearer n in
+      let line = straight n below in let same = ap f (returns n) in let next = nearer n in
       never_falls k (on n) (omega (arith, ints)) (omega (arith, ints)) (omega (arith, ints))
 
 -- ---- at whole temperatures
@@ -262,12 +243,10 @@ module _ (streams : List Stream) (are : AreSensibleStreams streams) where
   ends_ordered = each_end IsOrdered streams (λ k o within. ordered_at_end (get_or (stream_ends streams) k o) (Contains-get_or (stream_ends streams) k o within))
 
   lowest_ordered : IsOrdered LOWEST_SHIFTED
-  lowest_ordered =
-      omega (arith, ints, curve_begins side.Hot streams are, curve_begins side.Cold streams are, (cold_target-within streams are.are).from)
+  lowest_ordered = omega (arith, ints, curve_begins side.Hot streams are, curve_begins side.Cold streams are, (cold_target-within streams are.are).from)
 
   highest_ordered : IsOrdered HIGHEST_SHIFTED
-  highest_ordered =
-      omega (arith, ints, curve_ends side.Hot streams are, curve_ends side.Cold streams are, (hot_target-within streams are.are).from)
+  highest_ordered = omega (arith, ints, curve_ends side.Hot streams are, curve_ends side.Cold streams are, (hot_target-within streams are.are).from)
 
   -- ---- in parts
 
@@ -300,9 +279,7 @@ module _ (streams : List Stream) (are : AreSensibleStreams streams) where
     curve-straight : (of : Side) (n : ℤ) → All (λ s. (n ≡ high_parts d s → ⊥) × (n ≡ low_parts d s → ⊥)) streams
         → curve_parts d of streams (n +ℤ pos 1) +ℤ curve_parts d of streams (n -ℤ pos 1) ≡ curve_parts d of streams n +ℤ curve_parts d of streams n
     curve-straight of n clear =
-        let here = parts_below d n in
-        let last = parts_below d (n -ℤ pos 1) in
-        let step = λ (s : Stream). here s -ℤ last s in
+        let here = parts_below d n in let last = parts_below d (n -ℤ pos 1) in let step = λ (s : Stream). here s -ℤ last s in
         let next = sum_side-linear of (parts_below d (n +ℤ pos 1)) here step (pos 1) streams
         (λ k o within own. stays (get_or streams k o) (are.each k o within) (clear k o within)) in
         omega (arith, ints, sum_side-linear of here last step (pos 1) streams (λ k o within own. omega (arith, ints)), next)
@@ -310,8 +287,7 @@ module _ (streams : List Stream) (are : AreSensibleStreams streams) where
         stays : (s : Stream) → IsSensibleStream s → (n ≡ high_parts d s → ⊥) × (n ≡ low_parts d s → ⊥)
             → parts_below d (n +ℤ pos 1) s ≡ parts_below d n s +ℤ (parts_below d n s -ℤ parts_below d (n -ℤ pos 1) s) *ℤ pos 1
         stays s h clear =
-            let here = length_parts d n s in
-            let last = length_parts d (n -ℤ pos 1) s in
+            let here = length_parts d n s in let last = length_parts d (n -ℤ pos 1) s in
             let next : length_parts d (n +ℤ pos 1) s ≡ here +ℤ (here -ℤ last) = omega (arith, ints, clamps, ends_order d s h, clear.0, clear.1) in
             omega (arith, ints, ap (λ l. s.cp *ℤ l) next, *ℤ-+ℤ s.cp here (here -ℤ last), *ℤ--ℤ s.cp here last)
 
@@ -371,14 +347,10 @@ module _ (f : ℤ → ℤ) where
 
       segment : (t u : ℤ) → f t ≤ℤ low → high ≤ℤ f u → (begin : ℤ) × (end : ℤ) × IsSegment begin end
       segment t u from upto =
-          let order = apart t u from upto in
-          let n = unsigned_abs (u -ℤ t) in
-          let there = ap f {x = t +ℤ pos n} {y = u} (omega (arith, ints)) in
+          let order = apart t u from upto in let n = unsigned_abs (u -ℤ t) in let there = ap f {x = t +ℤ pos n} {y = u} (omega (arith, ints)) in
           let (begin, begin_is, behind) = crossing low n t from (omega (arith, ints)) in
-          let (last, last_is, end_is) = crossing (high -ℤ pos 1) n t (omega (arith, ints)) (omega (arith, ints)) in
-          let end = last +ℤ pos 1 in
-          let upto_end : high ≤ℤ f end = omega (arith, ints) in
-          let begun : (x : ℤ) → f x ≤ℤ low → x ≤ℤ begin = λ x under.
+          let (last, last_is, end_is) = crossing (high -ℤ pos 1) n t (omega (arith, ints)) (omega (arith, ints)) in let end = last +ℤ pos 1 in
+          let upto_end : high ≤ℤ f end = omega (arith, ints) in let begun : (x : ℤ) → f x ≤ℤ low → x ≤ℤ begin = λ x under.
           ⊎_elim (λ far. let rise = rises (begin +ℤ pos 1) x (omega (arith, ints)) in absurd (omega (arith, ints))) (λ le. le) (int_lt_cases begin x) in
           let ended : (x : ℤ) → high ≤ℤ f x → end ≤ℤ x = λ x above.
           ⊎_elim (λ far. let rise = rises x last (omega (arith, ints)) in absurd (omega (arith, ints))) (λ le. le) (int_lt_cases x end) in
@@ -428,36 +400,31 @@ module _ (of : Side) (streams : List Stream) (are : AreSensibleStreams streams) 
 
       stream_line : (s : Stream) → IsSensibleStream s → IsOutside low high (heat (low_end s)) → IsOutside low high (heat (high_end s)) → parts_here s
       stream_line s h (inl under) (inr over) =
-          let one = scaled d (low_end s) begin (is.begun (low_end s) under) in
-          let other = scaled d end (high_end s) (is.ended (high_end s) over) in
+          let one = scaled d (low_end s) begin (is.begun (low_end s) under) in let other = scaled d end (high_end s) (is.ended (high_end s) over) in
           let moved : length_parts d m s ≡ length_parts d (begin *ℤ pos d) s +ℤ (m -ℤ begin *ℤ pos d) = omega (arith, ints, clamps, one, other, from, upto) in
           rw (int_le-from (heat (low_end s)) low under, int_le-from high (heat (high_end s)) over)
           (ap (λ l. s.cp *ℤ l) moved ∙ *ℤ-+ℤ s.cp (length_parts d (begin *ℤ pos d) s) (m -ℤ begin *ℤ pos d))
       stream_line s h (inl under) (inl before) =
-          let one = scaled d (low_end s) begin (is.begun (low_end s) under) in
-          let other = scaled d (high_end s) begin (is.begun (high_end s) before) in
+          let one = scaled d (low_end s) begin (is.begun (low_end s) under) in let other = scaled d (high_end s) begin (is.begun (high_end s) before) in
           let still : length_parts d m s ≡ length_parts d (begin *ℤ pos d) s = omega (arith, ints, clamps, one, other, from) in
           rw (int_le-from (heat (low_end s)) low under, int_le-false high (heat (high_end s)) (omega (arith, ints, before, gap)))
           (omega (arith, ints, ap (λ l. s.cp *ℤ l) still))
       stream_line s h (inr over) any =
           let one = scaled d end (low_end s) (is.ended (low_end s) over) in
           let still : length_parts d m s ≡ length_parts d (begin *ℤ pos d) s = omega (arith, ints, clamps, one, ends_order d s h, from, upto) in
-          rw (int_le-false (heat (low_end s)) low (omega (arith, ints, over, gap)))
-          (omega (arith, ints, ap (λ l. s.cp *ℤ l) still))
+          rw (int_le-false (heat (low_end s)) low (omega (arith, ints, over, gap))) (omega (arith, ints, ap (λ l. s.cp *ℤ l) still))
 
       -- the curve rises by the flow of what runs
       pub line : curve_parts d of streams m ≡ heat_at of streams begin *ℤ pos d +ℤ flow_running *ℤ (m -ℤ begin *ℤ pos d)
       line =
           let sums = sum_side-linear of (parts_below d m) (parts_below d (begin *ℤ pos d)) running_flow (m -ℤ begin *ℤ pos d) streams (λ k o within own.
-          let free = none k o within own in
-          stream_line (get_or streams k o) (are.each k o within) free.low_outside free.high_outside) in
+          let free = none k o within own in stream_line (get_or streams k o) (are.each k o within) free.low_outside free.high_outside) in
           omega (arith, ints, sums, curve_parts-whole d of streams begin some are.each)
 
     -- something runs
     pub flow_positive : pos 0 <ℤ flow_running
     flow_positive =
-        ⊎_elim (λ above. above)
-        (λ upto.
+        ⊎_elim (λ above. above) (λ upto.
         let all = line 1 (omega arith) (end *ℤ pos 1) (omega (arith, ints, is.rises)) (omega (arith, ints)) in
         let fall = *ℤ-≤ℤ_right (end *ℤ pos 1 -ℤ begin *ℤ pos 1) flow_running (pos 0) (omega (arith, ints, is.rises)) upto in
         absurd (omega (arith, ints, all, curve_parts-whole 1 of streams end (omega arith) are.each, fall, is.begin_is, is.end_is, gap)))
@@ -532,5 +499,4 @@ pub across-bounded : (begin end low high : ℤ) → begin ≤ℤ end → low <�
 across-bounded begin end low high order falls (inr above) any = rw (int_le-false begin low (omega (arith, ints, above, falls))) (omega (arith, ints, clamps))
 across-bounded begin end low high order falls (inl from) (inl below) =
     rw (int_le-from begin low from, int_le-false high end (omega (arith, ints, below, falls))) (omega (arith, ints, clamps))
-across-bounded begin end low high order falls (inl from) (inr upto) =
-    rw (int_le-from begin low from, int_le-from high end upto) (omega (arith, ints, clamps))
+across-bounded begin end low high order falls (inl from) (inr upto) = rw (int_le-from begin low from, int_le-from high end upto) (omega (arith, ints, clamps))

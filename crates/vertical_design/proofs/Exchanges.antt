@@ -1,4 +1,4 @@
--- Each exchange is that of two sources that meet in an interval and run from its one cut to the other: their pieces, and the sizes and the heat.
+-- Each exchange is that of two pieces that meet in an interval: their sizes and heat, what a piece's exchanges add up to, and that both pieces face each other.
 use Rattle.vertical_design.proofs.Words.{*ℤ_comm, All-flat_map, All-head, All-map, All-range, All-tail, AreFacing, Contains-slice_get, Exchange, IsAtUtility}
 use Rattle.vertical_design.proofs.Words.{IsGap, IsMet, IsPositive, IsSensibleStream, Option, Pair, Rational, Share, Side, Source, Span, Stream, Utility, all_at}
 use Rattle.vertical_design.proofs.Words.{amounts_in, cases_eq, cons_option, contribution_of, curve_heat, enumerate_from, eq-eqb, eqb-true, exchanges_at}
@@ -185,8 +185,7 @@ module _ (axis : Axis) where
   matches_at : (number : ℕ) → number < length axis.cuts - 1 → All IsMatch (exchanges_at hot cold axis.cuts number)
   unfolding matches_in
   matches_at number within =
-      let us = amounts_in (low_at axis number) (high_at axis number) hot cold in
-      let vs = amounts_in (low_at axis number) (high_at axis number) cold hot in
+      let us = amounts_in (low_at axis number) (high_at axis number) hot cold in let vs = amounts_in (low_at axis number) (high_at axis number) cold hot in
       All-map IsMatch (match_in number) (pairs_of us vs) (λ k p inside. record {
         number = number;
         within = within;
@@ -220,10 +219,8 @@ module _ (axis : Axis) where
 
   pub pair_runs : (number : ℕ) (of : Side) (p : Pair) → IsMetIn number p → RunsSpan of number (index_on of p)
   pair_runs number of p met =
-      let k = index_on of p in
-      let none : Span = record { source = source.Stream 0; from = pos 0; to = pos 0; cp = pos 0 } in
-      let a = get_or (spans_of of axis.case) k none in
-      let found = slice_get-get_or (spans_of of axis.case) k none (index_within of number p met) in
+      let k = index_on of p in let none : Span = record { source = source.Stream 0; from = pos 0; to = pos 0; cp = pos 0 } in
+      let a = get_or (spans_of of axis.case) k none in let found = slice_get-get_or (spans_of of axis.case) k none (index_within of number p met) in
       let upto = share_upto of number k a found p met refl in
       let runs = running (low_at axis number) (high_at axis number) a (flow_at axis (other of) number) (omega (arith, ints, met.positive, upto)) in
       record {
@@ -242,11 +239,9 @@ module _ (axis : Axis) where
 
   -- the span of a stream of a side
   pub own_span : (of : Side) (a : Span) (stream : ℕ) (s : Stream) → IsSourceSpan axis.case of a → a.source ≡ source.Stream stream
-      → slice_get axis.case.streams stream ≡ Some s
-      → (a ≡ span_of of axis.case.streams stream s) × (s.side ≡ of)
+      → slice_get axis.case.streams stream ≡ Some s → (a ≡ span_of of axis.case.streams stream s) × (s.side ≡ of)
   own_span of a stream s (inl (n, r, made)) own here =
-      let both : source.Stream n ≡ source.Stream stream = sym (ap (λ (x : Span). x.source) made.is) ∙ own in
-      let same : n ≡ stream = cc both in
+      let both : source.Stream n ≡ source.Stream stream = sym (ap (λ (x : Span). x.source) made.is) ∙ own in let same : n ≡ stream = cc both in
       let stream_is : r ≡ s = same_Some r s (sym made.here ∙ ap (slice_get axis.case.streams) same ∙ here) in
       (made.is ∙ (λ i. span_of of axis.case.streams (same i) (stream_is i)), ap (λ (x : Stream). x.side) (sym stream_is) ∙ made.side_is)
   own_span of a stream s (inr (n, u, made)) own here =
@@ -282,8 +277,7 @@ module _ (axis : Axis) where
   pub piece_of : (of : Side) (e : Exchange) (is : IsMatch e)
       → slice_get (pieces axis of) (piece_on of e) ≡ Some (piece_in axis of is.number (pair_runs is.number of is.pair is.met).span)
   piece_of of e is =
-      let runs = pair_runs is.number of is.pair is.met in
-      ap (slice_get (pieces axis of)) (ap (piece_on of) (sym is.is) ∙ piece_index of is.number is.pair)
+      let runs = pair_runs is.number of is.pair is.met in ap (slice_get (pieces axis of)) (ap (piece_on of) (sym is.is) ∙ piece_index of is.number is.pair)
       ∙ piece_there axis of is.number (index_on of is.pair) runs.span is.within runs.there
 
   abbrev many : Side → ℕ
@@ -303,8 +297,7 @@ module _ (axis : Axis) where
   -- an exchange of a piece is one of its interval
   pub own_number : (of : Side) (number m k : ℕ) (p : Pair) → IsMetIn m p → k < many of
       → piece_on of (match_in m p) ≡ number * many of + k → (m ≡ number) × (index_on of p ≡ k)
-  own_number of number m k p met within own =
-      same_place (many of) m number (index_on of p) k (index_within of m p met) within (sym (piece_index of m p) ∙ own)
+  own_number of number m k p met within own = same_place (many of) m number (index_on of p) k (index_within of m p met) within (sym (piece_index of m p) ∙ own)
 
   -- what a source offers or asks for in an interval is shared out by its pairs
   pub shared_out : (of : Side) (number k : ℕ) (a : Span) → slice_get (spans_of of axis.case) k ≡ Some a
@@ -316,12 +309,9 @@ module _ (axis : Axis) where
       → filter_map (own_size of (number * many of + k)) (exchanges_at hot cold axis.cuts m) ≡ []
   unfolding matches_in
   others_none of number m k within other =
-      let index = number * many of + k in
-      filter_map-map (own_size of index) (match_in m) (pairs_at m)
+      let index = number * many of + k in filter_map-map (own_size of index) (match_in m) (pairs_at m)
       ∙ none_kept (λ (p : Pair). own_size of index (match_in m p)) (pairs_at m) (λ j d inside.
-      let p = get_or (pairs_at m) j d in
-      let e = match_in m p in
-      ap (λ b. if b then Some (size_on of e) else None)
+      let p = get_or (pairs_at m) j d in let e = match_in m p in ap (λ b. if b then Some (size_on of e) else None)
       (ne_eqb (piece_on of e) index (λ own. other (own_number of number m k p (pairs_meet m j d inside) within own).0)))
 
   -- the shares of a piece are the flow that its source has in the interval
@@ -329,17 +319,13 @@ module _ (axis : Axis) where
       → size_of (shares_of of (number * many of + k) exchanges) ≡ whole (flow_in (low_at axis number) (high_at axis number) a)
   unfolding shares_of matches_in
   size_piece of number k a within there =
-      let index = number * many of + k in
-      let flow = flow_at axis (other of) number in
-      size_shares of index 0 exchanges
+      let index = number * many of + k in let flow = flow_at axis (other of) number in size_shares of index 0 exchanges
       ∙ ap rational_sum (filter_map-rows (own_size of index) (exchanges_at hot cold axis.cuts) (intervals_of axis.cuts)
       ∙ only_row (λ n. filter_map (own_size of index) (exchanges_at hot cold axis.cuts n)) 0 (length axis.cuts - 1) number (omega arith) (omega (arith, within))
       (λ m other. others_none of number m k (slice_get_within (spans_of of axis.case) k a there) other)
       ∙ filter_map-map (own_size of index) (match_in number) (pairs_at number))
-      ∙ parts_sum (λ p. own_size of index (match_in number p)) (λ p. index_on of p == k) (λ p. p.amount) (unsigned_abs flow) (pairs_at number)
-      (λ j p there.
-      let q = get_or (pairs_at number) j p in
-      ap₂ (λ b x. if b then Some x else None) (own_test of number k q) (size_match of number q))
+      ∙ parts_sum (λ p. own_size of index (match_in number p)) (λ p. index_on of p == k) (λ p. p.amount) (unsigned_abs flow) (pairs_at number) (λ j p there.
+      let q = get_or (pairs_at number) j p in ap₂ (λ b x. if b then Some x else None) (own_test of number k q) (size_match of number q))
       ∙ ap (λ z. ratio z (unsigned_abs flow)) (shared_out of number k a there)
       ∙ whole_flow (flow_in (low_at axis number) (high_at axis number) a) flow (flow_above axis number within (other of))
 
@@ -349,8 +335,7 @@ module _ (axis : Axis) where
 
   -- that of a stream is the one of its side
   shifted_stream : (of : Side) (number stream : ℕ) (s : Stream) (a : Span) → a.source ≡ source.Stream stream → slice_get axis.case.streams stream ≡ Some s
-      → (q : ℤ)
-      → shifted_at of number q a ≡ scale_at axis of number q
+      → (q : ℤ) → shifted_at of number q a ≡ scale_at axis of number q
   shifted_stream of number stream s a own here q =
       let free = fixed_level-sensible axis.case stream s here (all_at IsSensibleStream axis.case.streams stream s (streams_are axis).each here).sensible in
       ap (λ b. on_scale of (level_in (state_at axis of number q a) (fixed_level axis.case b)) (contribution_of axis.case a.source)) own
@@ -368,8 +353,7 @@ module _ (axis : Axis) where
     falls = cut_below axis number within
 
     -- a stream stays within its range from the one cut to the other
-    in_range : (of : Side) (k : ℕ) (is : RunsSpan of number k) (i : ℕ) (s : Stream) → is.span.source ≡ source.Stream i
-        → slice_get axis.case.streams i ≡ Some s
+    in_range : (of : Side) (k : ℕ) (is : RunsSpan of number k) (i : ℕ) (s : Stream) → is.span.source ≡ source.Stream i → slice_get axis.case.streams i ≡ Some s
         → IsWithinRange s (shifted_at of number low is.span) (shifted_at of number high is.span)
     in_range of k is i s own here =
         let runs = stream_runs of number k i s is own here in
@@ -397,22 +381,18 @@ module _ (axis : Axis) where
         by : IsSourceSpan axis.case side.Hot hot.span → IsSourceSpan axis.case side.Cold cold.span
             → FaceAt hot.span cold.span q hot.span.source cold.span.source
         by (inl (i, s, one)) (inl (n, r, other)) =
-            let a = ap (λ (x : Span). x.source) one.is in
-            let b = ap (λ (x : Span). x.source) other.is in
-            let hot_runs = stream_runs side.Hot number j i s hot a one.here in
-            let cold_runs = stream_runs side.Cold number k n r cold b other.here in
+            let a = ap (λ (x : Span). x.source) one.is in let b = ap (λ (x : Span). x.source) other.is in
+            let hot_runs = stream_runs side.Hot number j i s hot a one.here in let cold_runs = stream_runs side.Cold number k n r cold b other.here in
             let face = scales_face axis.case.streams (streams_are axis) low high _ _ (scale_at axis side.Hot number) (scale_at axis side.Cold number)
             (scale_is axis side.Hot number within s hot_runs) (scale_is axis side.Cold number within r cold_runs) q from upto in
             subst₂ (FaceAt hot.span cold.span q) (sym a) (sym b)
             (ap (curve_heat side.Hot axis.case.streams) (shifted_stream side.Hot number i s hot.span a one.here q) ∙ face
             ∙ sym (ap (curve_heat side.Cold axis.case.streams) (shifted_stream side.Cold number n r cold.span b other.here q)))
         by (inl (i, s, one)) (inr (n, u, other)) =
-            let a = ap (λ (x : Span). x.source) one.is in
-            let b = ap (λ (x : Span). x.source) other.is in
+            let a = ap (λ (x : Span). x.source) one.is in let b = ap (λ (x : Span). x.source) other.is in
             subst₂ (FaceAt hot.span cold.span q) (sym a) (sym b) (beside side.Hot side.Cold j k hot cold i n s a one.here b)
         by (inr (i, u, one)) (inl (n, r, other)) =
-            let a = ap (λ (x : Span). x.source) one.is in
-            let b = ap (λ (x : Span). x.source) other.is in
+            let a = ap (λ (x : Span). x.source) one.is in let b = ap (λ (x : Span). x.source) other.is in
             subst₂ (FaceAt hot.span cold.span q) (sym a) (sym b) (beside side.Cold side.Hot k j cold hot n i r b other.here a)
         by (inr (i, u, one)) (inr (n, v, other)) =
             -- the hot utility lies above the cold one
@@ -420,13 +400,10 @@ module _ (axis : Axis) where
             let b = utility_runs side.Cold number k n cold (ap (λ (x : Span). x.source) other.is) in
             absurd (omega (arith, ints, a.0, b.1, (is_axis axis.case.streams (streams_are axis)).apart, falls))
 
-  pub match_faces : (e : Exchange) (m : IsMatch e)
-      → Faces axis.case (piece_in axis side.Hot m.number (pair_runs m.number side.Hot m.pair m.met).span)
+  pub match_faces : (e : Exchange) (m : IsMatch e) → Faces axis.case (piece_in axis side.Hot m.number (pair_runs m.number side.Hot m.pair m.met).span)
       (piece_in axis side.Cold m.number (pair_runs m.number side.Cold m.pair m.met).span)
   match_faces e m =
-      let hot = pair_runs m.number side.Hot m.pair m.met in
-      let cold = pair_runs m.number side.Cold m.pair m.met in
-      let gap = falls m.number m.within in
+      let hot = pair_runs m.number side.Hot m.pair m.met in let cold = pair_runs m.number side.Cold m.pair m.met in let gap = falls m.number m.within in
       record {
         hot_range = in_range m.number m.within side.Hot m.pair.first hot;
         cold_range = in_range m.number m.within side.Cold m.pair.second cold;

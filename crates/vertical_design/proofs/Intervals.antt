@@ -1,4 +1,4 @@
--- A hot and a cold source that face each other at both ends keep their approach, where each stream is within its range.
+-- The temperatures of both sides in an interval, and its pieces; two that face each other at both ends keep their approach.
 use Rattle.vertical_design.proofs.Words.{*ℤ_cancel_right, *ℤ_comm, -ℤ-*ℤ, All-contains, AreApart, AreFacing, AreSensible, AreSensibleStreams}
 use Rattle.vertical_design.proofs.Words.{AreSensibleStreams-both, Case, Contains-slice_get, HasValidStreams, IsAtMost, IsAtUtility, IsBelow, IsGap, IsOutermost}
 use Rattle.vertical_design.proofs.Words.{IsOutermost-outermost, IsOver, IsSensible, IsStandard, Piece, Rational, Side, Source, Span, Stream, Utility, all_at}
@@ -49,8 +49,7 @@ found f on None is = absurd (none-some on is)
 found f on (Some x) is = (x, refl, same_Some (f x) on is)
 
 -- from shifted temperatures back to actual ones
-apart : (hot cold : Rational) (hot_contribution cold_contribution : ℤ)
-    → IsAtMost (plus cold (whole cold_contribution)) (minus hot (whole hot_contribution))
+apart : (hot cold : Rational) (hot_contribution cold_contribution : ℤ) → IsAtMost (plus cold (whole cold_contribution)) (minus hot (whole hot_contribution))
     → IsAtMost (plus cold (whole (hot_contribution +ℤ cold_contribution))) hot
 apart hot cold a b order =
     subst (λ x. IsAtMost x hot) (plus_assoc cold (whole b) (whole a) ∙ ap (plus cold) (plus_comm (whole b) (whole a) ∙ whole-plus a b))
@@ -94,8 +93,7 @@ module _ (case : Case) (valid : HasValidStreams case.streams) (sensible : AreSen
       let low = all_at (λ x. (outer_end side.Cold ≤ℤ high_end x) × (outer_end side.Cold ≤ℤ low_end x)) case.streams i s
       (each_end (λ x. outer_end side.Cold ≤ℤ x) case.streams (outer side.Cold).bound) at in
       let high = all_at (λ x. (high_end x ≤ℤ outer_end side.Hot) × (low_end x ≤ℤ outer_end side.Hot)) case.streams i s
-      (each_end (λ x. x ≤ℤ outer_end side.Hot) case.streams (outer side.Hot).bound) at in
-      (low.1, high.0)
+      (each_end (λ x. x ≤ℤ outer_end side.Hot) case.streams (outer side.Hot).bound) at in (low.1, high.0)
 
   levels_order : outer_end side.Cold ≤ℤ outer_end side.Hot
   levels_order = All-contains (λ x. outer_end side.Cold ≤ℤ x) (stream_ends case.streams) (outer_end side.Hot) (outer side.Cold).bound (outer side.Hot).member
@@ -157,18 +155,15 @@ module _ (case : Case) (valid : HasValidStreams case.streams) (sensible : AreSen
       below_hot _ _ _ _ j r at_r (cold_range j r refl at_r) (utility_level side.Hot i u at_u u_hot x) (utility_level side.Hot i u at_u u_hot y)
   ordered (source.Utility i) (source.Utility j) x y z w hot cold hot_range cold_range hot_end cold_end =
       let (u, at_u, u_hot) = found (λ (x : Utility). x.side) side.Hot (slice_get case.utilities i) hot in
-      let (v, at_v, v_cold) = found (λ (x : Utility). x.side) side.Cold (slice_get case.utilities j) cold in
-      let top = utility_level side.Hot i u at_u u_hot in
-      let bottom = utility_level side.Cold j v at_v v_cold in
-      let order = at_most-whole (outer_end side.Cold) (outer_end side.Hot) levels_order in
+      let (v, at_v, v_cold) = found (λ (x : Utility). x.side) side.Cold (slice_get case.utilities j) cold in let top = utility_level side.Hot i u at_u u_hot in
+      let bottom = utility_level side.Cold j v at_v v_cold in let order = at_most-whole (outer_end side.Cold) (outer_end side.Hot) levels_order in
       record { hot_end = subst₂ IsAtMost (sym (bottom w)) (sym (top x)) order; cold_end = subst₂ IsAtMost (sym (bottom z)) (sym (top y)) order }
 
   -- so both keep their approach
   pub faced_apart : (p q : Piece) → side_of case p.source ≡ Some side.Hot → side_of case q.source ≡ Some side.Cold → Faces case p q → AreApart case p q
   faced_apart p q hot cold faces =
       let order = ordered p.source q.source p.before p.after q.before q.after hot cold faces.hot_range faces.cold_range faces.hot_end faces.cold_end in
-      let a = contribution_of case p.source in
-      let b = contribution_of case q.source in
+      let a = contribution_of case p.source in let b = contribution_of case q.source in
       record {
         hot_end = apart (temperature case p.source p.before) (temperature case q.source q.after) a b order.hot_end;
         cold_end = apart (temperature case p.source p.after) (temperature case q.source q.before) a b order.cold_end;
@@ -223,16 +218,14 @@ module _ (of : Side) (streams : List Stream) (are : AreSensibleStreams streams) 
   -- there the curve has d times the heat
   on_line : (q : ℤ) → (begin *ℤ pos d) ≤ℤ place q → place q ≤ℤ (end *ℤ pos d) → curve_parts d of streams (place q) ≡ q *ℤ pos d
   on_line q from upto =
-      let more = q -ℤ heat_at of streams begin in
-      let further : place q -ℤ begin *ℤ pos d ≡ more = omega (arith, ints) in
+      let more = q -ℤ heat_at of streams begin in let further : place q -ℤ begin *ℤ pos d ≡ more = omega (arith, ints) in
       let product = ap (λ z. flow *ℤ z) further ∙ *ℤ_comm flow more ∙ ap (λ z. more *ℤ z) flow_is in
       omega (arith, ints, line of streams are low high gap begin end is none d some (place q) from upto, product, -ℤ-*ℤ q (heat_at of streams begin) (pos d))
 
   -- the end of the segment
   end_place : place (heat_at of streams end) ≡ end *ℤ pos d
   end_place =
-      let last = heat_at of streams begin +ℤ (end *ℤ pos d -ℤ begin *ℤ pos d) in
-      let same : place last ≡ end *ℤ pos d = omega (arith, ints) in
+      let last = heat_at of streams begin +ℤ (end *ℤ pos d -ℤ begin *ℤ pos d) in let same : place last ≡ end *ℤ pos d = omega (arith, ints) in
       let whole = ap (curve_parts d of streams) same ∙ curve_parts-whole d of streams end some are.each in
       let heat : heat_at of streams end ≡ last = *ℤ_cancel_right (pos d) (heat_at of streams end) last (pos_above d some)
       (sym whole ∙ on_line last (omega (arith, ints, same, scaled d begin end (omega (arith, ints, is.rises)))) (omega (arith, ints, same))) in
@@ -246,13 +239,11 @@ module _ (of : Side) (streams : List Stream) (are : AreSensibleStreams streams) 
     before_end = omega (arith, ints, is.end_is, end_place, upto)
 
     heat_there : curve_heat of streams (ratio (place q) d) ≡ whole q
-    heat_there =
-        curve_heat-ratio d some of streams (place q) are.each ∙ ap (λ z. ratio z d) (on_line q after_begin before_end) ∙ ratio-multiple q d some
+    heat_there = curve_heat-ratio d some of streams (place q) are.each ∙ ap (λ z. ratio z d) (on_line q after_begin before_end) ∙ ratio-multiple q d some
 
     in_range : (r : Stream) → Runs of streams are low high r → IsInRange r (ratio (place q) d)
     in_range r runs =
-        let lower = scaled d (low_end r) begin (is.begun (low_end r) runs.from) in
-        let upper = scaled d end (high_end r) (is.ended (high_end r) runs.upto) in
+        let lower = scaled d (low_end r) begin (is.begun (low_end r) runs.from) in let upper = scaled d end (high_end r) (is.ended (high_end r) runs.upto) in
         let least = at_most-whole_ratio (low_end r) (place q) d some (omega (arith, ints, lower, after_begin)) in
         (least, at_most-ratio_whole (place q) (high_end r) d some (omega (arith, ints, upper, before_end)))
 
@@ -304,11 +295,9 @@ module _ (streams : List Stream) (are : AreSensibleStreams streams) (low high : 
 
   -- a stream of a side, where the utility of the other side lies
   pub scale_at_utility : (of other : Side) (flow : ℤ) (scale : ℤ → Rational) → IsScale of streams are low high flow scale → utility_from other streams ≤ℤ low
-      → high ≤ℤ utility_to other streams → (q : ℤ) → low ≤ℤ q → q ≤ℤ high
-      → IsAtUtility other streams (curve_heat of streams (scale q))
+      → high ≤ℤ utility_to other streams → (q : ℤ) → low ≤ℤ q → q ≤ℤ high → IsAtUtility other streams (curve_heat of streams (scale q))
   scale_at_utility of other flow scale is begin end q from upto =
-      subst (IsAtUtility other streams) (sym (is.heat q from upto))
-      (record {
+      subst (IsAtUtility other streams) (sym (is.heat q from upto)) (record {
         from = at_most-whole (utility_from other streams) q (omega (arith, ints, begin, from));
         upto = at_most-whole q (utility_to other streams) (omega (arith, ints, upto, end));
       })
@@ -359,8 +348,8 @@ module _ (axis : Axis) where
           let (begin, end, is) = gap_segment of axis.case.streams (streams_are axis) (low_at axis number) (high_at axis number) gap from upto in
           let scale = segment_scale of axis.case.streams (streams_are axis) (low_at axis number) (high_at axis number) gap begin end is
           (no_end_between axis number within of) in
-          (scale.0, λ r runs. subst (λ f. IsScale of axis.case.streams (streams_are axis) (low_at axis number) (high_at axis number) f scale.0)
-          (sym (side_flow-curve axis number within of from upto)) scale.1)
+          let is = subst (λ f. IsScale of axis.case.streams (streams_are axis) (low_at axis number) (high_at axis number) f scale.0)
+          (sym (side_flow-curve axis number within of from upto)) scale.1 in (scale.0, λ r runs. is)
 
   scale_by : (of : Side) (number : ℕ) → (number < length axis.cuts - 1) ⊎ (length axis.cuts - 1 ≤ number) → ℤ → Rational
   scale_by of number (inl within) = (side_scale of number within).0
@@ -413,5 +402,4 @@ module _ (axis : Axis) where
   unfolding pieces
   piece_there of number index a within there =
       row_place (pieces_at of) (length (spans_of of axis.case)) (λ n. length-map (spans_of of axis.case) (piece_in of n)) (length axis.cuts - 1) number index
-      (piece_in of number a) within
-      (slice_get-map (piece_in of number) (spans_of of axis.case) index ∙ ap (option_map (piece_in of number)) there)
+      (piece_in of number a) within (slice_get-map (piece_in of number) (spans_of of axis.case) index ∙ ap (option_map (piece_in of number)) there)

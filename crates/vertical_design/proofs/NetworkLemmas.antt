@@ -1,4 +1,4 @@
--- The heats of the exchanges with a utility add up to the heat between the cuts where it lies, and so to its target in all.
+-- The heats with a utility add up to its target; the pieces and exchanges are led; and the network that they draw is vertical.
 use Rattle.vertical_design.proofs.Words.{*ℤ-+ℤ, *ℤ-zero, *ℤ_comm, ALL_SENSIBLE_HEAT, All-cons, All-head, All-map, All-nil, All-range, All-tail, AreFacing}
 use Rattle.vertical_design.proofs.Words.{AreLedPieces, Case, Exchange, HasShape, HasUtilityHeat, HasValidStreams-IsComplete, IsLedNetwork, IsSized, IsVertical}
 use Rattle.vertical_design.proofs.Words.{IsVerticalAt, IsWholeGroup, JoinsPieces, LedPiecesDrawLedNetworks, MOST_CUTS, MOST_HEAT, MOST_SPANS, Network, Option}
@@ -7,11 +7,11 @@ use Rattle.vertical_design.proofs.Words.{contribution_of, cost_of, count_of, dut
 use Rattle.vertical_design.proofs.Words.{exchangers_for, exchangers_of, exchanges_at, exit, false_from_ne_true, filter, filter_map, flat_map, flat_map-map}
 use Rattle.vertical_design.proofs.Words.{heat_price, heat_with, heats_with, hot_heat-is, hot_target, int_le, int_sum_by, intervals_of, ints, is_forbidden}
 use Rattle.vertical_design.proofs.Words.{length-AreStreams, length-map, length-numbers, matches_in, minus, minus-self, mul-le-mul, mul-le-mul_right, network_of}
-use Rattle.vertical_design.proofs.Words.{none-some, numbered-item, on_scale, one_times, piece_on, plus, plus-zero, range_with_len, ratio, ratio-multiple}
-use Rattle.vertical_design.proofs.Words.{ratio-zero, rational_sum, rational_sum_by, rational_sum_by-append, rational_zero, same_Some, same_source}
-use Rattle.vertical_design.proofs.Words.{same_source-true, side_flow, side_of, slice_get_within, source_at, source_at-piece, sources_between, sources_in}
-use Rattle.vertical_design.proofs.Words.{sources_of, spans_of, standard_utility, target_balance, times, unsigned_abs, unsigned_abs-mul, utility_from}
-use Rattle.vertical_design.proofs.Words.{utility_to, whole, whole-plus, whole-times, zero_times, ◌&&◌}
+use Rattle.vertical_design.proofs.Words.{none-some, numbered-item, on_scale, one_times, or-false, piece_on, plus, plus-zero, range_with_len, ratio}
+use Rattle.vertical_design.proofs.Words.{ratio-multiple, ratio-zero, rational_sum, rational_sum_by, rational_sum_by-append, rational_zero, same_Some}
+use Rattle.vertical_design.proofs.Words.{same_source, same_source-true, side_flow, side_of, slice_get_within, source_at, source_at-piece, sources_between}
+use Rattle.vertical_design.proofs.Words.{sources_in, sources_of, spans_of, standard_utility, target_balance, times, unsigned_abs, unsigned_abs-mul}
+use Rattle.vertical_design.proofs.Words.{utility_from, utility_to, whole, whole-plus, whole-times, zero_times, ◌&&◌}
 use Rattle.std.proofs.Common.{All, Bool, List, None, Some, [], ap, ap₂, arith, false, get_or, if◌then◌else◌, length, map, option_map, pos, refl, slice_get}
 use Rattle.std.proofs.Common.{subst, subst₂, suc, sym, true, zero, ℕ, ℤ, ⊎_elim, ◌*ℤ◌, ◌*◌, ◌+ℤ◌, ◌+◌, ◌-ℤ◌, ◌-◌, ◌<ℤ◌, ◌<◌, ◌==◌, ◌^◌, ◌||◌, ◌∙◌, ◌∷◌, ◌≡◌}
 use Rattle.std.proofs.Common.{◌≢◌, ◌≤ℤ◌, ◌≤◌}
@@ -45,17 +45,12 @@ by_exchanges : (hot cold : List Source) (index n : ℕ) (es : List Exchange) →
 by_exchanges hot cold index n [] = refl
 by_exchanges hot cold index n (e ∷ es) = ap (cons_option (heat_for hot cold index e)) (by_exchanges hot cold index (n + 1) es)
 
-or_none : (b : Bool) → (b || false) ≡ b
-or_none true = refl
-or_none false = refl
-
 -- what is kept of a list, where whether it is kept is known of each item
 kept_all : {X : Type 0} (Q : Rational → Type 0) (h : X → Option Rational) (own : X → Bool) (f : X → Rational) (xs : List X)
     → All (λ x. h x ≡ (if own x then Some (f x) else None)) xs → All (λ x. own x ≡ true → Q (f x)) xs → All Q (filter_map h xs)
 kept_all Q h own f [] are each = All-nil Q
 kept_all {X} Q h own f (x ∷ xs) are each =
-    let R : X → Type 0 = λ y. h y ≡ (if own y then Some (f y) else None) in
-    let S : X → Type 0 = λ y. own y ≡ true → Q (f y) in
+    let R : X → Type 0 = λ y. h y ≡ (if own y then Some (f y) else None) in let S : X → Type 0 = λ y. own y ≡ true → Q (f y) in
     by (h x) (own x) (All-head R x xs are) (All-head S x xs each) (kept_all Q h own f xs (All-tail R x xs are) (All-tail S x xs each))
   where
     by : (o : Option Rational) (b : Bool) → o ≡ (if b then Some (f x) else None) → (b ≡ true → Q (f x)) → All Q (filter_map h xs)
@@ -139,16 +134,14 @@ module _ (axis : Axis) where
         → same_source (source_at (sources_of (pieces axis of)) (number * length (spans_of of axis.case) + index_on of p)) (source.Utility index)
         ≡ (index_on of p == k)
     on_side_test of number within p met k there =
-        let runs = pair_runs axis number of p met in
-        ap (λ a. same_source a (source.Utility index)) (source_of of number within p met)
+        let runs = pair_runs axis number of p met in ap (λ a. same_source a (source.Utility index)) (source_of of number within p met)
         ∙ own_place (spans_of of axis.case) (sources_differ axis.case of) k (utility_span_of of axis.case.streams index) there
         (index_on of p) runs.span runs.there
 
     other_test : (of : Side) (number : ℕ) → number < length axis.cuts - 1 → (p : Pair) → IsMetIn axis number p → u.side ≢ of
         → same_source (source_at (sources_of (pieces axis of)) (number * length (spans_of of axis.case) + index_on of p)) (source.Utility index) ≡ false
     other_test of number within p met other =
-        let runs = pair_runs axis number of p met in
-        ap (λ a. same_source a (source.Utility index)) (source_of of number within p met)
+        let runs = pair_runs axis number of p met in ap (λ a. same_source a (source.Utility index)) (source_of of number within p met)
         ∙ not_its of runs.span.source (side_on axis of runs.span runs.kind) other
 
     joins_own : (number : ℕ) → number < length axis.cuts - 1 → (p : Pair) → IsMetIn axis number p → (of : Side) → u.side ≡ of → (k : ℕ)
@@ -156,8 +149,7 @@ module _ (axis : Axis) where
         → joins_utility hot_sources cold_sources index (match_in axis number p) ≡ (index_on of p == k)
     joins_own number within p met side.Hot side_is k there =
         ap₂ ◌||◌ (on_side_test side.Hot number within p met k there)
-        (other_test side.Cold number within p met (λ is. let clash : side.Hot ≡ side.Cold = sym side_is ∙ is in cc clash))
-        ∙ or_none (p.first == k)
+        (other_test side.Cold number within p met (λ is. let clash : side.Hot ≡ side.Cold = sym side_is ∙ is in cc clash)) ∙ or-false (p.first == k)
     joins_own number within p met side.Cold side_is k there =
         ap₂ ◌||◌ (other_test side.Hot number within p met (λ is. let clash : side.Cold ≡ side.Hot = sym side_is ∙ is in cc clash))
         (on_side_test side.Cold number within p met k there)
@@ -186,8 +178,7 @@ module _ (axis : Axis) where
 
       are_own : All (λ p. heat_of_pair p ≡ (if is_own p then Some (ratio (width *ℤ p.amount) flows) else None)) (pairs_at axis number)
       are_own k d inside =
-          let p = get_or (pairs_at axis number) k d in
-          ap (λ b. if b then Some (ratio (width *ℤ p.amount) flows) else None)
+          let p = get_or (pairs_at axis number) k d in ap (λ b. if b then Some (ratio (width *ℤ p.amount) flows) else None)
           (joins_own number within p (pairs_meet axis number k d inside) u.side refl place.0 place.1)
 
       -- whether it lies there
@@ -212,8 +203,7 @@ module _ (axis : Axis) where
 
       lies_alone : lies ≡ true → flows ≡ unsigned_abs across
       lies_alone test =
-          let ends = reaches from_of to_of low high test in
-          product_is u.side (utility_alone axis number within u.side ends.0 ends.1)
+          let ends = reaches from_of to_of low high test in product_is u.side (utility_alone axis number within u.side ends.0 ends.1)
 
       -- its heats are those between the cuts where it lies
       sum_by : (b : Bool) → lies ≡ b → rational_sum (filter_map heat_of_pair (pairs_at axis number)) ≡ whole (if b then width else pos 0)
@@ -280,8 +270,7 @@ module _ (axis : Axis) where
         none : (x y : ℤ) → x ≡ y → pos 0 ≡ x -ℤ y
         none x y is = omega (arith, ints, is)
     sum_from (suc m) n left =
-        let within : n < length axis.cuts - 1 = omega (arith, left) in
-        let outside = utility_outside axis n within u.side in
+        let within : n < length axis.cuts - 1 = omega (arith, left) in let outside = utility_outside axis n within u.side in
         rational_sum_by-append (λ (a : Rational). a) (heats_at n) (flat_map heats_at (range_with_len (n + 1) m))
         ∙ ap₂ plus (ap rational_sum (pairs_are n within) ∙ sum_by n within (lies n within) refl) (sum_from m (n + 1) (omega (arith, left)))
         ∙ whole-plus (heat_across from_of to_of (low_at axis n) (high_at axis n)) (place_at (n + 1) -ℤ place_at (length axis.cuts - 1))
@@ -298,15 +287,15 @@ module _ (axis : Axis) where
     pub heat_total : rational_sum (heats_with hot_sources cold_sources (exchanges axis) index) ≡ whole (to_of -ℤ from_of)
     heat_total = ap rational_sum heats_are ∙ sum_from (length axis.cuts - 1) 0 (omega arith)
         ∙ ap whole (ends (high_at axis 0) (high_at axis (length axis.cuts - 1))
-        (cut_upto_first axis.cuts axis.are_cuts.ordered to_of (utility_cuts axis u.side).1) (cut_from_last axis.cuts axis.are_cuts.ordered from_of (utility_cuts axis u.side).0))
+        (cut_upto_first axis.cuts axis.are_cuts.ordered to_of (utility_cuts axis u.side).1)
+        (cut_from_last axis.cuts axis.are_cuts.ordered from_of (utility_cuts axis u.side).0))
       where
         ends : (x y : ℤ) → to_of ≤ℤ x → y ≤ℤ from_of → bounded from_of to_of x -ℤ bounded from_of to_of y ≡ to_of -ℤ from_of
         ends x y first last = omega (arith, ints, clamps, order)
 
     pub utility_heat : HasUtilityHeat hot_sources cold_sources (exchanges axis) index u
     utility_heat =
-        let is = target-within u.side axis.case.streams (streams_are axis) in
-        let range : (u.least ≡ pos 0) × (u.most ≡ MOST_HEAT) =
+        let is = target-within u.side axis.case.streams (streams_are axis) in let range : (u.least ≡ pos 0) × (u.most ≡ MOST_HEAT) =
         subst (λ (v : Utility). (v.least ≡ pos 0) × (v.most ≡ MOST_HEAT)) (sym (own_utility axis.case axis.standard index u here)) (standard_range u.side) in
         let few = few_heats 0 (length axis.cuts - 1) in
         record {
@@ -340,12 +329,9 @@ module _ (axis : Axis) where
 
   match_joins : (e : Exchange) → IsMatch axis e → JoinsPieces axis.case (pieces axis side.Hot) (pieces axis side.Cold) e
   match_joins e m =
-      let one = pair_runs axis m.number side.Hot m.pair m.met in
-      let other = pair_runs axis m.number side.Cold m.pair m.met in
-      let gap = gap_in axis m.number m.within in
-      let hot_side = side_on axis side.Hot one.span one.kind in
-      let cold_side = side_on axis side.Cold other.span other.kind in
-      let positive = subst IsPositiveExchange m.is
+      let one = pair_runs axis m.number side.Hot m.pair m.met in let other = pair_runs axis m.number side.Cold m.pair m.met in
+      let gap = gap_in axis m.number m.within in let hot_side = side_on axis side.Hot one.span one.kind in
+      let cold_side = side_on axis side.Cold other.span other.kind in let positive = subst IsPositiveExchange m.is
       (positive-match m.number (low_at axis m.number) (high_at axis m.number) hot cold m.pair gap (share_in axis m.number m.pair m.met)) in
       record {
         hot_piece = own_piece side.Hot e m;
@@ -427,8 +413,7 @@ module _ (axis : Axis) where
     unfolding duties_with
     heat_is index u here =
         ap (λ es. rational_sum (filter_map (duty_with index) es))
-        (made ∙ (λ i. exchangers_for (sym (sources_are axis side.Hot) i) (sym (sources_are axis side.Cold) i) (exchanges axis)))
-        ∙ heat_total index u here
+        (made ∙ (λ i. exchangers_for (sym (sources_are axis side.Hot) i) (sym (sources_are axis side.Cold) i) (exchanges axis))) ∙ heat_total index u here
 
     both_heats : (a b : Utility) → axis.case.utilities ≡ a ∷ b ∷ []
         → (heat_with network 0 ≡ whole (target_on a.side)) × (heat_with network 1 ≡ whole (target_on b.side))
@@ -472,17 +457,14 @@ module _ (axis : Axis) where
     two_prices a b x y are_two first second =
         ap (λ (us : List Utility). rational_sum_by (heat_price network) (enumerate_from 0 us)) are_two
         ∙ ap₂ plus (ap (times (whole a.price)) first ∙ whole-times a.price x) (plus-zero (times (whole b.price) (heat_with network 1))
-        ∙ ap (times (whole b.price)) second ∙ whole-times b.price y)
-        ∙ whole-plus (a.price *ℤ x) (b.price *ℤ y)
+        ∙ ap (times (whole b.price)) second ∙ whole-times b.price y) ∙ whole-plus (a.price *ℤ x) (b.price *ℤ y)
 
     cost_is : cost_of axis.case network ≡ whole (hot_target axis.case.streams)
     cost_is =
-        ⊎_elim
-        (λ order.
+        ⊎_elim (λ order.
         let heats = both_heats hot_utility cold_utility order in
         two_prices hot_utility cold_utility (target_on side.Hot) (target_on side.Cold) order heats.0 heats.1
-        ∙ ap whole (one_and_nothing (target_on side.Hot) (target_on side.Cold) ∙ hot_is))
-        (λ order.
+        ∙ ap whole (one_and_nothing (target_on side.Hot) (target_on side.Cold) ∙ hot_is)) (λ order.
         let heats = both_heats cold_utility hot_utility order in
         two_prices cold_utility hot_utility (target_on side.Cold) (target_on side.Hot) order heats.0 heats.1
         ∙ ap whole (nothing_and_one (target_on side.Cold) (target_on side.Hot) ∙ hot_is))
@@ -501,8 +483,7 @@ module _ (axis : Axis) where
         let gives = sym (hot_heat-is axis.case network shape) ∙ side_heat side.Hot ∙ ap whole hot_is in
         let takes = sym (cold_heat-is axis.case network shape) ∙ side_heat side.Cold ∙ ap whole cold_is in
         let beyond : excess_of axis.case network ≡ rational_zero = ap (λ x. minus x (whole (hot_target axis.case.streams))) gives
-        ∙ minus-self (whole (hot_target axis.case.streams)) in
-        λ i. record { hot = gives i; cold = takes i; excess = beyond i; cost = cost_is i }
+        ∙ minus-self (whole (hot_target axis.case.streams)) in λ i. record { hot = gives i; cold = takes i; excess = beyond i; cost = cost_is i }
 
     -- ---- it is vertical
 
@@ -510,16 +491,12 @@ module _ (axis : Axis) where
       match_vertical : (number : ℕ) (x : Exchange) → slice_get (exchanges axis) number ≡ Some x
           → IsVerticalAt axis.case network led.values number (exchanger_of (sources side.Hot) (sources side.Cold) (number, x))
       match_vertical number x there =
-          let m = all_at (IsMatch axis) (exchanges axis) number x (are_matches axis) there in
-          let p = own_piece side.Hot x m in
-          let q = own_piece side.Cold x m in
-          let hot_runs = led.hot_runs number x p there (piece_of axis side.Hot x m) in
+          let m = all_at (IsMatch axis) (exchanges axis) number x (are_matches axis) there in let p = own_piece side.Hot x m in
+          let q = own_piece side.Cold x m in let hot_runs = led.hot_runs number x p there (piece_of axis side.Hot x m) in
           let cold_runs = led.cold_runs number x q there (piece_of axis side.Cold x m) in
           let hot_shift : Rational → Rational = λ t. on_scale side.Hot t (contribution_of axis.case p.source) in
-          let cold_shift : Rational → Rational = λ t. on_scale side.Cold t (contribution_of axis.case q.source) in
-          let faces = match_faces axis x m in
-          let hot_is = sym (source_there side.Hot x m) in
-          let cold_is = sym (source_there side.Cold x m) in
+          let cold_shift : Rational → Rational = λ t. on_scale side.Cold t (contribution_of axis.case q.source) in let faces = match_faces axis x m in
+          let hot_is = sym (source_there side.Hot x m) in let cold_is = sym (source_there side.Cold x m) in
           record {
             hot_end = subst₂ (λ a b. AreFacing axis.case.streams a b (entry axis.case network led.values number side.Hot a)
                 (exit axis.case network led.values number side.Cold b)) hot_is cold_is
@@ -537,8 +514,7 @@ module _ (axis : Axis) where
         valuation = led.valuation;
         each = λ number e at.
             let (x, there, is) = numbered-item (exchanger_of (sources side.Hot) (sources side.Cold)) 0 (exchanges axis) number e
-            (ap (λ es. slice_get es number) (sym made) ∙ at) in
-            let count : 0 + number ≡ number = omega arith in
+            (ap (λ es. slice_get es number) (sym made) ∙ at) in let count : 0 + number ≡ number = omega arith in
             subst (IsVerticalAt axis.case network led.values number) (ap (λ n. exchanger_of (sources side.Hot) (sources side.Cold) (n, x)) (sym count) ∙ is)
             (match_vertical number x there);
       }

@@ -1,4 +1,4 @@
--- The pairs of two lists of amounts, as a list, and how many they are.
+-- The pairs of two lists of amounts, flows and shares within the limits, and lists that are made row by row.
 use Rattle.vertical_design.proofs.Words.{*ℤ-zero, *ℤ_comm, +ℤ-*ℤ, All-cons, All-flat_map, All-head, All-map, All-nil, All-tail, All-take, All-weaker}
 use Rattle.vertical_design.proofs.Words.{AllPairs-append, AllPairs-cons, AllPairs-nil, AreCuts, AreSpans, Contains-flat_map, IsBetween, IsFlow, IsGap}
 use Rattle.vertical_design.proofs.Words.{IsOverlap, IsPlace, IsSideFlow, IsSpan, Lists, ListsOverlaps, MOST_CP, MOST_FLOW, MOST_SPANS, NotNegative, Option}
@@ -15,7 +15,6 @@ use Rattle.std.proofs.Common.{◌-◌, ◌<ℤ◌, ◌<◌, ◌==◌, ◌^◌, �
 use Rattle.std.proofs.lemmas.Grind.{flat_map-append}
 use Rattle.sums.proofs.OrderLemmas.{AllPairs-head, AllPairs-tail, Lists-same, Lists-unique}
 use Rattle.sums.proofs.WalkLemmas.{begin_of-rises, begin_of-suc, overlaps_first, overlaps_second, pair_one_way}
-use Rattle.sums.specs.Spans.{begin_of}
 use Rattle.vertical_design.proofs.SpanSources.{cuts_hold}
 use Rattle.stream_case.specs.declared.source.Side.TheVariants as side
 
@@ -29,8 +28,7 @@ module _ {X Y : Type 0} (R : X → X → Type 0) (S : Y → Y → Type 0) (P : X
       let here = inner x (All-head P x xs each) in
       AllPairs-append S (f x) (flat_map f xs) here.ordered (ordered_flat xs (All-tail P x xs each) (AllPairs-tail R x xs ordered))
       (All-weaker (Q x) (λ y. All (S y) (flat_map f xs)) (λ y q. All-flat_map (S y) f xs (λ k o within.
-      let z = get_or xs k o in
-      All-weaker (Q z) (S y) (λ w r. cross x z (AllPairs-head R x xs ordered k o within) y w q r) (f z)
+      let z = get_or xs k o in All-weaker (Q z) (S y) (λ w r. cross x z (AllPairs-head R x xs ordered k o within) y w q r) (f z)
       (inner z (All-tail P x xs each k o within)).each)) (f x) here.each)
 
   abbrev IsInner : Y → Type 0
@@ -46,8 +44,7 @@ module _ {X Y : Type 0} (R : X → X → Type 0) (S : Y → Y → Type 0) (P : X
 
 lists_range : (n : ℕ) → Lists (λ a b. a < b) (λ i. i < n) (range_with_len 0 n)
 lists_range n =
-    let long = length-range_with_len 0 n in
-    let item = get_or-range_with_len 0 n in
+    let long = length-range_with_len 0 n in let item = get_or-range_with_len 0 n in
     record {
       ordered = λ i j d before within. omega (arith, before, item i d (omega (arith, long, before, within)), item j d (omega (arith, long, within)));
       each = λ i d within. omega (arith, long, within, item i d (omega (arith, long, within)));
@@ -99,8 +96,7 @@ module _ (us vs : List ℤ) where
   unfolding pairs_of
   ListsOverlaps-pairs_of =
       Lists-same pair_before (λ p. (i : ℕ) × (i < length us) × IsInRow i p) (IsOverlap us vs) (pairs_of us vs)
-      (λ p (i, first, (j, second, (some, is))). rw is (record { first_within = first; second_within = second; amount = refl; positive = some }))
-      (λ p is.
+      (λ p (i, first, (j, second, (some, is))). rw is (record { first_within = first; second_within = second; amount = refl; positive = some })) (λ p is.
       let same : p ≡ pair_at p.first p.second = ap (λ x. record { first = p.first; second = p.second; amount = x }) is.amount in
       let here : IsPairAt p.first p.second p = (omega (arith, ints, is.amount, is.positive), same) in
       (p.first, is.first_within, (p.second, is.second_within, here)))
@@ -113,8 +109,7 @@ module _ (us vs : List ℤ) where
 -- ---- a share is no more than the two amounts
 
 pub overlap-within : (us vs : List ℤ) (i j : ℕ) → (overlap us vs i j ≤ℤ get_or us i (pos 0)) × (overlap us vs i j ≤ℤ get_or vs j (pos 0))
-overlap-within us vs i j =
-    let one = begin_of-suc us i in let other = begin_of-suc vs j in (omega (arith, ints, clamps), omega (arith, ints, clamps))
+overlap-within us vs i j = let one = begin_of-suc us i in let other = begin_of-suc vs j in (omega (arith, ints, clamps), omega (arith, ints, clamps))
 
 -- ---- few pairs
 
@@ -130,26 +125,22 @@ further_on us vs some_us some_vs p q one other (inl less) =
     never : q.second < p.second → ⊥
     never back =
         let u = begin_of-rises us some_us (suc p.first) q.first (omega (arith, less)) in
-        let v = begin_of-rises vs some_vs (suc q.second) p.second (omega (arith, back)) in
-        omega (arith, ints, clamps)
+        let v = begin_of-rises vs some_vs (suc q.second) p.second (omega (arith, back)) in omega (arith, ints, clamps)
 
 few_steps : (high : ℕ) (ps : List Pair) → AllPairs (λ p q. steps p < steps q) ps → All (λ p. steps p < high) ps
     → (low : ℕ) → All (λ p. low ≤ steps p) ps → low ≤ high → length ps + low ≤ high
 few_steps high [] rise upto low from le = omega (arith, le)
 few_steps high (p ∷ ps) rise upto low from le =
     let last = All-head (λ q. steps q < high) p ps upto in
-    omega (arith, All-head (λ q. low ≤ steps q) p ps from, few_steps high ps (AllPairs-tail (λ a b. steps a < steps b) p ps rise)
-    (All-tail (λ q. steps q < high) p ps upto) (steps p + 1)
-    (λ k o within. let less = AllPairs-head (λ a b. steps a < steps b) p ps rise k o within in omega arith) (omega arith))
+    let rest = few_steps high ps (AllPairs-tail (λ a b. steps a < steps b) p ps rise) (All-tail (λ q. steps q < high) p ps upto) (steps p + 1)
+    (λ k o within. let less = AllPairs-head (λ a b. steps a < steps b) p ps rise k o within in omega arith) (omega arith) in
+    omega (arith, rest, All-head (λ q. low ≤ steps q) p ps from)
 
 pub few_pairs : (us vs : List ℤ) → NotNegative us → NotNegative vs → length (pairs_of us vs) ≤ length us + length vs
 few_pairs us vs some_us some_vs =
-    let lists = ListsOverlaps-pairs_of us vs in
-    let few = few_steps (length us + length vs) (pairs_of us vs)
-    (λ i j d before within.
+    let lists = ListsOverlaps-pairs_of us vs in let few = few_steps (length us + length vs) (pairs_of us vs) (λ i j d before within.
     further_on us vs some_us some_vs _ _ (lists.each i d (omega arith)) (lists.each j d within) (lists.ordered i j d before within))
-    (λ i d within. let is = lists.each i d within in omega arith) 0 (λ i d within. omega arith) (omega arith) in
-    omega arith
+    (λ i d within. let is = lists.each i d within in omega arith) 0 (λ i d within. omega arith) (omega arith) in omega arith
 
 -- Flows between two cuts, and shares of them, within the limits.
 
@@ -204,10 +195,8 @@ scaled-positive flows side each is_side =
 -- a factor of a product above 0
 factor-above : (flow side : ℤ) → pos 0 ≤ℤ side → pos 0 <ℤ (flow *ℤ side) → pos 0 <ℤ side
 factor-above flow side from above =
-    ⊎_elim (λ less. less)
-    (λ most.
-    let none : side ≡ pos 0 = omega (arith, ints, from, most) in
-    absurd (omega (arith, ints, ap (λ z. flow *ℤ z) none ∙ *ℤ-zero flow, above)))
+    ⊎_elim (λ less. less) (λ most.
+    let none : side ≡ pos 0 = omega (arith, ints, from, most) in absurd (omega (arith, ints, ap (λ z. flow *ℤ z) none ∙ *ℤ-zero flow, above)))
     (int_lt_cases (pos 0) side)
 
 -- a share of what an index offers
@@ -220,11 +209,9 @@ partly : (low high : ℤ) (spans others : List Span) (index : ℕ) (share : ℤ)
     → index < length (amounts_in low high spans others) → pos 0 <ℤ share
     → share ≤ℤ get_or (amounts_in low high spans others) index (pos 0) → IsPartly low high spans others index share
 partly low high spans others index share are are_others inside above upto =
-    let flows = flows_in low high spans in
-    let side = side_flow low high others in
+    let flows = flows_in low high spans in let side = side_flow low high others in
     let within : index < length flows = omega (arith, inside, length-map flows (λ f. f *ℤ side)) in
-    let item = get_or-map (λ f. f *ℤ side) flows index (pos 0) (pos 0) within in
-    let is_side = side-within low high others are_others in
+    let item = get_or-map (λ f. f *ℤ side) flows index (pos 0) (pos 0) within in let is_side = side-within low high others are_others in
     let amount : IsAmount (get_or flows index (pos 0) *ℤ side) =
     product-between (get_or flows index (pos 0)) side (flows-within low high spans are.each index (pos 0) within) is_side in
     record {
@@ -315,10 +302,10 @@ pub few_matches : (number : ℕ) (low high : ℤ) (hot cold : List Span) → Are
     → length (matches_in number low high hot cold) ≤ 2 * MOST_SPANS
 unfolding matches_in
 few_matches number low high hot cold are_hot are_cold =
-    let us = amounts_in low high hot cold in
-    let vs = amounts_in low high cold hot in
-    omega (arith, few_pairs us vs (amounts-positive low high hot cold are_hot are_cold) (amounts-positive low high cold hot are_cold are_hot), are_hot.few,
-    are_cold.few, length-map (pairs_of us vs) (match_of number low high hot cold), length-amounts low high hot cold, length-amounts low high cold hot)
+    let us = amounts_in low high hot cold in let vs = amounts_in low high cold hot in
+    let few = few_pairs us vs (amounts-positive low high hot cold are_hot are_cold) (amounts-positive low high cold hot are_cold are_hot) in
+    let made = length-map (pairs_of us vs) (match_of number low high hot cold) in
+    omega (arith, few, made, length-amounts low high hot cold, length-amounts low high cold hot, are_hot.few, are_cold.few)
 
 -- The pairs of one source of an interval share out its flow times that of the other side.
 
@@ -351,8 +338,7 @@ sum-scaled c (x ∷ xs) = ap (λ z. x *ℤ c +ℤ z) (sum-scaled c xs) ∙ sym (
 own_amount : (low high : ℤ) (spans others : List Span) (k : ℕ) (a : Span) → slice_get spans k ≡ Some a
     → get_or (amounts_in low high spans others) k (pos 0) ≡ flow_in low high a *ℤ side_flow low high others
 own_amount low high spans others k a there =
-    let within = slice_get_within spans k a there in
-    let scaled = λ (f : ℤ). f *ℤ side_flow low high others in
+    let within = slice_get_within spans k a there in let scaled = λ (f : ℤ). f *ℤ side_flow low high others in
     get_or-map scaled (flows_in low high spans) k (pos 0) (pos 0) (omega (arith, within, length-map spans (flow_in low high)))
     ∙ ap scaled (get_or-map (flow_in low high) spans k a (pos 0) within ∙ ap (flow_in low high) (get_or_from_slice_get spans k a a there))
 
@@ -402,8 +388,7 @@ module _ (low high : ℤ) (spans : Side → List Span) where
 
 pub rows_more : {X : Type 0} (f : ℕ → List X) (n : ℕ) → flat_map f (range_with_len 0 (n + 1)) ≡ flat_map f (range_with_len 0 n) ++ f n
 rows_more {X} f n =
-    let none : 0 + n ≡ n = omega arith in
-    ap (flat_map f) (sym (range_with_len-append 0 n 1) ∙ ap (λ k. range_with_len 0 n ++ k ∷ []) none)
+    let none : 0 + n ≡ n = omega arith in ap (flat_map f) (sym (range_with_len-append 0 n 1) ∙ ap (λ k. range_with_len 0 n ++ k ∷ []) none)
     ∙ flat_map-append f (range_with_len 0 n) (n ∷ []) ∙ ap (λ (xs : List X). flat_map f (range_with_len 0 n) ++ xs) (append-nil (f n))
 
 pub filter_map-rows : {X Y Z : Type 0} (h : Y → Option Z) (f : X → List Y) (xs : List X) → filter_map h (flat_map f xs) ≡ flat_map (λ x. filter_map h (f x)) xs
@@ -417,8 +402,7 @@ filter_map-map {X} {Y} {Z} h f (x ∷ xs) = ap (cons_option (h (f x))) (filter_m
 pub none_kept : {X Y : Type 0} (h : X → Option Y) (xs : List X) → All (λ x. h x ≡ None) xs → filter_map h xs ≡ []
 none_kept h [] none = refl
 none_kept {X} h (x ∷ xs) none =
-    let R : X → Type 0 = λ y. h y ≡ None in
-    ap (λ o. cons_option o (filter_map h xs)) (All-head R x xs none) ∙ none_kept h xs (All-tail R x xs none)
+    let R : X → Type 0 = λ y. h y ≡ None in ap (λ o. cons_option o (filter_map h xs)) (All-head R x xs none) ∙ none_kept h xs (All-tail R x xs none)
 
 pub map-rows : {X Y Z : Type 0} (h : Y → Z) (f : X → List Y) (xs : List X) → map h (flat_map f xs) ≡ flat_map (λ x. map h (f x)) xs
 map-rows h f [] = refl
@@ -439,7 +423,9 @@ only_row {X} f a (suc count) n from upto others =
     no_rows : (b k : ℕ) → n < b → flat_map f (range_with_len b k) ≡ []
     no_rows b zero past = refl
     no_rows b (suc k) past = ap (λ (xs : List X). xs ++ flat_map f (range_with_len (b + 1) k)) (others b (λ same. absurd (omega (arith, same, past))))
-        ∙ no_rows (b + 1) k (omega (arith, past))-- few in each row, and so in all
+        ∙ no_rows (b + 1) k (omega (arith, past))
+
+-- few in each row, and so in all
 pub few-rows : {X : Type 0} (f : ℕ → List X) (most : ℕ) → ((n : ℕ) → length (f n) ≤ most) → (a count : ℕ)
     → length (flat_map f (range_with_len a count)) ≤ count * most
 few-rows f most each a zero = omega arith
@@ -456,15 +442,11 @@ module _ {X : Type 0} (f : ℕ → List X) (len : ℕ) (long : (n : ℕ) → len
   place_from : (a count n k : ℕ) (x : X) → n < count → slice_get (f (a + n)) k ≡ Some x → slice_get (flat_map f (range_with_len a count)) (n * len + k) ≡ Some x
   place_from a zero n k x within there = absurd (omega arith)
   place_from a (suc count) zero k x within there =
-      let same : 0 * len + k ≡ k = omega arith in
-      let none : a + 0 ≡ a = omega arith in
-      let rest = flat_map f (range_with_len (a + 1) count) in
+      let same : 0 * len + k ≡ k = omega arith in let none : a + 0 ≡ a = omega arith in let rest = flat_map f (range_with_len (a + 1) count) in
       ap (slice_get (f a ++ rest)) same ∙ slice_get-append (f a) rest k x (ap (λ b. slice_get (f b) k) (sym none) ∙ there)
   place_from a (suc count) (suc n) k x within there =
-      let same : suc n * len + k ≡ length (f a) + (n * len + k) = omega (arith, long a) in
-      let next : a + suc n ≡ a + 1 + n = omega arith in
-      let rest = flat_map f (range_with_len (a + 1) count) in
-      ap (slice_get (f a ++ rest)) same ∙ behind (f a) rest (n * len + k)
+      let same : suc n * len + k ≡ length (f a) + (n * len + k) = omega (arith, long a) in let next : a + suc n ≡ a + 1 + n = omega arith in
+      let rest = flat_map f (range_with_len (a + 1) count) in ap (slice_get (f a ++ rest)) same ∙ behind (f a) rest (n * len + k)
       ∙ place_from (a + 1) count n k x (omega (arith, within)) (ap (λ b. slice_get (f b) k) (sym next) ∙ there)
 
   -- an item of a row among all
@@ -480,8 +462,7 @@ module _ {X : Type 0} (f : ℕ → List X) (len : ℕ) (long : (n : ℕ) → len
       (range_with_len a count)
   numbered-rows a zero = refl
   numbered-rows a (suc count) =
-      let next : a * len + length (f a) ≡ (a + 1) * len = omega (arith, long a) in
-      let rest = flat_map f (range_with_len (a + 1) count) in
+      let next : a * len + length (f a) ≡ (a + 1) * len = omega (arith, long a) in let rest = flat_map f (range_with_len (a + 1) count) in
       enumerate_from-append (a * len) (f a) rest
       ∙ ap (λ xs. enumerate_from (a * len) (f a) ++ xs) (ap (λ b. enumerate_from b rest) next ∙ numbered-rows (a + 1) count)
 
@@ -503,8 +484,7 @@ pub no_items : {X Y : Type 0} (h : ℕ × X → Option Y) (b : ℕ) (xs : List X
     → filter_map h (enumerate_from b xs) ≡ []
 no_items h b [] none = refl
 no_items h b (z ∷ xs) none =
-    let first : b ≡ b + 0 = omega arith in
-    ap (λ o. cons_option o (filter_map h (enumerate_from (b + 1) xs))) (ap (λ i. h (i, z)) first ∙ none 0 z refl)
+    let first : b ≡ b + 0 = omega arith in ap (λ o. cons_option o (filter_map h (enumerate_from (b + 1) xs))) (ap (λ i. h (i, z)) first ∙ none 0 z refl)
     ∙ no_items h (b + 1) xs (λ j w at. let next : b + 1 + j ≡ b + suc j = omega arith in ap (λ i. h (i, w)) next ∙ none (suc j) w at)
 
 -- what is kept of a list of which one item alone is kept
@@ -512,15 +492,13 @@ pub only_item : {X Y : Type 0} (h : ℕ × X → Option Y) (b : ℕ) (xs : List 
     → ((j : ℕ) (z : X) → slice_get xs j ≡ Some z → j ≢ k → h (b + j, z) ≡ None) → filter_map h (enumerate_from b xs) ≡ y ∷ []
 only_item h b [] k x y there kept others = cc there
 only_item {X} {Y} h b (z ∷ xs) zero x y there kept others =
-    ap (λ o. cons_option o (filter_map h (enumerate_from (b + 1) xs))) (own ∙ kept)
-    ∙ ap (λ (ys : List Y). y ∷ ys)
+    ap (λ o. cons_option o (filter_map h (enumerate_from (b + 1) xs))) (own ∙ kept) ∙ ap (λ (ys : List Y). y ∷ ys)
     (no_items h (b + 1) xs (λ j w at. let next : b + 1 + j ≡ b + suc j = omega arith in ap (λ i. h (i, w)) next ∙ others (suc j) w at (λ same. cc same)))
   where
     own : h (b, z) ≡ h (b + 0, x)
     own = let none : b ≡ b + 0 = omega arith in let same : z ≡ x = cc there in λ i. h (none i, same i)
 only_item h b (z ∷ xs) (suc k) x y there kept others =
-    let none : b ≡ b + 0 = omega arith in
-    let next : b + suc k ≡ b + 1 + k = omega arith in
+    let none : b ≡ b + 0 = omega arith in let next : b + suc k ≡ b + 1 + k = omega arith in
     ap (λ o. cons_option o (filter_map h (enumerate_from (b + 1) xs))) (ap (λ i. h (i, z)) none ∙ others 0 z refl (λ same. cc same))
     ∙ only_item h (b + 1) xs k x y there (ap (λ i. h (i, x)) (sym next) ∙ kept)
     (λ j w at other. let later : b + 1 + j ≡ b + suc j = omega arith in ap (λ i. h (i, w)) later ∙ others (suc j) w at (λ same. other (omega (arith, same))))

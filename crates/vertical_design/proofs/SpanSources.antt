@@ -1,4 +1,4 @@
--- The heat axis: it goes from 0 to the end of the hot utility, which is that of the cold curve.
+-- The heat axis, the spans of a side source by source, and the cuts: what runs between two neighbouring ones.
 use Rattle.vertical_design.proofs.Words.{ALL_SENSIBLE_HEAT, All-append, All-cons, All-contains, All-flat_map, All-nil, All-slice_get, All-weaker}
 use Rattle.vertical_design.proofs.Words.{AllPairs-append, AllPairs-cons, AllPairs-nil, AreCuts, AreSensibleStreams, AreSensibleStreams-case, AreSpans, Case}
 use Rattle.vertical_design.proofs.Words.{Contains, Contains-append_left, Contains-append_right, Contains-flat_map, Contains-slice_get, IsBetween, IsPlace}
@@ -16,7 +16,7 @@ use Rattle.std.proofs.Common.{refl, slice_get, subst, suc, sym, take, true, zero
 use Rattle.std.proofs.Common.{◌∷◌, ◌≡◌, ◌≢◌, ◌≤ℤ◌, ◌≤◌, ◌⊎◌}
 use Rattle.stream_case.proofs.StandardUtilities.{in_order, some_utility, standard_side}
 use Rattle.vertical_design.proofs.CurveLemmas.{HasNoEnd, IsOutside, bounded, end_of, flow_positive, flow_running, gap_segment, on_curve, running_flow}
-use Rattle.sums.proofs.SumLemmas.{int_sum_by-append, int_sum_by-map, int_sum_by-zero}
+use Rattle.sums.proofs.SumLemmas.{int_sum_by-append, int_sum_by-map}
 use Rattle.stream_case.specs.declared.source.Side.TheVariants as side
 use Rattle.stream_case.specs.declared.source.Source.TheVariants as source
 
@@ -30,8 +30,7 @@ pub record IsAxis (streams : List Stream) : Type 0 where
 
 pub is_axis : (streams : List Stream) → AreSensibleStreams streams → IsAxis streams
 is_axis streams are =
-    let hot = hot_target-within streams are.are in
-    let cold = cold_target-within streams are.are in
+    let hot = hot_target-within streams are.are in let cold = cold_target-within streams are.are in
     record { hot_from = omega (arith, ints); hot_order = omega (arith, ints); cold_order = cold.from; cold_end = omega (arith, ints); apart = cold.upto }
 
 pub utility_order : (of : Side) (streams : List Stream) → IsAxis streams → utility_from of streams ≤ℤ utility_to of streams
@@ -81,8 +80,7 @@ pub record IsUtilitySpan (case : Case) (of : Side) (number : ℕ) (u : Utility) 
   pub is : a ≡ utility_span_of of case.streams number
 
 abbrev pub IsSourceSpan : Case → Side → Span → Type 0
-IsSourceSpan case of a =
-    ((number : ℕ) × (s : Stream) × IsStreamSpan case of number s a) ⊎ ((number : ℕ) × (u : Utility) × IsUtilitySpan case of number u a)
+IsSourceSpan case of a = ((number : ℕ) × (s : Stream) × IsStreamSpan case of number s a) ⊎ ((number : ℕ) × (u : Utility) × IsUtilitySpan case of number u a)
 
 -- different spans have different sources
 abbrev pub Differ : Span → Span → Type 0
@@ -95,9 +93,7 @@ HasSpan spans a = (k : ℕ) × (slice_get spans k ≡ Some a)
 -- what holds of both ends of each span holds of each cut
 ends_hold : (P : ℤ → Type 0) (spans : List Span) → All (λ a. P a.from × P a.to) spans → All P (ends_of spans)
 ends_hold P spans each = All-flat_map P (λ (a : Span). a.from ∷ a.to ∷ []) spans (λ k o within.
-    let a = get_or spans k o in
-    let both = each k o within in
-    All-cons P a.from (a.to ∷ []) both.0 (All-cons P a.to [] both.1 (All-nil P)))
+    let a = get_or spans k o in let both = each k o within in All-cons P a.from (a.to ∷ []) both.0 (All-cons P a.to [] both.1 (All-nil P)))
 
 pub cuts_hold : (hot cold : List Span) (cuts : List ℤ) → AreCuts hot cold cuts → (P : ℤ → Type 0) → All (λ a. P a.from × P a.to) hot
     → All (λ a. P a.from × P a.to) cold → All P cuts
@@ -187,8 +183,7 @@ module _ (case : Case) (of : Side) where
   -- each span has a source
   pub span_sources : All (IsSourceSpan case of) (spans_of of case)
   span_sources =
-      rw spans-parts (All-append (IsSourceSpan case of) stream_spans utility_spans
-      (kept_each own_stream stream_item (IsSourceSpan case of) 0 case.streams
+      rw spans-parts (All-append (IsSourceSpan case of) stream_spans utility_spans (kept_each own_stream stream_item (IsSourceSpan case of) 0 case.streams
       (λ i s at own. rw zero-add (inl (i, s, record { here = at; side_is = same_side-true s.side of own; is = refl }))))
       (kept_each own_utility utility_item (IsSourceSpan case of) 0 case.utilities
       (λ i u at own. rw zero-add (inr (i, u, record { here = at; side_is = same_side-true u.side of own; is = refl })))))
@@ -226,18 +221,14 @@ module _ (case : Case) (of : Side) where
 pub own_place : (spans : List Span) → AllPairs Differ spans → (k : ℕ) (a : Span) → slice_get spans k ≡ Some a
     → (i : ℕ) (b : Span) → slice_get spans i ≡ Some b → same_source b.source a.source ≡ (i == k)
 own_place spans differ k a there i b here =
-    ⊎_elim
-    (λ same.
-    let itself : b ≡ a = same_Some b a (sym here ∙ ap (slice_get spans) same ∙ there) in
-    rw itself (same_source-same a.source ∙ sym (eq-eqb i k same)))
+    ⊎_elim (λ same.
+    let itself : b ≡ a = same_Some b a (sym here ∙ ap (slice_get spans) same ∙ there) in rw itself (same_source-same a.source ∙ sym (eq-eqb i k same)))
     (⊎_elim (λ less. unequal (omega (arith, less)) (apart i k b a here there less))
-    (λ more. unequal (omega (arith, more)) (λ same. apart k i a b there here more (sym same))))
-    (cases_order i k)
+    (λ more. unequal (omega (arith, more)) (λ same. apart k i a b there here more (sym same)))) (cases_order i k)
   where
     apart : (m n : ℕ) (x y : Span) → slice_get spans m ≡ Some x → slice_get spans n ≡ Some y → m < n → x.source ≢ y.source
     apart m n x y one other less same =
-        let source = λ (r : Span). r.source in
-        differ m n x less (slice_get_within spans n y other)
+        let source = λ (r : Span). r.source in differ m n x less (slice_get_within spans n y other)
         (ap source (get_or_from_slice_get spans m x x one) ∙ same ∙ sym (ap source (get_or_from_slice_get spans n y x other)))
 
     unequal : i ≢ k → b.source ≢ a.source → same_source b.source a.source ≡ (i == k)
@@ -248,8 +239,7 @@ own_place spans differ k a there i b here =
 
 both_sides : (f : Stream → ℤ) (streams : List Stream) → sum_side side.Hot f streams +ℤ sum_side side.Cold f streams ≡ int_sum_by f streams
 both_sides f streams =
-    let on = λ (of : Side) (s : Stream). if same_side s.side of then f s else pos 0 in
-    sym (int_sum_by-add (on side.Hot) (on side.Cold) streams)
+    let on = λ (of : Side) (s : Stream). if same_side s.side of then f s else pos 0 in sym (int_sum_by-add (on side.Hot) (on side.Cold) streams)
     ∙ int_sum_by-same (λ s. on side.Hot s +ℤ on side.Cold s) f streams (λ k o within. by (get_or streams k o).side (f (get_or streams k o)))
   where
     by : (d : Side) (x : ℤ) → (if same_side d side.Hot then x else pos 0) +ℤ (if same_side d side.Cold then x else pos 0) ≡ x
@@ -276,8 +266,7 @@ on_axis-place streams x are on = record { from = on.from; upto = omega (arith, i
 -- so the utility of a side covers no more than that
 pub target-within : (of : Side) (streams : List Stream) → AreSensibleStreams streams → IsSensiblesHeat (utility_to of streams -ℤ utility_from of streams)
 target-within of streams are =
-    let ends = utility_on_axis of streams (is_axis streams are) in
-    let order = utility_order of streams (is_axis streams are) in
+    let ends = utility_on_axis of streams (is_axis streams are) in let order = utility_order of streams (is_axis streams are) in
     record { from = omega (arith, ints, order); upto = omega (arith, ints, ends.0.from, ends.1.upto, axis_end streams are) }
 
 -- ---- the spans
@@ -292,8 +281,7 @@ module _ (of : Side) (case : Case) (complete : IsSensibleCase case) where
       let place = λ (t : ℤ). on_axis-place case.streams _ are_streams (curve_on_axis of case.streams t are_streams) in
       rw own.is (record { flow = record { from = omega (arith, ints, cp.from); upto = cp.upto }; from = place (low_end s); to = place (high_end s) })
   is_span a (inr (n, u, own)) =
-      let ends = utility_on_axis of case.streams (is_axis case.streams are_streams) in
-      rw own.is (record {
+      let ends = utility_on_axis of case.streams (is_axis case.streams are_streams) in rw own.is (record {
         flow = record { from = omega (arith, ints); upto = omega (arith, ints) };
         from = on_axis-place case.streams _ are_streams ends.0;
         to = on_axis-place case.streams _ are_streams ends.1;
@@ -310,8 +298,7 @@ module _ (of : Side) (case : Case) (complete : IsSensibleCase case) where
 
       few_utilities : length (utility_spans case of) ≡ 1
       few_utilities =
-          kept_count (own_utility case of) (utility_item case of) 0 case.utilities
-          ∙ each_side (λ d. count_by (own_utility case d) case.utilities ≡ 1)
+          kept_count (own_utility case of) (utility_item case of) 0 case.utilities ∙ each_side (λ d. count_by (own_utility case d) case.utilities ≡ 1)
           (in_order case standard (λ us. count_by (own_utility case side.Hot) us ≡ 1) refl refl)
           (in_order case standard (λ us. count_by (own_utility case side.Cold) us ≡ 1) refl refl) of
 
@@ -357,8 +344,7 @@ module _ (case : Case) (low high : ℤ) (of : Side) where
   side_flow-parts : (are : AreSensibleStreams case.streams)
       → side_flow low high (spans_of of case) ≡ flow_running of case.streams are low high +ℤ utilities_flow utility_across
   side_flow-parts are =
-      let flow = flow_in low high in
-      int_sum_by-map (λ (f : ℤ). f) flow (spans_of of case) ∙ ap (int_sum_by flow) (spans-parts case of)
+      let flow = flow_in low high in int_sum_by-map (λ (f : ℤ). f) flow (spans_of of case) ∙ ap (int_sum_by flow) (spans-parts case of)
       ∙ int_sum_by-append flow (stream_spans case of) (utility_spans case of)
       ∙ ap₂ ◌+ℤ◌ (kept_sum (own_stream case of) (stream_item case of) flow (running_flow of case.streams are low high) (λ k s. refl) 0 case.streams)
       (kept_sum (own_utility case of) (utility_item case of) flow (λ u. if utility_across then pos 1 else pos 0) (λ k u. refl) 0 case.utilities)
@@ -396,8 +382,7 @@ module _ (axis : Axis) where
   -- each span begins and ends at a cut
   span_cuts : (of : Side) (a : Span) → HasSpan (spans_of of axis.case) a → Contains axis.cuts a.from × Contains axis.cuts a.to
   span_cuts of a (k, there) =
-      let ends : Span → List ℤ = λ b. b.from ∷ b.to ∷ [] in
-      let member = Contains-slice_get (spans_of of axis.case) k a there in
+      let ends : Span → List ℤ = λ b. b.from ∷ b.to ∷ [] in let member = Contains-slice_get (spans_of of axis.case) k a there in
       let cut = λ (x : ℤ) (own : Contains (ends a) x). is_cut of x (Contains-flat_map ends (spans_of of axis.case) a x member own) in
       (cut a.from (0, omega arith, refl), cut a.to (1, omega arith, refl))
     where
@@ -411,14 +396,12 @@ module _ (axis : Axis) where
   pub ends_are_cuts : (of : Side) → All (λ s. same_side s.side of ≡ true
       → Contains axis.cuts (heat_at of axis.case.streams (low_end s)) × Contains axis.cuts (heat_at of axis.case.streams (high_end s))) axis.case.streams
   ends_are_cuts of k o inside own =
-      let s = get_or axis.case.streams k o in
-      span_cuts of (span_of of axis.case.streams k s)
+      let s = get_or axis.case.streams k o in span_cuts of (span_of of axis.case.streams k s)
       (stream_place axis.case of k s (slice_get-get_or axis.case.streams k o inside) (same_side-true s.side of own))
 
   pub utility_cuts : (of : Side) → Contains axis.cuts (utility_from of axis.case.streams) × Contains axis.cuts (utility_to of axis.case.streams)
   utility_cuts of =
-      let (number, here) = some_utility axis.case axis.standard of in
-      span_cuts of (utility_span_of of axis.case.streams number)
+      let (number, here) = some_utility axis.case axis.standard of in span_cuts of (utility_span_of of axis.case.streams number)
       (utility_place axis.case of number (standard_utility of axis.case) here (standard_side of axis.case))
 
   -- all cuts lie on the axis
@@ -459,26 +442,22 @@ module _ (axis : Axis) where
     -- no stream begins or ends between them
     pub no_end_between : (of : Side) → All (λ s. same_side s.side of ≡ true → HasNoEnd of axis.case.streams streams_are low high s) axis.case.streams
     no_end_between of k o inside own =
-        let ends = ends_are_cuts of k o inside own in
-        let outside = none_between axis.cuts axis.are_cuts.ordered number within in
+        let ends = ends_are_cuts of k o inside own in let outside = none_between axis.cuts axis.are_cuts.ordered number within in
         record { low_outside = outside _ ends.0; high_outside = outside _ ends.1 }
 
     -- nor does a utility
     pub utility_outside : (of : Side) → IsOutside low high (utility_from of axis.case.streams) × IsOutside low high (utility_to of axis.case.streams)
     utility_outside of =
-        let ends = utility_cuts of in
-        let outside = none_between axis.cuts axis.are_cuts.ordered number within in
+        let ends = utility_cuts of in let outside = none_between axis.cuts axis.are_cuts.ordered number within in
         (outside (utility_from of axis.case.streams) ends.0, outside (utility_to of axis.case.streams) ends.1)
 
     -- where the curve of a side lies, its flow is that of its streams that run
     pub side_flow-curve : (of : Side) → begin_of of axis.case.streams ≤ℤ low → high ≤ℤ end_of of axis.case.streams
         → flow_at of number ≡ flow_running of axis.case.streams streams_are low high
     side_flow-curve of begins ends =
-        let across = utility_across axis.case low high of in
-        let rests = false_from_ne_true across (λ holds.
+        let across = utility_across axis.case low high of in let rests = false_from_ne_true across (λ holds.
         let both = reaches (utility_from of axis.case.streams) (utility_to of axis.case.streams) low high holds in
-        curve_or_utility of axis.case.streams low high cut_below begins ends both.0 both.1) in
-        side_flow-parts axis.case low high of streams_are
+        curve_or_utility of axis.case.streams low high cut_below begins ends both.0 both.1) in side_flow-parts axis.case low high of streams_are
         ∙ alone (flow_running of axis.case.streams streams_are low high) (one_utility low high of across ∙ ap (λ b. if b then pos 1 else pos 0) rests)
       where
         alone : (x : ℤ) {y : ℤ} → y ≡ pos 0 → x +ℤ y ≡ x
@@ -487,8 +466,7 @@ module _ (axis : Axis) where
     -- where the utility lies no stream of its side runs, so the flow of the side is that of the utility
     pub utility_alone : (of : Side) → utility_from of axis.case.streams ≤ℤ low → high ≤ℤ utility_to of axis.case.streams → flow_at of number ≡ pos 1
     utility_alone of from upto =
-        let across = utility_across axis.case low high of in
-        let is : across ≡ true =
+        let across = utility_across axis.case low high of in let is : across ≡ true =
         ap₂ ◌&&◌ (int_le-from (utility_from of axis.case.streams) low from) (int_le-from high (utility_to of axis.case.streams) upto) in
         let none = sum_side-zero of (running_flow of axis.case.streams streams_are low high) axis.case.streams
         (λ k o inside. rests (get_or axis.case.streams k o)) in
@@ -496,11 +474,9 @@ module _ (axis : Axis) where
       where
         rests : (s : Stream) → running_flow of axis.case.streams streams_are low high s ≡ pos 0
         rests s =
-            let begin = heat_at of axis.case.streams (low_end s) in
-            let end = heat_at of axis.case.streams (high_end s) in
+            let begin = heat_at of axis.case.streams (low_end s) in let end = heat_at of axis.case.streams (high_end s) in
             ap (λ b. if b then s.cp else pos 0) (false_from_ne_true (int_le begin low && int_le high end) (λ holds.
-            let both = reaches begin end low high holds in
-            let first = on_curve of axis.case.streams streams_are (low_end s) in
+            let both = reaches begin end low high holds in let first = on_curve of axis.case.streams streams_are (low_end s) in
             let last = on_curve of axis.case.streams streams_are (high_end s) in
             curve_or_utility of axis.case.streams low high cut_below (omega (arith, ints, first.from, both.0)) (omega (arith, ints, last.upto, both.1))
             from upto))
@@ -538,6 +514,5 @@ module _ {X : Type 0} (h : ℕ × X → Option Span) (old : List Span) (xs : Lis
   pub span_more : (before now : List Span) (s : Span) → h (i, x) ≡ Some s → before ≡ old ++ filter_map h (enumerate_from 0 (take i xs)) → now ≡ before ++ s ∷ []
       → now ≡ old ++ filter_map h (enumerate_from 0 (take (i + 1) xs))
   span_more before now s some so_far pushed =
-      let front = filter_map h (enumerate_from 0 (take i xs)) in
-      pushed ∙ ap (λ ss. ss ++ s ∷ []) so_far ∙ append_assoc old front (s ∷ [])
+      let front = filter_map h (enumerate_from 0 (take i xs)) in pushed ∙ ap (λ ss. ss ++ s ∷ []) so_far ∙ append_assoc old front (s ∷ [])
       ∙ ap (λ ss. old ++ ss) (sym (filter_map-enumerate_more h xs i x within is ∙ ap (λ o. front ++ option_to_list o) some))

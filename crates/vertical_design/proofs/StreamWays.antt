@@ -1,5 +1,4 @@
--- The pieces of a stream: in an interval in which it runs its shares are the whole stream, and each exchange brings it from the temperature of the one cut to
--- that of the other.
+-- The pieces of a stream, and its way through them: from interval to interval, from its supply to its target.
 use Rattle.vertical_design.proofs.Words.{All-contains, AreEnds, AreEnds-IsValidStream, AreJoined, AreSmall, Contains, Contains-slice_get, Exchange}
 use Rattle.vertical_design.proofs.Words.{HIGHEST_SHIFTED, IsAtMost, IsContribution, IsFine, IsSensibleStream, IsSized, IsStreamPiece, LedStage}
 use Rattle.vertical_design.proofs.Words.{MOST_CONTRIBUTION, MOST_CP, MOST_FLOW, Meet, Piece, Rational, Share, Side, Span, Stream, all_at, at_most-whole}
@@ -107,8 +106,7 @@ falls_lead_up : (stages : List LedStage) (from to : Rational) → FallTo side.Co
 falls_lead_up [] from to fall = (tt, sym fall)
 falls_lead_up (stage ∷ stages) from to fall =
     let turned : reverse (stage ∷ stages) ≡ reverse stages ++ stage ∷ [] = reverse-append (stage ∷ []) stages in
-    subst (Leads to (reverse (stage ∷ stages))) fall.0
-    (subst (λ (ss : List LedStage). Leads to ss stage.after) (sym turned)
+    subst (Leads to (reverse (stage ∷ stages))) fall.0 (subst (λ (ss : List LedStage). Leads to ss stage.after) (sym turned)
     (leads_push (reverse stages) to stage.before stage (falls_lead_up stages stage.before to fall.1) refl))
 
 -- the way of a stream of a side, with f of the temperatures of its ends
@@ -206,23 +204,18 @@ module _ (axis : Axis) where
 
       state_sized : (q : ℤ) → low ≤ℤ q → q ≤ℤ high → IsSized (unsigned_abs (flow_at axis s.side number)) highest (state_at axis s.side number q is.span)
       state_sized q from upto =
-          let scale = scale_is axis s.side number within s runs in
-          let over = scale.over q in
-          let range = scale.range q from upto s runs in
+          let scale = scale_is axis s.side number within s runs in let over = scale.over q in let range = scale.range q from upto s runs in
           let contribution : contribution_of axis.case is.span.source ≡ s.contribution = ap (contribution_of axis.case) own
           ∙ ap (λ o. option_map_or (λ (r : Stream). r.contribution) o (pos 0)) here in
           subst (λ c. IsSized (unsigned_abs (flow_at axis s.side number)) highest (actual_at s.side (scale_at axis s.side number q) c)) (sym contribution)
           (stream_sized s.side (unsigned_abs (flow_at axis s.side number)) (scale_at axis s.side number q) s.contribution over.num (low_end s) (high_end s)
-          (omega (arith, ints, flow_above axis number within s.side)) over.is
-          (AreEnds-IsValidStream s valid.valid) range.0 range.1 valid.valid.contribution)
+          (omega (arith, ints, flow_above axis number within s.side)) over.is (AreEnds-IsValidStream s valid.valid) range.0 range.1 valid.valid.contribution)
 
       fine : IsFine s.side (exchanges axis) index stream_piece s
       unfolding shares_of
       fine =
-          let gap = cut_below axis number within in
-          let above = flow_above axis number within (other s.side) in
+          let gap = cut_below axis number within in let above = flow_above axis number within (other s.side) in
           let some = flow_above axis number within s.side in
-
           let states = either_cut (λ q. IsSized (unsigned_abs (flow_at axis s.side number)) highest (state_at axis s.side number q is.span)) s.side number
           (state_sized low (omega (arith, ints)) (omega (arith, ints, gap))) (state_sized high (omega (arith, ints, gap)) (omega (arith, ints))) in
           let across = unsigned_abs (flow_at axis (other s.side) number) in
@@ -253,11 +246,9 @@ module _ (axis : Axis) where
     -- ---- the piece at an index
 
     pub stream_pieces : (index : ℕ) (p : Piece) → slice_get (on_side s.side (pieces axis side.Hot) (pieces axis side.Cold)) index ≡ Some p
-        → p.source ≡ source.Stream stream
-        → 0 < length (shares_of s.side index (exchanges axis)) → IsStreamPiece s.side (exchanges axis) index p s
+        → p.source ≡ source.Stream stream → 0 < length (shares_of s.side index (exchanges axis)) → IsStreamPiece s.side (exchanges axis) index p s
     stream_pieces index p there own some =
-        let (i, e, at, on) = exchange_there s.side index (exchanges axis) some in
-        let m = all_at (IsMatch axis) (exchanges axis) i e (are_matches axis) at in
+        let (i, e, at, on) = exchange_there s.side index (exchanges axis) some in let m = all_at (IsMatch axis) (exchanges axis) i e (are_matches axis) at in
         let runs = pair_runs axis m.number s.side m.pair m.met in
         let found = sym (piece_of axis s.side e m) ∙ ap (slice_get (pieces axis s.side)) on ∙ ap (λ ps. slice_get ps index) (on_pieces s.side) ∙ there in
         let same = same_Some (piece_in axis s.side m.number runs.span) p found in
@@ -269,13 +260,11 @@ module _ (axis : Axis) where
         → 0 < length (shares_of s.side (number * many s.side + k) (exchanges axis)) → RunsIn axis s.side number s
     shares_run number k there some =
         let (i, e, at, on) = exchange_there s.side (number * many s.side + k) (exchanges axis) some in
-        let m = all_at (IsMatch axis) (exchanges axis) i e (are_matches axis) at in
-        let runs = pair_runs axis m.number s.side m.pair m.met in
+        let m = all_at (IsMatch axis) (exchanges axis) i e (are_matches axis) at in let runs = pair_runs axis m.number s.side m.pair m.met in
         let same = own_number axis s.side number m.number k m.pair m.met
         (slice_get_within (spans_of s.side axis.case) k (span_of s.side axis.case.streams stream s) there) (ap (piece_on s.side) m.is ∙ on) in
         let found = sym runs.there ∙ ap (slice_get (spans_of s.side axis.case)) same.1 ∙ there in
-        let span = same_Some runs.span (span_of s.side axis.case.streams stream s) found in
-        subst (λ n. RunsIn axis s.side n s) same.0
+        let span = same_Some runs.span (span_of s.side axis.case.streams stream s) found in subst (λ n. RunsIn axis s.side n s) same.0
         (stream_runs axis s.side m.number (index_on s.side m.pair) stream s runs (ap (λ (a : Span). a.source) span) here)
 
     -- ---- its way
@@ -300,9 +289,7 @@ module _ (axis : Axis) where
     all_stages : led_course (pieces axis side.Hot) (pieces axis side.Cold) (exchanges axis) (stream, s) ≡ on_the_way s.side (stages_of (intervals_of axis.cuts))
     unfolding pieces
     all_stages =
-        let h = led_stage s.side (exchanges axis) stream in
-        let rows = pieces_at axis s.side in
-        let none : 0 ≡ 0 * many s.side = omega arith in
+        let h = led_stage s.side (exchanges axis) stream in let rows = pieces_at axis s.side in let none : 0 ≡ 0 * many s.side = omega arith in
         let numbered = ap (λ b. enumerate_from b (flat_map rows (intervals_of axis.cuts))) none
         ∙ numbered-rows rows (many s.side) (λ n. length-map (spans_of s.side axis.case) (piece_in axis s.side n)) 0 (length axis.cuts - 1) in
         ap (λ (ps : List Piece). filter_map h (on_the_way s.side (enumerate_from 0 ps))) (sym (on_pieces s.side))
@@ -324,8 +311,7 @@ module _ (axis : Axis) where
     stage_test n j p at =
         let (b, there, is) = found (piece_in axis s.side n) p (slice_get (spans_of s.side axis.case) j)
         (sym (slice_get-map (piece_in axis s.side n) (spans_of s.side axis.case) j) ∙ at) in
-        ap (λ (q : Piece). is_stage s.side (exchanges axis) stream (n * many s.side + j) q.source) (sym is)
-        ∙ ap (λ t. t && has_shares (n * many s.side + j))
+        ap (λ (q : Piece). is_stage s.side (exchanges axis) stream (n * many s.side + j) q.source) (sym is) ∙ ap (λ t. t && has_shares (n * many s.side + j))
         (own_place (spans_of s.side axis.case) (sources_differ axis.case s.side) place.0 own place.1 j b there)
 
     no_stage : (n j : ℕ) (p : Piece) → slice_get (pieces_at axis s.side n) j ≡ Some p → ((j == place.0) && has_shares (n * many s.side + j)) ≡ false
@@ -343,10 +329,8 @@ module _ (axis : Axis) where
           kind = all_at (IsSourceSpan axis.case s.side) (spans_of s.side axis.case) place.0 own (span_sources axis.case s.side) place.1;
           from = runs.from;
           upto = runs.upto;
-        } in
-        let some = some_share (shares_of s.side (own_index n) (exchanges axis)) s.cp (omega (arith, ints, valid.sensible.cp.from))
-        (sizes_are n place.0 within is refl) in
-        let kept : has_shares (own_index n) ≡ true = grind (arith, nat_tests, some) in
+        } in let some = some_share (shares_of s.side (own_index n) (exchanges axis)) s.cp (omega (arith, ints, valid.sensible.cp.from))
+        (sizes_are n place.0 within is refl) in let kept : has_shares (own_index n) ≡ true = grind (arith, nat_tests, some) in
         let test = stage_test n place.0 p there ∙ ap (λ b. b && has_shares (own_index n)) (eq-eqb place.0 place.0 refl) ∙ kept in
         only_item (led_stage s.side (exchanges axis) stream) (n * many s.side) (pieces_at axis s.side n) place.0 p (stage n) there
         (ap (λ b. if b then Some (stage n) else None) test)
@@ -355,14 +339,11 @@ module _ (axis : Axis) where
     -- and one in which it does not is none
     rests_stage : (n : ℕ) → (RunsIn axis s.side n s → ⊥) → stages_at n ≡ []
     rests_stage n rests =
-        no_items (led_stage s.side (exchanges axis) stream) (n * many s.side) (pieces_at axis s.side n)
-        (λ j p at. no_stage n j p at
-        (⊎_elim
+        no_items (led_stage s.side (exchanges axis) stream) (n * many s.side) (pieces_at axis s.side n) (λ j p at. no_stage n j p at (⊎_elim
         (λ same. ap (λ b. b && has_shares (n * many s.side + j)) (eq-eqb j place.0 same) ∙ ap (λ i. has_shares (n * many s.side + i)) same
         ∙ false_from_ne_true (has_shares (own_index n))
         (λ holds. rests (shares_run n place.0 place.1 (ltb-true 0 (length (shares_of s.side (own_index n) (exchanges axis))) holds))))
-        (λ other. ap (λ b. b && has_shares (n * many s.side + j)) (ne_eqb j place.0 other))
-        (cases_eq j place.0)))
+        (λ other. ap (λ b. b && has_shares (n * many s.side + j)) (ne_eqb j place.0 other)) (cases_eq j place.0)))
 
     -- ---- the heats of its ends
 
@@ -435,15 +416,9 @@ module _ (axis : Axis) where
     goes_through : (n : ℕ) → n < length axis.cuts - 1 → (t : Rational) (rest : List LedStage) → RunsIn axis s.side n s → IsPlaceOf t (high_at axis n)
         → GoesOn n rest → Falls t (stages_at n ++ rest)
     goes_through n within t rest runs place on =
-        let low = low_at axis n in
-        let high = high_at axis n in
-        let gap = cut_below axis n within in
-        let scale = scale_at axis s.side n in
-        let is = scale_is axis s.side n within s runs in
-        let least : low ≤ℤ low = omega (arith, ints) in
-        let most : high ≤ℤ high = omega (arith, ints) in
-        let order : low ≤ℤ high = omega (arith, ints, gap) in
-        let high_range = is.range high order most s runs in
+        let low = low_at axis n in let high = high_at axis n in let gap = cut_below axis n within in let scale = scale_at axis s.side n in
+        let is = scale_is axis s.side n within s runs in let least : low ≤ℤ low = omega (arith, ints) in let most : high ≤ℤ high = omega (arith, ints) in
+        let order : low ≤ℤ high = omega (arith, ints, gap) in let high_range = is.range high order most s runs in
         let low_range = is.range low least order s runs in
         let above = one_temperature (scale high) t high (record { from = high_range.0; upto = high_range.1; heat_is = is.heat high order most }) place in
         let near : IsNearest low low = omega (arith, ints, clamps, gap, runs.from, runs.upto) in
@@ -455,25 +430,18 @@ module _ (axis : Axis) where
     next_interval : (n : ℕ) → n < length axis.cuts - 1 → (t : Rational) (heat : ℤ) (rest : List LedStage) → IsNearest (high_at axis n) heat → IsPlaceOf t heat
         → GoesOn n rest → Falls t (stages_at n ++ rest)
     next_interval n within t heat rest near place on =
-        let gap = cut_below axis n within in
-        let order = heats_rise in
-        ⊎_elim
-        (λ begun. ⊎_elim
+        let gap = cut_below axis n within in let order = heats_rise in ⊎_elim (λ begun. ⊎_elim
         (λ ended. passes_by n t rest (λ runs. absurd (omega (arith, ints, runs.upto, ended, gap)))
-        (on t heat (omega (arith, ints, clamps, near, ended, gap, order)) place))
-        (λ goes_on.
+        (on t heat (omega (arith, ints, clamps, near, ended, gap, order)) place)) (λ goes_on.
         let same : heat ≡ high_at axis n = omega (arith, ints, clamps, near, begun, goes_on, gap) in
         goes_through n within t rest (record { member = member; side_is = own_side s.side; from = begun; upto = goes_on }) (subst (IsPlaceOf t) same place) on)
-        (outside n within).high_outside)
-        (λ early. passes_by n t rest (λ runs. absurd (omega (arith, ints, runs.from, early, gap)))
-        (on t heat (omega (arith, ints, clamps, near, early, gap, order)) place))
-        (outside n within).low_outside
+        (outside n within).high_outside) (λ early. passes_by n t rest (λ runs. absurd (omega (arith, ints, runs.from, early, gap)))
+        (on t heat (omega (arith, ints, clamps, near, early, gap, order)) place)) (outside n within).low_outside
 
     fall_from : (m n : ℕ) (t : Rational) (heat : ℤ) → n + m ≡ length axis.cuts - 1 → IsNearest (high_at axis n) heat → IsPlaceOf t heat
         → Falls t (stages_of (range_with_len n m))
     fall_from zero n t heat left near place =
-        let last : length axis.cuts - 1 ≡ n = omega (arith, left) in
-        let least = cut_from_last axis.cuts axis.are_cuts.ordered bottom ends_cut.0 in
+        let last : length axis.cuts - 1 ≡ n = omega (arith, left) in let least = cut_from_last axis.cuts axis.are_cuts.ordered bottom ends_cut.0 in
         let same : heat ≡ bottom = omega (arith, ints, clamps, near, heats_rise, ap (high_at axis) last, least) in
         ap actual (one_temperature t (whole (low_end s)) bottom (subst (IsPlaceOf t) same place)
         (place_at (low_end s) (omega (arith, ints)) (omega (arith, ints, ends_rise))))
@@ -490,8 +458,7 @@ module _ (axis : Axis) where
     -- it is led from its supply to its target
     pub stream_joined : AreJoined s (led_course (pieces axis side.Hot) (pieces axis side.Cold) (exchanges axis) (stream, s))
     stream_joined =
-        let stages = stages_of (intervals_of axis.cuts) in
-        let c = ap (λ o. option_map_or (λ (r : Stream). r.contribution) o (pos 0)) here in
+        let stages = stages_of (intervals_of axis.cuts) in let c = ap (λ o. option_map_or (λ (r : Stream). r.contribution) o (pos 0)) here in
         let start = ap (actual_at s.side (whole (first_end s.side s))) c ∙ actual-first s valid.sensible in
         let end = ap (actual_at s.side (whole (last_end s.side s))) c ∙ actual-last s valid.sensible in
         let way = subst₂ (λ x y. Leads x (on_the_way s.side stages) y) start end (way_leads s.side stages actual s whole_way) in

@@ -47,6 +47,7 @@ pub use Rattle.problem_table.proofs.EndLemmas.{IsOutermost, IsOutermost-outermos
 pub use Rattle.problem_table.proofs.SideLemmas.{sum_side-heat, sum_side-le, sum_side-more, sum_side-same, sum_side-so_far, sum_side-zero}
 pub use Rattle.problem_table.specs.Deficit.{cold_target, hot_target}
 pub use Rattle.problem_table.specs.Sides.{sum_side}
+pub use Rattle.std.proofs.Math.Bool.{or-false}
 pub use Rattle.std.proofs.Math.IntN.{*ℤ-zero, *ℤ_comm}
 pub use Rattle.std.proofs.Math.Nat.{mul-le-mul, mul-le-mul_right}
 pub use Rattle.std.proofs.lemmas.Bool.{and_parts, cases_eq, cases_lt, cases_order, eq-eqb, eqb-true, false_from_ne_true, false≢true, ltb-true, ne_eqb}

@@ -13,8 +13,7 @@ overflow_add-heat c =
 
 pub loop-stream-preserved : goal.loop-stream-preserved
 loop-stream-preserved c =
-    let t = to_z w32 (of_z w32 c.args.t) in
-    let s = c.stream-item.result in
+    let t = to_z w32 (of_z w32 c.args.t) in let s = c.stream-item.result in
     let so_far = sum_side-so_far c.args.side (heat_below t) (heat_below-between t) c.args.streams.now c.loop-stream.stream-index c.requires in
     let step = sum_side-more c.args.side (heat_below t) c.args.streams.now c.loop-stream.stream-index s c.loop-stream-test.true c.stream-item.is in
     let term = λ (b : Bool). if b then heat_below t s else pos 0 in

@@ -12,8 +12,7 @@ gap c = gap_at c.args.hot.now c.args.cold.now c.args.cuts.now c.requires.hot c.r
 
 -- a place of the axis is a number of 64 bits
 held : (low high : ℤ) → IsGap low high → (to_z w64 (of_z w64 low) ≡ low) × (to_z w64 (of_z w64 high) ≡ high)
-held low high gap =
-    (omega (arith, ints, gap.low_place.from, gap.low_place.upto), omega (arith, ints, gap.high_place.from, gap.high_place.upto))
+held low high gap = (omega (arith, ints, gap.low_place.from, gap.low_place.upto), omega (arith, ints, gap.high_place.from, gap.high_place.upto))
 
 pub push_matches-requires-clause-gap : goal.push_matches-requires-clause-gap
 push_matches-requires-clause-gap c =
@@ -23,20 +22,17 @@ push_matches-requires-clause-gap c =
 
 pub push_matches-requires-clause-number : goal.push_matches-requires-clause-number
 push_matches-requires-clause-number c =
-    omega (arith, few_cuts c.args.hot.now c.args.cold.now c.args.cuts.now c.requires.hot c.requires.cold c.requires.cuts,
-    few (goal.at.push_matches-requires-clause-number c).In-loop-number)
+    let all = few_cuts c.args.hot.now c.args.cold.now c.args.cuts.now c.requires.hot c.requires.cold c.requires.cuts in
+    omega (arith, all, few (goal.at.push_matches-requires-clause-number c).In-loop-number)
 
 pub overflow_cast-number : goal.overflow_cast-number
 overflow_cast-number c =
-    omega (arith, few_cuts c.args.hot.now c.args.cold.now c.args.cuts.now c.requires.hot c.requires.cold c.requires.cuts,
-    few (goal.at.overflow_cast-number c).In-loop-number)
+    let all = few_cuts c.args.hot.now c.args.cold.now c.args.cuts.now c.requires.hot c.requires.cold c.requires.cuts in
+    omega (arith, all, few (goal.at.overflow_cast-number c).In-loop-number)
 
 pub loop-number-preserved : goal.loop-number-preserved
 loop-number-preserved c =
-    let n = c.loop-number.number in
-    let hot = c.args.hot.now in
-    let cold = c.args.cold.now in
-    let cuts = c.args.cuts.now in
+    let n = c.loop-number.number in let hot = c.args.hot.now in let cold = c.args.cold.now in let cuts = c.args.cuts.now in
     let same = held (get_or cuts (n + 1) (pos 0)) (get_or cuts n (pos 0)) (gap (goal.at.loop-number-preserved c).In-loop-number) in
     c.in_ok-push_matches.ensures ∙ (λ i. c.loop-number.exchanges.items ++ matches_in n (same.0 i) (same.1 i) hot cold)
     ∙ ap (λ (es : List Exchange). es ++ exchanges_at hot cold cuts n) c.loop-number.invariant ∙ sym (rows_more (exchanges_at hot cold cuts) n)

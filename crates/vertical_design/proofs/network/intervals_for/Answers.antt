@@ -22,8 +22,7 @@ spans_of-requires-2-clause-few c = omega (arith, length-utilities c.args.case.no
 
 pub exchanges_between-requires : goal.exchanges_between-requires
 exchanges_between-requires c =
-    let case = c.args.case.now in
-    let sensible = IsSensibleCase-both case c.requires.complete c.requires.sensible in
+    let case = c.args.case.now in let sensible = IsSensibleCase-both case c.requires.complete c.requires.sensible in
     record {
       hot = subst AreSpans (sym (c.deref.ensures.value ∙ c.in_ok-hot.ensures)) (AreSpans-spans_of side.Hot case sensible c.requires.standard);
       cold = subst AreSpans (sym (c.deref-2.ensures.value ∙ c.in_ok-cold.ensures)) (AreSpans-spans_of side.Cold case sensible c.requires.standard);
@@ -34,16 +33,13 @@ exchanges_between-requires c =
 
 pub returns : goal.returns
 returns c =
-    let case = c.args.case.now in
-    let cuts = c.in_ok-cuts.cuts.items in
+    let case = c.args.case.now in let cuts = c.in_ok-cuts.cuts.items in
     let are = same_cuts c.as_slice.result.now c.as_slice-2.result.now cuts (spans_of side.Hot case) (spans_of side.Cold case) cuts
     (c.as_slice.ensures.value ∙ c.in_ok-hot.ensures) (c.as_slice-2.ensures.value ∙ c.in_ok-cold.ensures) (λ i. cuts) c.in_ok-cuts.ensures in
-    let hot = c.deref.ensures.value ∙ c.in_ok-hot.ensures in
-    let cold = c.deref-2.ensures.value ∙ c.in_ok-cold.ensures in
+    let hot = c.deref.ensures.value ∙ c.in_ok-hot.ensures in let cold = c.deref-2.ensures.value ∙ c.in_ok-cold.ensures in
     let between : AreBetween case cuts c.in_ok-sources_between.field-0.items c.in_ok-sources_between-2.field-0.items c.in_ok-exchanges.exchanges.items =
     record {
       hot_is = c.in_ok-sources_between.ensures ∙ (λ i. sources_between ((c.deref-4.ensures.value ∙ c.in_ok-hot.ensures) i) (c.deref-5.ensures.value i));
       cold_is = c.in_ok-sources_between-2.ensures ∙ (λ i. sources_between ((c.deref-6.ensures.value ∙ c.in_ok-cold.ensures) i) (c.deref-7.ensures.value i));
       exchanges_are = c.in_ok-exchanges.ensures ∙ (λ i. exchanges_between (hot i) (cold i) (c.deref-3.ensures.value i));
-    } in
-    (cuts, are, between)
+    } in (cuts, are, between)

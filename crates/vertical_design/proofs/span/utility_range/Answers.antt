@@ -8,6 +8,4 @@ overflow_add-result c = let target = hot_target-between c.args.streams.now c.req
 
 pub returns-in-Hot-clause-to : goal.returns-in-Hot-clause-to
 returns-in-Hot-clause-to c =
-    let target = hot_target-between c.args.streams.now c.requires.streams in
-    let side = c.in-Hot.is in
-    rw side (omega (arith, ints))
+    let target = hot_target-between c.args.streams.now c.requires.streams in let side = c.in-Hot.is in rw side (omega (arith, ints))
