@@ -1,13 +1,12 @@
 -- The values that a whole stage makes, those that a course makes, and those that all courses make.
-use Rattle.design_lines.proofs.Words.{All-append, All-cons, All-head, All-nil, All-tail, All-weaker, BranchValue, Case, IsFullEnd, Network, Rational, Share}
-use Rattle.design_lines.proofs.Words.{Stream, Valuation, behind_splits, branch_side, course_branches, course_lines, courses_lines, first_state, first_value}
-use Rattle.design_lines.proofs.Words.{full_size, last_state, last_value, length-map, mixes, option_map, passes, plus, plus-zero, plus_assoc, range_with_len}
-use Rattle.design_lines.proofs.Words.{rational_zero, rest_branch, same_Some, share_branches, side_of, splits, stage_end, stage_lines, stream_at, unwrap_or}
+use Rattle.design_lines.proofs.Words.{All-head, All-tail, BranchValue, Case, IsFullEnd, Network, Rational, Share, Stream, Valuation, behind_splits}
+use Rattle.design_lines.proofs.Words.{branch_side, course_branches, course_lines, courses_lines, first_state, first_value, full_size, last_state, last_value}
+use Rattle.design_lines.proofs.Words.{length-map, mixes, option_map, passes, plus, plus-zero, plus_assoc, rational_zero, rest_branch, same_Some}
+use Rattle.design_lines.proofs.Words.{share_branches, side_of, splits, stage_end, stage_lines, stream_at, unwrap_or}
 use Rattle.std.proofs.Common.{All, List, Some, [], ap, append-nil, append_assoc, arith, length, length-append, refl, slice_get, subst, suc, sym, ℕ, ◌*◌, ◌++◌}
 use Rattle.std.proofs.Common.{◌+◌, ◌-◌, ◌<◌, ◌∙◌, ◌∷◌, ◌≡◌, ◌≤◌}
-use Rattle.design_lines.proofs.ValueSteps.{MakeAndRun, run_append, run_line, run_none, Carries, CarryFrom, CarryShares, RunsAs, StageRuns, carries_more, carries_new, carry_more, first_positive}
-use Rattle.design_lines.proofs.ValueSteps.{make_append, make_line, make_none, mixes_make, others_positive, passes_make, share_value}
-use Rattle.design_lines.proofs.ValueSteps.{splits_make}
+use Rattle.design_lines.proofs.ValueSteps.{Carries, CarryFrom, CarryShares, MakeAndRun, StageRuns, carries_more, carries_new, first_positive, mixes_make}
+use Rattle.design_lines.proofs.ValueSteps.{others_positive, passes_make, run_append, run_line, run_none, share_value, splits_make}
 use Rattle.design_lines.proofs.Walks.{branches_hold}
 use Rattle.design_lines.specs.Values.{AreLed, AreOfStream, IsLedStage, LedStage, Make, Meet, course_values, courses_along, courses_values, mix_values}
 use Rattle.design_lines.specs.Values.{pass_values, shares_along, size_of, split_values, stage_values, state_behind}

@@ -1,12 +1,13 @@
 -- The values that the splits, the passes and the mixes of a stage make.
-use Rattle.design_lines.proofs.Words.{All-append, All-cons, All-head, All-nil, All-tail, BranchValue, Case, IsAtMost, IsBelow, IsMix, IsPass, Line, Network, Rational}
-use Rattle.design_lines.proofs.Words.{Share, Side, Valuation, branch_side, change, duty_at, first_part, get_or-append-add, get_or_append_left, made_values}
-use Rattle.design_lines.proofs.Words.{minus, minus-plus, mix_determined, mixed_positive, mixed_value, mixes, no_value, pass_determined, passed_value, passes}
-use Rattle.design_lines.proofs.Words.{plus, plus-times, plus_comm, range_with_len, rational_zero, second_part, splits, stream_at, times, value_at, zero-plus}
+use Rattle.design_lines.proofs.Words.{All-append, All-cons, All-head, All-nil, All-tail, BranchValue, Case, IsAtMost, IsBelow, IsMix, IsPass, Line, Network}
+use Rattle.design_lines.proofs.Words.{Rational, Share, Side, Valuation, branch_side, change, duty_at, first_part, get_or-append-add, get_or_append_left}
+use Rattle.design_lines.proofs.Words.{made_values, minus, minus-plus, mix_determined, mixed_positive, mixed_value, mixes, no_value, pass_determined}
+use Rattle.design_lines.proofs.Words.{passed_value, passes, plus, plus-times, plus_comm, range_with_len, rational_zero, second_part, splits, stream_at, times}
+use Rattle.design_lines.proofs.Words.{value_at, zero-plus}
 use Rattle.design_lines.specs.Values.{AllCanFollow, CanFollow, LedStage, Make, mix_values, pass_values, size_of, split_values, values_after}
 use Rattle.fractions.proofs.Comparisons.{at_most_from_below, at_most_refl, below-plus, not_negative-plus, positive-plus}
-use Rattle.std.proofs.Common.{All, List, [], ap, append-nil, append_assoc, arith, get_or, length, length-append, refl, subst, suc, sym, zero, ℕ, ◌++◌, ◌+◌, ◌<◌}
-use Rattle.std.proofs.Common.{◌∙◌, ◌∷◌, ◌≡◌}
+use Rattle.std.proofs.Common.{All, List, [], ap, append-nil, append_assoc, arith, get_or, length, length-append, refl, subst, suc, sym, zero, ℕ, ◌++◌, ◌+◌}
+use Rattle.std.proofs.Common.{◌<◌, ◌∙◌, ◌∷◌, ◌≡◌}
 use Rattle.networks.specs.declared.network.Line.TheVariants as line
 
 -- ---- what a branch carries
