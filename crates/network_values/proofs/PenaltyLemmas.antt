@@ -131,8 +131,7 @@ module _ (weight : ℕ → Rational) (case : Case) (network : Network) (shape : 
       minus_turned taken (outlet_height weight (pass_of network number j)) (inlet_height weight (pass_of network number j))
       ∙ sym (zero-plus (plus taken (side_taken weight network number (source.Stream j))))
   by_parts number duty (source.Stream i) (source.Utility j) =
-      let taken = side_taken weight network number (source.Stream i) in
-      minus-zero taken ∙ sym (zero-plus (plus taken rational_zero) ∙ plus-zero taken)
+      let taken = side_taken weight network number (source.Stream i) in minus-zero taken ∙ sym (zero-plus (plus taken rational_zero) ∙ plus-zero taken)
   by_parts number duty (source.Utility i) (source.Stream j) =
       minus_turned duty (outlet_height weight (pass_of network number j)) (inlet_height weight (pass_of network number j))
       ∙ ap (plus duty) (sym (zero-plus (side_taken weight network number (source.Stream j))))
@@ -152,11 +151,10 @@ penalties_sum case network values view streams shape whole_values ended =
     let height = height_at case view network values in
     let passes = rational_sum_by (pass_loss height) network.lines in
     let mixes = mix_penalties case view network values in
-    let hot = sum_side side.Hot (heat_over view.from_itself view.place) case.streams in
     let cold = sum_side side.Cold (heat_over view.from_itself view.place) case.streams in
     ap (λ x. plus x mixes) (exchangers_add_up height case network shape) ∙ plus_assoc (hot_heat network) passes mixes ∙ ap (plus (hot_heat network))
     (sym (weight_balance case network values (heights case view) shape whole_values ended (heights-additive case view)) ∙ streams_given case view streams)
-    ∙ less_deficit (hot_heat network) hot cold
+    ∙ less_deficit (hot_heat network) (sum_side side.Hot (heat_over view.from_itself view.place) case.streams) cold
 
 -- ---- the view from the reference place
 

@@ -109,8 +109,7 @@ targets_met case network values valid shape whole_values ended apart =
     let met : (from_itself : Bool) (t : ℤ) → IsMet (deficit_over from_itself streams t) =
     λ from_itself t. deficits_met case network values (record { place = t; from_itself = from_itself }) valid shape whole_values ended apart in
     let all_met = λ (from_itself : Bool). All-map IsMet (deficit_over from_itself streams) ends (λ k d within. met from_itself (get_or ends k d)) in
-    let each : All IsMet (end_deficits streams) =
-    All-append IsMet _ _ (all_met false) (all_met true) in
+    let each : All IsMet (end_deficits streams) = All-append IsMet _ _ (all_met false) (all_met true) in
     not_negative-minus (whole (hot_target streams)) (hot_heat network)
     (⊎_elim (λ none. subst IsMet (sym none) (hot_heat-least case network shape)) (λ (k, within, is). subst IsMet is (each k (hot_target streams) within))
     (fold-int_max_reached (pos 0) (end_deficits streams) (hot_target streams) refl))

@@ -290,8 +290,7 @@ module _ {case : Case} {network : Network} {values : Valuation} (shape : HasShap
       by : (b : Bool) → list_any (λ u. branch == u) (used_by network.lines) ≡ b → Contains (used_by network.lines) branch
       by true some =
           let (k, u, it) = found (λ v. branch == v) (used_by network.lines) some in
-          let same : u ≡ branch = grind (arith, nat_tests, it.passes) in
-          subst (Contains (used_by network.lines)) same (Contains-slice_get (used_by network.lines) k u it.at)
+          subst (Contains (used_by network.lines)) (grind (arith, nat_tests, it.passes)) (Contains-slice_get (used_by network.lines) k u it.at)
       by false none =
           let i = stream_at network.branches branch in
           let apart = All-weaker (λ u. (branch == u) ≡ false) (λ u. branch ≢ u) (λ u differ same. false≢true (sym differ ∙ eq-eqb branch u same))
