@@ -93,11 +93,12 @@ module _ (case : Case) (network : Network) (R : ℕ → ℕ → Rational → Rat
     pub ends : Carries (values ++ stage_values stage.before stage.after stage.shares) (stage_end next stage.shares) (value_of (full_size s) stage.after)
     pub next_is : stage_end next stage.shares + 1 ≡ length (values ++ stage_values stage.before stage.after stage.shares)
 
-  made_stage : (before after : Rational) (first : Share) (shares : List Share) (values : Valuation) (next from : ℕ)
-      → IsBefore values next from (record { before = before; after = after; shares = first ∷ shares })
-      → IsStageMade values next from (record { before = before; after = after; shares = first ∷ shares })
+  made_stage : (before after : Rational) (shares : List Share) (values : Valuation) (next from : ℕ)
+      → IsBefore values next from (record { before = before; after = after; shares = shares })
+      → IsStageMade values next from (record { before = before; after = after; shares = shares })
   unfolding stage_lines
-  made_stage before after first shares values next from is =
+  made_stage before after [] values next from is = absurd (omega (arith, is.led.some))
+  made_stage before after (first ∷ shares) values next from is =
       let all = first ∷ shares in
       let led = is.led in
       let behind = behind_splits next all in
@@ -137,12 +138,7 @@ module _ (case : Case) (network : Network) (R : ℕ → ℕ → Rational → Rat
       length-mix_values t size (a ∷ ss) = let rest = length-mix_values t (plus size a.cp) ss in omega (arith, rest)
 
   pub stage_made : (stage : LedStage) (values : Valuation) (next from : ℕ) → IsBefore values next from stage → IsStageMade values next from stage
-  stage_made stage values next from is = by stage.shares is
-    where
-      by : (shares : List Share) → IsBefore values next from (record { before = stage.before; after = stage.after; shares = shares })
-          → IsStageMade values next from (record { before = stage.before; after = stage.after; shares = shares })
-      by [] is = absurd (omega (arith, is.led.some))
-      by (first ∷ shares) is = made_stage stage.before stage.after first shares values next from is
+  stage_made stage values next from is = made_stage stage.before stage.after stage.shares values next from is
 
 -- The values that a course makes, and those that all courses make.
 
