@@ -10,8 +10,8 @@ use Rattle.network_values.proofs.LineLemmas.{mixed_positive}
 use Rattle.network_values.proofs.StreamStates.{is_latent_branch-is}
 use Rattle.network_values.proofs.ValuationLemmas.{branch_positive, first_each}
 use Rattle.network_values.proofs.WholeLemmas.{item_at, own_value}
-use Rattle.std.proofs.Common.{All, [], ap, arith, false, get_or, if◌then◌else◌, inl, inr, length, pos, slice_get, subst, suc, sym, take, zero, ℕ, ◌-◌, ◌<◌, ◌∙◌}
-use Rattle.std.proofs.Common.{◌∷◌, ◌≡◌, ◌≤◌, ◌⊎◌}
+use Rattle.std.proofs.Common.{All, [], ap, arith, false, get_or, if◌then◌else◌, inl, inr, length, pos, slice_get, subst, suc, sym, take, zero, ℕ, ◌-◌, ◌<◌}
+use Rattle.std.proofs.Common.{◌∙◌, ◌∷◌, ◌≡◌, ◌≤◌, ◌⊎◌}
 use Rattle.std.specs.Prelude.{IsTrue}
 use Rattle.networks.specs.declared.network.Line.TheVariants as line
 use Rattle.stream_case.specs.declared.source.Side.TheVariants as side

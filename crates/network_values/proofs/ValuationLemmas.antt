@@ -3,7 +3,8 @@ use Rattle.network_values.proofs.Words.{All-append, All-cons, All-map, All-nil, 
 use Rattle.network_values.proofs.Words.{HasNumbers, HasPositiveFlow, HasShape, IsBelow, IsComplete, IsMix, IsPass, IsSplit, IsValidStream, IsValuation}
 use Rattle.network_values.proofs.Words.{LeaveRoom, LeavesRoom, Line, Network, Solves, Valuation, all_at, branch_side, duty_at, first_part, first_value, front}
 use Rattle.network_values.proofs.Words.{full_size, length-map, line_at, line_of, made_before, made_by, made_fewer, made_values, makes, mixed_value, no_value}
-use Rattle.network_values.proofs.Words.{passed_value, positive-is, positive-minus, rational_zero, second_part, slice_get-get_or, slice_get-take, uses, value_at}
+use Rattle.network_values.proofs.Words.{passed_value, positive-is, positive-minus, rational_zero, second_part, slice_get-get_or, slice_get-take, uses}
+use Rattle.network_values.proofs.Words.{value_at}
 use Rattle.network_values.proofs.LineLemmas.{mix_determined, mix_solved, mixed_positive, pass_determined, pass_solved, split_determined, split_solved}
 use Rattle.network_values.proofs.StreamStates.{full_size-positive}
 use Rattle.std.proofs.Common.{All, List, Some, [], ap, arith, drop, get_or, length, length-append, map, refl, slice_get, subst, suc, sym, take, zero, ℕ, ◌++◌}
