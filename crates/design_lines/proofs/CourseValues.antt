@@ -25,22 +25,6 @@ length-split_values before [] = omega arith
 length-split_values before (s ∷ []) = omega arith
 length-split_values before (s ∷ t ∷ shares) = let rest = length-split_values before (t ∷ shares) in omega (arith, rest)
 
-pub splits_carry : (before : Rational) (shares : List Share) (values : Valuation) (next from : ℕ) → next ≡ length values
-    → Carries values from (value_of (size_of shares) before)
-    → CarryShares (values ++ split_values before shares) before (share_branches next (rest_branch next from shares) shares) shares
-splits_carry before [] values next from start carries = tt
-splits_carry before (s ∷ []) values next from start carries =
-    (carries_more values [] from (share_value before s) (subst (λ a. Carries values from (value_of a before)) (plus-zero s.cp) carries), tt)
-splits_carry before (s ∷ t ∷ shares) values next from start carries =
-    let more = split_values before (t ∷ shares) in
-    let both : List BranchValue = share_value before s ∷ value_of (size_of (t ∷ shares)) before ∷ [] in
-    let rest = splits_carry before (t ∷ shares) (values ++ both) (next + 2) (next + 1) (omega (arith, start, length-append values both))
-    (carries_new values both 1 (next + 1) (omega (arith, start)) (omega arith)) in
-    let branches = share_branches (next + 2) (rest_branch (next + 2) (next + 1) (t ∷ shares)) (t ∷ shares) in (
-      carries_new values (share_value before s ∷ value_of (size_of (t ∷ shares)) before ∷ more) 0 next (omega (arith, start)) (omega arith),
-      subst (λ vs. CarryShares vs before branches (t ∷ shares)) (append_assoc values both more) rest,
-    )
-
 -- ---- behind the passes and the mixes
 
 pub passes_carry : (after : Rational) (shares : List Share) (values : Valuation) (branch : ℕ) → branch ≡ length values
@@ -112,8 +96,7 @@ module _ (case : Case) (network : Network) (R : ℕ → ℕ → Rational → Rat
       let whole_size = subst (λ a. Carries values from (value_of a before)) (sym led.sizes) is.carries in
       let split_makes = splits_make case network R before all values next from is.start whole_size led.positive in
       let behind_is : behind ≡ length (values ++ divided) = omega (arith, is.start, length-append values divided, length-split_values before all) in
-      let carried = splits_carry before all values next from is.start whole_size in
-      let pass_makes = passes_make case network R stream s.side before after behind branches all (values ++ divided) behind_is carried of_stream side_is
+      let pass_makes = passes_make case network R stream s.side before after behind branches all (values ++ divided) behind_is split_makes.1 of_stream side_is
       led.positive led.duties is.runs in
       let from_there = passes_carry after all (values ++ divided) behind behind_is in
       let mixed_from : behind + length all ≡ length ((values ++ divided) ++ passed) =
@@ -126,7 +109,7 @@ module _ (case : Case) (network : Network) (R : ℕ → ℕ → Rational → Rat
       let joined : ((values ++ divided) ++ passed) ++ mixed ≡ values ++ (divided ++ (passed ++ mixed)) = append_assoc (values ++ divided) passed mixed
       ∙ append_assoc values divided (passed ++ mixed) in
       record {
-        made = run_append case network R values (splits next from all) (ps ++ ms) divided (passed ++ mixed) split_makes
+        made = run_append case network R values (splits next from all) (ps ++ ms) divided (passed ++ mixed) split_makes.0
             (run_append case network R (values ++ divided) ps ms passed mixed pass_makes mix_makes);
         ends = subst (λ vs. Carries vs end (value_of (full_size s) after)) joined
             (subst (λ a. Carries (((values ++ divided) ++ passed) ++ mixed) end (value_of a after)) led.sizes last);

@@ -2,8 +2,8 @@
 use Rattle.design_lines.proofs.Words.{All-append, All-cons, All-head, All-nil, All-tail, BranchValue, Case, IsAtMost, IsBelow, IsMix, IsPass, Line, Network}
 use Rattle.design_lines.proofs.Words.{Rational, Share, Side, Valuation, branch_side, change, duty_at, first_part, get_or-append-add, get_or_append_left}
 use Rattle.design_lines.proofs.Words.{made_values, minus, minus-plus, mix_determined, mixed_positive, mixed_value, mixes, no_value, pass_determined}
-use Rattle.design_lines.proofs.Words.{passed_value, passes, plus, plus-times, plus_comm, range_with_len, rational_zero, second_part, splits, stream_at, times}
-use Rattle.design_lines.proofs.Words.{value_at, zero-plus}
+use Rattle.design_lines.proofs.Words.{passed_value, passes, plus, plus-times, plus-zero, plus_comm, range_with_len, rational_zero, rest_branch, second_part}
+use Rattle.design_lines.proofs.Words.{share_branches, splits, stream_at, times, value_at, zero-plus}
 use Rattle.design_lines.specs.Values.{AllCanFollow, CanFollow, LedStage, Make, mix_values, pass_values, size_of, split_values, values_after}
 use Rattle.fractions.proofs.Comparisons.{at_most_from_below, at_most_refl, below-plus, not_negative-plus, positive-plus}
 use Rattle.std.proofs.Common.{All, List, [], ap, append-nil, append_assoc, arith, get_or, length, length-append, refl, subst, suc, sym, zero, ℕ, ◌++◌, ◌+◌}
@@ -153,22 +153,34 @@ module _ (case : Case) (network : Network) (R : ℕ → ℕ → Rational → Rat
 
   -- ---- splits
 
+  -- splits, behind which each branch carries its share
   pub splits_make : (before : Rational) (shares : List Share) (values : Valuation) (next from : ℕ) → next ≡ length values
       → Carries values from (record { cp = size_of shares; t = before }) → ArePositive shares
       → MakeAndRun values (splits next from shares) (split_values before shares)
-  splits_make before [] values next from start carries positive = run_none values
-  splits_make before (s ∷ []) values next from start carries positive = run_none values
+      × CarryShares (values ++ split_values before shares) before (share_branches next (rest_branch next from shares) shares) shares
+  splits_make before [] values next from start carries positive = (run_none values, tt)
+  splits_make before (s ∷ []) values next from start carries positive =
+      let V : Rational → BranchValue = λ a. record { cp = a; t = before } in
+      (run_none values, (carries_more values [] from (share_value before s) (subst (λ a. Carries values from (V a)) (plus-zero s.cp) carries), tt))
   splits_make before (s ∷ t ∷ shares) values next from start carries positive =
       let rest = size_of (t ∷ shares) in
-      let both : List BranchValue = share_value before s ∷ record { cp = rest; t = before } ∷ [] in
+      let more = split_values before (t ∷ shares) in
+      let left : BranchValue = record { cp = rest; t = before } in
+      let both : List BranchValue = share_value before s ∷ left ∷ [] in
       let divided : made_values case network values (line.Split from next s.cp (next + 1)) ≡ both =
       ap (λ (v : BranchValue). first_part v s.cp ∷ second_part v s.cp ∷ []) carries.is
       ∙ ap (λ (a : Rational). share_value before s ∷ record { cp = a; t = before } ∷ []) (rest_left s.cp rest) in
       let room = subst (λ (v : BranchValue). IsBelow s.cp v.cp) (sym carries.is)
       (less_than_both s.cp rest (size_positive t shares (others_positive s (t ∷ shares) positive))) in
-      run_line values (line.Split from next s.cp (next + 1)) (splits (next + 2) (next + 1) (t ∷ shares)) both (split_values before (t ∷ shares)) divided room
-      (λ final more is. tt) (splits_make before (t ∷ shares) (values ++ both) (next + 2) (next + 1) (omega (arith, start, length-append values both))
-      (carries_new values both 1 (next + 1) (omega (arith, start)) (omega arith)) (others_positive s (t ∷ shares) positive))
+      let later = splits_make before (t ∷ shares) (values ++ both) (next + 2) (next + 1) (omega (arith, start, length-append values both))
+      (carries_new values both 1 (next + 1) (omega (arith, start)) (omega arith)) (others_positive s (t ∷ shares) positive) in
+      let branches = share_branches (next + 2) (rest_branch (next + 2) (next + 1) (t ∷ shares)) (t ∷ shares) in (
+        run_line values (line.Split from next s.cp (next + 1)) (splits (next + 2) (next + 1) (t ∷ shares)) both more divided room (λ final more is. tt) later.0,
+        (
+          carries_new values (share_value before s ∷ left ∷ more) 0 next (omega (arith, start)) (omega arith),
+          subst (λ vs. CarryShares vs before branches (t ∷ shares)) (append_assoc values both more) later.1,
+        ),
+      )
 
   -- ---- passes
 
