@@ -25,17 +25,7 @@ length-split_values before [] = omega arith
 length-split_values before (s ∷ []) = omega arith
 length-split_values before (s ∷ t ∷ shares) = let rest = length-split_values before (t ∷ shares) in omega (arith, rest)
 
--- ---- behind the passes and the mixes
-
-pub passes_carry : (after : Rational) (shares : List Share) (values : Valuation) (branch : ℕ) → branch ≡ length values
-    → CarryFrom (values ++ pass_values after shares) after branch shares
-passes_carry after [] values branch start = tt
-passes_carry after (s ∷ shares) values branch start =
-    let one : List BranchValue = share_value after s ∷ [] in (
-      carries_new values (share_value after s ∷ pass_values after shares) 0 branch (omega (arith, start)) (omega arith),
-      subst (λ vs. CarryFrom vs after (branch + 1) shares) (append_assoc values one (pass_values after shares))
-          (passes_carry after shares (values ++ one) (branch + 1) (omega (arith, start, length-append values one))),
-    )
+-- ---- behind the mixes
 
 pub mixes_end : (after size : Rational) (shares : List Share) (values : Valuation) (first end : ℕ) → Carries values first (value_of size after)
     → (length shares ≡ 0 → end ≡ first) → (0 < length shares → end + 1 ≡ length values + length shares)
@@ -98,7 +88,7 @@ module _ (case : Case) (network : Network) (R : ℕ → ℕ → Rational → Rat
       let behind_is : behind ≡ length (values ++ divided) = omega (arith, is.start, length-append values divided, length-split_values before all) in
       let pass_makes = passes_make case network R stream s.side before after behind branches all (values ++ divided) behind_is split_makes.1 of_stream side_is
       led.positive led.duties is.runs in
-      let from_there = passes_carry after all (values ++ divided) behind behind_is in
+      let from_there = pass_makes.1 in
       let mixed_from : behind + length all ≡ length ((values ++ divided) ++ passed) =
       omega (arith, behind_is, length-append (values ++ divided) passed, length-map all (λ (a : Share). share_value after a)) in
       let mix_makes = mixes_make case network R after (length all - 1) (behind + length all) behind (behind + 1) first.cp shares ((values ++ divided) ++ passed)
@@ -110,7 +100,7 @@ module _ (case : Case) (network : Network) (R : ℕ → ℕ → Rational → Rat
       ∙ append_assoc values divided (passed ++ mixed) in
       record {
         made = run_append case network R values (splits next from all) (ps ++ ms) divided (passed ++ mixed) split_makes.0
-            (run_append case network R (values ++ divided) ps ms passed mixed pass_makes mix_makes);
+            (run_append case network R (values ++ divided) ps ms passed mixed pass_makes.0 mix_makes);
         ends = subst (λ vs. Carries vs end (value_of (full_size s) after)) joined
             (subst (λ a. Carries (((values ++ divided) ++ passed) ++ mixed) end (value_of a after)) led.sizes last);
         next_is = omega (arith, mixed_from, length-append ((values ++ divided) ++ passed) mixed, length-mix_values after first.cp shares) ∙ ap length joined;

@@ -174,13 +174,11 @@ module _ (case : Case) (network : Network) (R : ℕ → ℕ → Rational → Rat
       (less_than_both s.cp rest (size_positive t shares (others_positive s (t ∷ shares) positive))) in
       let later = splits_make before (t ∷ shares) (values ++ both) (next + 2) (next + 1) (omega (arith, start, length-append values both))
       (carries_new values both 1 (next + 1) (omega (arith, start)) (omega arith)) (others_positive s (t ∷ shares) positive) in
-      let branches = share_branches (next + 2) (rest_branch (next + 2) (next + 1) (t ∷ shares)) (t ∷ shares) in (
-        run_line values (line.Split from next s.cp (next + 1)) (splits (next + 2) (next + 1) (t ∷ shares)) both more divided room (λ final more is. tt) later.0,
-        (
-          carries_new values (share_value before s ∷ left ∷ more) 0 next (omega (arith, start)) (omega arith),
-          subst (λ vs. CarryShares vs before branches (t ∷ shares)) (append_assoc values both more) later.1,
-        ),
-      )
+      let branches = share_branches (next + 2) (rest_branch (next + 2) (next + 1) (t ∷ shares)) (t ∷ shares) in
+      let rests = subst (λ vs. CarryShares vs before branches (t ∷ shares)) (append_assoc values both more) later.1 in
+      let made = run_line values (line.Split from next s.cp (next + 1)) (splits (next + 2) (next + 1) (t ∷ shares)) both more divided room
+      (λ final more is. tt) later.0 in
+      (made, (carries_new values (share_value before s ∷ left ∷ more) 0 next (omega (arith, start)) (omega arith), rests))
 
   -- ---- passes
 
@@ -188,8 +186,8 @@ module _ (case : Case) (network : Network) (R : ℕ → ℕ → Rational → Rat
       → to ≡ length values → CarryShares values before branches shares → All (λ b. stream_at network.branches b ≡ stream) branches
       → ((b : ℕ) → stream_at network.branches b ≡ stream → branch_side case network b ≡ of) → ArePositive shares
       → All (λ s. times s.cp (change of before after) ≡ duty_at network s.exchanger) shares → All (λ a. R stream a.exchanger before after) shares
-      → MakeAndRun values (passes to branches shares) (pass_values after shares)
-  passes_make stream of before after to [] [] values start carry own side_is positive duties runs = run_none values
+      → MakeAndRun values (passes to branches shares) (pass_values after shares) × CarryFrom (values ++ pass_values after shares) after to shares
+  passes_make stream of before after to [] [] values start carry own side_is positive duties runs = (run_none values, tt)
   passes_make stream of before after to [] (s ∷ shares) values start carry own side_is positive duties runs = absurd carry
   passes_make stream of before after to (branch ∷ branches) [] values start carry own side_is positive duties runs = absurd carry
   passes_make stream of before after to (branch ∷ branches) (s ∷ shares) values start carry own side_is positive duties runs =
@@ -203,17 +201,19 @@ module _ (case : Case) (network : Network) (R : ℕ → ℕ → Rational → Rat
       let one : passed_value (branch_side case network branch) (value_at values branch) duty ≡ behind =
       ap (λ side. passed_value side (value_at values branch) duty) (side_is branch here) ∙ ap (λ v. passed_value of v duty) carry.0.is
       ∙ sym (pass_determined of (share_value before s) behind duty (first_positive s shares positive) pass) in
-      run_line values (line.Pass branch s.exchanger to) (passes (to + 1) branches shares) (behind ∷ []) (pass_values after shares)
+      let later = passes_make stream of before after (to + 1) branches shares (values ++ behind ∷ []) (omega (arith, start, length-append values (behind ∷ [])))
+      (carry_more values (behind ∷ []) before branches shares carry.1) (All-tail S branch branches own) side_is (others_positive s shares positive)
+      (All-tail D s shares duties) (All-tail Q s shares runs) in
+      let made = run_line values (line.Pass branch s.exchanger to) (passes (to + 1) branches shares) (behind ∷ []) (pass_values after shares)
       (ap (λ (v : BranchValue). v ∷ []) one) tt (λ final more is.
       let early = subst (λ vs. Carries vs branch (share_value before s)) (sym is) (carries_more values (behind ∷ more) branch (share_value before s) carry.0) in
       let late = subst (λ vs. Carries vs to behind) (sym is) (carries_new values (behind ∷ more) 0 to (omega (arith, start)) (omega arith)) in
       let from_is : before ≡ (value_at final branch).t = sym (ap (λ (v : BranchValue). v.t) early.is) in
       let to_is : after ≡ (value_at final to).t = sym (ap (λ (v : BranchValue). v.t) late.is) in
       subst (λ k. R k s.exchanger (value_at final branch).t (value_at final to).t) (sym here)
-      (subst (λ x. R stream s.exchanger x (value_at final to).t) from_is (subst (λ x. R stream s.exchanger before x) to_is (All-head Q s shares runs))))
-      (passes_make stream of before after (to + 1) branches shares (values ++ behind ∷ []) (omega (arith, start, length-append values (behind ∷ [])))
-      (carry_more values (behind ∷ []) before branches shares carry.1) (All-tail S branch branches own) side_is (others_positive s shares positive)
-      (All-tail D s shares duties) (All-tail Q s shares runs))
+      (subst (λ x. R stream s.exchanger x (value_at final to).t) from_is (subst (λ x. R stream s.exchanger before x) to_is (All-head Q s shares runs)))) later.0 in
+      let rests = subst (λ vs. CarryFrom vs after (to + 1) shares) (append_assoc values (behind ∷ []) (pass_values after shares)) later.1 in
+      (made, (carries_new values (behind ∷ pass_values after shares) 0 to (omega (arith, start)) (omega arith), rests))
 
   -- ---- mixes
 
