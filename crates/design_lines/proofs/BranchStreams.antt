@@ -4,8 +4,8 @@ use Rattle.design_lines.proofs.Words.{Branch, Case, Course, Network, Stream, bra
 use Rattle.design_lines.proofs.Words.{get_or-map-range_with_len, get_or_append_left, length-map, length-map-range_with_len, made_branches, many_own, numbered}
 use Rattle.design_lines.proofs.Words.{own_branch, own_branches, slice_get-get_or, slice_get_within, stream_at, stream_at-get_or}
 use Rattle.design_lines.specs.Values.{AreLed, IsLedStream, LedStage, courses_along, shares_along}
-use Rattle.std.proofs.Common.{List, Some, [], ap, append_assoc, arith, get_or, length, length-append, map, refl, slice_get, subst, suc, sym, zero, ℕ, ◌++◌, ◌+◌}
-use Rattle.std.proofs.Common.{◌-◌, ◌<◌, ◌∙◌, ◌∷◌, ◌≡◌, ◌≤◌}
+use Rattle.std.proofs.Common.{List, Some, [], ap, append_assoc, arith, get_or, length, length-append, map, refl, slice_get, subst, suc, sym, zero, ℕ, ◌++◌}
+use Rattle.std.proofs.Common.{◌+◌, ◌-◌, ◌<◌, ◌∙◌, ◌∷◌, ◌≡◌, ◌≤◌}
 
 pub length-own_branches : (case : Case) → length (own_branches case) ≡ length case.streams
 length-own_branches case = many_own case

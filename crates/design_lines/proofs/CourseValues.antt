@@ -1,13 +1,12 @@
 -- The values that a whole stage makes, those that a course makes, and those that all courses make.
-use Rattle.design_lines.proofs.Words.{All-append, All-cons, All-head, All-nil, All-tail, All-weaker, BranchValue, Case, IsFullEnd, Network, Rational, Share}
-use Rattle.design_lines.proofs.Words.{Stream, Valuation, behind_splits, branch_side, course_branches, course_lines, courses_lines, first_state, first_value}
-use Rattle.design_lines.proofs.Words.{full_size, last_state, last_value, length-map, mixes, option_map, passes, plus, plus-zero, plus_assoc, range_with_len}
-use Rattle.design_lines.proofs.Words.{rational_zero, rest_branch, same_Some, share_branches, side_of, splits, stage_end, stage_lines, stream_at, unwrap_or}
+use Rattle.design_lines.proofs.Words.{All-head, All-tail, BranchValue, Case, IsFullEnd, Network, Rational, Share, Stream, Valuation, behind_splits}
+use Rattle.design_lines.proofs.Words.{branch_side, course_branches, course_lines, courses_lines, first_state, first_value, full_size, last_state, last_value}
+use Rattle.design_lines.proofs.Words.{length-map, mixes, option_map, passes, plus, plus-zero, plus_assoc, rational_zero, rest_branch, same_Some}
+use Rattle.design_lines.proofs.Words.{share_branches, side_of, splits, stage_end, stage_lines, stream_at, unwrap_or}
 use Rattle.std.proofs.Common.{All, List, Some, [], ap, append-nil, append_assoc, arith, length, length-append, refl, slice_get, subst, suc, sym, ℕ, ◌*◌, ◌++◌}
 use Rattle.std.proofs.Common.{◌+◌, ◌-◌, ◌<◌, ◌∙◌, ◌∷◌, ◌≡◌, ◌≤◌}
-use Rattle.design_lines.proofs.ValueSteps.{MakeAndRun, run_append, run_line, run_none, Carries, CarryFrom, CarryShares, RunsAs, StageRuns, carries_more, carries_new, carry_more, first_positive}
-use Rattle.design_lines.proofs.ValueSteps.{make_append, make_line, make_none, mixes_make, others_positive, passes_make, share_value}
-use Rattle.design_lines.proofs.ValueSteps.{splits_make}
+use Rattle.design_lines.proofs.ValueSteps.{Carries, CarryFrom, CarryShares, MakeAndRun, StageRuns, carries_more, carries_new, first_positive, mixes_make}
+use Rattle.design_lines.proofs.ValueSteps.{others_positive, passes_make, run_append, run_line, run_none, share_value, splits_make}
 use Rattle.design_lines.proofs.Walks.{branches_hold}
 use Rattle.design_lines.specs.Values.{AreLed, AreOfStream, IsLedStage, LedStage, Make, Meet, course_values, courses_along, courses_values, mix_values}
 use Rattle.design_lines.specs.Values.{pass_values, shares_along, size_of, split_values, stage_values, state_behind}
@@ -26,33 +25,7 @@ length-split_values before [] = omega arith
 length-split_values before (s ∷ []) = omega arith
 length-split_values before (s ∷ t ∷ shares) = let rest = length-split_values before (t ∷ shares) in omega (arith, rest)
 
-pub splits_carry : (before : Rational) (shares : List Share) (values : Valuation) (next from : ℕ) → next ≡ length values
-    → Carries values from (value_of (size_of shares) before)
-    → CarryShares (values ++ split_values before shares) before (share_branches next (rest_branch next from shares) shares) shares
-splits_carry before [] values next from start carries = tt
-splits_carry before (s ∷ []) values next from start carries =
-    (carries_more values [] from (share_value before s) (subst (λ a. Carries values from (value_of a before)) (plus-zero s.cp) carries), tt)
-splits_carry before (s ∷ t ∷ shares) values next from start carries =
-    let more = split_values before (t ∷ shares) in
-    let both : List BranchValue = share_value before s ∷ value_of (size_of (t ∷ shares)) before ∷ [] in
-    let rest = splits_carry before (t ∷ shares) (values ++ both) (next + 2) (next + 1) (omega (arith, start, length-append values both))
-    (carries_new values both 1 (next + 1) (omega (arith, start)) (omega arith)) in
-    let branches = share_branches (next + 2) (rest_branch (next + 2) (next + 1) (t ∷ shares)) (t ∷ shares) in (
-      carries_new values (share_value before s ∷ value_of (size_of (t ∷ shares)) before ∷ more) 0 next (omega (arith, start)) (omega arith),
-      subst (λ vs. CarryShares vs before branches (t ∷ shares)) (append_assoc values both more) rest,
-    )
-
--- ---- behind the passes and the mixes
-
-pub passes_carry : (after : Rational) (shares : List Share) (values : Valuation) (branch : ℕ) → branch ≡ length values
-    → CarryFrom (values ++ pass_values after shares) after branch shares
-passes_carry after [] values branch start = tt
-passes_carry after (s ∷ shares) values branch start =
-    let one : List BranchValue = share_value after s ∷ [] in (
-      carries_new values (share_value after s ∷ pass_values after shares) 0 branch (omega (arith, start)) (omega arith),
-      subst (λ vs. CarryFrom vs after (branch + 1) shares) (append_assoc values one (pass_values after shares))
-          (passes_carry after shares (values ++ one) (branch + 1) (omega (arith, start, length-append values one))),
-    )
+-- ---- behind the mixes
 
 pub mixes_end : (after size : Rational) (shares : List Share) (values : Valuation) (first end : ℕ) → Carries values first (value_of size after)
     → (length shares ≡ 0 → end ≡ first) → (0 < length shares → end + 1 ≡ length values + length shares)
@@ -94,11 +67,12 @@ module _ (case : Case) (network : Network) (R : ℕ → ℕ → Rational → Rat
     pub ends : Carries (values ++ stage_values stage.before stage.after stage.shares) (stage_end next stage.shares) (value_of (full_size s) stage.after)
     pub next_is : stage_end next stage.shares + 1 ≡ length (values ++ stage_values stage.before stage.after stage.shares)
 
-  made_stage : (before after : Rational) (first : Share) (shares : List Share) (values : Valuation) (next from : ℕ)
-      → IsBefore values next from (record { before = before; after = after; shares = first ∷ shares })
-      → IsStageMade values next from (record { before = before; after = after; shares = first ∷ shares })
+  made_stage : (before after : Rational) (shares : List Share) (values : Valuation) (next from : ℕ)
+      → IsBefore values next from (record { before = before; after = after; shares = shares })
+      → IsStageMade values next from (record { before = before; after = after; shares = shares })
   unfolding stage_lines
-  made_stage before after first shares values next from is =
+  made_stage before after [] values next from is = absurd (omega (arith, is.led.some))
+  made_stage before after (first ∷ shares) values next from is =
       let all = first ∷ shares in
       let led = is.led in
       let behind = behind_splits next all in
@@ -112,10 +86,9 @@ module _ (case : Case) (network : Network) (R : ℕ → ℕ → Rational → Rat
       let whole_size = subst (λ a. Carries values from (value_of a before)) (sym led.sizes) is.carries in
       let split_makes = splits_make case network R before all values next from is.start whole_size led.positive in
       let behind_is : behind ≡ length (values ++ divided) = omega (arith, is.start, length-append values divided, length-split_values before all) in
-      let carried = splits_carry before all values next from is.start whole_size in
-      let pass_makes = passes_make case network R stream s.side before after behind branches all (values ++ divided) behind_is carried of_stream side_is
+      let pass_makes = passes_make case network R stream s.side before after behind branches all (values ++ divided) behind_is split_makes.1 of_stream side_is
       led.positive led.duties is.runs in
-      let from_there = passes_carry after all (values ++ divided) behind behind_is in
+      let from_there = pass_makes.1 in
       let mixed_from : behind + length all ≡ length ((values ++ divided) ++ passed) =
       omega (arith, behind_is, length-append (values ++ divided) passed, length-map all (λ (a : Share). share_value after a)) in
       let mix_makes = mixes_make case network R after (length all - 1) (behind + length all) behind (behind + 1) first.cp shares ((values ++ divided) ++ passed)
@@ -126,8 +99,8 @@ module _ (case : Case) (network : Network) (R : ℕ → ℕ → Rational → Rat
       let joined : ((values ++ divided) ++ passed) ++ mixed ≡ values ++ (divided ++ (passed ++ mixed)) = append_assoc (values ++ divided) passed mixed
       ∙ append_assoc values divided (passed ++ mixed) in
       record {
-        made = run_append case network R values (splits next from all) (ps ++ ms) divided (passed ++ mixed) split_makes
-            (run_append case network R (values ++ divided) ps ms passed mixed pass_makes mix_makes);
+        made = run_append case network R values (splits next from all) (ps ++ ms) divided (passed ++ mixed) split_makes.0
+            (run_append case network R (values ++ divided) ps ms passed mixed pass_makes.0 mix_makes);
         ends = subst (λ vs. Carries vs end (value_of (full_size s) after)) joined
             (subst (λ a. Carries (((values ++ divided) ++ passed) ++ mixed) end (value_of a after)) led.sizes last);
         next_is = omega (arith, mixed_from, length-append ((values ++ divided) ++ passed) mixed, length-mix_values after first.cp shares) ∙ ap length joined;
@@ -138,12 +111,7 @@ module _ (case : Case) (network : Network) (R : ℕ → ℕ → Rational → Rat
       length-mix_values t size (a ∷ ss) = let rest = length-mix_values t (plus size a.cp) ss in omega (arith, rest)
 
   pub stage_made : (stage : LedStage) (values : Valuation) (next from : ℕ) → IsBefore values next from stage → IsStageMade values next from stage
-  stage_made stage values next from is = by stage.shares is
-    where
-      by : (shares : List Share) → IsBefore values next from (record { before = stage.before; after = stage.after; shares = shares })
-          → IsStageMade values next from (record { before = stage.before; after = stage.after; shares = shares })
-      by [] is = absurd (omega (arith, is.led.some))
-      by (first ∷ shares) is = made_stage stage.before stage.after first shares values next from is
+  stage_made stage values next from is = made_stage stage.before stage.after stage.shares values next from is
 
 -- The values that a course makes, and those that all courses make.
 

@@ -2,7 +2,8 @@
 use Rattle.design_lines.proofs.Words.{Branch, Course, Line, Share, all_branches, append-nil, behind_splits, course_branches, course_lines, courses_lines}
 use Rattle.design_lines.proofs.Words.{drop-cons, drop_all, made_branches, mixes, numbered, passes, rational_zero, rest_branch, share_branches, splits}
 use Rattle.design_lines.proofs.Words.{stage_lines}
-use Rattle.std.proofs.Common.{List, [], ap, append_assoc, arith, drop, get_or, length, length-append, suc, sym, ℕ, ◌*◌, ◌++◌, ◌+◌, ◌-◌, ◌<◌, ◌∙◌, ◌∷◌, ◌≡◌, ◌≤◌}
+use Rattle.std.proofs.Common.{List, [], ap, append_assoc, arith, drop, get_or, length, length-append, suc, sym, ℕ, ◌*◌, ◌++◌, ◌+◌, ◌-◌, ◌<◌, ◌∙◌, ◌∷◌, ◌≡◌}
+use Rattle.std.proofs.Common.{◌≤◌}
 use Rattle.design_lines.proofs.BranchStreams.{length-numbered}
 use Rattle.networks.specs.declared.network.Line.TheVariants as line
 

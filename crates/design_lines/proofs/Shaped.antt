@@ -1,13 +1,13 @@
 -- The network that led courses draw has the shape of a network: each part of the shape, by a walk over its lines.
 use Rattle.design_lines.proofs.Words.{All-append, All-cons, All-enumerated, All-front, All-map, All-nil, All-weaker, AllPairs-append, AllPairs-front}
 use Rattle.design_lines.proofs.Words.{AllPairs-map, AreMadeBeforeUse, AreMadeInOrder, AreNamed, ArePassedOnce, AreStages, AreUsedOnce, Branch, Case, Course}
-use Rattle.design_lines.proofs.Words.{Exchanger, HasPositiveFlow, HasShape, IsAnyName, IsComplete, IsCourseOf, IsDottedName, IsExchanger, IsName, IsOfOneStream}
-use Rattle.design_lines.proofs.Words.{Network, IsShareOf, IsSourceOf, IsSourceOf-side, IsTrue, Joins, Line, PassesDeclared, Share, StaysValid-IsComplete, Stream}
-use Rattle.design_lines.proofs.Words.{Utility, all_at, all_branches, branch_name, count-passages, count_by, count_by-cons, course_branches, courses_lines}
+use Rattle.design_lines.proofs.Words.{Exchanger, HasPositiveFlow, HasShape, IsAnyName, IsComplete, IsDottedName, IsExchanger, IsName, IsOfOneStream, IsShareOf}
+use Rattle.design_lines.proofs.Words.{IsSourceOf, IsSourceOf-side, IsTrue, Joins, Line, Network, PassesDeclared, Share, StaysValid-IsComplete, Stream, Utility}
+use Rattle.design_lines.proofs.Words.{all_at, all_branches, branch_name, count-passages, count_by, count_by-cons, course_branches, courses_lines}
 use Rattle.design_lines.proofs.Words.{declared_line, drawn, enumerate_from, flat_map, flat_map-append, is_ascii_alphanumeric, is_pass_of, made_branches}
 use Rattle.design_lines.proofs.Words.{made_by, makes, many_own, map-append, map-enumerate_from_item, map-map, names_of, nat_tests, numbered, own_branch}
-use Rattle.design_lines.proofs.Words.{own_branches, range_with_len, range_with_len-append, slice_get-get_or, slice_get_within, stream_at, sum_by, sum_by-append}
-use Rattle.design_lines.proofs.Words.{sum_by-le, take-append_seam, turns, used_by, uses}
+use Rattle.design_lines.proofs.Words.{own_branches, range_with_len, range_with_len-append, slice_get-get_or, slice_get_within, stream_at, sum_by}
+use Rattle.design_lines.proofs.Words.{sum_by-append, sum_by-le, take-append_seam, turns, used_by, uses}
 use Rattle.std.proofs.Common.{All, AllPairs, Bool, List, Some, [], ap, arith, cond, false, get_or, inl, inr, is_some, length, length-append, map, refl}
 use Rattle.std.proofs.Common.{slice_get, subst, suc, sym, take, true, zero, ℕ, ◌&&◌, ◌*◌, ◌++◌, ◌+◌, ◌-◌, ◌<◌, ◌==◌, ◌^◌, ◌∙◌, ◌∷◌, ◌≡◌, ◌≢◌, ◌≤◌}
 use Rattle.std.proofs.lemmas.List.FromFn.{get_or-range_with_len, length-range_with_len}

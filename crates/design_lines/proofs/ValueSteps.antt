@@ -1,12 +1,13 @@
 -- The values that the splits, the passes and the mixes of a stage make.
-use Rattle.design_lines.proofs.Words.{All-append, All-cons, All-head, All-nil, All-tail, BranchValue, Case, IsAtMost, IsBelow, IsMix, IsPass, Line, Network, Rational}
-use Rattle.design_lines.proofs.Words.{Share, Side, Valuation, branch_side, change, duty_at, first_part, get_or-append-add, get_or_append_left, made_values}
-use Rattle.design_lines.proofs.Words.{minus, minus-plus, mix_determined, mixed_positive, mixed_value, mixes, no_value, pass_determined, passed_value, passes}
-use Rattle.design_lines.proofs.Words.{plus, plus-times, plus_comm, range_with_len, rational_zero, second_part, splits, stream_at, times, value_at, zero-plus}
+use Rattle.design_lines.proofs.Words.{All-append, All-cons, All-head, All-nil, All-tail, BranchValue, Case, IsAtMost, IsBelow, IsMix, IsPass, Line, Network}
+use Rattle.design_lines.proofs.Words.{Rational, Share, Side, Valuation, branch_side, change, duty_at, first_part, get_or-append-add, get_or_append_left}
+use Rattle.design_lines.proofs.Words.{made_values, minus, minus-plus, mix_determined, mixed_positive, mixed_value, mixes, no_value, pass_determined}
+use Rattle.design_lines.proofs.Words.{passed_value, passes, plus, plus-times, plus-zero, plus_comm, range_with_len, rational_zero, rest_branch, second_part}
+use Rattle.design_lines.proofs.Words.{share_branches, splits, stream_at, times, value_at, zero-plus}
 use Rattle.design_lines.specs.Values.{AllCanFollow, CanFollow, LedStage, Make, mix_values, pass_values, size_of, split_values, values_after}
 use Rattle.fractions.proofs.Comparisons.{at_most_from_below, at_most_refl, below-plus, not_negative-plus, positive-plus}
-use Rattle.std.proofs.Common.{All, List, [], ap, append-nil, append_assoc, arith, get_or, length, length-append, refl, subst, suc, sym, zero, ℕ, ◌++◌, ◌+◌, ◌<◌}
-use Rattle.std.proofs.Common.{◌∙◌, ◌∷◌, ◌≡◌}
+use Rattle.std.proofs.Common.{All, List, [], ap, append-nil, append_assoc, arith, get_or, length, length-append, refl, subst, suc, sym, zero, ℕ, ◌++◌, ◌+◌}
+use Rattle.std.proofs.Common.{◌<◌, ◌∙◌, ◌∷◌, ◌≡◌}
 use Rattle.networks.specs.declared.network.Line.TheVariants as line
 
 -- ---- what a branch carries
@@ -152,22 +153,32 @@ module _ (case : Case) (network : Network) (R : ℕ → ℕ → Rational → Rat
 
   -- ---- splits
 
+  -- splits, behind which each branch carries its share
   pub splits_make : (before : Rational) (shares : List Share) (values : Valuation) (next from : ℕ) → next ≡ length values
       → Carries values from (record { cp = size_of shares; t = before }) → ArePositive shares
       → MakeAndRun values (splits next from shares) (split_values before shares)
-  splits_make before [] values next from start carries positive = run_none values
-  splits_make before (s ∷ []) values next from start carries positive = run_none values
+      × CarryShares (values ++ split_values before shares) before (share_branches next (rest_branch next from shares) shares) shares
+  splits_make before [] values next from start carries positive = (run_none values, tt)
+  splits_make before (s ∷ []) values next from start carries positive =
+      let V : Rational → BranchValue = λ a. record { cp = a; t = before } in
+      (run_none values, (carries_more values [] from (share_value before s) (subst (λ a. Carries values from (V a)) (plus-zero s.cp) carries), tt))
   splits_make before (s ∷ t ∷ shares) values next from start carries positive =
       let rest = size_of (t ∷ shares) in
-      let both : List BranchValue = share_value before s ∷ record { cp = rest; t = before } ∷ [] in
+      let more = split_values before (t ∷ shares) in
+      let left : BranchValue = record { cp = rest; t = before } in
+      let both : List BranchValue = share_value before s ∷ left ∷ [] in
       let divided : made_values case network values (line.Split from next s.cp (next + 1)) ≡ both =
       ap (λ (v : BranchValue). first_part v s.cp ∷ second_part v s.cp ∷ []) carries.is
       ∙ ap (λ (a : Rational). share_value before s ∷ record { cp = a; t = before } ∷ []) (rest_left s.cp rest) in
       let room = subst (λ (v : BranchValue). IsBelow s.cp v.cp) (sym carries.is)
       (less_than_both s.cp rest (size_positive t shares (others_positive s (t ∷ shares) positive))) in
-      run_line values (line.Split from next s.cp (next + 1)) (splits (next + 2) (next + 1) (t ∷ shares)) both (split_values before (t ∷ shares)) divided room
-      (λ final more is. tt) (splits_make before (t ∷ shares) (values ++ both) (next + 2) (next + 1) (omega (arith, start, length-append values both))
-      (carries_new values both 1 (next + 1) (omega (arith, start)) (omega arith)) (others_positive s (t ∷ shares) positive))
+      let later = splits_make before (t ∷ shares) (values ++ both) (next + 2) (next + 1) (omega (arith, start, length-append values both))
+      (carries_new values both 1 (next + 1) (omega (arith, start)) (omega arith)) (others_positive s (t ∷ shares) positive) in
+      let branches = share_branches (next + 2) (rest_branch (next + 2) (next + 1) (t ∷ shares)) (t ∷ shares) in
+      let rests = subst (λ vs. CarryShares vs before branches (t ∷ shares)) (append_assoc values both more) later.1 in
+      let made = run_line values (line.Split from next s.cp (next + 1)) (splits (next + 2) (next + 1) (t ∷ shares)) both more divided room
+      (λ final more is. tt) later.0 in
+      (made, (carries_new values (share_value before s ∷ left ∷ more) 0 next (omega (arith, start)) (omega arith), rests))
 
   -- ---- passes
 
@@ -175,8 +186,8 @@ module _ (case : Case) (network : Network) (R : ℕ → ℕ → Rational → Rat
       → to ≡ length values → CarryShares values before branches shares → All (λ b. stream_at network.branches b ≡ stream) branches
       → ((b : ℕ) → stream_at network.branches b ≡ stream → branch_side case network b ≡ of) → ArePositive shares
       → All (λ s. times s.cp (change of before after) ≡ duty_at network s.exchanger) shares → All (λ a. R stream a.exchanger before after) shares
-      → MakeAndRun values (passes to branches shares) (pass_values after shares)
-  passes_make stream of before after to [] [] values start carry own side_is positive duties runs = run_none values
+      → MakeAndRun values (passes to branches shares) (pass_values after shares) × CarryFrom (values ++ pass_values after shares) after to shares
+  passes_make stream of before after to [] [] values start carry own side_is positive duties runs = (run_none values, tt)
   passes_make stream of before after to [] (s ∷ shares) values start carry own side_is positive duties runs = absurd carry
   passes_make stream of before after to (branch ∷ branches) [] values start carry own side_is positive duties runs = absurd carry
   passes_make stream of before after to (branch ∷ branches) (s ∷ shares) values start carry own side_is positive duties runs =
@@ -190,17 +201,19 @@ module _ (case : Case) (network : Network) (R : ℕ → ℕ → Rational → Rat
       let one : passed_value (branch_side case network branch) (value_at values branch) duty ≡ behind =
       ap (λ side. passed_value side (value_at values branch) duty) (side_is branch here) ∙ ap (λ v. passed_value of v duty) carry.0.is
       ∙ sym (pass_determined of (share_value before s) behind duty (first_positive s shares positive) pass) in
-      run_line values (line.Pass branch s.exchanger to) (passes (to + 1) branches shares) (behind ∷ []) (pass_values after shares)
+      let later = passes_make stream of before after (to + 1) branches shares (values ++ behind ∷ []) (omega (arith, start, length-append values (behind ∷ [])))
+      (carry_more values (behind ∷ []) before branches shares carry.1) (All-tail S branch branches own) side_is (others_positive s shares positive)
+      (All-tail D s shares duties) (All-tail Q s shares runs) in
+      let made = run_line values (line.Pass branch s.exchanger to) (passes (to + 1) branches shares) (behind ∷ []) (pass_values after shares)
       (ap (λ (v : BranchValue). v ∷ []) one) tt (λ final more is.
       let early = subst (λ vs. Carries vs branch (share_value before s)) (sym is) (carries_more values (behind ∷ more) branch (share_value before s) carry.0) in
       let late = subst (λ vs. Carries vs to behind) (sym is) (carries_new values (behind ∷ more) 0 to (omega (arith, start)) (omega arith)) in
       let from_is : before ≡ (value_at final branch).t = sym (ap (λ (v : BranchValue). v.t) early.is) in
       let to_is : after ≡ (value_at final to).t = sym (ap (λ (v : BranchValue). v.t) late.is) in
       subst (λ k. R k s.exchanger (value_at final branch).t (value_at final to).t) (sym here)
-      (subst (λ x. R stream s.exchanger x (value_at final to).t) from_is (subst (λ x. R stream s.exchanger before x) to_is (All-head Q s shares runs))))
-      (passes_make stream of before after (to + 1) branches shares (values ++ behind ∷ []) (omega (arith, start, length-append values (behind ∷ [])))
-      (carry_more values (behind ∷ []) before branches shares carry.1) (All-tail S branch branches own) side_is (others_positive s shares positive)
-      (All-tail D s shares duties) (All-tail Q s shares runs))
+      (subst (λ x. R stream s.exchanger x (value_at final to).t) from_is (subst (λ x. R stream s.exchanger before x) to_is (All-head Q s shares runs)))) later.0 in
+      let rests = subst (λ vs. CarryFrom vs after (to + 1) shares) (append_assoc values (behind ∷ []) (pass_values after shares)) later.1 in
+      (made, (carries_new values (behind ∷ pass_values after shares) 0 to (omega (arith, start)) (omega arith), rests))
 
   -- ---- mixes
 

@@ -18,23 +18,14 @@ module _ (P : ℕ → Type 0) where
   abbrev pub HoldsOfNew : ℕ → List Share → Type 0
   HoldsOfNew next shares = (k : ℕ) → next ≤ k → k < next + 2 * (length shares - 1) → P k
 
-  rest_holds : (next from : ℕ) (shares : List Share) → P from → HoldsOfNew next shares → P (rest_branch next from shares)
-  rest_holds next from [] own new = own
-  rest_holds next from (s ∷ []) own new = own
-  rest_holds next from (s ∷ t ∷ shares) own new =
-      rest_holds (next + 2) (next + 1) (t ∷ shares) (new (next + 1) (omega arith) (omega arith))
-      (λ k low high. new k (omega (arith, low)) (omega (arith, high)))
-
-  shares_hold : (next rest : ℕ) (shares : List Share) → P rest → HoldsOfNew next shares → All P (share_branches next rest shares)
-  shares_hold next rest [] own new = All-nil P
-  shares_hold next rest (s ∷ []) own new = All-cons P rest [] own (All-nil P)
-  shares_hold next rest (s ∷ t ∷ shares) own new =
-      All-cons P _ _ (new next (omega arith) (omega arith))
-      (shares_hold (next + 2) rest (t ∷ shares) own (λ k low high. new k (omega (arith, low)) (omega (arith, high))))
-
   pub branches_hold : (next from : ℕ) (shares : List Share) → P from → HoldsOfNew next shares
       → All P (share_branches next (rest_branch next from shares) shares)
-  branches_hold next from shares own new = shares_hold next (rest_branch next from shares) shares (rest_holds next from shares own new) new
+  branches_hold next from [] own new = All-nil P
+  branches_hold next from (s ∷ []) own new = All-cons P from [] own (All-nil P)
+  branches_hold next from (s ∷ t ∷ shares) own new =
+      All-cons P _ _ (new next (omega arith) (omega arith))
+      (branches_hold (next + 2) (next + 1) (t ∷ shares) (new (next + 1) (omega arith) (omega arith))
+      (λ k low high. new k (omega (arith, low)) (omega (arith, high))))
 
 -- ---- what lines keep
 

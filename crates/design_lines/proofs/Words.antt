@@ -1,7 +1,7 @@
 -- The words and lemmas from elsewhere that the proofs of this crate speak in, passed on from one place. Declares nothing.
 pub use Rattle.design_lines.specs.Drawn.{Course, all_branches, course_branches, course_lines, courses_lines, declared_line, drawn, made_branches, numbered}
 pub use Rattle.design_lines.specs.Drawn.{stage_branches}
-pub use Rattle.design_lines.specs.Led.{AreStages, IsCourseOf, IsShareOf, turns}
+pub use Rattle.design_lines.specs.Led.{AreStages, IsShareOf, turns}
 pub use Rattle.design_lines.specs.Names.{branch_name, exchanger_name}
 unfoldable pub use Rattle.design_lines.specs.Stages.{behind_splits, mixes, passes, rest_branch, share_branches, splits, stage_end, stage_lines}
 pub use Rattle.design_lines.specs.declared.stage.Share.{Share}
@@ -28,11 +28,10 @@ pub use Rattle.networks.specs.declared.network.Branch.{Branch}
 pub use Rattle.networks.specs.declared.network.Line.{Line}
 pub use Rattle.networks.specs.declared.network.Network.{Network}
 pub use Rattle.std.proofs.Math.Seq.{drop-cons, take-append_seam}
-pub use Rattle.std.proofs.lemmas.Bool.{eq-eqb, ne_eqb}
 pub use Rattle.std.proofs.lemmas.Bool.Decides.{nat_tests}
 pub use Rattle.std.proofs.lemmas.Fmt.{decimal_injective, decimal_is_IsNumeral, length-decimal-le}
-pub use Rattle.std.proofs.lemmas.List.{append-nil, append_assoc, drop_all, get_or-append-add, get_or_append_left, length-map, length-take-le, map-append}
-pub use Rattle.std.proofs.lemmas.List.{reverse-append, take_all, take_more}
+pub use Rattle.std.proofs.lemmas.List.{append-nil, drop_all, get_or-append-add, get_or_append_left, length-map, length-take-le, map-append, reverse-append}
+pub use Rattle.std.proofs.lemmas.List.{take_all, take_more}
 pub use Rattle.std.proofs.lemmas.List.Concat.{flat_map-append}
 pub use Rattle.std.proofs.lemmas.List.Elements.{All-append, All-cons, All-head, All-map, All-nil, All-tail, All-weaker, filter_map-append}
 pub use Rattle.std.proofs.lemmas.List.FromFn.{get_or-enumerate_from, get_or-map-range_with_len, length-enumerate_from, length-map-range_with_len}

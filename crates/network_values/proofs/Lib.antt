@@ -1,13 +1,9 @@
+pub mod CourseLemmas
 pub mod LineLemmas
 pub mod ValuationLemmas
 pub mod HeightLemmas
 pub mod ShareLemmas
-pub mod MixLemmas
-pub mod CourseLemmas
 pub mod WholeLemmas
-pub mod FlowBalance
-pub mod EndLemmas
-pub mod WeightLemmas
 pub mod PassLemmas
 pub mod WholeHeights
 pub mod PenaltyLemmas
@@ -16,4 +12,5 @@ pub mod LoadLemmas
 pub mod ScaleLemmas
 pub mod SignLemmas
 mod OnNetwork
+pub mod WeightLemmas
 pub mod Words

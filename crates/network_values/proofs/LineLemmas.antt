@@ -1,7 +1,8 @@
 -- What a line makes solves its equations, and nothing else does.
 use Rattle.network_values.proofs.Words.{BranchValue, IsBelow, IsMix, IsPass, IsSplit, Rational, Side, at_most_from_below, below_from_positive, change}
 use Rattle.network_values.proofs.Words.{first_part, heat_of_both, minus, minus-minus_self, minus-plus, minus_from_plus, mixed_value, moved, over, passed_value}
-use Rattle.network_values.proofs.Words.{plus, plus-minus, plus_comm, positive-nonzero, positive-plus, rational_zero, second_part, times, times-over, times_comm}
+use Rattle.network_values.proofs.Words.{plus, plus-minus, plus_comm, positive-nonzero, positive-plus, rational_zero, second_part, times, times-over}
+use Rattle.network_values.proofs.Words.{times_comm}
 use Rattle.fractions.proofs.Products.{over_from_times}
 use Rattle.std.proofs.Common.{ap, refl, subst, sym, ◌∙◌, ◌≡◌}
 use Rattle.stream_case.specs.declared.source.Side.TheVariants as side

@@ -10,8 +10,8 @@ use Rattle.network_values.proofs.LineLemmas.{mixed_positive}
 use Rattle.network_values.proofs.StreamStates.{is_latent_branch-is}
 use Rattle.network_values.proofs.ValuationLemmas.{branch_positive, first_each}
 use Rattle.network_values.proofs.WholeLemmas.{item_at, own_value}
-use Rattle.std.proofs.Common.{All, [], ap, arith, false, get_or, if◌then◌else◌, inl, inr, length, pos, slice_get, subst, suc, sym, take, zero, ℕ, ◌-◌, ◌<◌, ◌∙◌}
-use Rattle.std.proofs.Common.{◌∷◌, ◌≡◌, ◌≤◌, ◌⊎◌}
+use Rattle.std.proofs.Common.{All, [], ap, arith, false, get_or, if◌then◌else◌, inl, inr, length, pos, slice_get, subst, suc, sym, take, zero, ℕ, ◌-◌, ◌<◌}
+use Rattle.std.proofs.Common.{◌∙◌, ◌∷◌, ◌≡◌, ◌≤◌, ◌⊎◌}
 use Rattle.std.specs.Prelude.{IsTrue}
 use Rattle.networks.specs.declared.network.Line.TheVariants as line
 use Rattle.stream_case.specs.declared.source.Side.TheVariants as side
@@ -21,8 +21,7 @@ use Rattle.stream_case.specs.declared.source.Side.TheVariants as side
 not_negative_factor : (c x : Rational) → IsBelow rational_zero c → IsAtMost rational_zero (times c x) → IsAtMost rational_zero x
 not_negative_factor c x some h = at_most_from_not_below x rational_zero (λ below.
     let turned = times-turned rational_zero c x (at_most_from_below rational_zero c some) (at_most_from_below x rational_zero below) in
-    let most = subst (IsAtMost (times c x)) (zero-times x) turned in
-    let none = at_most_antisymm (times c x) rational_zero most h in
+    let none = at_most_antisymm (times c x) rational_zero (subst (IsAtMost (times c x)) (zero-times x) turned) h in
     below_not_same x rational_zero below (times_cancel_right x rational_zero c (positive-nonzero c some) (times_comm x c ∙ none ∙ sym (zero-times c))))
 
 at_most_from_times : (c a b : Rational) → IsBelow rational_zero c → IsAtMost (times c a) (times c b) → IsAtMost a b
@@ -109,9 +108,8 @@ module _ (case : Case) (network : Network) (n : ℕ) (values : Valuation) (shape
       branch_positive case network n values is branch (omega (arith, known, made_fewer case network index n (omega (arith, early)))) in
       All-cons Kept to [] (λ latent.
       let of_first = sym (same_latent case network to first one_stream.1) ∙ latent in
-      let of_second = same_latent case network second first one_stream.0 ∙ of_first in
       mixed_part (value_at values first) (value_at values second) (value_at values to) (above first one) (above second two) solved
-      (before first one of_first) (before second two of_second)) (All-nil Kept)
+      (before first one of_first) (before second two (same_latent case network second first one_stream.0 ∙ of_first))) (All-nil Kept)
   made_kept index (line.End branch) before early one_stream numbers solved passes = All-nil Kept
 
   -- a branch made before a line or by it

@@ -1,9 +1,9 @@
 -- The definitions compute on a worked network: a cold stream is split, overheated beside an exchanger, and mixed again.
 use Rattle.network_values.proofs.Words.{All, All-from_recursion, AreEnded, Branch, BranchValue, Case, Contains, Decides-is_le, IsAtMost, IsBelow, IsFullEnd}
 use Rattle.network_values.proofs.Words.{IsWholeValuation, KeepApproaches, KeepsApproach, Line, Network, Rational, Solves, Stream, Utility, Valuation}
-use Rattle.network_values.proofs.Words.{below-whole, branch_side, codes, duty_at, ended_by, ended_streams, enumerate_from, exchangers_of, gcd, hot_target, ints}
-use Rattle.network_values.proofs.Words.{is_le, last_remainder, last_value, lowest_form, made_by, minus, pass_of, plus, positive_part, ratio, rational_cmp}
-use Rattle.network_values.proofs.Words.{rational_zero, same_Some, same_from_fields, side_run, stream_at, times, view_above, whole}
+use Rattle.network_values.proofs.Words.{below-whole, branch_side, codes, duty_at, ended_by, ended_streams, enumerate_from, exchangers_of, gcd, hot_target}
+use Rattle.network_values.proofs.Words.{ints, is_le, last_remainder, last_value, lowest_form, made_by, minus, pass_of, plus, positive_part, ratio}
+use Rattle.network_values.proofs.Words.{rational_cmp, rational_zero, same_Some, same_from_fields, side_run, stream_at, times, view_above, whole}
 use Rattle.network_values.specs.Penalties.{height_at, heights, hot_heat, mix_penalties, penalty}
 use Rattle.std.proofs.Common.{List, [], ap, arith, map, pos, refl, subst, suc, true, zero, ℕ, ℤ, ◌<◌, ◌∷◌, ◌≡◌}
 use Rattle.networks.specs.declared.network.Line.TheVariants as line

@@ -1,11 +1,11 @@
 -- The sum of all penalties.
 use Rattle.fractions.proofs.RationalSums.{rational_sum_by-plus, rational_sum_by-whole, sum-enumerated, sum-items}
 use Rattle.network_values.proofs.Words.{*ℤ--ℤ, Case, CountsFromItself, Exchanger, HasShape, HasTightDeficit, IsAdditive, IsLatent, IsSensible, IsTrue}
-use Rattle.network_values.proofs.Words.{IsValidStream, Latent, Network, Rational, Sensible, Side, Source, Stream, View, all_at, by_lt_z, by_three, counts_above}
-use Rattle.network_values.proofs.Words.{deficit_above, deficit_over, enumerate_from, exchangers_of, first_part_of_load, first_value, full_size}
+use Rattle.network_values.proofs.Words.{IsValidStream, Latent, Network, Rational, Sensible, Side, Source, Stream, View, all_at, by_lt_z, by_three}
+use Rattle.network_values.proofs.Words.{counts_above, deficit_above, deficit_over, enumerate_from, exchangers_of, first_part_of_load, first_value, full_size}
 use Rattle.network_values.proofs.Words.{heat_over-latent, heat_over-sensible, height_on, high_end, hot_target, hot_target-bound, inlet_height, int_max}
-use Rattle.network_values.proofs.Words.{int_sum_by, int_sum_by-sub, ints, is_latent, is_latent-latent, is_latent-sensible, last_part_of_load, last_value, minus}
-use Rattle.network_values.proofs.Words.{minus-self, minus-zero, one_denominator, outlet_height, pass_loss, pass_of, plus, plus-zero, plus_assoc, ratio}
+use Rattle.network_values.proofs.Words.{int_sum_by, int_sum_by-sub, ints, is_latent, is_latent-latent, is_latent-sensible, last_part_of_load, last_value}
+use Rattle.network_values.proofs.Words.{minus, minus-self, minus-zero, one_denominator, outlet_height, pass_loss, pass_of, plus, plus-zero, plus_assoc, ratio}
 use Rattle.network_values.proofs.Words.{rational_sum_by, rational_zero, same_side, stream_loss, sum_side, times, whole, whole-minus, whole-times, zero-plus}
 use Rattle.network_values.proofs.CourseLemmas.{height_on-additive}
 use Rattle.network_values.proofs.PassLemmas.{passes_by_side, side_taken, sides_taken}
@@ -13,7 +13,8 @@ use Rattle.network_values.proofs.StreamStates.{full_size-latent, full_size-sensi
 use Rattle.network_values.proofs.WeightLemmas.{weight_balance}
 use Rattle.network_values.proofs.WholeHeights.{height_lost, level_counts}
 use Rattle.network_values.specs.Penalties.{IsReferenceView, PenaltiesAddUp, PenaltiesAreTheExcess, StreamsGiveTheirHeat, absorbed_heat, base_of, course_of}
-use Rattle.network_values.specs.Penalties.{given_by, height_at, heights, hot_duty, hot_heat, mix_penalties, penalty, released_heat, stream_height, utility_part}
+use Rattle.network_values.specs.Penalties.{given_by, height_at, heights, hot_duty, hot_heat, mix_penalties, penalty, released_heat, stream_height}
+use Rattle.network_values.specs.Penalties.{utility_part}
 use Rattle.std.proofs.Common.{Bool, List, None, Option, Some, ap, ap₂, arith, false, if◌then◌else◌, inl, inr, pos, refl, slice_get, sym, true, ℕ, ℤ, ⊎_elim}
 use Rattle.std.proofs.Common.{◌*ℤ◌, ◌+ℤ◌, ◌-ℤ◌, ◌↔◌, ◌∙◌, ◌≡◌}
 use Rattle.stream_case.specs.Stream.{AreStreams, heat_over, load_over, sensible_above}
@@ -131,8 +132,7 @@ module _ (weight : ℕ → Rational) (case : Case) (network : Network) (shape : 
       minus_turned taken (outlet_height weight (pass_of network number j)) (inlet_height weight (pass_of network number j))
       ∙ sym (zero-plus (plus taken (side_taken weight network number (source.Stream j))))
   by_parts number duty (source.Stream i) (source.Utility j) =
-      let taken = side_taken weight network number (source.Stream i) in
-      minus-zero taken ∙ sym (zero-plus (plus taken rational_zero) ∙ plus-zero taken)
+      let taken = side_taken weight network number (source.Stream i) in minus-zero taken ∙ sym (zero-plus (plus taken rational_zero) ∙ plus-zero taken)
   by_parts number duty (source.Utility i) (source.Stream j) =
       minus_turned duty (outlet_height weight (pass_of network number j)) (inlet_height weight (pass_of network number j))
       ∙ ap (plus duty) (sym (zero-plus (side_taken weight network number (source.Stream j))))
@@ -152,11 +152,10 @@ penalties_sum case network values view streams shape whole_values ended =
     let height = height_at case view network values in
     let passes = rational_sum_by (pass_loss height) network.lines in
     let mixes = mix_penalties case view network values in
-    let hot = sum_side side.Hot (heat_over view.from_itself view.place) case.streams in
     let cold = sum_side side.Cold (heat_over view.from_itself view.place) case.streams in
     ap (λ x. plus x mixes) (exchangers_add_up height case network shape) ∙ plus_assoc (hot_heat network) passes mixes ∙ ap (plus (hot_heat network))
     (sym (weight_balance case network values (heights case view) shape whole_values ended (heights-additive case view)) ∙ streams_given case view streams)
-    ∙ less_deficit (hot_heat network) hot cold
+    ∙ less_deficit (hot_heat network) (sum_side side.Hot (heat_over view.from_itself view.place) case.streams) cold
 
 -- ---- the view from the reference place
 

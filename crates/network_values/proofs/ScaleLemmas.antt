@@ -114,7 +114,6 @@ module _ {case : Case} {network : Network} {values : Valuation} (shape : HasShap
       let (from, to, index, pass) = the_pass_of shape number i e at joins in
       let l = line.Pass from number to in
       let solves = all_at (Solves case network values) network.lines index l (all_solved whole_values) pass.here in
-      let one = all_at (IsOfOneStream network.branches) network.lines index l shape.one_stream pass.here in
       let used = all_at (λ x. All (λ b. b < length network.branches) (uses x)) network.lines index l (used_there shape.made_once shape.made_first) pass.here in
       let of_side : branch_side case network from ≡ on =
       ap (λ n. unwrap_or (side_of case (source.Stream n)) side.Hot) pass.of_stream ∙ ap (λ o. unwrap_or o side.Hot) is in
@@ -129,7 +128,7 @@ module _ {case : Case} {network : Network} {values : Valuation} (shape : HasShap
           at = of_case;
           is_on = is_on;
           of_from = pass.of_stream;
-          of_to = one ∙ pass.of_stream;
+          of_to = (all_at (IsOfOneStream network.branches) network.lines index l shape.one_stream pass.here) ∙ pass.of_stream;
           found = pass.found;
           size = solves.size;
           heat = heat;

@@ -1,10 +1,10 @@
 -- No penalty is negative, and the targets are met.
 use Rattle.network_values.proofs.Words.{All-append, All-map, Case, Exchanger, HasShape, IsAtMost, IsBelow, IsExchanger, IsOfOneStream, IsWholeValuation}
 use Rattle.network_values.proofs.Words.{KeepApproaches, KeepsApproach, Line, Network, Rational, RunsOnOneScale, Solves, Source, Valuation, View}
-use Rattle.network_values.proofs.Words.{at_most_from_below, at_most_from_not_negative, at_most_from_same, at_most_refl, at_most_trans, deficit_above}
-use Rattle.network_values.proofs.Words.{deficit_from, deficit_over, end_deficits, exchangers_of, fold-int_max_reached, hot_target, mix_loss, not_negative-minus}
-use Rattle.network_values.proofs.Words.{not_negative-plus, plus, positive-is, rational_zero, share_in, shifted_run, stream_at, stream_ends, stream_within}
-use Rattle.network_values.proofs.Words.{subst₂, used_there, uses, value_at, whole}
+use Rattle.network_values.proofs.Words.{at_most_from_below, at_most_from_not_negative, at_most_from_same, at_most_refl, at_most_trans, deficit_over}
+use Rattle.network_values.proofs.Words.{end_deficits, exchangers_of, fold-int_max_reached, hot_target, mix_loss, not_negative-minus, not_negative-plus, plus}
+use Rattle.network_values.proofs.Words.{positive-is, rational_zero, share_in, shifted_run, stream_at, stream_ends, stream_within, subst₂, used_there, uses}
+use Rattle.network_values.proofs.Words.{value_at, whole}
 use Rattle.fractions.proofs.RationalSums.{not_negative-enumerated, not_negative-rational_sum_by}
 use Rattle.network_values.proofs.CourseLemmas.{height_on-mixed}
 use Rattle.network_values.proofs.PenaltyLemmas.{penalties_sum}
@@ -13,7 +13,7 @@ use Rattle.network_values.proofs.ShareLemmas.{hot_shares_lead, shares_parts}
 use Rattle.network_values.proofs.WholeLemmas.{all_solved, branch_above, item_at}
 use Rattle.network_values.specs.Penalties.{DeficitsAreMet, HasNoNegativePenalty, PenaltiesAreNotNegative, TargetsAreMet, absorbed_heat, course_of}
 use Rattle.network_values.specs.Penalties.{exchanger_penalties, height_at, hot_duty, hot_heat, mix_penalties, penalty, released_heat, utility_part}
-use Rattle.std.proofs.Common.{All, Bool, Some, ap₂, arith, false, get_or, length, map, pos, refl, slice_get, subst, sym, true, ℕ, ℤ, ⊎_elim, ◌<◌, ◌≡◌}
+use Rattle.std.proofs.Common.{All, Bool, Some, ap₂, arith, false, get_or, length, pos, refl, slice_get, subst, sym, true, ℕ, ℤ, ⊎_elim, ◌<◌, ◌≡◌}
 use Rattle.networks.specs.declared.network.Line.TheVariants as line
 use Rattle.stream_case.specs.declared.source.Side.TheVariants as side
 use Rattle.stream_case.specs.declared.source.Source.TheVariants as source
@@ -109,8 +109,7 @@ targets_met case network values valid shape whole_values ended apart =
     let met : (from_itself : Bool) (t : ℤ) → IsMet (deficit_over from_itself streams t) =
     λ from_itself t. deficits_met case network values (record { place = t; from_itself = from_itself }) valid shape whole_values ended apart in
     let all_met = λ (from_itself : Bool). All-map IsMet (deficit_over from_itself streams) ends (λ k d within. met from_itself (get_or ends k d)) in
-    let each : All IsMet (end_deficits streams) =
-    All-append IsMet _ _ (all_met false) (all_met true) in
+    let each : All IsMet (end_deficits streams) = All-append IsMet _ _ (all_met false) (all_met true) in
     not_negative-minus (whole (hot_target streams)) (hot_heat network)
     (⊎_elim (λ none. subst IsMet (sym none) (hot_heat-least case network shape)) (λ (k, within, is). subst IsMet is (each k (hot_target streams) within))
     (fold-int_max_reached (pos 0) (end_deficits streams) (hot_target streams) refl))

@@ -1,7 +1,8 @@
 -- The sizes, states and levels of streams: sensible ones first, then latent ones.
-use Rattle.network_values.proofs.Words.{Case, IsBelow, IsLatent, IsSensible, IsValidStream, Network, Side, Stream, below-whole, first_part_of_load, first_state}
-use Rattle.network_values.proofs.Words.{fixed_level, full_size, high_end, ints, is_hot, is_latent, is_latent-latent, is_latent-sensible, is_latent_branch}
-use Rattle.network_values.proofs.Words.{last_part_of_load, last_state, low_end, option_map_or, rational_zero, shifted, stream_at, stream_level, whole}
+use Rattle.network_values.proofs.Words.{Case, IsBelow, IsLatent, IsSensible, IsValidStream, Network, Side, Stream, below-whole, first_part_of_load}
+use Rattle.network_values.proofs.Words.{first_state, fixed_level, full_size, high_end, ints, is_hot, is_latent, is_latent-latent, is_latent-sensible}
+use Rattle.network_values.proofs.Words.{is_latent_branch, last_part_of_load, last_state, low_end, option_map_or, rational_zero, shifted, stream_at}
+use Rattle.network_values.proofs.Words.{stream_level, whole}
 use Rattle.network_values.specs.Penalties.{unshifted}
 use Rattle.std.proofs.Common.{None, Some, ap, arith, false, if◌then◌else◌, inl, inr, pos, slice_get, sym, ℕ, ℤ, ◌+ℤ◌, ◌∙◌, ◌≡◌, ◌⊎◌}
 use Rattle.stream_case.specs.declared.source.Side.TheVariants as side

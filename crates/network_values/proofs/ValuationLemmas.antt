@@ -3,7 +3,8 @@ use Rattle.network_values.proofs.Words.{All-append, All-cons, All-map, All-nil, 
 use Rattle.network_values.proofs.Words.{HasNumbers, HasPositiveFlow, HasShape, IsBelow, IsComplete, IsMix, IsPass, IsSplit, IsValidStream, IsValuation}
 use Rattle.network_values.proofs.Words.{LeaveRoom, LeavesRoom, Line, Network, Solves, Valuation, all_at, branch_side, duty_at, first_part, first_value, front}
 use Rattle.network_values.proofs.Words.{full_size, length-map, line_at, line_of, made_before, made_by, made_fewer, made_values, makes, mixed_value, no_value}
-use Rattle.network_values.proofs.Words.{passed_value, positive-is, positive-minus, rational_zero, second_part, slice_get-get_or, slice_get-take, uses, value_at}
+use Rattle.network_values.proofs.Words.{passed_value, positive-is, positive-minus, rational_zero, second_part, slice_get-get_or, slice_get-take, uses}
+use Rattle.network_values.proofs.Words.{value_at}
 use Rattle.network_values.proofs.LineLemmas.{mix_determined, mix_solved, mixed_positive, pass_determined, pass_solved, split_determined, split_solved}
 use Rattle.network_values.proofs.StreamStates.{full_size-positive}
 use Rattle.std.proofs.Common.{All, List, Some, [], ap, arith, drop, get_or, length, length-append, map, refl, slice_get, subst, suc, sym, take, zero, ℕ, ◌++◌}
@@ -82,8 +83,7 @@ valuation_less case network n values shape is =
       own = take-take (length case.streams) m values (omega arith) ∙ is.own;
       positive = All-take (λ v. IsBelow rational_zero v.cp) m values is.positive;
       solved = each_first (Solves case network (take m values)) network.lines n (λ k l early here.
-          let numbers = (line_of shape k l here).numbers in
-          let below = line_below case network k m l numbers (made_fewer case network (suc k) n (omega (arith, early))) in
+          let below = line_below case network k m l ((line_of shape k l here).numbers) (made_fewer case network (suc k) n (omega (arith, early))) in
           let solved = first_each (Solves case network values) network.lines (suc n) is.solved k l (omega (arith, early)) here in
           solves_same case network values (take m values) m l (agree-take values m) below solved);
     }
@@ -148,10 +148,9 @@ made_solves case network n values (line.Pass from exchanger to) is numbers =
     let v = value_at values from in let of = branch_side case network from in let duty = duty_at network exchanger in
     let behind = passed_value of v duty in let all = values ++ behind ∷ [] in
     let used : from < made_before case network n = numbers.used 0 0 (omega arith) in
-    let before = (agree-append values (behind ∷ [])).same from (omega (arith, used, is.count)) in
     let one : value_at all to ≡ behind = ap (value_at all) (made_place case network n values (line.Pass from exchanger to) is numbers 0 (omega arith))
     ∙ get_or-append-add values (behind ∷ []) 0 no_value in
-    subst (λ a. IsPass of duty a (value_at all to)) before
+    subst (λ a. IsPass of duty a (value_at all to)) ((agree-append values (behind ∷ [])).same from (omega (arith, used, is.count)))
     (subst (λ a. IsPass of duty v a) (sym one) (pass_solved of v duty (branch_positive case network n values is from used)))
 made_solves case network n values (line.Mix first second to) is numbers =
     let a = value_at values first in let b = value_at values second in let both = mixed_value a b in

@@ -1,8 +1,8 @@
 -- Heights of whole numbers, and levels that count as above a place.
 use Rattle.network_values.proofs.Words.{*ℤ--ℤ, Decides-is_below, Decides-is_le, IsLatent, Side, Stream, at_most-whole, at_most_from_not_negative, below-whole}
 use Rattle.network_values.proofs.Words.{below_from_positive, by_lt_z, clamps, counts_above, height, high_end, int_le-from, int_le-true, int_lt-from}
-use Rattle.network_values.proofs.Words.{int_lt-true, int_max, ints, is_above, is_below, is_hot, is_le, minus, not_negative-minus, positive-minus, positive_part}
-use Rattle.network_values.proofs.Words.{rational_cmp, rational_zero, same_from_decides, shifted, times, whole, whole-minus, whole-times}
+use Rattle.network_values.proofs.Words.{int_lt-true, int_max, ints, is_above, is_below, is_hot, is_le, minus, not_negative-minus, positive-minus}
+use Rattle.network_values.proofs.Words.{positive_part, rational_cmp, rational_zero, same_from_decides, shifted, times, whole, whole-minus, whole-times}
 use Rattle.network_values.proofs.HeightLemmas.{positive_part-above, positive_part-below}
 use Rattle.network_values.specs.Penalties.{base_of, unshifted}
 use Rattle.std.proofs.Common.{Bool, ap, ap₂, arith, false, if◌then◌else◌, int_le, int_lt, pos, refl, sym, true, ℤ, ◌*ℤ◌, ◌-ℤ◌, ◌∙◌, ◌≡◌}

@@ -15,9 +15,7 @@ item_at (x ∷ xs) (suc i) within = item_at xs i (omega (arith, within))
 
 pub All-range : (P : ℕ → Type 0) (n : ℕ) → ((k : ℕ) → k < n → P k) → All P (range_with_len 0 n)
 All-range P n each k d inside =
-    let within : k < n = omega (arith, inside, length-range_with_len 0 n) in
-    let here : get_or (range_with_len 0 n) k d ≡ k = get_or-range_with_len 0 n k d within ∙ omega arith in
-    subst P (sym here) (each k within)
+    let within : k < n = omega (arith, inside, length-range_with_len 0 n) in subst P (sym (get_or-range_with_len 0 n k d within ∙ omega arith)) (each k within)
 
 pub Contains-range : (n k : ℕ) → k < n → Contains (range_with_len 0 n) k
 Contains-range n k within = (k, omega (arith, within, length-range_with_len 0 n), get_or-range_with_len 0 n k k within ∙ omega arith)

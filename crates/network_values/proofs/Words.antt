@@ -40,7 +40,7 @@ pub use Rattle.networks.specs.declared.network.Branch.{Branch}
 pub use Rattle.networks.specs.declared.network.Line.{Line}
 pub use Rattle.networks.specs.declared.network.Network.{Network}
 pub use Rattle.problem_table.proofs.DeficitLemmas.{hot_target-bound}
-pub use Rattle.problem_table.specs.Deficit.{CountsFromItself, HasTightDeficit, deficit_above, deficit_from, deficit_over, end_deficits, hot_target}
+pub use Rattle.problem_table.specs.Deficit.{CountsFromItself, HasTightDeficit, deficit_above, deficit_over, end_deficits, hot_target}
 pub use Rattle.problem_table.specs.Sides.{sum_side}
 pub use Rattle.std.proofs.Math.Bool.{and-false}
 pub use Rattle.std.proofs.Math.Seq.{take-length}

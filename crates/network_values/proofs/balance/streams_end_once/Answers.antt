@@ -1,4 +1,4 @@
-use Rattle.network_values.proofs.EndLemmas.{streams_end}
+use Rattle.network_values.proofs.WeightLemmas.{streams_end}
 use Rattle.network_values.proofs.balance.streams_end_once.Goals as goal
 
 pub returns : goal.returns
