@@ -14,7 +14,7 @@ use stream_case::Source::{self, Stream, Utility};
 /// The source, its side, the upper and the lower end, the least and the most heat, and the price.
 pub type PartRow = (Source, Side, i32, i32, i64, i64, i64);
 
-const FOUR_STREAMS_HOT: [PartRow; 9] = [
+const FOUR_STREAMS_HOT: &[PartRow] = &[
     (Utility(0), Hot, 1650, 1650, 0, MOST_HEAT, 1),
     (Stream(1), Hot, 1650, 1450, 60_000, 60_000, 0),
     (Stream(1), Hot, 1450, 1400, 15_000, 15_000, 0),
@@ -26,7 +26,7 @@ const FOUR_STREAMS_HOT: [PartRow; 9] = [
     (Stream(3), Hot, 550, 250, 45_000, 45_000, 0),
 ];
 
-const FOUR_STREAMS_COLD: [PartRow; 6] = [
+const FOUR_STREAMS_COLD: &[PartRow] = &[
     (Stream(2), Cold, 1450, 1400, 20_000, 20_000, 0),
     (Stream(0), Cold, 1400, 850, 110_000, 110_000, 0),
     (Stream(2), Cold, 1400, 850, 220_000, 220_000, 0),
@@ -35,7 +35,7 @@ const FOUR_STREAMS_COLD: [PartRow; 6] = [
     (Utility(1), Cold, 250, 250, 0, MOST_HEAT, 0),
 ];
 
-const RESTRICTED_HOT: [PartRow; 6] = [
+const RESTRICTED_HOT: &[PartRow] = &[
     (Utility(0), Hot, 1650, 1650, 0, 4000, 5),
     (Utility(1), Hot, 950, 950, 0, 3000, 3),
     (Stream(0), Hot, 950, 750, 2000, 2000, 0),
@@ -44,7 +44,7 @@ const RESTRICTED_HOT: [PartRow; 6] = [
     (Stream(0), Hot, 650, 450, 2000, 2000, 0),
 ];
 
-const RESTRICTED_COLD: [PartRow; 6] = [
+const RESTRICTED_COLD: &[PartRow] = &[
     (Stream(1), Cold, 750, 650, 1000, 1000, 0),
     (Utility(3), Cold, 650, 650, 0, 2000, -1),
     (Stream(1), Cold, 650, 450, 2000, 2000, 0),
@@ -53,13 +53,13 @@ const RESTRICTED_COLD: [PartRow; 6] = [
     (Utility(5), Cold, 150, 150, 0, 9000, 4),
 ];
 
-const ONE_LATENT_HOT: [PartRow; 3] = [
+const ONE_LATENT_HOT: &[PartRow] = &[
     (Utility(0), Hot, 1450, 1450, 0, MOST_HEAT, 1),
     (Stream(0), Hot, 1450, 950, 5000, 5000, 0),
     (Stream(0), Hot, 950, 650, 3000, 3000, 0),
 ];
 
-const ONE_LATENT_COLD: [PartRow; 2] = [
+const ONE_LATENT_COLD: &[PartRow] = &[
     (Stream(1), Cold, 950, 950, 8000, 8000, 0),
     (Utility(1), Cold, 650, 650, 0, MOST_HEAT, 0),
 ];
@@ -76,7 +76,7 @@ const AT_ONE_PLACE: Table = Table {
     forbids: &[],
 };
 
-const AT_ONE_PLACE_HOT: [PartRow; 5] = [
+const AT_ONE_PLACE_HOT: &[PartRow] = &[
     (Stream(0), Hot, 1000, 800, 2000, 2000, 0),
     (Stream(1), Hot, 800, 800, 700, 700, 0),
     (Utility(0), Hot, 800, 800, 0, 1000, 2),
@@ -84,7 +84,7 @@ const AT_ONE_PLACE_HOT: [PartRow; 5] = [
     (Stream(0), Hot, 700, 500, 2000, 2000, 0),
 ];
 
-const AT_ONE_PLACE_COLD: [PartRow; 3] = [
+const AT_ONE_PLACE_COLD: &[PartRow] = &[
     (Stream(2), Cold, 700, 500, 2000, 2000, 0),
     (Stream(2), Cold, 500, 300, 2000, 2000, 0),
     (Utility(1), Cold, 300, 300, 0, MOST_HEAT, 0),
@@ -129,26 +129,26 @@ fn compare_with(
 fn four_streams_have_their_grid_and_parts(rt: HostRuntime) -> Result<(), Fail> {
     let case = completed_case(rt.alloc(), &FOUR_STREAMS)?;
     let places = [1650, 1450, 1400, 850, 550, 250];
-    compare_with(&rt, &case, &places, &FOUR_STREAMS_HOT, &FOUR_STREAMS_COLD)
+    compare_with(&rt, &case, &places, FOUR_STREAMS_HOT, FOUR_STREAMS_COLD)
 }
 
 #[test]
 fn utilities_stand_before_the_streams_below_them(rt: HostRuntime) -> Result<(), Fail> {
     let case = completed_case(rt.alloc(), &RESTRICTED)?;
     let places = [1650, 950, 750, 650, 450, 350, 150];
-    compare_with(&rt, &case, &places, &RESTRICTED_HOT, &RESTRICTED_COLD)
+    compare_with(&rt, &case, &places, RESTRICTED_HOT, RESTRICTED_COLD)
 }
 
 #[test]
 fn a_latent_stream_has_one_part(rt: HostRuntime) -> Result<(), Fail> {
     let case = completed_case(rt.alloc(), &ONE_LATENT)?;
     let places = [1450, 950, 650];
-    compare_with(&rt, &case, &places, &ONE_LATENT_HOT, &ONE_LATENT_COLD)
+    compare_with(&rt, &case, &places, ONE_LATENT_HOT, ONE_LATENT_COLD)
 }
 
 #[test]
 fn latent_streams_stand_before_utilities(rt: HostRuntime) -> Result<(), Fail> {
     let case = completed_case(rt.alloc(), &AT_ONE_PLACE)?;
     let places = [1000, 800, 700, 500, 300];
-    compare_with(&rt, &case, &places, &AT_ONE_PLACE_HOT, &AT_ONE_PLACE_COLD)
+    compare_with(&rt, &case, &places, AT_ONE_PLACE_HOT, AT_ONE_PLACE_COLD)
 }

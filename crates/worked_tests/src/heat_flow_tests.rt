@@ -13,7 +13,7 @@ use stream_case::{Case, Items};
 
 /// Row by row over the hot parts: all reach what lies in their interval or below it, unless the
 /// match is forbidden.
-const CELLS: [(Table, &[u8]); 2] = [
+const CELLS: &[(Table, &[u8])] = &[
     (
         FOUR_STREAMS,
         b"\
@@ -54,7 +54,7 @@ fn cells_of(alloc: Global, case: &Case) -> Result<Vec<u8>, AllocError>
 
 #[test]
 fn heat_passes_downward_and_within_an_interval(rt: HostRuntime) -> Result<(), Fail> {
-    for (table, wanted) in &CELLS {
+    for (table, wanted) in CELLS {
         let case = completed_case(rt.alloc(), table)?;
         let cells = cells_of(rt.alloc(), &case)?;
         assert_lists(&rt, "the cells", &cells, wanted);
@@ -102,7 +102,7 @@ fn no_heat_and_no_prices_are_refused(rt: HostRuntime) -> Result<(), Fail> {
 /// A kind, parts by their indexes, their need and an offer, and whether that is a cut of a table.
 type CutRow = (Table, CutKind, &'static [u32], i64, i64, bool);
 
-const CUTS: [CutRow; 5] = [
+const CUTS: &[CutRow] = &[
     // the hot stream, which the cold one and the cooler can take 1,000 W each of
     (TOO_LITTLE_COOLING, CutKind::Supply, &[1], 5000, 2000, true),
     // the cooler is left out of what is on offer
@@ -131,7 +131,7 @@ fn is_cut_of(alloc: Global, (table, kind, members, need, offer, _): CutRow) -> R
 #[test]
 fn a_cut_offers_all_that_reaches_it(rt: HostRuntime) -> Result<(), Fail> {
     for row in CUTS {
-        let found = is_cut_of(rt.alloc(), row)?;
+        let found = is_cut_of(rt.alloc(), *row)?;
         assert_same(&rt, "a cut", &found, &row.5);
     }
     Ok(())

@@ -23,7 +23,7 @@ struct Worked {
 }
 
 /// One pinch, two pinches, and none.
-const SENSIBLE: [Worked; 3] = [
+const SENSIBLE: &[Worked] = &[
     Worked {
         contribution: 50,
         streams: &[
@@ -64,7 +64,7 @@ const SENSIBLE: [Worked; 3] = [
 ];
 
 /// A level at the pinch, from each side, and from both.
-const AT_THE_PINCH: [Worked; 3] = [
+const AT_THE_PINCH: &[Worked] = &[
     Worked {
         contribution: 50,
         streams: &[("H", Hot, 1500, 700, 10), ("B", Cold, 900, 900, 8000)],
@@ -99,7 +99,7 @@ const AT_THE_PINCH: [Worked; 3] = [
 ];
 
 /// A hot level at the highest end, a cold one at the lowest, and streams that are all latent.
-const AT_THE_ENDS: [Worked; 8] = [
+const AT_THE_ENDS: &[Worked] = &[
     Worked {
         contribution: 50,
         streams: &[("K", Hot, 1500, 1500, 2000), ("C", Cold, 1000, 1300, 10)],
@@ -154,7 +154,7 @@ const AT_THE_ENDS: [Worked; 8] = [
     },
     Worked {
         contribution: 50,
-        streams: &TWO_LOADS,
+        streams: TWO_LOADS,
         targets: Target { hot: 0, cold: 3000 },
         pinches: &[],
         reference: (950, false),
@@ -162,7 +162,7 @@ const AT_THE_ENDS: [Worked; 8] = [
 ];
 
 /// Two hot streams that condense at one level.
-const TWO_LOADS: [StreamRow; 3] = [
+const TWO_LOADS: &[StreamRow] = &[
     ("J", Hot, 1000, 1000, 3000),
     ("K", Hot, 1000, 1000, 4000),
     ("C", Cold, 500, 900, 10),
@@ -198,17 +198,17 @@ fn compare(rt: &(impl Abort + AllocGlobal), all: &[Worked]) -> Result<(), Fail> 
 
 #[test]
 fn sensible_cases_have_these_targets_and_pinches(rt: HostRuntime) -> Result<(), Fail> {
-    compare(&rt, &SENSIBLE)
+    compare(&rt, SENSIBLE)
 }
 
 #[test]
 fn levels_at_the_pinch_count_on_their_side(rt: HostRuntime) -> Result<(), Fail> {
-    compare(&rt, &AT_THE_PINCH)
+    compare(&rt, AT_THE_PINCH)
 }
 
 #[test]
 fn levels_at_the_ends_count(rt: HostRuntime) -> Result<(), Fail> {
-    compare(&rt, &AT_THE_ENDS)
+    compare(&rt, AT_THE_ENDS)
 }
 
 #[test]
@@ -224,7 +224,7 @@ fn four_streams_have_these_ends_and_this_deficit(rt: HostRuntime) -> Result<(), 
 
 #[test]
 fn the_loads_at_a_place_add_up(rt: HostRuntime) -> Result<(), Fail> {
-    let case = case_of_streams(rt.alloc(), 50, &TWO_LOADS)?;
+    let case = case_of_streams(rt.alloc(), 50, TWO_LOADS)?;
     assert_same(&rt, "above", &deficit_above(&case, 950), &0);
     assert_same(&rt, "from", &deficit_from(&case, 950), &-7000);
     assert_same(&rt, "above the level", &deficit_from(&case, 951), &0);

@@ -12,7 +12,7 @@ use stream_case::{
 };
 
 /// A text, and whether it begins with a dot, if it is a name.
-const NAMES: [(&str, Option<bool>); 9] = [
+const NAMES: &[(&str, Option<bool>)] = &[
     ("H2", Some(false)),
     ("H-2", Some(false)),
     (".a", Some(true)),
@@ -25,7 +25,7 @@ const NAMES: [(&str, Option<bool>); 9] = [
 ];
 
 /// A text, and its number of at most 13 digits.
-const NUMBERS: [(&str, Option<u128>); 5] = [
+const NUMBERS: &[(&str, Option<u128>)] = &[
     ("0042", Some(42)),
     ("9999999999999", Some(9_999_999_999_999)),
     ("12345678901234", None),
@@ -43,7 +43,7 @@ const COOLER: UtilityRow = ("W", Cold, 100, 5, 7, -2);
 
 /// The utilities of a case of the four streams, those that it has when it is completed, and
 /// whether it is standard then.
-const COMPLETIONS: [(&[UtilityRow], &[UtilityRow], bool); 4] = [
+const COMPLETIONS: &[(&[UtilityRow], &[UtilityRow], bool)] = &[
     (&[], &[HOT, COLD], true),
     (&[HEATER], &[HEATER, COLD], false),
     (&[COOLER], &[COOLER, HOT], false),
@@ -61,7 +61,7 @@ const TURNED: Forbid = Forbid {
 };
 
 /// Forbidden matches of the four streams, and whether the case is valid with them.
-const FORBIDS: [(&[Forbid], bool); 3] = [
+const FORBIDS: &[(&[Forbid], bool)] = &[
     (&[FORBID], true),
     (&[FORBID, FORBID], false),
     (&[TURNED], false),
@@ -87,7 +87,7 @@ fn dot_of(text: &str) -> Option<bool> {
 
 #[test]
 fn names_have_their_grammar(rt: HostRuntime) -> Result<(), Fail> {
-    for (text, dot) in &NAMES {
+    for (text, dot) in NAMES {
         assert_same(&rt, text, &dot_of(text), dot);
         let is_undotted = Name::undotted(text.as_bytes()).is_some();
         assert_same(&rt, text, &is_undotted, &(*dot == Some(false)));
@@ -100,7 +100,7 @@ fn names_have_their_grammar(rt: HostRuntime) -> Result<(), Fail> {
 
 #[test]
 fn numbers_have_digits_alone(rt: HostRuntime) {
-    for (text, number) in &NUMBERS {
+    for (text, number) in NUMBERS {
         assert_same(&rt, text, &natural_of(text.as_bytes(), 13), number);
     }
 }
@@ -134,7 +134,7 @@ fn a_match_at_the_pinch_is_level(rt: HostRuntime) {
 
 #[test]
 fn a_side_without_utility_gets_the_standard_one(rt: HostRuntime) -> Result<(), Fail> {
-    for (given, wanted, standard) in &COMPLETIONS {
+    for (given, wanted, standard) in COMPLETIONS {
         let wanted = utilities_of(rt.alloc(), 50, wanted)?;
         let case = completed(rt.alloc(), &four_streams_with(rt.alloc(), given, &[])?)?;
         assert_lists(&rt, "completion", case.utilities.as_slice(), &wanted);
@@ -145,7 +145,7 @@ fn a_side_without_utility_gets_the_standard_one(rt: HostRuntime) -> Result<(), F
 
 #[test]
 fn a_forbidden_match_joins_hot_with_cold_once(rt: HostRuntime) -> Result<(), Fail> {
-    for (forbids, valid) in &FORBIDS {
+    for (forbids, valid) in FORBIDS {
         let case = four_streams_with(rt.alloc(), &[], forbids)?;
         assert_same(&rt, "forbidden matches", &is_valid(&case), valid);
     }

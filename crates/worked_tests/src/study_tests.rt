@@ -18,7 +18,7 @@ use study::{MeetingGate, OpenGate, SweepPlan, SweepRow, least_cost, sample_case,
 type Row = (i32, i64, i64, Option<i128>);
 
 /// The four streams at contributions from 0 to 100.
-const FOUR_STREAM_ROWS: [Row; 11] = [
+const FOUR_STREAM_ROWS: &[Row] = &[
     (0, 0, 40_000, Some(0)),
     (10, 0, 40_000, Some(0)),
     (20, 0, 40_000, Some(0)),
@@ -67,9 +67,9 @@ const ALL_ROWS: SweepPlan = SweepPlan {
 
 #[test]
 fn any_workers_make_the_same_rows(rt: HostRuntime) -> Result<(), Fail> {
-    check_rows(&rt, &FOUR_STREAMS, ALL_ROWS, 1, &FOUR_STREAM_ROWS)?;
-    check_rows(&rt, &FOUR_STREAMS, ALL_ROWS, 4, &FOUR_STREAM_ROWS)?;
-    check_rows(&rt, &FOUR_STREAMS, ALL_ROWS, 16, &FOUR_STREAM_ROWS)
+    check_rows(&rt, &FOUR_STREAMS, ALL_ROWS, 1, FOUR_STREAM_ROWS)?;
+    check_rows(&rt, &FOUR_STREAMS, ALL_ROWS, 4, FOUR_STREAM_ROWS)?;
+    check_rows(&rt, &FOUR_STREAMS, ALL_ROWS, 16, FOUR_STREAM_ROWS)
 }
 
 #[test]
@@ -128,7 +128,7 @@ fn cost_of(alloc: Global, case: &Case) -> Result<(Target, Option<i128>), AllocEr
 /// a second generator.
 type SampleRow = (u32, &'static [Drawn], u32);
 
-const SAMPLES: [SampleRow; 3] = [
+const SAMPLES: &[SampleRow] = &[
     (1, &[(Hot, 1857, 607, 74), (Cold, 158, 589, 273)], 0),
     (
         2,
@@ -177,7 +177,7 @@ fn check_sample(rt: &(impl Abort + AllocGlobal), row: &SampleRow) -> Result<(), 
 
 #[test]
 fn samples_are_drawn(rt: HostRuntime) -> Result<(), Fail> {
-    for row in &SAMPLES {
+    for row in SAMPLES {
         check_sample(&rt, row)?;
     }
     let case = completed(rt.alloc(), &sample_case(rt.alloc(), 1, 1)?)?;

@@ -44,12 +44,12 @@ pub const FOUR_STREAMS: Table = Table {
     forbids: &[],
 };
 
-const ONE_OF_EACH_SIDE: [StreamRow; 2] = [("H", Hot, 1000, 500, 10), ("C", Cold, 300, 700, 10)];
+const ONE_OF_EACH_SIDE: &[StreamRow] = &[("H", Hot, 1000, 500, 10), ("C", Cold, 300, 700, 10)];
 
 /// One hot and one cold stream.
 pub const TWO_STREAMS: Table = Table {
     contribution: 50,
-    streams: &ONE_OF_EACH_SIDE,
+    streams: ONE_OF_EACH_SIDE,
     utilities: &[],
     forbids: &[],
 };
@@ -82,7 +82,7 @@ pub const TOO_COLD_A_HEATER: Table = Table {
 /// not F.
 pub const RESTRICTED: Table = Table {
     contribution: 50,
-    streams: &ONE_OF_EACH_SIDE,
+    streams: ONE_OF_EACH_SIDE,
     utilities: &[
         ("A", Hot, 1700, 0, 4000, 5),
         ("B", Hot, 1000, 0, 3000, 3),

@@ -26,16 +26,16 @@ enum Wanted {
     Stuck(CutKind, i64, i64, &'static [Source]),
 }
 
-const ONE_HOT: [StreamRow; 1] = [("H", Hot, 1000, 500, 10)];
+const ONE_HOT: &[StreamRow] = &[("H", Hot, 1000, 500, 10)];
 
-const ONE_COLD: [StreamRow; 1] = [("C", Cold, 200, 500, 10)];
+const ONE_COLD: &[StreamRow] = &[("C", Cold, 200, 500, 10)];
 
 const PAIR: Forbid = Forbid {
     hot: Source::Stream(0),
     cold: Source::Stream(1),
 };
 
-const CASES: [(&str, Table, Wanted); 12] = [
+const CASES: &[(&str, Table, Wanted)] = &[
     (
         "two steam levels",
         Table {
@@ -50,7 +50,7 @@ const CASES: [(&str, Table, Wanted); 12] = [
     (
         "a heater that must run",
         Table {
-            streams: &ONE_HOT,
+            streams: ONE_HOT,
             utilities: &[
                 ("S", Hot, 450, 100, 1000, 2),
                 ("W", Cold, 350, 0, MOST_HEAT, 0),
@@ -80,7 +80,7 @@ const CASES: [(&str, Table, Wanted); 12] = [
     (
         "a heater whose least is its most",
         Table {
-            streams: &ONE_COLD,
+            streams: ONE_COLD,
             utilities: &[
                 ("A", Hot, 900, 700, 700, 9),
                 ("B", Hot, 800, 0, 0, -5),
@@ -93,7 +93,7 @@ const CASES: [(&str, Table, Wanted); 12] = [
     (
         "a heater that is paid for",
         Table {
-            streams: &ONE_COLD,
+            streams: ONE_COLD,
             utilities: &[("A", Hot, 900, 0, 5_000, -2), ("W", Cold, 100, 0, 1_000, 1)],
             ..TWO_STREAMS
         },
@@ -102,7 +102,7 @@ const CASES: [(&str, Table, Wanted); 12] = [
     (
         "two heaters at one level",
         Table {
-            streams: &ONE_COLD,
+            streams: ONE_COLD,
             utilities: &[("A", Hot, 900, 0, 2_000, 2), ("B", Hot, 900, 0, 5_000, 3)],
             ..TWO_STREAMS
         },
@@ -171,7 +171,7 @@ const CASES: [(&str, Table, Wanted); 12] = [
     (
         "no hot parts but the heater",
         Table {
-            streams: &ONE_COLD,
+            streams: ONE_COLD,
             ..TWO_STREAMS
         },
         Wanted::Cost(3_000, &[3_000, 0]),
@@ -286,7 +286,7 @@ fn compare_table(
 
 #[test]
 fn cases_have_these_least_costs_and_cuts(rt: HostRuntime) -> Result<(), Fail> {
-    for (at, table, wanted) in &CASES {
+    for (at, table, wanted) in CASES {
         compare_table(&rt, rt.alloc(), at, table, wanted)?;
     }
     Ok(())
