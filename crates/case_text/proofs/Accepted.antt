@@ -81,11 +81,8 @@ forbids_stay given e fits = record {
 contribution_kept : (given : Given) (row : Row) → Fits given → Passes (contribution_checks given row)
     → Fits (with_entry given (entry.Contribution (number row 2)))
 unfolding contribution_checks
-contribution_kept given row fits (_, (_, (_, (range, _)))) = record {
-  contribution = passed-within _ _ _ range;
-  sources = fits.sources;
-  forbids = forbids_stay given (entry.Contribution (number row 2)) fits.forbids;
-}
+contribution_kept given row fits (_, (_, (_, (range, _)))) =
+    record { contribution = passed-within _ _ _ range; sources = fits.sources; forbids = forbids_stay given (entry.Contribution (number row 2)) fits.forbids }
 
 own_range : (row : Row) (contribution : ℤ) → is_own_contribution (optional_number row 6) ≡ true → IsContribution contribution
     → IsContribution (unwrap_or (optional_number row 6) contribution)
@@ -98,8 +95,7 @@ unfolding is_own_load heat_checks
 heat_of s contribution = by s.1.load refl
   where
     by : (load : Option ℤ) → s.1.load ≡ load → is_flow_rate_beside load s.1.cp ≡ true → is_own_load load ≡ true
-        → Passes (if is_some load then latent_checks s.1 else sensible_checks s.1)
-        → IsSensible (stream_of contribution s) ⊎ IsLatent (stream_of contribution s)
+        → Passes (if is_some load then latent_checks s.1 else sensible_checks s.1) → IsSensible (stream_of contribution s) ⊎ IsLatent (stream_of contribution s)
     by None is cp range (differs, (way, _)) = inl (passed-sensible (stream_of contribution s) cp (rw is refl) way)
     by (Some load) is cp range (latent, _) =
         let (level, none) = (Decides-and _ _ (Decides-int_eq s.1.supply s.1.target) (Decides-int_eq s.1.cp (pos 0))).0 latent in
@@ -127,10 +123,8 @@ stream_kept : (given : Given) (row : Row) (of : Side) → Fits given → Passes 
     → Fits (with_entry given (entry.Stream (field row 1) (stream_data of row)))
 unfolding stream_checks
 stream_kept given row of fits (few, (name, (unreserved, (free, numbers)))) =
-    let s : List ℕ × StreamData = (field row 1, stream_data of row) in
-    let streams = keys_of given.streams in
-    let utilities = keys_of given.utilities in let new = new_name given s.0 free in
-    let before = All-front (λ (o : List ℕ). o ≢ s.0) streams utilities new in
+    let s : List ℕ × StreamData = (field row 1, stream_data of row) in let streams = keys_of given.streams in
+    let utilities = keys_of given.utilities in let new = new_name given s.0 free in let before = All-front (λ (o : List ℕ). o ≢ s.0) streams utilities new in
     let behind = All-weaker (λ (o : List ℕ). o ≢ s.0) (λ (o : List ℕ). s.0 ≢ o) (λ o differs same. differs (sym same)) utilities
     (All-back (λ (o : List ℕ). o ≢ s.0) streams utilities new) in
     let place =
@@ -172,11 +166,10 @@ utility_kept given row of fits (few, (name, (unreserved, (free, numbers)))) =
       sources = record {
         streams = fits.sources.streams;
         utilities = All-push UtilityFits given.utilities u fits.sources.utilities (utility_fits of row name unreserved numbers);
-        few =
-            record {
-              streams_on = fits.sources.few.streams_on;
-              few_utilities = omega (arith, passed-room (length given.utilities) MOST_UTILITIES few, length-append given.utilities (u ∷ []));
-            };
+        few = record {
+          streams_on = fits.sources.few.streams_on;
+          few_utilities = omega (arith, passed-room (length given.utilities) MOST_UTILITIES few, length-append given.utilities (u ∷ []));
+        };
         names = rw (keys_push given.utilities u, ← append_assoc) names;
       };
       forbids = forbids_stay given (entry.Utility u.0 u.1) fits.forbids;
@@ -186,8 +179,7 @@ forbid_kept : (given : Given) (row : Row) → Fits given → Passes (forbid_chec
     → Fits (with_entry given (entry.Forbid (record { hot = source_at given (field row 1); cold = source_at given (field row 2) })))
 unfolding forbid_checks
 forbid_kept given row fits (_, (few, (_, (_, (hot, (cold, (new, _))))))) =
-    let h = source_at given (field row 1) in let c = source_at given (field row 2) in
-    let f : Forbid = record { hot = h; cold = c } in
+    let h = source_at given (field row 1) in let c = source_at given (field row 2) in let f : Forbid = record { hot = h; cold = c } in
     let fit : ForbidFits (with_entry given (entry.Forbid f)) f = record {
       hot = side_stays given (entry.Forbid f) h side.Hot (sym (side_of-case given h) ∙ source_on side.Hot given (field row 1) hot);
       cold = side_stays given (entry.Forbid f) c side.Cold (sym (side_of-case given c) ∙ source_on side.Cold given (field row 2) cold);
@@ -227,11 +219,7 @@ nothing_fits = record {
     few = record { streams_on = λ of. omega arith; few_utilities = omega arith };
     names = λ i j d before inside. absurd (omega (arith, inside));
   };
-  forbids = record {
-    each = All-nil (ForbidFits nothing);
-    few = omega arith;
-    distinct = λ i j d before inside. absurd (omega (arith, inside));
-  };
+  forbids = record { each = All-nil (ForbidFits nothing); few = omega arith; distinct = λ i j d before inside. absurd (omega (arith, inside)) };
 }
 
 -- ---- the case
@@ -270,8 +258,7 @@ unfolding end_checks
 some_stream rows given complete = grind (arith, nat_tests)
 
 pub case-is_valid : (rows : List Row) (case : Case) → IsCase rows case → IsValid case
-case-is_valid rows case is =
-    let given = given_by grammar rows in
+case-is_valid rows case is = let given = given_by grammar rows in
     rw is.value_is (case_valid given (given_has grammar Fits nothing_fits each_row_keeps rows is.sound) (some_stream (length rows) given is.complete))
 
 pub outcome_is_valid : (rows : List Row) (result : Result Case (RowFault CaseWhy)) → IsOutcome rows result → IfOk result IsValid

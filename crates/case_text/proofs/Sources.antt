@@ -42,17 +42,14 @@ pub is_taken-case : (given : Given) (name : List ℕ)
     → is_taken (case_of given) name ≡ (is_some (lookup (bytes_eq name) given.streams) || is_some (lookup (bytes_eq name) given.utilities))
 unfolding is_taken
 is_taken-case given name =
-    let streams = sym (is_some-lookup (bytes_eq name) given.streams) in
-    let utilities = sym (is_some-lookup (bytes_eq name) given.utilities) in
+    let streams = sym (is_some-lookup (bytes_eq name) given.streams) in let utilities = sym (is_some-lookup (bytes_eq name) given.utilities) in
     ap (list_any (bytes_eq name)) (names_of-case given) ∙ list_any-append (bytes_eq name) (keys_of given.streams) (keys_of given.utilities)
     ∙ (λ i. streams i || utilities i)
 
 -- a name that is not taken is that of no stream and of no utility
 pub free_name : (given : Given) (name : List ℕ) → is_taken (case_of given) name ≡ false
     → (lookup (bytes_eq name) given.streams ≡ None) × (lookup (bytes_eq name) given.utilities ≡ None)
-free_name given name free =
-    let each = or_parts _ _ (sym (is_taken-case given name) ∙ free) in
-    (none_there _ each.0, none_there _ each.1)
+free_name given name free = let each = or_parts _ _ (sym (is_taken-case given name) ∙ free) in (none_there _ each.0, none_there _ each.1)
 
 -- ---- sides
 

@@ -50,8 +50,7 @@ is_source-named of c name s named on = rw (named, on) (own_side of)
 -- ---- forbidden matches
 
 same_forbid : (f : Forbid) (hot cold : Source) → Decides (same_source f.hot hot && same_source f.cold cold) (f ≡ record { hot = hot; cold = cold })
-same_forbid f hot cold =
-    Decides-like _ (λ (h, c). λ i. record { hot = h i; cold = c i }) (λ e. (ap (λ g. g.hot) e, ap (λ g. g.cold) e))
+same_forbid f hot cold = Decides-like _ (λ (h, c). λ i. record { hot = h i; cold = c i }) (λ e. (ap (λ g. g.hot) e, ap (λ g. g.cold) e))
     (Decides-and _ _ (Decides-same_source f.hot hot) (Decides-same_source f.cold cold))
   where
     Decides-same_source : (a b : Source) → Decides (same_source a b) (a ≡ b)

@@ -33,34 +33,30 @@ main_places-between c [] range levels = All-nil IsShifted
 main_places-between c (m ∷ ms) range levels =
     let level = All-head (λ (main : Main). IsTemperature main.level) m ms levels in
     let rest = main_places-between c ms range (All-tail (λ (main : Main). IsTemperature main.level) m ms levels) in
-    let takes : IsShifted (takes_at c m) = record { from = omega (arith, ints, level, range); upto = omega (arith, ints, level, range) } in
-    let gives : IsShifted (gives_at c m) = record { from = omega (arith, ints, level, range); upto = omega (arith, ints, level, range) } in
+    let takes : IsShifted (takes_at c m) = omega (arith, ints, level, range) in let gives : IsShifted (gives_at c m) = omega (arith, ints, level, range) in
     All-cons IsShifted (takes_at c m) (gives_at c m ∷ main_places c ms) takes (All-cons IsShifted (gives_at c m) (main_places c ms) gives rest)
 
 -- a main gives heat at a place
 gives_at-place : (c : ℤ) (mains : List Main) (level : ℤ) → Contains (map (λ m. m.level) mains) level → Contains (main_places c mains) (level -ℤ c)
 gives_at-place c [] level (k, within, is) = absurd (omega (arith, within))
 gives_at-place c (m ∷ ms) level found =
-    ⊎_elim
-    (λ same. Contains-append_right (takes_at c m ∷ []) (gives_at c m ∷ main_places c ms) (level -ℤ c) (0, omega arith, ap (λ t. t -ℤ c) same))
+    ⊎_elim (λ same. Contains-append_right (takes_at c m ∷ []) (gives_at c m ∷ main_places c ms) (level -ℤ c) (0, omega arith, ap (λ t. t -ℤ c) same))
     (λ later. Contains-append_right (takes_at c m ∷ gives_at c m ∷ []) (main_places c ms) (level -ℤ c) (gives_at-place c ms level later))
     (Contains-cons m.level (map (λ m. m.level) ms) level found)
 
 -- ---- the places of a site
 
 pub site_places-between : (site : Site) → IsValidSite site → All IsShifted (site_places site)
-site_places-between site valid =
-    All-append IsShifted (stream_ends (streams_of site.plants)) (main_places site.contribution site.mains)
+site_places-between site valid = All-append IsShifted (stream_ends (streams_of site.plants)) (main_places site.contribution site.mains)
     (stream_ends-between (streams_of site.plants) valid.streams.each) (main_places-between site.contribution site.mains valid.contribution valid.mains.levels)
 
 pub length-site_places : (site : Site) → length (site_places site) ≡ 2 * length (streams_of site.plants) + 2 * length site.mains
-length-site_places site =
-    omega (
-      arith,
-      length-append (stream_ends (streams_of site.plants)) (main_places site.contribution site.mains),
-      length-stream_ends (streams_of site.plants),
-      length-main_places site.contribution site.mains,
-    )
+length-site_places site = omega (
+  arith,
+  length-append (stream_ends (streams_of site.plants)) (main_places site.contribution site.mains),
+  length-stream_ends (streams_of site.plants),
+  length-main_places site.contribution site.mains,
+)
 
 pub some_place : (site : Site) → IsValidSite site → 0 < length (site_places site)
 some_place site valid = omega (arith, length-site_places site, valid.mains.some)
@@ -75,8 +71,7 @@ lowest-between site valid = All-contains IsShifted (site_places site) (least (si
 -- and the boiler stands at one
 boiler_place : (site : Site) → IsValidSite site → Contains (site_places site) (shifted_level (boiler site))
 boiler_place site valid =
-    let levels = map (λ (m : Main). m.level) site.mains in
-    let highest = IsOutermost-outermost Hot levels (rw length-map valid.mains.some) in
+    let levels = map (λ (m : Main). m.level) site.mains in let highest = IsOutermost-outermost Hot levels (rw length-map valid.mains.some) in
     Contains-append_right (stream_ends (streams_of site.plants)) (main_places site.contribution site.mains) (shifted_level (boiler site))
     (gives_at-place site.contribution site.mains (greatest levels) highest.member)
 
@@ -89,37 +84,27 @@ pub utilities-placed : (site : Site) → IsValidSite site → All IsPlaced (site
 utilities-placed site valid =
     let boiler_level = All-contains IsShifted (site_places site) (shifted_level (boiler site)) (site_places-between site valid) (boiler_place site valid) in
     let cooling_shifted = subst IsShifted (sym (cooling_level site)) (lowest-between site valid) in
-    let first : IsPlaced (boiler site) = record {
-      level = boiler_level;
-      least = record { from = omega (arith, ints); upto = omega (arith, ints) };
-      most = record { from = omega (arith, ints); upto = omega (arith, ints) };
-      price = record { from = omega (arith, ints); upto = omega (arith, ints) };
-    } in
-    let second : IsPlaced (cooling site) = record {
-      level = cooling_shifted;
-      least = record { from = omega (arith, ints); upto = omega (arith, ints) };
-      most = record { from = omega (arith, ints); upto = omega (arith, ints) };
-      price = record { from = omega (arith, ints); upto = omega (arith, ints) };
-    } in
+    let first : IsPlaced (boiler site) =
+    record { level = boiler_level; least = omega (arith, ints); most = omega (arith, ints); price = omega (arith, ints) } in
+    let second : IsPlaced (cooling site) =
+    record { level = cooling_shifted; least = omega (arith, ints); most = omega (arith, ints); price = omega (arith, ints) } in
     All-cons IsPlaced (boiler site) (cooling site ∷ []) first (All-cons IsPlaced (cooling site) [] second (All-nil IsPlaced))
 
 -- ---- the grid
 
 pub length-grid : (site : Site) (places : List ℤ) → IsValidSite site → IsSiteGrid site places → length places ≤ MOST_PLACES
-length-grid site places valid grid =
-    omega (
-      arith,
-      length-le_falling places (site_places site) grid.ordered grid.each,
-      length-site_places site,
-      length-AreStreams (streams_of site.plants) (AreStreams-site site valid),
-      valid.mains.few,
-    )
+length-grid site places valid grid = omega (
+  arith,
+  length-le_falling places (site_places site) grid.ordered grid.each,
+  length-site_places site,
+  length-AreStreams (streams_of site.plants) (AreStreams-site site valid),
+  valid.mains.few,
+)
 
 pub HoldsPlaces-grid : (site : Site) (places : List ℤ) → IsValidSite site → IsSiteGrid site places
     → HoldsPlaces (streams_of site.plants) (site_utilities site) places
 HoldsPlaces-grid site places valid grid =
-    let ends : All (Contains places) (stream_ends (streams_of site.plants)) =
-    λ k d within. grid.every (get_or (stream_ends (streams_of site.plants)) k d)
+    let ends : All (Contains places) (stream_ends (streams_of site.plants)) = λ k d within. grid.every (get_or (stream_ends (streams_of site.plants)) k d)
     (Contains-append_left (stream_ends (streams_of site.plants)) (main_places site.contribution site.mains) (get_or (stream_ends (streams_of site.plants)) k d)
     (Contains-get_or (stream_ends (streams_of site.plants)) k d within)) in
     let first = grid.every (shifted_level (boiler site)) (boiler_place site valid) in

@@ -16,8 +16,7 @@ length_below-is low high t = omega (arith, ints, clamps)
 
 heat_below-is : (t : ℤ) (s : Stream) → IsSensible s → heat_below t s ≡ heat_of s -ℤ heat_above t s
 heat_below-is t s h =
-    ap (λ l. s.cp *ℤ l) (length_below-is (low_end s) (high_end s) t)
-    ∙ *ℤ--ℤ s.cp (high_end s -ℤ low_end s) (length_above (low_end s) (high_end s) t)
+    ap (λ l. s.cp *ℤ l) (length_below-is (low_end s) (high_end s) t) ∙ *ℤ--ℤ s.cp (high_end s -ℤ low_end s) (length_above (low_end s) (high_end s) t)
     ∙ sym (ap₂ ◌-ℤ◌ (heat_of-sensible s h) (heat_over-sensible false t s h))
 
 -- the heat of a side below t
@@ -42,8 +41,7 @@ surplus_below-is t streams h =
     let below = All-weaker IsValidStream (λ s. least <ℤ low_end s)
     (λ s valid. let ends = AreEnds-IsValidStream s valid in omega (arith, ints, ends)) streams h.are_streams.each in
     let lowest = deficit_above-lowest least streams h.are_streams.each below in
-    let hot = side_below Hot t streams h.sensible in let cold = side_below Cold t streams h.sensible in
-    omega (arith, ints)
+    let hot = side_below Hot t streams h.sensible in let cold = side_below Cold t streams h.sensible in omega (arith, ints)
 
 -- ---- the greatest excess
 
@@ -68,8 +66,7 @@ module _ (direction : Direction) (t : ℤ) (streams : List Stream) where
       → fold (raised direction t streams) so_far (stream_ends (take (i + 1) others))
       ≡ raised direction t streams (raised direction t streams (fold (raised direction t streams) so_far (stream_ends (take i others))) (high_end s))
       (low_end s)
-  raised-ends so_far others i s within is =
-      let look = raised direction t streams in
+  raised-ends so_far others i s within is = let look = raised direction t streams in
       ap (fold look so_far) (stream_ends-more others i s within is) ∙ fold-append look so_far (stream_ends (take i others)) (high_end s ∷ low_end s ∷ [])
 
   -- a plant more, and a main more

@@ -1,7 +1,13 @@
 -- The words and lemmas from elsewhere that the proofs of this crate speak in, passed on from one place. Declares nothing.
-pub use Rattle.grid.specs.Grid.{HoldsPlaces}
+pub use Rattle.grid.proofs.Words.{*ℤ--ℤ, All, All-cons, All-nil, All-weaker, AreStreams, Contains, Contains-cons, HoldsPlaces, IsPlaced, IsSensible}
+pub use Rattle.grid.proofs.Words.{IsValidStream, ListsFalling, append-nil, cases_lt, clamps, filter, get_or-map, heat_over-sensible, high_end, if◌then◌else◌}
+pub use Rattle.grid.proofs.Words.{int_max, int_sum_by, int_sum_by-same, ints, length-AreStreams, length-append, length-le_falling, length-map}
+pub use Rattle.grid.proofs.Words.{length-stream_ends, length_above, low_end, pos, same_side, shifted_level, slice_get-get_or, stream_ends, take_more, to_z-of_z}
+pub use Rattle.grid.proofs.Words.{ℤ, ◌*ℤ◌, ◌+ℤ◌, ◌-ℤ◌, ◌<ℤ◌, ◌≤ℤ◌}
 pub use Rattle.grid.specs.declared.part.Part.{Part}
 pub use Rattle.heat_flow.proofs.Blanks.{blank}
+pub use Rattle.heat_flow.proofs.Words.{get_or-flat_map, get_or_default, int_sum_by-more, length-take-le, list_any, nat_lt, nat_tests, negsuc, slice_get_past}
+pub use Rattle.heat_flow.proofs.Words.{take_all}
 pub use Rattle.plants.specs.Directions.{IsPlantHeat, excess, is_beyond, plant_profile, raised}
 pub use Rattle.plants.specs.Profiles.{heat_below, length_below, surplus_below}
 pub use Rattle.plants.specs.Reach.{part_reaches, passes_through, plants_from, reach_between, reaches_within, stream_plants}
@@ -13,34 +19,19 @@ pub use Rattle.plants.specs.declared.site.Plant.{Plant}
 pub use Rattle.plants.specs.declared.site.Site.{Site}
 pub use Rattle.problem_table.proofs.DeficitLemmas.{deficit_above-lowest}
 pub use Rattle.problem_table.proofs.EndLemmas.{IsOutermost-outermost}
-pub use Rattle.problem_table.specs.Deficit.{deficit_above}
-pub use Rattle.problem_table.specs.Sides.{sum_side}
-pub use Rattle.std.proofs.lemmas.Bool.{cases_lt}
-pub use Rattle.std.proofs.lemmas.Bool.Decides.{nat_tests}
-pub use Rattle.std.proofs.lemmas.Int.{clamps, ints, to_z-of_z}
-pub use Rattle.std.proofs.lemmas.List.{append-nil, get_or-map, get_or_default, length-append, length-map, length-take-le, take_all, take_more}
-pub use Rattle.std.proofs.lemmas.List.Concat.{flat_map-append, get_or-flat_map}
-pub use Rattle.std.proofs.lemmas.List.Elements.{All-cons, All-drop, All-nil, All-take, All-weaker}
-pub use Rattle.std.proofs.lemmas.List.Sums.{fold-append}
-pub use Rattle.std.proofs.lemmas.Option.{slice_get-get_or, slice_get_past}
-pub use Rattle.std.specs.Int.{int_max, int_min}
-pub use Rattle.std.specs.List.{flat_map, list_any}
-pub use Rattle.std.specs.Prelude.{All, Contains, filter, fold, if◌then◌else◌, nat_lt, negsuc, pos, unsigned_abs, ℤ, ◌*ℤ◌, ◌+ℤ◌, ◌-ℤ◌, ◌<ℤ◌, ◌≤ℤ◌}
-pub use Rattle.stream_case.proofs.CaseLemmas.{count_on-append, length-AreStreams}
-pub use Rattle.stream_case.proofs.EndLemmas.{AreEnds-IsValidStream, length-stream_ends, stream_ends-append, stream_ends-between, stream_ends-more}
-pub use Rattle.stream_case.proofs.HeatLemmas.{heat_of-sensible, heat_over-sensible}
+pub use Rattle.problem_table.proofs.Words.{All-take, AreEnds-IsValidStream, AreSensible, deficit_above, fold-append, heat_of, stream_ends-more, sum_side}
+pub use Rattle.std.proofs.lemmas.List.Concat.{flat_map-append}
+pub use Rattle.std.specs.Int.{int_min}
+pub use Rattle.std.specs.List.{flat_map}
+pub use Rattle.std.specs.Prelude.{fold, unsigned_abs}
+pub use Rattle.stream_case.proofs.CaseLemmas.{count_on-append}
+pub use Rattle.stream_case.proofs.EndLemmas.{stream_ends-append, stream_ends-between}
+pub use Rattle.stream_case.proofs.HeatLemmas.{heat_of-sensible}
+pub use Rattle.stream_case.proofs.Words.{All-drop, IsContribution, IsShifted, IsTemperature}
 pub use Rattle.stream_case.specs.Case.{greatest, least}
-pub use Rattle.stream_case.specs.Limits.{IsContribution, IsShifted, IsTemperature}
-pub use Rattle.stream_case.specs.Source.{same_side}
-pub use Rattle.stream_case.specs.Stream.{AreSensible, AreStreams, IsSensible, IsValidStream, heat_above, heat_of, high_end, length_above, low_end, stream_ends}
-pub use Rattle.stream_case.specs.Utility.{IsPlaced, shifted_level}
+pub use Rattle.stream_case.specs.Stream.{count_on, heat_above}
 pub use Rattle.stream_case.specs.declared.limits.TheConstants.{ALL_STREAMS_HEAT, MOST_PLACES}
 pub use Rattle.stream_case.specs.declared.source.Side.{Side}
 pub use Rattle.stream_case.specs.declared.source.Side.TheVariants.{Cold, Hot}
 pub use Rattle.stream_case.specs.declared.stream.Stream.{Stream}
-pub use Rattle.sums.proofs.CountLemmas.{length-le_falling}
-pub use Rattle.sums.proofs.OrderLemmas.{Contains-cons}
-pub use Rattle.sums.proofs.ProductLemmas.{*ℤ--ℤ}
-pub use Rattle.sums.proofs.SumLemmas.{int_sum_by-more, int_sum_by-same, int_sum_by-sub}
-pub use Rattle.sums.specs.Order.{ListsFalling}
-pub use Rattle.sums.specs.Sum.{int_sum_by}
+pub use Rattle.sums.proofs.SumLemmas.{int_sum_by-sub}

@@ -11,8 +11,7 @@ before_more part (next ∷ more) some = refl
 
 pub first_of_more : (text : List ℕ) (n : ℕ) → position is_newline text ≡ Some n → lines text ≡ strip_carriage_return (take n text) ∷ lines (drop (n + 1) text)
 first_of_more text n e =
-    let at = position-some is_newline text n e in
-    let cut = slice_split_first is_newline text 0 (omega (arith, at.index_is, at.within)) in
+    let at = position-some is_newline text n e in let cut = slice_split_first is_newline text 0 (omega (arith, at.index_is, at.within)) in
     let some : 0 < length (slice_split is_newline (drop (position_or_len is_newline text + 1) text)) = omega
     (arith, length-slice_split is_newline (drop (position_or_len is_newline text + 1) text)) in
     ap lines_of_parts cut ∙ before_more _ _ some ∙ ap (λ k. strip_carriage_return (take k text) ∷ lines (drop (k + 1) text)) at.index_is

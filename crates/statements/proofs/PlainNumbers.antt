@@ -16,8 +16,7 @@ abbrev IsDigit : ℕ → Type 0
 IsDigit b = (48 ≤ b) × (b < 58)
 
 decimal_digits : (n : ℕ) → n < 10 ^ 64 → All IsDigit (decimal n)
-decimal_digits n small k d within =
-    let numeral = decimal_is_IsNumeral_wide n small in let digit = digit_at (decimal n) k numeral.0.1 within in
+decimal_digits n small k d within = let numeral = decimal_is_IsNumeral_wide n small in let digit = digit_at (decimal n) k numeral.0.1 within in
     subst IsDigit (get_or_default (decimal n) k 0 d within) (digit.0, omega (arith, digit))
 
 pub decimal_some : (n : ℕ) → n < 10 ^ 64 → 0 < length (decimal n)

@@ -28,11 +28,8 @@ name_plain (b ∷ bs) is =
 
 pub plain_statement : (word : List ℕ) (fields : Statement) → IsPlainField word → (get_or word 0 0 == 35) ≡ false → AllByRecursion IsPlainField fields
     → IsPlainStatement (word ∷ fields)
-plain_statement word fields first counts further = record {
-  some = omega arith;
-  each = All-cons IsPlainField word fields first (All-from_recursion IsPlainField fields further);
-  counts = counts;
-}
+plain_statement word fields first counts further =
+    record { some = omega arith; each = All-cons IsPlainField word fields first (All-from_recursion IsPlainField fields further); counts = counts }
 
 -- ---- fields
 
@@ -57,10 +54,8 @@ none_blank f plain = All-weaker IsVisible (λ b. is_blank b ≡ false) not_blank
 split_fields : (f : List ℕ) (fs : Statement) → All IsPlainField (f ∷ fs) → slice_split is_blank (f ++ blanks_text fs) ≡ f ∷ fs
 unfolding blanks_text
 split_fields f [] plain =
-    let here = none_blank f (All-head IsPlainField f [] plain) in
-    ap (slice_split is_blank) (append-nil f) ∙ slice_split_none is_blank f here
-split_fields f (g ∷ gs) plain =
-    let here = none_blank f (All-head IsPlainField f (g ∷ gs) plain) in
+    let here = none_blank f (All-head IsPlainField f [] plain) in ap (slice_split is_blank) (append-nil f) ∙ slice_split_none is_blank f here
+split_fields f (g ∷ gs) plain = let here = none_blank f (All-head IsPlainField f (g ∷ gs) plain) in
     slice_split_at is_blank f 32 (g ++ blanks_text gs) here refl ∙ ap (λ parts. f ∷ parts) (split_fields g gs (All-tail IsPlainField f (g ∷ gs) plain))
 
 -- a filter that each item passes keeps all
@@ -74,8 +69,7 @@ not_empty f plain = let some = plain.some in grind (arith, nat_tests)
 -- the fields of a line come back from it
 fields_back : (f : List ℕ) (fs : Statement) → All IsPlainField (f ∷ fs) → fields_of (f ++ blanks_text fs) ≡ f ∷ fs
 unfolding fields_of
-fields_back f fs plain =
-    ap (filter (λ part. not (is_empty part))) (split_fields f fs plain)
+fields_back f fs plain = ap (filter (λ part. not (is_empty part))) (split_fields f fs plain)
     ∙ keep_all (λ part. not (is_empty part)) (f ∷ fs) (All-weaker IsPlainField (λ part. not (is_empty part) ≡ true) not_empty (f ∷ fs) plain)
 
 -- ---- lines
@@ -90,8 +84,7 @@ of_line f plain = All-weaker IsVisible IsOfLine (λ b visible. omega (arith, vis
 blanks_line : (fs : Statement) → All IsPlainField fs → All IsOfLine (blanks_text fs)
 unfolding blanks_text
 blanks_line [] plain = All-nil IsOfLine
-blanks_line (f ∷ fs) plain =
-    let here = of_line f (All-head IsPlainField f fs plain) in
+blanks_line (f ∷ fs) plain = let here = of_line f (All-head IsPlainField f fs plain) in
     All-cons IsOfLine 32 (f ++ blanks_text fs) (omega arith) (All-append IsOfLine f (blanks_text fs) here (blanks_line fs (All-tail IsPlainField f fs plain)))
 
 no_end : (b : ℕ) → IsOfLine b → (b == 10) ≡ false
@@ -106,11 +99,9 @@ no_return line of = rw (last_byte line of) refl
 
 first_line : (line rest : List ℕ) → All IsOfLine line → lines (line ++ 10 ∷ rest) ≡ line ∷ lines rest
 first_line line rest of =
-    let parts = slice_split (λ b. b == 10) rest in
-    let some : 0 < length parts = omega (arith, length-slice_split (λ b. b == 10) rest) in
+    let parts = slice_split (λ b. b == 10) rest in let some : 0 < length parts = omega (arith, length-slice_split (λ b. b == 10) rest) in
     ap lines_of_parts (slice_split_at (λ b. b == 10) line 10 rest (All-weaker IsOfLine (λ b. (b == 10) ≡ false) no_end line of) refl)
-    ∙ before_more line parts some
-    ∙ ap (λ l. l ∷ lines_of_parts parts) (no_return line of)
+    ∙ before_more line parts some ∙ ap (λ l. l ∷ lines_of_parts parts) (no_return line of)
 
 -- ---- statements
 
@@ -143,6 +134,5 @@ pub statements-back : (ss : List Statement) → All IsPlainStatement ss → stat
 unfolding statements_of
 statements-back [] plain = refl
 statements-back ([] ∷ ss) plain = let here = All-head IsPlainStatement [] ss plain in absurd (omega (arith, here.some))
-statements-back ((f ∷ fs) ∷ ss) plain =
-    one_more f fs (flat_map statement_text ss) (All-head IsPlainStatement (f ∷ fs) ss plain)
+statements-back ((f ∷ fs) ∷ ss) plain = one_more f fs (flat_map statement_text ss) (All-head IsPlainStatement (f ∷ fs) ss plain)
     ∙ ap (λ rest. (f ∷ fs) ∷ rest) (statements-back ss (All-tail IsPlainStatement (f ∷ fs) ss plain))

@@ -40,8 +40,7 @@ pub record IsAt {X : Type 0} (p : X → Bool) (xs : List X) (i : ℕ) : Type 0 w
 pub position-some : {X : Type 0} (p : X → Bool) (xs : List X) (i : ℕ) → position p xs ≡ Some i → IsAt p xs i
 position-some p [] i e = cc e
 position-some {X} p (x ∷ xs) i e =
-    let at = position-Some p (x ∷ xs) i x e in
-    record { index_is = (cond_some _ _ _ e).1; within = at.0; some = list_any_at p (x ∷ xs) i x at.0 at.1 }
+    let at = position-Some p (x ∷ xs) i x e in record { index_is = (cond_some _ _ _ e).1; within = at.0; some = list_any_at p (x ∷ xs) i x at.0 at.1 }
 
 pub index_within : {X : Type 0} (p : X → Bool) (xs : List X) → is_some (position p xs) ≡ true → unwrap_or (position p xs) 0 < length xs
 index_within p [] some = cc some

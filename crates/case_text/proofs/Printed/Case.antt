@@ -36,8 +36,7 @@ utility_keys k us = map-map (λ (e : List ℕ × UtilityData). e.0) (utility_ent
 room_before : (k : Case) (all before : List Stream) (s : Stream) (after : List Stream) → all ≡ before ++ s ∷ after → count_on s.side all ≤ MOST_STREAMS
     → count_of s.side (map (stream_entry k) before) < MOST_STREAMS
 room_before k all before s after is few =
-    let one : Stream → ℕ = λ t. cond (same_side t.side s.side) 1 0 in
-    let own : one s ≡ 1 = ap (λ b. cond b 1 0) (own_side s.side) in
+    let one : Stream → ℕ = λ t. cond (same_side t.side s.side) 1 0 in let own : one s ≡ 1 = ap (λ b. cond b 1 0) (own_side s.side) in
     let before_is = count_by-map (λ (e : List ℕ × StreamData). same_side e.1.side s.side) (stream_entry k) before in
     omega (arith, few, ap (count_on s.side) is, sum_by-append one before (s ∷ after), sum_by-cons one s after, own, before_is)
 

@@ -4,29 +4,25 @@ use Rattle.case_text.proofs.Tests.{Decides-is_forbidden, Decides-is_reserved, De
 use Rattle.case_text.specs.Checks.{checks, contribution_checks, forbid_checks, heat_checks, kind_checks, stream_checks, stream_number_checks, utility_checks}
 use Rattle.case_text.specs.Checks.{utility_number_checks}
 use Rattle.case_text.proofs.Words.{Case, Decides-and, Decides-int_eq, Decides-int_le, Decides-is_own_contribution, Decides-is_right_way, Decides-not, Follows}
-use Rattle.case_text.proofs.Words.{Forbid, Given, IsBetween, IsContribution, IsHeat, IsLatent, IsName, IsPrintable, IsRightWay, IsRightlyNamed, IsSensible}
-use Rattle.case_text.proofs.Words.{IsUnreserved, IsValidStream, IsValidUtility, MOST_FORBIDS, MOST_STREAMS, MOST_UTILITIES, Passes, Row, Side, Source, Stream}
-use Rattle.case_text.proofs.Words.{StreamData, Utility, UtilityData, are_empty, case_of, contribution, contribution_field, contribution_row, count_on, field}
-use Rattle.case_text.proofs.Words.{forbid_row, grammar, heat, int_eq, ints, is_flow_rate_beside, is_number, is_number_or_empty, is_own_contribution}
-use Rattle.case_text.proofs.Words.{is_own_load, is_passed_over, is_within, keys_of, kind_of, load, load_field, name-passes, none_fails, nothing, number}
-use Rattle.case_text.proofs.Words.{number_read, optional_number, optional_read, own_contribution, own_load, price, room-passes, side_of, source_name}
-use Rattle.case_text.proofs.Words.{source_named, stream_flow_rate, stream_kind, stream_row, temperature, utility_kind, utility_row, with_entry, within-passes}
+use Rattle.case_text.proofs.Words.{Forbid, Given, IsContribution, IsHeat, IsLatent, IsName, IsPrintable, IsRightWay, IsRightlyNamed, IsSensible, IsUnreserved}
+use Rattle.case_text.proofs.Words.{IsValidStream, IsValidUtility, MOST_FORBIDS, MOST_STREAMS, MOST_UTILITIES, Passes, Row, Side, Source, Stream, StreamData}
+use Rattle.case_text.proofs.Words.{Utility, UtilityData, are_empty, case_of, contribution, contribution_field, contribution_row, count_on, field, forbid_row}
+use Rattle.case_text.proofs.Words.{grammar, heat, int_eq, ints, is_flow_rate_beside, is_number, is_number_or_empty, is_own_contribution, is_own_load}
+use Rattle.case_text.proofs.Words.{is_passed_over, keys_of, kind_of, load, load_field, name-passes, none_fails, nothing, number, number_read, optional_number}
+use Rattle.case_text.proofs.Words.{optional_read, own_contribution, own_load, price, room-passes, side_of, source_name, source_named, stream_flow_rate}
+use Rattle.case_text.proofs.Words.{stream_kind, stream_row, temperature, utility_kind, utility_row, with_entry, within-passes}
 use Rattle.std.proofs.Common.{All, Bool, IfSome, List, None, Option, Some, arith, false, if◌then◌else◌, inl, inr, length, not, pos, refl, true, unwrap_or, ℕ, ℤ}
 use Rattle.std.proofs.Common.{◌++◌, ◌<◌, ◌∷◌, ◌≡◌, ◌≢◌, ◌⊎◌}
 use Rattle.case_text.specs.declared.entry.Entry.TheVariants as entry
 use Rattle.case_text.specs.declared.kind.Kind.TheVariants as kind
 use Rattle.stream_case.specs.declared.source.Side.TheVariants as side
 
--- a number within its range passes the test of it
-within : {low high n : ℤ} → IsBetween low high n → is_within low high n ≡ true
-within = within-passes _ _ _
-
 -- the row of the contribution comes first
 pub contribution_follows : (c : ℤ) → IsContribution c → Follows grammar nothing (contribution_row c) (with_entry nothing (entry.Contribution c))
 unfolding checks kind_checks contribution_checks kind_of is_passed_over are_empty is_number number
 contribution_follows c range =
     let read = number_read c (contribution c range) in
-    let passes : Passes (checks nothing (contribution_row c)) = rw read (refl, (refl, (refl, (refl, (refl, (within range, tt)))))) in
+    let passes : Passes (checks nothing (contribution_row c)) = rw read (refl, (refl, (refl, (refl, (refl, (within-passes _ _ _ range, tt)))))) in
     record { passes = none_fails (checks nothing (contribution_row c)) passes; next_is = rw read refl }
 
 -- ---- contributions of sources
@@ -42,8 +38,7 @@ record ReadsOwn (k : Case) (c : ℤ) (row : Row) : Type 0 where
 
 reads_own : (k : Case) (c : ℤ) (row : Row) → IsContribution c → field row 6 ≡ contribution_field k c → ReadsOwn k c row
 unfolding contribution_field
-reads_own k c row range printed =
-    let (is, read) = optional_read row 6 (own_contribution k c) (own IsPrintable k c (contribution c range)) printed in
+reads_own k c row range printed = let (is, read) = optional_read row 6 (own_contribution k c) (own IsPrintable k c (contribution c range)) printed in
     record { is_number = is; read = read; range = (Decides-is_own_contribution (own_contribution k c)).1 (own IsContribution k c range) }
 
 -- ---- streams
@@ -80,13 +75,12 @@ record PassesHeat (s : Stream) (given : Option ℤ) : Type 0 where
 sensible_passes : (s : Stream) → IsSensible s → PassesHeat s None
 unfolding is_own_load heat_checks
 sensible_passes s sensible = record {
-  cp = within sensible.cp;
+  cp = within-passes _ _ _ sensible.cp;
   load = refl;
-  heat =
-      λ contribution. (
-        (Decides-not _ (Decides-int_eq s.supply s.target)).1 (differs s.side s.supply s.target sensible.way),
-        ((Decides-is_right_way s.side s.supply s.target).1 sensible.way, tt),
-      );
+  heat = λ contribution. (
+    (Decides-not _ (Decides-int_eq s.supply s.target)).1 (differs s.side s.supply s.target sensible.way),
+    ((Decides-is_right_way s.side s.supply s.target).1 sensible.way, tt),
+  );
 }
   where
     differs : (of : Side) (supply target : ℤ) → IsRightWay of supply target → supply ≡ target → ⊥
@@ -96,8 +90,8 @@ sensible_passes s sensible = record {
 latent_passes : (s : Stream) → IsLatent s → PassesHeat s (Some s.load)
 unfolding is_own_load heat_checks
 latent_passes s latent = record {
-  cp = within (record { from = omega (arith, ints, latent.cp); upto = omega (arith, ints, latent.cp) });
-  load = within latent.load;
+  cp = within-passes _ _ _ (omega (arith, ints, latent.cp));
+  load = within-passes _ _ _ latent.load;
   heat = λ contribution. ((Decides-and _ _ (Decides-int_eq s.supply s.target) (Decides-int_eq s.cp (pos 0))).1 (latent.level, latent.cp), tt);
 }
 
@@ -128,18 +122,16 @@ pub stream_follows : (given : Given) (k : Case) (s : Stream) → IsValidStream s
     → Follows grammar given (stream_row k s) (with_entry given (entry.Stream s.name (stream_entry k s).1))
 unfolding checks kind_checks stream_checks stream_number_checks are_empty is_number number
 stream_follows given k s valid unreserved few new =
-    let row = stream_row k s in
-    let is : kind_of row ≡ Some (kind.Stream s.side) = stream_row_kind s.side _ in
-    let supply = number_read s.supply (temperature s.supply valid.supply) in
-    let target = number_read s.target (temperature s.target valid.target) in
-    let cp = number_read s.cp (stream_flow_rate s valid) in
-    let (is_load, load) = reads_load s row valid refl in
+    let row = stream_row k s in let is : kind_of row ≡ Some (kind.Stream s.side) = stream_row_kind s.side _ in
+    let supply = number_read s.supply (temperature s.supply valid.supply) in let target = number_read s.target (temperature s.target valid.target) in
+    let cp = number_read s.cp (stream_flow_rate s valid) in let (is_load, load) = reads_load s row valid refl in
     let heat = passes_heat s valid in let own = reads_own k s.contribution row valid.contribution refl in
     let place =
     room-passes (count_on s.side (case_of given).streams) MOST_STREAMS (rw (count_on-case s.side (unwrap_or given.contribution (pos 0)) given.streams) few) in
     let free = (Decides-is_taken (case_of given) s.name).1 (rw (names_of-case given) new) in
+    let from = within-passes _ _ _ valid.supply in let to = within-passes _ _ _ valid.target in
     let numbers : Passes (stream_number_checks s.side row) = rw (supply, target, cp, load, own.read)
-    (refl, (refl, (refl, (is_load, (own.is_number, (within valid.supply, (within valid.target, (heat.cp, (heat.load, (own.range, heat.heat _)))))))))) in
+    (refl, (refl, (refl, (is_load, (own.is_number, (from, (to, (heat.cp, (heat.load, (own.range, heat.heat _)))))))))) in
     let passes : Passes (checks given row) =
     rw is (refl, (refl, (place, (name-passes s.name valid.name, ((Decides-is_reserved s.name).1 unreserved, (free, numbers)))))) in
     record { passes = none_fails (checks given row) passes; next_is = rw (is, supply, target, cp, load, own.read) refl }
@@ -160,18 +152,15 @@ pub utility_follows : (given : Given) (k : Case) (u : Utility) → IsValidUtilit
     → Follows grammar given (utility_row k u) (with_entry given (entry.Utility u.name (utility_entry k u).1))
 unfolding checks kind_checks utility_checks utility_number_checks are_empty is_number number
 utility_follows given k u valid named few new =
-    let row = utility_row k u in
-    let is : kind_of row ≡ Some (kind.Utility u.side) = utility_row_kind u.side _ in
+    let row = utility_row k u in let is : kind_of row ≡ Some (kind.Utility u.side) = utility_row_kind u.side _ in
     let most_range : IsHeat u.most = record { from = omega (arith, ints, valid.least.from, valid.most.from); upto = valid.most.upto } in
-    let level = number_read u.level (temperature u.level valid.level) in
-    let least = number_read u.least (heat u.least valid.least) in
-    let most = number_read u.most (heat u.most most_range) in
-    let each = number_read u.price (price u.price valid.price) in
-    let own = reads_own k u.contribution row valid.contribution refl in
-    let free = (Decides-is_taken (case_of given) u.name).1 (rw (names_of-case given) new) in
-    let order = (Decides-int_le u.least u.most).1 valid.most.from in let fair = within valid.price in
+    let level = number_read u.level (temperature u.level valid.level) in let least = number_read u.least (heat u.least valid.least) in
+    let most = number_read u.most (heat u.most most_range) in let each = number_read u.price (price u.price valid.price) in
+    let own = reads_own k u.contribution row valid.contribution refl in let free = (Decides-is_taken (case_of given) u.name).1 (rw (names_of-case given) new) in
+    let order = (Decides-int_le u.least u.most).1 valid.most.from in let fair = within-passes _ _ _ valid.price in
+    let placed = within-passes _ _ _ valid.level in let low = within-passes _ _ _ valid.least in let high = within-passes _ _ _ most_range in
     let numbers : Passes (utility_number_checks row) = rw (level, least, most, each, own.read)
-    (refl, (refl, (refl, (refl, (own.is_number, (within valid.level, (within valid.least, (within most_range, (fair, (own.range, (order, tt))))))))))) in
+    (refl, (refl, (refl, (refl, (own.is_number, (placed, (low, (high, (fair, (own.range, (order, tt))))))))))) in
     let passes : Passes (checks given row) =
     rw is (refl, (refl, (room-passes _ _ few, (name-passes u.name valid.name, ((Decides-is_reserved_from u.side u.name).1 named, (free, numbers)))))) in
     record { passes = none_fails (checks given row) passes; next_is = rw (is, level, least, most, each, own.read) refl }

@@ -28,8 +28,7 @@ load_field_printed s valid = optional_number_field (own_load s.load) (load_print
 utility_printed : (k : Case) (u : Utility) → IsValidUtility u → IsPrintedRow (utility_row k u)
 utility_printed k u valid =
     let most : IsHeat u.most = record { from = omega (arith, ints, valid.least.from, valid.most.from); upto = valid.most.upto } in
-    let level = number_field u.level (temperature u.level valid.level) in
-    let least = number_field u.least (heat u.least valid.least) in
+    let level = number_field u.level (temperature u.level valid.level) in let least = number_field u.least (heat u.least valid.least) in
     let price = number_field u.price (price u.price valid.price) in
     seven_fields _ _ _ _ _ _ _ (utility_kind_field u.side) (name_field u.name valid.name) level least (number_field u.most (heat u.most most)) price
     (contribution_field_printed k u.contribution valid.contribution)
@@ -49,8 +48,7 @@ rows_printed k valid =
     let each_stream = All-weaker IsValidStream (λ s. IsPrintedRow (stream_row k s)) stream k.streams valid.streams.are_streams.each in
     let each_utility = All-weaker IsValidUtility (λ u. IsPrintedRow (utility_row k u)) (utility_printed k) k.utilities valid.utilities in
     let each_forbid = All-weaker (IsValidForbid k) (λ f. IsPrintedRow (forbid_row k f)) (forbid_printed k valid) k.forbids valid.forbids in
-    let streams = All-map IsPrintedRow (stream_row k) k.streams each_stream in
-    let utilities = All-map IsPrintedRow (utility_row k) k.utilities each_utility in
+    let streams = All-map IsPrintedRow (stream_row k) k.streams each_stream in let utilities = All-map IsPrintedRow (utility_row k) k.utilities each_utility in
     let forbids = All-map IsPrintedRow (forbid_row k) k.forbids each_forbid in
     let sources = All-append IsPrintedRow (map (stream_row k) k.streams) (map (utility_row k) k.utilities) streams utilities in
     let all = All-append IsPrintedRow (map (stream_row k) k.streams ++ map (utility_row k) k.utilities) (map (forbid_row k) k.forbids) sources forbids in
@@ -64,8 +62,7 @@ begins k = (_, refl)
 
 -- the printed text is read as the case
 pub text_back : (k : Case) → IsValid k → IsCase (rows_of (rows_text (printed_rows k))) k
-text_back k valid =
-    let (text, starts) = begins k in
+text_back k valid = let (text, starts) = begins k in
     subst (λ rows. IsCase rows k) (sym (printed.rows_back (printed_rows k) text (rows_printed k valid) starts)) (rows_back k valid)
 
 few_rows : (k : Case) → length (printed_rows k) ≡ 1 + length k.streams + length k.utilities + length k.forbids
@@ -73,12 +70,11 @@ unfolding printed_rows
 few_rows k = simp (length-append, length-map) (omega arith)
 
 pub text_short : (k : Case) → IsValid k → length (rows_text (printed_rows k)) ≤ 2000000000
-text_short k valid =
-    omega (
-      arith,
-      rows_short (printed_rows k) (rows_printed k valid),
-      few_rows k,
-      length-AreStreams k.streams valid.streams.are_streams,
-      valid.few_utilities,
-      valid.few_forbids,
-    )
+text_short k valid = omega (
+  arith,
+  rows_short (printed_rows k) (rows_printed k valid),
+  few_rows k,
+  length-AreStreams k.streams valid.streams.are_streams,
+  valid.few_utilities,
+  valid.few_forbids,
+)

@@ -12,20 +12,18 @@ unfolding printed_rows
 printed_text k = simp (flat_map-append, flat_map-map, append_assoc)
 
 text_is : (c : In_ok-push_forbids) → c.push_forbids.new.text.items ≡ rows_text (printed_rows c.args.case.now)
-text_is c =
-    rw (
-      c.in_ok-push_forbids.ensures,
-      c.in_ok-push_utilities.ensures,
-      c.in_ok-push_streams.ensures,
-      c.in_ok-extend_from_slice.ensures.items,
-      c.new-text.ensures.items,
-      c.as_bytes.ensures.value,
-      c.in_ok-contribution_line.ensures,
-      c.as_slice.ensures,
-      c.as_slice-2.ensures,
-      c.as_slice-3.ensures,
-    )
-    (printed_text c.args.case.now)
+text_is c = rw (
+  c.in_ok-push_forbids.ensures,
+  c.in_ok-push_utilities.ensures,
+  c.in_ok-push_streams.ensures,
+  c.in_ok-extend_from_slice.ensures.items,
+  c.new-text.ensures.items,
+  c.as_bytes.ensures.value,
+  c.in_ok-contribution_line.ensures,
+  c.as_slice.ensures,
+  c.as_slice-2.ensures,
+  c.as_slice-3.ensures,
+) (printed_text c.args.case.now)
 
 pub returns-clause-text : goal.returns-clause-text
 returns-clause-text c = text_is c

@@ -3,4 +3,4 @@ use Rattle.plants.proofs.Words.{clamps, ints}
 use Rattle.plants.proofs.profiles.raised.Goals as goal
 
 pub returns-then-is_beyond-clause-range : goal.returns-then-is_beyond-clause-range
-returns-then-is_beyond-clause-range c = record { from = omega (arith, ints, clamps); upto = omega (arith, ints, clamps) }
+returns-then-is_beyond-clause-range c = omega (arith, ints, clamps)

@@ -15,8 +15,7 @@ loop-main-preserved c =
     let second = to_z-of_z w64 c.raised-greatest-in-loop-main.result (search rules) in
     record {
       value = second ∙ c.raised-greatest-in-loop-main.ensures.value ∙ ap₂ look first gives
-          ∙ ap (λ g. look (look g (takes_at contribution main)) (gives_at contribution main)) c.loop-main.invariant.value
-          ∙ sym
+          ∙ ap (λ g. look (look g (takes_at contribution main)) (gives_at contribution main)) c.loop-main.invariant.value ∙ sym
           (raised-mains c.args.direction t c.args.streams.now _ contribution c.args.mains.now c.loop-main.main-index main c.loop-main-test.true c.main-item.is);
       range = subst IsPlantHeat (sym second) c.raised-greatest-in-loop-main.ensures.range;
     }

@@ -17,8 +17,7 @@ loop-plant-preserved c =
     let is = to_z-of_z w64 c.raised_by_ends-greatest.result (search rules) in
     record {
       value = is ∙ c.raised_by_ends-greatest.ensures.value
-          ∙ ap₂ (λ g (ss : List Stream). fold look g (stream_ends ss)) c.loop-plant.invariant.value c.as_slice.ensures
-          ∙ sym
+          ∙ ap₂ (λ g (ss : List Stream). fold look g (stream_ends ss)) c.loop-plant.invariant.value c.as_slice.ensures ∙ sym
           (raised-plants c.args.direction t c.args.streams.now _ c.args.plants.now c.loop-plant.plant-index c.plant-item.result c.loop-plant-test.true
           c.plant-item.is);
       range = subst IsPlantHeat (sym is) c.raised_by_ends-greatest.ensures.range;

@@ -12,8 +12,7 @@ utilities_are : (c : goal.After-as_slice-5) → c.boiler.result ∷ c.cooling.re
 utilities_are c = λ i. c.boiler.ensures i ∷ c.cooling.ensures i ∷ []
 
 is_grid : (c : goal.After-as_slice-5) → IsSiteGrid c.args.site.now c.as_slice-5.result.now
-is_grid c =
-    rw c.as_slice-5.ensures.value
+is_grid c = rw c.as_slice-5.ensures.value
     (subst (λ places. ListsFalling (Contains places) c.falling-places.result.items) c.in_ok-places.ensures c.falling-places.ensures)
 
 pub parts_on-requires-clause-streams : goal.parts_on-requires-clause-streams

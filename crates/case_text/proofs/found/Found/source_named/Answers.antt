@@ -5,8 +5,7 @@ use Rattle.case_text.proofs.found.Found.source_named.Goals as goal
 use Rattle.stream_case.specs.declared.source.Source.TheVariants as source
 
 pub overflow_cast-result : goal.overflow_cast-result
-overflow_cast-result c =
-    let within = slice_get_within c.self.inside.streams.entries c.in-Some.index _ c.in-Some.ensures.entry in
+overflow_cast-result c = let within = slice_get_within c.self.inside.streams.entries c.in-Some.index _ c.in-Some.ensures.entry in
     omega (arith, few_streams c.self.inside.streams.entries c.self.inside.utilities.entries c.self.invariant, within)
 
 pub returns-in-Some : goal.returns-in-Some
