@@ -125,7 +125,8 @@ module _ (axis : Axis) where
             ap (λ a. same_source a (source.Utility index)) (source_at-piece (pieces axis of) (number * length (spans_of of axis.case) + index_on of p)
             (piece_in axis of number runs.span) (piece_there axis of number (index_on of p) runs.span within runs.there))
 
-        its_own : (of : Side) (k : ℕ) → slice_get (spans_of of axis.case) k ≡ Some (utility_span_of of axis.case.streams index) → is_its of ≡ (index_on of p == k)
+        its_own : (of : Side) (k : ℕ) → slice_get (spans_of of axis.case) k ≡ Some (utility_span_of of axis.case.streams index)
+            → is_its of ≡ (index_on of p == k)
         its_own of k there =
             let runs = pair_runs axis number of p met in source_is of ∙ own_place (spans_of of axis.case) (sources_differ axis.case of) k
             (utility_span_of of axis.case.streams index) there (index_on of p) runs.span runs.there
@@ -133,7 +134,8 @@ module _ (axis : Axis) where
         not_its : (of : Side) → u.side ≢ of → is_its of ≡ false
         not_its of other =
             let runs = pair_runs axis number of p met in source_is of ∙ false_from_ne_true (same_source runs.span.source (source.Utility index)) (λ holds.
-            let own = ap (side_of axis.case) (same_source-true runs.span.source (source.Utility index) holds) ∙ ap (option_map (λ (v : Utility). v.side)) here in
+            let own = ap (side_of axis.case) (same_source-true runs.span.source (source.Utility index) holds)
+            ∙ ap (option_map (λ (v : Utility). v.side)) here in
             other (same_Some u.side of (sym own ∙ side_on axis of runs.span runs.kind)))
 
         joins_own : (of : Side) → u.side ≡ of → (k : ℕ) → slice_get (spans_of of axis.case) k ≡ Some (utility_span_of of axis.case.streams index)
