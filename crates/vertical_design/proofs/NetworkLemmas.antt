@@ -100,14 +100,6 @@ module _ (axis : Axis) where
   abbrev cold_sources : List Source
   cold_sources = sources_of (pieces axis side.Cold)
 
-  -- the source of a pair on a side
-  source_of : (of : Side) (number : ℕ) → number < length axis.cuts - 1 → (p : Pair) (met : IsMetIn axis number p)
-      → source_at (sources_of (pieces axis of)) (number * length (spans_of of axis.case) + index_on of p) ≡ (pair_runs axis number of p met).span.source
-  source_of of number within p met =
-      let runs = pair_runs axis number of p met in
-      source_at-piece (pieces axis of) (number * length (spans_of of axis.case) + index_on of p) (piece_in axis of number runs.span)
-      (piece_there axis of number (index_on of p) runs.span within runs.there)
-
   module _ (index : ℕ) (u : Utility) (here : slice_get axis.case.utilities index ≡ Some u) where
     abbrev heat_of : Exchange → Option Rational
     heat_of e = heat_for hot_sources cold_sources index e
@@ -118,43 +110,42 @@ module _ (axis : Axis) where
     abbrev to_of : ℤ
     to_of = utility_to u.side axis.case.streams
 
-    -- a source of the other side is not the utility
-    not_its : (of : Side) (a : Source) → side_of axis.case a ≡ Some of → u.side ≢ of → same_source a (source.Utility index) ≡ false
-    not_its of a side_is other =
-        false_from_ne_true (same_source a (source.Utility index)) (λ holds.
-        let own = ap (side_of axis.case) (same_source-true a (source.Utility index) holds) ∙ ap (option_map (λ (v : Utility). v.side)) here in
-        other (same_Some u.side of (sym own ∙ side_is)))
-
     place : (k : ℕ) × (slice_get (spans_of u.side axis.case) k ≡ Some (utility_span_of u.side axis.case.streams index))
     place = utility_place axis.case u.side index u here refl
 
-    -- whether the source of a pair on a side is the utility
-    on_side_test : (of : Side) (number : ℕ) → number < length axis.cuts - 1 → (p : Pair) → IsMetIn axis number p → (k : ℕ)
-        → slice_get (spans_of of axis.case) k ≡ Some (utility_span_of of axis.case.streams index)
-        → same_source (source_at (sources_of (pieces axis of)) (number * length (spans_of of axis.case) + index_on of p)) (source.Utility index)
-        ≡ (index_on of p == k)
-    on_side_test of number within p met k there =
-        let runs = pair_runs axis number of p met in ap (λ a. same_source a (source.Utility index)) (source_of of number within p met)
-        ∙ own_place (spans_of of axis.case) (sources_differ axis.case of) k (utility_span_of of axis.case.streams index) there
-        (index_on of p) runs.span runs.there
-
-    other_test : (of : Side) (number : ℕ) → number < length axis.cuts - 1 → (p : Pair) → IsMetIn axis number p → u.side ≢ of
-        → same_source (source_at (sources_of (pieces axis of)) (number * length (spans_of of axis.case) + index_on of p)) (source.Utility index) ≡ false
-    other_test of number within p met other =
-        let runs = pair_runs axis number of p met in ap (λ a. same_source a (source.Utility index)) (source_of of number within p met)
-        ∙ not_its of runs.span.source (side_on axis of runs.span runs.kind) other
-
-    joins_own : (number : ℕ) → number < length axis.cuts - 1 → (p : Pair) → IsMetIn axis number p → (of : Side) → u.side ≡ of → (k : ℕ)
-        → slice_get (spans_of of axis.case) k ≡ Some (utility_span_of of axis.case.streams index)
-        → joins_utility hot_sources cold_sources index (match_in axis number p) ≡ (index_on of p == k)
-    joins_own number within p met side.Hot side_is k there =
-        ap₂ ◌||◌ (on_side_test side.Hot number within p met k there)
-        (other_test side.Cold number within p met (λ is. let clash : side.Hot ≡ side.Cold = sym side_is ∙ is in cc clash)) ∙ or-false (p.first == k)
-    joins_own number within p met side.Cold side_is k there =
-        ap₂ ◌||◌ (other_test side.Hot number within p met (λ is. let clash : side.Cold ≡ side.Hot = sym side_is ∙ is in cc clash))
-        (on_side_test side.Cold number within p met k there)
-
     module _ (number : ℕ) (within : number < length axis.cuts - 1) where
+      module _ (p : Pair) (met : IsMetIn axis number p) where
+        -- whether the source of a pair on a side is the utility
+        abbrev is_its : Side → Bool
+        is_its of = same_source (source_at (sources_of (pieces axis of)) (number * length (spans_of of axis.case) + index_on of p)) (source.Utility index)
+
+        source_is : (of : Side) → is_its of ≡ same_source (pair_runs axis number of p met).span.source (source.Utility index)
+        source_is of =
+            let runs = pair_runs axis number of p met in
+            ap (λ a. same_source a (source.Utility index)) (source_at-piece (pieces axis of) (number * length (spans_of of axis.case) + index_on of p)
+            (piece_in axis of number runs.span) (piece_there axis of number (index_on of p) runs.span within runs.there))
+
+        its_own : (of : Side) (k : ℕ) → slice_get (spans_of of axis.case) k ≡ Some (utility_span_of of axis.case.streams index)
+            → is_its of ≡ (index_on of p == k)
+        its_own of k there =
+            let runs = pair_runs axis number of p met in source_is of ∙ own_place (spans_of of axis.case) (sources_differ axis.case of) k
+            (utility_span_of of axis.case.streams index) there (index_on of p) runs.span runs.there
+
+        not_its : (of : Side) → u.side ≢ of → is_its of ≡ false
+        not_its of other =
+            let runs = pair_runs axis number of p met in source_is of ∙ false_from_ne_true (same_source runs.span.source (source.Utility index)) (λ holds.
+            let own = ap (side_of axis.case) (same_source-true runs.span.source (source.Utility index) holds)
+            ∙ ap (option_map (λ (v : Utility). v.side)) here in
+            other (same_Some u.side of (sym own ∙ side_on axis of runs.span runs.kind)))
+
+        joins_own : (of : Side) → u.side ≡ of → (k : ℕ) → slice_get (spans_of of axis.case) k ≡ Some (utility_span_of of axis.case.streams index)
+            → joins_utility hot_sources cold_sources index (match_in axis number p) ≡ (index_on of p == k)
+        joins_own side.Hot side_is k there =
+            ap₂ ◌||◌ (its_own side.Hot k there) (not_its side.Cold (λ is. let clash : side.Hot ≡ side.Cold = sym side_is ∙ is in cc clash))
+            ∙ or-false (p.first == k)
+        joins_own side.Cold side_is k there =
+            ap₂ ◌||◌ (not_its side.Hot (λ is. let clash : side.Cold ≡ side.Hot = sym side_is ∙ is in cc clash)) (its_own side.Cold k there)
+
       abbrev low : ℤ
       low = low_at axis number
 
@@ -179,7 +170,7 @@ module _ (axis : Axis) where
       are_own : All (λ p. heat_of_pair p ≡ (if is_own p then Some (ratio (width *ℤ p.amount) flows) else None)) (pairs_at axis number)
       are_own k d inside =
           let p = get_or (pairs_at axis number) k d in ap (λ b. if b then Some (ratio (width *ℤ p.amount) flows) else None)
-          (joins_own number within p (pairs_meet axis number k d inside) u.side refl place.0 place.1)
+          (joins_own p (pairs_meet axis number k d inside) u.side refl place.0 place.1)
 
       -- whether it lies there
       abbrev lies : Bool
