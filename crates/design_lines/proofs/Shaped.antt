@@ -153,6 +153,14 @@ differ (x ∷ xs) once (suc i) (suc j) d before within = differ xs (λ b. omega 
 
 -- ---- courses
 
+-- shares that weigh nothing
+no_weight : (course : Course) → sum_by (λ shares. sum_by (λ (s : Share). 0) shares) course ≡ 0
+no_weight course = omega (
+  arith,
+  sum_by-le (λ shares. sum_by (λ (s : Share). 0) shares) 0 course
+      (λ k d inside. omega (arith, sum_by-le (λ (s : Share). 0) 0 (get_or course k d) (λ i e within. omega arith))),
+)
+
 -- a branch is used as often as it is open before the lines and made by them
 module _ (b : ℕ) where
   abbrev is_it : ℕ → ℕ
@@ -177,10 +185,7 @@ module _ (b : ℕ) where
 
   own-open : (stream : ℕ) (courses : List Course) → still_open stream courses ≡ times b (range_with_len stream (length courses))
   own-open stream [] = refl
-  own-open stream (course ∷ courses) =
-      let none = sum_by-le (λ shares. sum_by (λ (s : Share). 0) shares) 0 course
-      (λ k d inside. omega (arith, sum_by-le (λ (s : Share). 0) 0 (get_or course k d) (λ i e within. omega arith))) in
-      omega (arith, none, own-open (stream + 1) courses)
+  own-open stream (course ∷ courses) = omega (arith, no_weight course, own-open (stream + 1) courses)
 
   used-courses : (next stream : ℕ) (courses : List Course) → All AreStages courses
       → times b (flat_map uses (courses_lines next stream courses)) ≡ times b (range_with_len stream (length courses)) + times b
@@ -325,10 +330,7 @@ module _ (branches : List Branch) (exchanger stream : ℕ) where
 
   none-other : (of : ℕ) (course : Course) → (stream == of) ≡ false → counted of course ≡ 0
   none-other of course other =
-      let zeros : (shares : List Share) → sum_by (λ (s : Share). 0) shares ≤ 0 =
-      λ shares. omega (arith, sum_by-le (λ (s : Share). 0) 0 shares (λ k d within. omega arith)) in
-      let all = sum_by-le (λ shares. sum_by (λ (s : Share). 0) shares) 0 course (λ k d within. zeros (get_or course k d)) in
-      ap (λ t. sum_by (λ shares. sum_by (λ (s : Share). cond t (cond (exchanger == s.exchanger) 1 0) 0) shares) course) other ∙ omega (arith, all)
+      ap (λ t. sum_by (λ shares. sum_by (λ (s : Share). cond t (cond (exchanger == s.exchanger) 1 0) 0) shares) course) other ∙ no_weight course
 
   turns-own : (of : ℕ) (course : Course) → (stream == of) ≡ true → counted of course ≡ turns exchanger course
   turns-own of course same = ap (λ t. sum_by (λ shares. sum_by (λ (s : Share). cond t (cond (exchanger == s.exchanger) 1 0) 0) shares) course) same
