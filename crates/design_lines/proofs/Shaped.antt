@@ -426,7 +426,8 @@ module _ (case : Case) (exchangers : List Exchanger) (courses : List Course) (co
   made_first index l at =
       let n = length case.streams in
       let known = walk_courses (λ n w lines. AreKnown n lines) (λ stream n b. b < n) (λ stream s. Unit {0}) (λ b. 0) (λ stream s. 0)
-      (λ shares. 0 < length shares) known_keep n 0 courses used (λ i course at k d within j e inside. tt) (early_follow n 0 courses (omega (arith, led.all))) tt in
+      (λ shares. 0 < length shares) known_keep n 0 courses used (λ i course at k d within j e inside. tt)
+      (early_follow n 0 courses (omega (arith, led.all))) tt in
       known_at n (map declared_line exchangers ++ later) index l (known-declared n exchangers later known) at
 
   used_once : AreUsedOnce network
@@ -490,7 +491,8 @@ module _ (case : Case) (exchangers : List Exchanger) (courses : List Course) (co
       (counts branches number stream) (λ shares. 0 < length shares) (counted_keep branches number stream) (length case.streams) 0 courses used
       (λ i c here k d within j e inside. tt) of_streams refl in
       let both = sum_by-append (λ l. cond (is_pass_of branches number stream l) 1 0) (map declared_line exchangers) later in
-      omega (arith, both, counted-declared branches number stream exchangers, walked, turns-there branches number stream 0 stream courses course (omega arith) at)
+      let there = turns-there branches number stream 0 stream courses course (omega arith) at in
+      omega (arith, both, counted-declared branches number stream exchangers, walked, there)
 
   passed_once : ArePassedOnce network
   passed_once number stream e at joins =
