@@ -373,11 +373,7 @@ made-within n first stream (course ∷ courses) few =
 -- ---- a line makes two branches at most
 
 two_at_most : (l : Line) → length (makes l) ≤ 2
-two_at_most (line.Exchanger name hot cold duty) = omega arith
-two_at_most (line.Split from first cp second) = omega arith
-two_at_most (line.Pass from exchanger to) = omega arith
-two_at_most (line.Mix first second to) = omega arith
-two_at_most (line.End branch) = omega arith
+two_at_most l = grind arith
 
 few_made : (lines : List Line) → length (flat_map makes lines) ≤ 2 * length lines
 few_made [] = omega arith
