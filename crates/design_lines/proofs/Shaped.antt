@@ -289,10 +289,7 @@ module _ (branches : List Branch) (exchangers : List Exchanger) where
 -- How many lines lead a branch of a stream through an exchanger: as many as shares of the stream's course do.
 
 one_of_both : (a b : Bool) → ◌≡◌ {A = ℕ} (cond (a && b) 1 0) (cond b (cond a 1 0) 0)
-one_of_both true true = refl
-one_of_both true false = refl
-one_of_both false true = refl
-one_of_both false false = refl
+one_of_both a b = grind arith
 
 module _ (branches : List Branch) (exchanger stream : ℕ) where
   -- a share of the stream counts where it passes the exchanger
