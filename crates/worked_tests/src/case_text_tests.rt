@@ -61,12 +61,12 @@ const PRINTED_LATENT_STREAMS: &[u8] =
     b"contribution,,50,,,,\nhot,H,1500,700,10,,\ncold,B,900,900,0,8000,\nhot,V,-20,-20,0,10000000000,0\n";
 
 /// Tables, how they are printed, and the cases that they give.
-const TABLES: [(&[u8], &[u8], Table); 2] = [
+const TABLES: &[(&[u8], &[u8], Table)] = &[
     (FOUR_STREAMS_TEXT, FOUR_STREAMS_TEXT, FOUR_STREAMS),
     (SPREADSHEET, PRINTED_SPREADSHEET, SPREADSHEET_CASE),
 ];
 
-const NUMBERS: [(&str, Option<i64>); 12] = [
+const NUMBERS: &[(&str, Option<i64>)] = &[
     ("0", Some(0)),
     ("-2731", Some(-2731)),
     ("-0", Some(0)),
@@ -82,7 +82,7 @@ const NUMBERS: [(&str, Option<i64>); 12] = [
 ];
 
 /// Rows behind the contribution and the stream H, and why they are refused.
-const FAULTY_ROWS: [(&str, CaseWhy); 33] = [
+const FAULTY_ROWS: &[(&str, CaseWhy)] = &[
     ("steam,S,1,2,3,4,", CaseWhy::UnknownKind),
     ("hot,K,900,400,10,", CaseWhy::FieldCount),
     ("hot,K,900,400,10,7,", CaseWhy::NotLatent),
@@ -119,7 +119,7 @@ const FAULTY_ROWS: [(&str, CaseWhy); 33] = [
 ];
 
 /// Files that end early or hold other bytes than text, the row at fault, and why.
-const FAULTY_FILES: [(&[u8], u32, CaseWhy); 8] = [
+const FAULTY_FILES: &[(&[u8], u32, CaseWhy)] = &[
     (b"", 1, CaseWhy::NoContribution),
     (b"hot,H,1000,500,10,,\n", 2, CaseWhy::NoContribution),
     (b"contribution,,50,,,,\n", 2, CaseWhy::NoStream),
@@ -154,14 +154,14 @@ fn assert_refused(rt: &(impl Abort + AllocGlobal), text: &[u8], row: u32, why: C
 
 #[test]
 fn numbers_have_their_grammar(rt: HostRuntime) {
-    for (text, number) in &NUMBERS {
+    for (text, number) in NUMBERS {
         assert_same(&rt, text, &number_of(text.as_bytes()), number);
     }
 }
 
 #[test]
 fn faulty_rows_are_refused(rt: HostRuntime) -> Result<(), Fail> {
-    for (row, why) in &FAULTY_ROWS {
+    for (row, why) in FAULTY_ROWS {
         let text = format!(in rt.alloc(); "contribution,,50,,,,\nhot,H,1000,500,10,,\n{row}\n")?;
         assert_refused(&rt, text.as_bytes(), 3, *why);
     }
@@ -170,7 +170,7 @@ fn faulty_rows_are_refused(rt: HostRuntime) -> Result<(), Fail> {
 
 #[test]
 fn faulty_files_are_refused(rt: HostRuntime) {
-    for (text, row, why) in &FAULTY_FILES {
+    for (text, row, why) in FAULTY_FILES {
         assert_refused(&rt, text, *row, *why);
     }
 }
@@ -252,7 +252,7 @@ fn check_table(
 
 #[test]
 fn tables_give_their_cases_and_are_printed(rt: HostRuntime) -> Result<(), Fail> {
-    for (table, wanted, given) in &TABLES {
+    for (table, wanted, given) in TABLES {
         check_table(&rt, table, wanted, &case_of(rt.alloc(), given)?)?;
     }
     let case = own_contributions(rt.alloc())?;

@@ -27,12 +27,12 @@ struct Wanted {
 
 /// A heater above a hot and a cold stream, and a cooler below them: six places, three parts on
 /// each side.
-const HEATER_AND_COOLER: [UtilityRow; 2] = [
+const HEATER_AND_COOLER: &[UtilityRow] = &[
     ("S", Hot, 1700, 0, MOST_HEAT, 1),
     ("W", Cold, 100, 0, MOST_HEAT, 0),
 ];
 
-const CASES: [(&str, Table, Wanted); 6] = [
+const CASES: &[(&str, Table, Wanted)] = &[
     (
         "no match forbidden",
         FOUR_STREAMS,
@@ -101,7 +101,7 @@ const CASES: [(&str, Table, Wanted); 6] = [
     (
         "every pair forbidden",
         Table {
-            utilities: &HEATER_AND_COOLER,
+            utilities: HEATER_AND_COOLER,
             forbids: &[
                 Forbid {
                     hot: Stream(0),
@@ -131,7 +131,7 @@ const CASES: [(&str, Table, Wanted); 6] = [
     (
         "a hot stream that is permitted nothing",
         Table {
-            utilities: &HEATER_AND_COOLER,
+            utilities: HEATER_AND_COOLER,
             forbids: &[
                 Forbid {
                     hot: Stream(0),
@@ -152,11 +152,11 @@ const CASES: [(&str, Table, Wanted); 6] = [
     ),
 ];
 
-const ONE_HOT: [StreamRow; 1] = [("H", Hot, 1000, 500, 10)];
+const ONE_HOT: &[StreamRow] = &[("H", Hot, 1000, 500, 10)];
 
 /// A hot stream between a heater at its upper end and a cooler at its lower end: two places.
 const TWO_PLACES: Table = Table {
-    streams: &ONE_HOT,
+    streams: ONE_HOT,
     utilities: &[
         ("S", Hot, 1000, 0, MOST_HEAT, 1),
         ("W", Cold, 400, 0, MOST_HEAT, 0),
@@ -174,9 +174,9 @@ const ONE_LEVEL: Table = Table {
 };
 
 /// The ends of the links of a net, in rising order.
-const TWO_PLACES_LINKS: [(u32, u32); 5] = [(0, 3), (1, 4), (3, 4), (4, 5), (5, 2)];
+const TWO_PLACES_LINKS: &[(u32, u32)] = &[(0, 3), (1, 4), (3, 4), (4, 5), (5, 2)];
 
-const ONE_LEVEL_LINKS: [(u32, u32); 18] = [
+const ONE_LEVEL_LINKS: &[(u32, u32)] = &[
     (0, 9),
     (1, 11),
     (2, 12),
@@ -224,7 +224,7 @@ fn ends_of(alloc: Global, links: &[Link]) -> Result<Vec<(u32, u32)>, AllocError>
 
 #[test]
 fn cases_have_these_groups_and_nets_of_this_size(rt: HostRuntime) -> Result<(), Fail> {
-    for (at, table, wanted) in &CASES {
+    for (at, table, wanted) in CASES {
         let chains = chains_of_table(rt.alloc(), table)?;
         compare_groups(&rt, at, chains.groups.as_slice(), wanted.groups);
         assert_same(&rt, at, &chains.net.nodes, &wanted.nodes);
@@ -237,9 +237,9 @@ fn cases_have_these_groups_and_nets_of_this_size(rt: HostRuntime) -> Result<(), 
 fn links_lead_from_rank_to_rank(rt: HostRuntime) -> Result<(), Fail> {
     let chains = chains_of_table(rt.alloc(), &TWO_PLACES)?;
     let ends = ends_of(rt.alloc(), chains.net.links.as_slice())?;
-    assert_lists(&rt, "two places", &ends, &TWO_PLACES_LINKS);
+    assert_lists(&rt, "two places", &ends, TWO_PLACES_LINKS);
     let chains = chains_of_table(rt.alloc(), &ONE_LEVEL)?;
     let ends = ends_of(rt.alloc(), chains.net.links.as_slice())?;
-    assert_lists(&rt, "one level", &ends, &ONE_LEVEL_LINKS);
+    assert_lists(&rt, "one level", &ends, ONE_LEVEL_LINKS);
     Ok(())
 }

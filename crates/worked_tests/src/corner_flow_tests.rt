@@ -17,7 +17,7 @@ use stream_case::Case;
 use stream_case::Side::{Cold, Hot};
 
 /// The indices of a hot and a cold part, and the heat.
-const TRANSFERS: [(u32, u32, i64); 12] = [
+const TRANSFERS: &[(u32, u32, i64)] = &[
     (0, 0, 20_000),
     (1, 1, 60_000),
     (2, 1, 15_000),
@@ -32,9 +32,9 @@ const TRANSFERS: [(u32, u32, i64); 12] = [
     (8, 5, 45_000),
 ];
 
-const HOT_PRICES: [i64; 9] = [1, 1, 1, 1, 1, 1, 0, 0, 0];
+const HOT_PRICES: &[i64] = &[1, 1, 1, 1, 1, 1, 0, 0, 0];
 
-const COLD_PRICES: [i64; 6] = [1, 1, 1, 0, 0, 0];
+const COLD_PRICES: &[i64] = &[1, 1, 1, 0, 0, 0];
 
 fn rows_of(alloc: Global, transfers: &[Transfer]) -> Result<Vec<(u32, u32, i64)>, AllocError> {
     let mut rows = Vec::new(alloc);
@@ -70,7 +70,7 @@ fn four_streams_have_this_corner_flow(rt: HostRuntime) -> Result<(), Fail> {
     let four = four_streams(rt.alloc())?;
     let flow = corner(rt.alloc(), &four.case, &four.parts, targets(&four.case))?;
     let rows = rows_of(rt.alloc(), flow.transfers.as_slice())?;
-    assert_lists(&rt, "the transfers", &rows, &TRANSFERS);
+    assert_lists(&rt, "the transfers", &rows, TRANSFERS);
     let cost = cost_if_flow(&four.parts, &four.reach, &flow);
     assert_same(&rt, "the cost", &cost, &Some(20_000));
     let least = standard_cost(&four.case, targets(&four.case));
@@ -82,8 +82,8 @@ fn four_streams_have_this_corner_flow(rt: HostRuntime) -> Result<(), Fail> {
 fn these_prices_certify_it(rt: HostRuntime) -> Result<(), Fail> {
     let four = four_streams(rt.alloc())?;
     let (prices, value) = certificate(rt.alloc(), &four.case, &four.parts)?;
-    assert_lists(&rt, "hot prices", prices.hot.as_slice(), &HOT_PRICES);
-    assert_lists(&rt, "cold prices", prices.cold.as_slice(), &COLD_PRICES);
+    assert_lists(&rt, "hot prices", prices.hot.as_slice(), HOT_PRICES);
+    assert_lists(&rt, "cold prices", prices.cold.as_slice(), COLD_PRICES);
     let supported = is_supported(&four.reach, &prices);
     assert_same(
         &rt,
@@ -105,7 +105,7 @@ struct Worked {
 
 /// A level at the pinch, from each side and from both; levels at the highest and the lowest end,
 /// before the utilities there; one latent stream alone; and two at one level, that exchange all.
-const LATENT: [Worked; 7] = [
+const LATENT: &[Worked] = &[
     Worked {
         streams: &[("H", Hot, 1500, 700, 10), ("B", Cold, 900, 900, 8000)],
         transfers: &[(0, 0, 3000), (1, 0, 5000), (2, 1, 3000)],
@@ -198,7 +198,7 @@ fn compare_prices(
 
 #[test]
 fn latent_streams_have_these_corner_flows(rt: HostRuntime) -> Result<(), Fail> {
-    for worked in &LATENT {
+    for worked in LATENT {
         let table = Table {
             contribution: 50,
             streams: worked.streams,

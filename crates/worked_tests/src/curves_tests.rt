@@ -19,7 +19,7 @@ struct Worked {
 }
 
 /// The four streams, one hot stream alone, and hot streams whose ends coincide or leave a gap.
-const CASES: [Worked; 3] = [
+const CASES: &[Worked] = &[
     Worked {
         table: FOUR_STREAMS,
         hot: &[(0, 300), (45_000, 600), (450_000, 1500), (510_000, 1700)],
@@ -82,7 +82,7 @@ fn assert_curve(
 
 #[test]
 fn cases_have_these_curves(rt: HostRuntime) -> Result<(), Fail> {
-    for worked in &CASES {
+    for worked in CASES {
         let case = case_of(rt.alloc(), &worked.table)?;
         check_sensible(&case)?;
         assert_curve(&rt, "hot", hot_curve(rt.alloc(), &case), worked.hot);

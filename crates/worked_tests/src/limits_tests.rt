@@ -18,7 +18,7 @@ use study::{
 use transport::MOST_PAIRS;
 
 /// What is limited, the constant, and the limit.
-const LIMITS: [(&str, i128, i128); 35] = [
+const LIMITS: &[(&str, i128, i128)] = &[
     // of a case: tenths of °C, 10 W/K, W, and prices of a watt
     ("lowest temperature", LOWEST_TEMPERATURE as i128, -2731),
     ("highest temperature", HIGHEST_TEMPERATURE as i128, 30_000),
@@ -70,7 +70,7 @@ const LIMITS: [(&str, i128, i128); 35] = [
 
 #[test]
 fn the_limits_are_these(rt: HostRuntime) {
-    for (of, found, wanted) in &LIMITS {
+    for (of, found, wanted) in LIMITS {
         assert_same(&rt, of, found, wanted);
     }
 }

@@ -21,7 +21,7 @@ const ODD_LAYOUT: &[u8] =
 const LONGEST: usize = 8_388_608;
 
 /// A text for the two streams, the statement at fault, and why.
-const FAULTY_TEXTS: [(&[u8], u32, NetWhy); 49] = [
+const FAULTY_TEXTS: &[(&[u8], u32, NetWhy)] = &[
     (b"heat E1", 1, NetWhy::UnknownWord),
     (b"end", 1, NetWhy::FieldCount),
     (b"end H H", 1, NetWhy::FieldCount),
@@ -106,7 +106,7 @@ const MIXED: &[u8] =
     b"exchanger C H C 3/2\nsplit H .a 4 .b\npass .a C c\npass C C .d\nmix c .b e\nend e\n";
 
 /// The branches of that network, each with its stream.
-const MIXED_BRANCHES: [(&str, u32); 7] = [
+const MIXED_BRANCHES: &[(&str, u32)] = &[
     ("H", 0),
     ("C", 1),
     (".a", 0),
@@ -135,7 +135,7 @@ fn assert_refused(rt: &(impl Abort + AllocGlobal), case: &Case, text: &[u8], lin
 #[test]
 fn faulty_texts_are_refused(rt: HostRuntime) -> Result<(), Fail> {
     let case = completed_case(rt.alloc(), &TWO_STREAMS)?;
-    for (text, line, why) in &FAULTY_TEXTS {
+    for (text, line, why) in FAULTY_TEXTS {
         assert_refused(&rt, &case, text, *line, *why);
     }
     Ok(())
@@ -207,7 +207,7 @@ fn statements() -> Result<[Line; 6], Fail> {
 #[test]
 fn branches_and_exchangers_have_numbers(rt: HostRuntime) -> Result<(), Fail> {
     let statements = statements()?;
-    let branches = branches_of(rt.alloc(), &MIXED_BRANCHES)?;
+    let branches = branches_of(rt.alloc(), MIXED_BRANCHES)?;
     let case = completed_case(rt.alloc(), &TWO_STREAMS)?;
     let network = read_network(rt.alloc(), &case, MIXED)?;
     assert_lists(&rt, "the branches", network.branches.as_slice(), &branches);
@@ -264,7 +264,7 @@ fn statements_past_the_count_are_refused(rt: HostRuntime) -> Result<(), Fail> {
 
 /// The first sixteen bytes of a line of 8 MiB, the sixteen that follow again and again, and
 /// whether the line is a statement.
-const LONG_LINES: [(&[u8], &[u8], bool); 4] = [
+const LONG_LINES: &[(&[u8], &[u8], bool)] = &[
     (b"eeeeeeeeeeeeeeee", b"eeeeeeeeeeeeeeee", true),
     (
         b"\t\t\t\t\t\t\t\t\t\t\t\t\t\t\t\t",
@@ -278,7 +278,7 @@ const LONG_LINES: [(&[u8], &[u8], bool); 4] = [
 #[test]
 fn a_long_line_is_one_statement(rt: HostRuntime) -> Result<(), Fail> {
     let case = completed_case(rt.alloc(), &TWO_STREAMS)?;
-    for (first, again, is_statement) in &LONG_LINES {
+    for (first, again, is_statement) in LONG_LINES {
         let text = repeated(rt.alloc(), first, again, 524_287, b"")?;
         if *is_statement {
             assert_refused(&rt, &case, &text, 1, NetWhy::UnknownWord);

@@ -12,7 +12,7 @@ const FIRST_ROWS: &str =
     "contribution,,50,,,,\nmain,MP,1500,,,,\nplant,A,,,,,\nhot,H,1000,500,10,,\n";
 
 /// Rows behind these four, and why they are refused.
-const FAULTY_ROWS: [(&str, SiteWhy); 22] = [
+const FAULTY_ROWS: &[(&str, SiteWhy)] = &[
     ("steam,S,1,2,3,4,", SiteWhy::UnknownKind),
     ("heater,S,1500,0,5,1,", SiteWhy::UnknownKind),
     ("forbid,H,C,,,,", SiteWhy::UnknownKind),
@@ -39,7 +39,7 @@ const FAULTY_ROWS: [(&str, SiteWhy); 22] = [
 
 /// Rows behind them that are accepted: two mains at one level, a plant without streams, and names
 /// that another kind has, or a utility of a case.
-const SOUND_ROWS: [&str; 6] = [
+const SOUND_ROWS: &[&str] = &[
     "main,LP,1500,,,,",
     "plant,B,,,,,",
     "plant,H,,,,,",
@@ -49,7 +49,7 @@ const SOUND_ROWS: [&str; 6] = [
 ];
 
 /// Files that end early or hold a stream above every plant, the row at fault, and why.
-const FAULTY_FILES: [(&str, u32, SiteWhy); 10] = [
+const FAULTY_FILES: &[(&str, u32, SiteWhy)] = &[
     ("", 1, SiteWhy::NoContribution),
     ("main,MP,1500,,,,", 2, SiteWhy::NoContribution),
     ("contribution,,50,,,,", 2, SiteWhy::NoMain),
@@ -99,7 +99,7 @@ fn assert_refused(rt: &(impl Abort + AllocGlobal), text: &str, row: u32, why: Si
 
 #[test]
 fn faulty_rows_are_refused(rt: HostRuntime) -> Result<(), Fail> {
-    for (row, why) in &FAULTY_ROWS {
+    for (row, why) in FAULTY_ROWS {
         let text = format!(in rt.alloc(); "{FIRST_ROWS}{row}\n")?;
         assert_refused(&rt, text.as_str(), 5, *why);
     }
@@ -108,7 +108,7 @@ fn faulty_rows_are_refused(rt: HostRuntime) -> Result<(), Fail> {
 
 #[test]
 fn sound_rows_are_accepted(rt: HostRuntime) -> Result<(), Fail> {
-    for row in &SOUND_ROWS {
+    for row in SOUND_ROWS {
         let text = format!(in rt.alloc(); "{FIRST_ROWS}{row}\n")?;
         assert_same(&rt, row, &read(&rt, text.as_str()).is_ok(), &true);
     }
@@ -117,7 +117,7 @@ fn sound_rows_are_accepted(rt: HostRuntime) -> Result<(), Fail> {
 
 #[test]
 fn faulty_files_are_refused(rt: HostRuntime) {
-    for (text, row, why) in &FAULTY_FILES {
+    for (text, row, why) in FAULTY_FILES {
         assert_refused(&rt, text, *row, *why);
     }
 }
@@ -138,7 +138,7 @@ fn with_rows(
 }
 
 /// A kind of row, the rest of it, and how many are accepted behind the first rows.
-const COUNTS: [(&str, &str, usize); 4] = [
+const COUNTS: &[(&str, &str, usize)] = &[
     ("hot", "900,400,10,,", 11),
     ("cold", "400,900,10,,", 12),
     ("plant", ",,,,", 5),
@@ -147,7 +147,7 @@ const COUNTS: [(&str, &str, usize); 4] = [
 
 #[test]
 fn rows_past_the_counts_are_refused(rt: HostRuntime) -> Result<(), Fail> {
-    for (kind, rest, most) in &COUNTS {
+    for (kind, rest, most) in COUNTS {
         let text = with_rows(&rt, kind, rest, *most)?;
         assert_same(&rt, kind, &read(&rt, text.as_str()).is_ok(), &true);
         let text = with_rows(&rt, kind, rest, *most + 1)?;

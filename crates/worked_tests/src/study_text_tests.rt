@@ -17,7 +17,7 @@ const FIRST_ROWS: &str = "scenario,S,,\nprice,A,7,\n";
 
 /// Rows behind these two, and why they are refused. Each from `prices,A,x` on has two faults, of
 /// which the one that is looked at first is told.
-const FAULTY_ROWS: [(&str, StudyWhy); 34] = [
+const FAULTY_ROWS: &[(&str, StudyWhy)] = &[
     ("scenario,T,", StudyWhy::FieldCount),
     ("scenario,T,,,", StudyWhy::FieldCount),
     ("scenario,T,1,", StudyWhy::FieldCount),
@@ -57,7 +57,7 @@ const FAULTY_ROWS: [(&str, StudyWhy); 34] = [
 /// Rows behind the first two that are accepted: names that a utility or a stream has, the least and
 /// the greatest price, the widest span, a span of one price, a span that stands twice, leading
 /// zeros, and rows that say nothing.
-const SOUND_ROWS: [&str; 10] = [
+const SOUND_ROWS: &[&str] = &[
     "scenario,A,,",
     "scenario,HOT,,",
     "price,B,-1000000,",
@@ -71,7 +71,7 @@ const SOUND_ROWS: [&str; 10] = [
 ];
 
 /// Files that are refused, the row at fault, and why.
-const FAULTY_FILES: [(&str, u32, StudyWhy); 11] = [
+const FAULTY_FILES: &[(&str, u32, StudyWhy)] = &[
     ("", 1, StudyWhy::NoItem),
     ("#,,,\n\n,,,\n", 3, StudyWhy::NoItem),
     ("# a comment", 1, StudyWhy::FieldCount),
@@ -117,11 +117,11 @@ fn assert_accepted(rt: &(impl Abort + AllocGlobal), case: &Case, text: &str)
 #[test]
 fn faulty_rows_are_refused(rt: HostRuntime) -> Result<(), Fail> {
     let case = completed_case(rt.alloc(), &RESTRICTED)?;
-    for (row, why) in &FAULTY_ROWS {
+    for (row, why) in FAULTY_ROWS {
         let text = format!(in rt.alloc(); "{FIRST_ROWS}{row}\n")?;
         assert_refused(&rt, &case, text.as_str(), 3, *why);
     }
-    for (text, row, why) in &FAULTY_FILES {
+    for (text, row, why) in FAULTY_FILES {
         assert_refused(&rt, &case, text, *row, *why);
     }
     Ok(())
@@ -130,7 +130,7 @@ fn faulty_rows_are_refused(rt: HostRuntime) -> Result<(), Fail> {
 #[test]
 fn sound_rows_are_accepted(rt: HostRuntime) -> Result<(), Fail> {
     let case = completed_case(rt.alloc(), &RESTRICTED)?;
-    for row in &SOUND_ROWS {
+    for row in SOUND_ROWS {
         let text = format!(in rt.alloc(); "{FIRST_ROWS}{row}\n")?;
         assert_accepted(&rt, &case, text.as_str());
     }
@@ -147,7 +147,7 @@ const PRICED_TEXT: &str = "\u{feff}scenario,\"S\",,\r\nprice,B,30,\n#,,,\nspan,A
     scenario,T,,\nspan,\"G\",\"-2\",2\n\nscenario,U,,\nprice,A,0,\nprice,\"E\",1,";
 
 /// What it asks of the case whose prices are 5, 3, 2, -1, 0 and 4.
-const PRICED_ITEMS: [ItemRow; 5] = [
+const PRICED_ITEMS: &[ItemRow] = &[
     ("S", 0, &[5, 30, 2, -1, 0, -4]),
     ("", 0, &[0, 5]),
     ("T", 0, &[5, 3, 2, -1, 0, 4]),
@@ -181,7 +181,7 @@ fn items_of(alloc: Global, rows: &[ItemRow]) -> Result<Vec<StudyItem>, Fail> {
 #[test]
 fn a_price_belongs_to_the_last_scenario_above(rt: HostRuntime) -> Result<(), Fail> {
     let case = completed_case(rt.alloc(), &RESTRICTED)?;
-    let wanted = items_of(rt.alloc(), &PRICED_ITEMS)?;
+    let wanted = items_of(rt.alloc(), PRICED_ITEMS)?;
     let Ok(study) = read(&rt, &case, PRICED_TEXT) else {
         return Err("the text is refused".into());
     };
