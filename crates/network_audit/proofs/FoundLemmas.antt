@@ -145,8 +145,7 @@ module _ (case : Case) (network : Network) where
   pub items_before-more : (values : Valuation) (n : ℕ) (l : Line) → slice_get network.lines n ≡ Some l
       → items_before case network values (n + 1) ≡ items_before case network values n ++ line_items case network values (place.Line (n + 1)) l
   unfolding items_before
-  items_before-more values n l at =
-      items-more (statement_items case network values) network.lines n l (slice_get_within network.lines n l at)
+  items_before-more values n l at = items-more (statement_items case network values) network.lines n l (slice_get_within network.lines n l at)
       ∙ ap (λ m. items_before case network values n ++ line_items case network values (place.Line (n + 1)) m) (get_or_from_slice_get network.lines n l l at)
 
   pub items_before-none : (values : Valuation) → items_before case network values 0 ≡ []
@@ -258,8 +257,7 @@ module _ (case : Case) (network : Network) where
   -- before the last line only statements have items
   items-inside : (values : Valuation) (n : ℕ) → n < length network.lines → items case network values n ≡ items_before case network values (n + 1)
   unfolding items
-  items-inside values n inside =
-      ap (λ b. items_before case network values (n + 1) ++ (if b then items_behind case network values else []))
+  items-inside values n inside = ap (λ b. items_before case network values (n + 1) ++ (if b then items_behind case network values else []))
       (ne_eqb n (length network.lines) (λ same. omega (arith, same, inside))) ∙ append-nil (items_before case network values (n + 1))
 
   -- what a valuation of the first lines finds, one of more lines finds

@@ -77,8 +77,7 @@ part-own case e side.Cold index u is at = by u.side refl
 own-sum : (n : ℕ) (duty : Rational) (of : Source) → ((k : ℕ) → of ≡ source.Utility k → k < n)
     → rational_sum_by (λ index. if same_source of (source.Utility index) then duty else rational_zero) (range_with_len 0 n) ≡ utility_part duty of
 own-sum n duty (source.Stream stream) within = rational_sum_by-zero (λ index. rational_zero) (range_with_len 0 n) (λ k d inside. refl)
-own-sum n duty (source.Utility k) within =
-    one_taken (λ index. if k == index then duty else rational_zero) k 0 n (omega arith) (omega (arith, within k refl))
+own-sum n duty (source.Utility k) within = one_taken (λ index. if k == index then duty else rational_zero) k 0 n (omega arith) (omega (arith, within k refl))
     ∙ ap₂ plus (ap (λ b. if b then duty else rational_zero) (eq-eqb k k refl))
     (rational_sum_by-zero (but_at (λ index. if k == index then duty else rational_zero) k) (range_with_len 0 n)
     (λ j d inside. none (get_or (range_with_len 0 n) j d))) ∙ plus-zero duty
@@ -112,8 +111,7 @@ module _ (case : Case) (network : Network) where
 
       one : (e : Exchanger) → IsExchanger case e
           → rational_sum_by (λ p. part_on on p e) (enumerate_from 0 case.utilities) ≡ utility_part e.duty (source_on on e)
-      one e is =
-          sum-enumerate (λ p. part_on on p e) (own_part on e) case.utilities (λ index u at. part-own case e on index u is at)
+      one e is = sum-enumerate (λ p. part_on on p e) (own_part on e) case.utilities (λ index u at. part-own case e on index u is at)
           ∙ own-sum (length case.utilities) e.duty (source_on on e)
           (λ k is_k. let there = IsSourceOf-side case (source_on on e) (ap is_some (sides e is)) in subst (IsSourceOf case) is_k there)
 
@@ -154,8 +152,7 @@ module _ (case : Case) (network : Network) where
 heats_on-are : (on : Side) (case : Case) (network : Network) (heats : List Rational) → AreHeats case network heats
     → heats_on_in on case.utilities heats ≡ heats_on on case network
 unfolding heats_on_in heats_on
-heats_on-are on case network heats are =
-    filter_map-same (heat_on_in on heats) (heat_on on network) (enumerate_from 0 case.utilities)
+heats_on-are on case network heats are = filter_map-same (heat_on_in on heats) (heat_on on network) (enumerate_from 0 case.utilities)
     (All-enumerated (λ p. heat_on_in on heats p ≡ heat_on on network p) case.utilities
     (λ index u at. ap (λ h. if same_side u.side on then Some h else None) (are.each index u at)))
 
@@ -163,8 +160,7 @@ module _ (case : Case) (network : Network) where
   prices-are : (heats : List Rational) → AreHeats case network heats
       → prices_in case.utilities heats ≡ map (heat_price network) (enumerate_from 0 case.utilities)
   unfolding prices_in
-  prices-are heats are =
-      map-same (price_in heats) (heat_price network) (enumerate_from 0 case.utilities)
+  prices-are heats are = map-same (price_in heats) (heat_price network) (enumerate_from 0 case.utilities)
       (All-enumerated (λ p. price_in heats p ≡ heat_price network p) case.utilities (λ index u at. ap (times (whole u.price)) (are.each index u at)))
 
   -- ---- the balance
@@ -179,8 +175,7 @@ module _ (case : Case) (network : Network) where
       λ i. record { hot = hot i; cold = cold i; excess = minus (hot i) (whole (hot_target case.streams)); cost = cost i }
 
 abbrev steps_from : Case → List Rational → List Rational → List Rational → Rational → List Item
-steps_from case hot cold prices excess =
-    sum_steps place.Balance 0 rational_zero hot ++ (sum_steps place.Balance (length hot) rational_zero cold
+steps_from case hot cold prices excess = sum_steps place.Balance 0 rational_zero hot ++ (sum_steps place.Balance (length hot) rational_zero cold
     ++ Step place.Balance (length hot + length cold + 1) excess ∷ cost_steps place.Balance (length hot + length cold + 1) rational_zero prices)
 
 pub balance_items-are : (case : Case) (network : Network) (heats : List Rational) → HasShape case network → AreHeats case network heats

@@ -47,8 +47,7 @@ joint-unpassed branches n e =
 pub joints-push : (branches : List Branch) (es : List Exchanger) (e : Exchanger)
     → joints_among branches [] (es ++ e ∷ []) ≡ joints_among branches [] es ++ unpassed e ∷ []
 unfolding joints_among
-joints-push branches es e =
-    ap (map (joint_among branches [])) (enumerate_from-append 0 es (e ∷ []))
+joints-push branches es e = ap (map (joint_among branches [])) (enumerate_from-append 0 es (e ∷ []))
     ∙ map-append (joint_among branches []) (enumerate_from 0 es) (enumerate_from (0 + length es) (e ∷ []))
     ∙ ap (λ j. map (joint_among branches []) (enumerate_from 0 es) ++ j ∷ []) (joint-unpassed branches (0 + length es) e)
 
@@ -153,8 +152,7 @@ pub joints-passed : (branches : List Branch) (lines : List Line) (es : List Exch
     ≡ set (joints_among branches lines es) k (passed_joint (stream_at branches from) (record { from = from; to = to })
     (get_or (joints_among branches lines es) k d))
 unfolding joints_among
-joints-passed branches lines es from k to d within =
-    map-changed (joint_among branches lines) (joint_among branches (lines ++ line.Pass from k to ∷ []))
+joints-passed branches lines es from k to d within = map-changed (joint_among branches lines) (joint_among branches (lines ++ line.Pass from k to ∷ []))
     (passed_joint (stream_at branches from) (record { from = from; to = to })) k 0 es k d (λ e. joint-here branches lines from k to e)
     (λ n e other. joint-other branches lines (line.Pass from k to) n e (λ stream. passes-other branches from k to n stream other)) (omega arith) within
 

@@ -23,8 +23,7 @@ module _ {X Y : Type 0} (P : Y → Type 0) (f : X → Option Y) where
 
   All-kept : (xs : List X) → All (λ x. (y : Y) → f x ≡ Some y → P y) xs → All P (filter_map f xs)
   All-kept [] each = All-nil P
-  All-kept (x ∷ xs) each =
-      one_kept (f x) (filter_map f xs) (All-head (λ z. (y : Y) → f z ≡ Some y → P y) x xs each)
+  All-kept (x ∷ xs) each = one_kept (f x) (filter_map f xs) (All-head (λ z. (y : Y) → f z ≡ Some y → P y) x xs each)
       (All-kept xs (All-tail (λ z. (y : Y) → f z ≡ Some y → P y) x xs each))
 
 module _ {X Y : Type 0} (f : X → Option Y) where
@@ -43,8 +42,7 @@ some_if P false x y holds same = cc same
 -- a utility forms the sum of its duties
 pub with_range : (network : Network) (index : ℕ) (u : Utility) → AreFormed (sum_steps (place.Utility index) 0 rational_zero (duties_with network index))
     → AreFormed (utility_items_at network (index, u))
-with_range network index u sums =
-    All-append IsFormed (sum_steps (place.Utility index) 0 rational_zero (duties_with network index))
+with_range network index u sums = All-append IsFormed (sum_steps (place.Utility index) 0 rational_zero (duties_with network index))
     (range_items (place.Utility index) u (heat_with network index)) sums
     (All-from_recursion IsFormed (range_items (place.Utility index) u (heat_with network index)) (tt, (tt, tt)))
 
@@ -54,8 +52,7 @@ module _ (d m : ℕ) (some : 0 < d) (den : d ≤ most_den) where
   -- a sum of so many numbers
   pub sized-sum : (numbers : List Rational) → All (IsSized d m) numbers → IsSized d (length numbers * m) (rational_sum numbers)
   sized-sum [] each = sized-whole d (0 * m) (pos 0) some (omega arith)
-  sized-sum (a ∷ numbers) each =
-      sized-more d (m + length numbers * m) (suc (length numbers) * m) (plus a (rational_sum numbers)) (omega arith)
+  sized-sum (a ∷ numbers) each = sized-more d (m + length numbers * m) (suc (length numbers) * m) (plus a (rational_sum numbers)) (omega arith)
       (sized-plus d m (length numbers * m) a (rational_sum numbers) (All-head (IsSized d m) a numbers each)
       (sized-sum numbers (All-tail (IsSized d m) a numbers each)))
 
@@ -101,8 +98,7 @@ HaveWholeHeats case network = (index : ℕ) (u : Utility) → slice_get case.uti
 
 heats-sized : (on : Side) (case : Case) (network : Network) → HaveWholeHeats case network → All (IsSized 1 most_heat) (heats_on on case network)
 unfolding heats_on
-heats-sized on case network heats =
-    All-kept (IsSized 1 most_heat) (heat_on on network) (enumerate_from 0 case.utilities)
+heats-sized on case network heats = All-kept (IsSized 1 most_heat) (heat_on on network) (enumerate_from 0 case.utilities)
     (All-enumerated (λ (e : ℕ × Utility). (h : Rational) → heat_on on network e ≡ Some h → IsSized 1 most_heat h) case.utilities (λ index u at. λ h is.
     some_if (IsSized 1 most_heat) (same_side u.side on) (heat_with network index) h (heats index u at) is))
 
@@ -115,8 +111,7 @@ most_price = unsigned_abs MOST_PRICE * most_heat
 
 module _ (case : Case) (network : Network) where
   prices-sized : IsComplete case → HaveWholeHeats case network → All (IsSized 1 most_price) (map (heat_price network) (enumerate_from 0 case.utilities))
-  prices-sized complete heats =
-      All-map (IsSized 1 most_price) (heat_price network) (enumerate_from 0 case.utilities)
+  prices-sized complete heats = All-map (IsSized 1 most_price) (heat_price network) (enumerate_from 0 case.utilities)
       (All-enumerated (λ (e : ℕ × Utility). IsSized 1 most_price (heat_price network e)) case.utilities (λ index u at.
       let placed = all_at IsPlaced case.utilities index u (IsPlaced-IsComplete case complete) at in
       let price = placed.price in sized-times 1 1 (unsigned_abs MOST_PRICE) most_heat (whole u.price) (heat_with network index) (omega arith) (omega arith)

@@ -25,8 +25,7 @@ added-append total (a ∷ xs) ys = added-append (plus total a) xs ys
 pub steps-append : (at : Place) (before : ℕ) (total : Rational) (xs ys : List Rational)
     → sum_steps at before total (xs ++ ys) ≡ sum_steps at before total xs ++ sum_steps at (before + length xs) (added total xs) ys
 steps-append at before total [] ys = ap (λ n. sum_steps at n total ys) (omega arith)
-steps-append at before total (a ∷ xs) ys =
-    ap (λ items. Step at (before + 1) (plus total a) ∷ items) (steps-append at (before + 1) (plus total a) xs ys
+steps-append at before total (a ∷ xs) ys = ap (λ items. Step at (before + 1) (plus total a) ∷ items) (steps-append at (before + 1) (plus total a) xs ys
     ∙ ap (λ n. sum_steps at (before + 1) (plus total a) xs ++ sum_steps at n (added (plus total a) xs) ys) (omega arith))
 
 -- a sum that was formed step by step, where so many steps were taken before
@@ -72,8 +71,7 @@ module _ {X : Type 0} (f : X → Option Rational) where
       ∙ ap (λ o. filter_map f (take n xs) ++ cons_option o []) is
 
   pub numbers-more_none : (xs : List X) (n : ℕ) (d : X) → n < length xs → f (get_or xs n d) ≡ None → filter_map f (take (n + 1) xs) ≡ filter_map f (take n xs)
-  numbers-more_none xs n d within is =
-      ap (filter_map f) (take_more xs n d within) ∙ filter_map-append f (take n xs) (get_or xs n d ∷ [])
+  numbers-more_none xs n d within is = ap (filter_map f) (take_more xs n d within) ∙ filter_map-append f (take n xs) (get_or xs n d ∷ [])
       ∙ ap (λ o. filter_map f (take n xs) ++ cons_option o []) is ∙ append-nil (filter_map f (take n xs))
 
   -- the sum behind the next member
@@ -137,8 +135,7 @@ priced-none before = record { cost_is = refl; steps_is = omega arith; passed = �
 -- the steps of one price more, behind those that are passed
 next-steps : (before : ℕ) (prices : List Rational) (cost : Rational) (steps : ℕ) (a : Rational) (at : Place) → IsPriced before prices cost steps
     → first_finding (cost_steps at before rational_zero (prices ++ a ∷ [])) ≡ first_finding (Step at (steps + 1) a ∷ Step at (steps + 2) (plus cost a) ∷ [])
-next-steps before prices cost steps a at priced =
-    ap first_finding (cost-append at before rational_zero prices (a ∷ []))
+next-steps before prices cost steps a at priced = ap first_finding (cost-append at before rational_zero prices (a ∷ []))
     ∙ found-behind (cost_steps at before rational_zero prices) (cost_steps at (before + 2 * length prices) (added rational_zero prices) (a ∷ []))
     (priced.passed at) ∙ (λ i. first_finding (Step at (sym priced.steps_is i + 1) a ∷ Step at (sym priced.steps_is i + 2) (plus (sym priced.cost_is i) a) ∷ []))
 

@@ -41,8 +41,7 @@ module _
     behind_there = let there = line_here.known.2 in omega (arith, there, all_made shape.made_once, ap (λ ls. length (made_by ls)) (take-length network.lines))
 
     pub behind_state : (value_at values to).t ≡ state_behind case network values from exchanger
-    behind_state =
-        ap (λ v. v.t) (pass_determined (branch_side case network from) (value_at values from) (value_at values to) (duty_at network exchanger)
+    behind_state = ap (λ v. v.t) (pass_determined (branch_side case network from) (value_at values from) (value_at values to) (duty_at network exchanger)
         (branch_above valuation shape from line_here.known.0)
         (all_at (Solves case network values) network.lines k (line.Pass from exchanger to) (all_solved valuation) at))
 
@@ -125,8 +124,7 @@ module _ (case : Case) (network : Network) where
       → items case network values (length network.lines) ≡ flat_map (statement_items case network values)
       (enumerate_from 0 network.lines) ++ items_behind case network values
   unfolding items
-  items-whole values =
-      ap (λ b. items_before case network values (length network.lines + 1) ++ (if b then items_behind case network values else []))
+  items-whole values = ap (λ b. items_before case network values (length network.lines + 1) ++ (if b then items_behind case network values else []))
       (eq-eqb (length network.lines) (length network.lines) refl) ∙ ap (λ xs. xs ++ items_behind case network values) (all_lines values)
 
 -- what holds of the items of each part of an audit: of each line, stream, exchanger and utility, and of the balance
@@ -343,14 +341,12 @@ module _ (case : Case) (network : Network) where
   stream_sound : (values : Valuation) (index : ℕ) (s : Stream) → AreEnded case network values
       → slice_get case.streams index ≡ Some s → AreSound (stream_items_at network (index, s))
   unfolding is_ended ended_streams ended_by
-  stream_sound values index s ended at =
-      All-from_recursion IsSound (stream_items_at network (index, s))
+  stream_sound values index s ended at = All-from_recursion IsSound (stream_items_at network (index, s))
       (contains-ended network.branches index network.lines (ended.each index (slice_get_within case.streams index s at)), tt)
 
   exchanger_sound : (values : Valuation) (number : ℕ) (e : Exchanger) → KeepsApproach case network values number e
       → is_forbidden case.forbids e.hot e.cold ≡ false → AreSound (exchanger_items_at case network values (number, e))
-  exchanger_sound values number e keeps permitted =
-      All-from_recursion IsSound (exchanger_items_at case network values (number, e))
+  exchanger_sound values number e keeps permitted = All-from_recursion IsSound (exchanger_items_at case network values (number, e))
       (ap not permitted, (tt, ((Decides-not_below _ _).1 keeps.hot_end, (tt, ((Decides-not_below _ _).1 keeps.cold_end, tt)))))
 
 utility_sound : (network : Network) (index : ℕ) (u : Utility) → IsInRange u (heat_with network index) → AreSound (utility_items_at network (index, u))
@@ -382,8 +378,7 @@ module _ (case : Case) (network : Network) where
 
   pub invalid_network : (at : Place) (because : Reason) → HasShape case network
       → IsFinding case network (finding.Failed at because) → IsValidNetwork case network → ⊥
-  invalid_network at because shape found valid =
-      sound-no_test (items case network valid.values (length network.lines)) at because (all_sound shape valid)
+  invalid_network at because shape found valid = sound-no_test (items case network valid.values (length network.lines)) at because (all_sound shape valid)
       (found-whole case network valid.values (finding.Failed at because) shape found valid.valuation)
 
 -- What follows from a verdict.

@@ -1,10 +1,9 @@
 pub mod NameTests
 pub mod Bounds
 pub mod Missing
-pub mod Tables
-pub mod OwnBranches
 pub mod shape
 pub mod Reading
+pub mod Tables
 pub mod print
 pub mod back
 pub mod Words

@@ -50,8 +50,7 @@ first-found n index within before here =
 pub none-found : (n : Network) (index : ℕ) → length n.lines ≤ index → ((k : ℕ) → k < index → misses_pass n k ≡ false) → first_missing n ≡ None
 unfolding first_missing
 none-found n index past before =
-    let all = range_with_len 0 (length n.lines) in let wide = length-range_with_len 0 (length n.lines) in
-    let none : (k : ℕ) → k < length all
+    let all = range_with_len 0 (length n.lines) in let wide = length-range_with_len 0 (length n.lines) in let none : (k : ℕ) → k < length all
     → misses_pass n (get_or all k 0) ≡ false = none_before n (length all) (length n.lines) (omega (arith, wide))
     (λ k within. before k (omega (arith, within, wide, past))) in
     let first = position_or_len_is (misses_pass n) all (length all) 0 (omega arith) none (λ inside. absurd (omega (arith, inside))) in

@@ -1,7 +1,7 @@
 -- The steps of reading the statements of a text.
 use Rattle.network_text.proofs.Words.{Case, Entry, IsComplete, IsFresh, IsOutcome, MOST_STATEMENTS, NetFault, Network, Reads, Statement, StaysValid-IsComplete}
 use Rattle.network_text.proofs.Words.{checks, each_passes, entry_in, first_failing, grammar, start, with_entry}
-use Rattle.network_text.proofs.shape.Counts.{has_room}
+use Rattle.network_text.proofs.shape.Law.{has_room}
 use Rattle.network_text.proofs.shape.Kept.{adds_next, shape_so_far}
 use Rattle.std.proofs.Common.{◌∷◌, Err, IsErrAnd, List, None, Ok, Result, Some, [], length, length-append, refl, subst, sym, ℕ, ◌+◌, ◌<◌, ◌≡◌}
 use Rattle.network_text.specs.declared.fault.NetFault.TheVariants as fault
@@ -25,8 +25,7 @@ pub fresh_next : {case : Case} {statements left : List Statement} {given : Netwo
     → Reads (grammar case) statements left given number → (s : Statement) → first_failing (checks case given s) ≡ None → entry_in case given s ≡ Some e
     → IsFresh given e
 fresh_next {case} {given = given} complete reads s passes gives =
-    let shape = shape_so_far (StaysValid-IsComplete case complete) reads.give in
-    (adds_next shape s (each_passes (checks case given s) passes) gives).fresh
+    let shape = shape_so_far (StaysValid-IsComplete case complete) reads.give in (adds_next shape s (each_passes (checks case given s) passes) gives).fresh
 
 -- ---- want of memory is no outcome, and gives no network
 

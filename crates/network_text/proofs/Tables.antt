@@ -1,13 +1,17 @@
 -- The tables beside a network: look-ups in them, and what one entry more adds to each.
-use Rattle.network_text.proofs.Words.{All-append, All-cons, All-nil, All-weaker, AllPairs-across, AllPairs-map, AtMostTwo, Branch, Entry, Exchanger, ForSome}
-use Rattle.network_text.proofs.Words.{IndexMap, IsAnyName, IsFresh, IsTracked, Line, MOST_STATEMENTS, Network, Passage, Sides, branch_named, bytes_decides}
-use Rattle.network_text.proofs.Words.{exchanger_named, exchanger_of, exchangers_of, exchangers_of-push, false_from_ne_true, first_stream, insert_entry}
-use Rattle.network_text.proofs.Words.{insert_entry-new, is_branch_name, is_passed, is_some-lookup, is_some-position, keys_of, length-map, list_any}
-use Rattle.network_text.proofs.Words.{list_any_none, map-append, map-map, members, named_branch, named_sides, names_of, none_there, passage_of, passages_of}
-use Rattle.network_text.proofs.Words.{passages_of-front, passages_of-push, same_passage, slice_get-map, stream_at, used_by, used_by-push, uses, with_entry}
+use Rattle.network_text.proofs.Words.{All-append, All-cons, All-front, All-nil, All-weaker, AllPairs-across, AllPairs-before, AllPairs-map, AtMostTwo, Branch}
+use Rattle.network_text.proofs.Words.{Case, Entry, Exchanger, ForSome, IndexMap, IsAnyName, IsFresh, IsName, IsTracked, Line, MOST_STATEMENTS, Network, Passage}
+use Rattle.network_text.proofs.Words.{Sides, StaysValid, Stream, Utility, branch_named, bytes_decides, enumerate_from, enumerate_from-push, exchanger_named}
+use Rattle.network_text.proofs.Words.{exchanger_of, exchangers_of, exchangers_of-push, false_from_ne_true, first_stream, get_or-map, insert_entry}
+use Rattle.network_text.proofs.Words.{insert_entry-new, is_branch_name, is_passed, is_some-lookup, is_some-position, keys_of, length-AreStreams}
+use Rattle.network_text.proofs.Words.{length-enumerate_from, length-map, list_any, list_any_none, map-append, map-enumerate_from_item, map-map, members}
+use Rattle.network_text.proofs.Words.{named_branch, named_sides, names_of, none_there, other_name, own_branches, own_entries, own_entry, passage_of}
+use Rattle.network_text.proofs.Words.{passages_of, passages_of-front, passages_of-push, same_passage, slice_get-map, start, stream_at, take-map, take_more}
+use Rattle.network_text.proofs.Words.{used_by, used_by-push, uses, with_entry}
+use Rattle.std.proofs.Common.{All, AllPairs, Bool, List, None, Option, Some, [], ap, append_assoc, arith, bytes_eq, false, get_or, inl, length, length-append}
+use Rattle.std.proofs.Common.{length-take-le, map, map-id, option_to_list, position, refl, slice_get, subst, sym, take, true, ℕ, ◌++◌, ◌+◌, ◌<◌, ◌∙◌, ◌∷◌, ◌≡◌}
+use Rattle.std.proofs.Common.{◌≢◌, ◌≤◌}
 use Rattle.network_text.proofs.NameTests.{branch_name-passes}
-use Rattle.std.proofs.Common.{All, AllPairs, Bool, List, None, Option, Some, [], ap, append_assoc, arith, bytes_eq, false, get_or, length, length-append, map}
-use Rattle.std.proofs.Common.{map-id, option_to_list, position, refl, slice_get, subst, sym, true, ℕ, ◌++◌, ◌+◌, ◌<◌, ◌∙◌, ◌∷◌, ◌≡◌, ◌≢◌, ◌≤◌}
 use Rattle.networks.specs.declared.few.AtMostTwo.TheVariants as few
 
 -- the network that the tables tell of
@@ -27,8 +31,7 @@ exchanger_names-keys xs = map-map (λ (e : List ℕ × Sides). e.0) named_sides 
 -- what is no name is none of some names
 pub unnamed : (names : List (List ℕ)) (name : List ℕ) → All IsAnyName names → is_branch_name name ≡ false → position (bytes_eq name) names ≡ None
 unnamed names name named other =
-    let fails = list_any_none (bytes_eq name) names (λ k d within. false_from_ne_true _ (λ e.
-    let same = (bytes_decides name (get_or names k d)).0 e in
+    let fails = list_any_none (bytes_eq name) names (λ k d within. false_from_ne_true _ (λ e. let same = (bytes_decides name (get_or names k d)).0 e in
     cc (other, ap is_branch_name same, branch_name-passes (get_or names k d) (named k d within)))) in
     none_there _ (is_some-position (bytes_eq name) names ∙ fails)
 
@@ -59,8 +62,7 @@ module _ {X : Type 0} (eq : X → X → Bool) (same : (a b : X) → eq a b ≡ t
   pub first_new : (xs : List X) (new : AtMostTwo X) (x : X) (later : List X) → members new ≡ x ∷ later → AllPairs (λ a b. a ≢ b) (xs ++ members new)
       → list_any (eq x) xs ≡ false
   first_new xs new x later is pairs =
-      let all = subst (λ (ys : List X). AllPairs (λ (a b : X). a ≢ b) (xs ++ ys)) is pairs in
-      list_any_none (eq x) xs (λ k d early.
+      let all = subst (λ (ys : List X). AllPairs (λ (a b : X). a ≢ b) (xs ++ ys)) is pairs in list_any_none (eq x) xs (λ k d early.
       false_from_ne_true _ (λ e. AllPairs-across (λ (a b : X). a ≢ b) xs (x ∷ later) k d all early 0 x (omega arith) (sym (same x (get_or xs k d) e))))
 
   pub second_new : (xs ys : List X) (new : AtMostTwo X) (x y : X) → members new ≡ x ∷ y ∷ [] → AllPairs (λ a b. a ≢ b) (xs ++ members new) → ys ≡ xs ++ x ∷ []
@@ -91,8 +93,7 @@ module _ {es : List (List ℕ × ℕ)} {used : List ℕ} {xs : List (List ℕ ×
   new_exchanger =
       let own = option_to_list (exchanger_of e.line) in
       let all = AllPairs-map (λ (a b : List ℕ). a ≢ b) (λ (x : Exchanger). x.name) (exchangers_of ls ++ own) fresh.new_exchanger in
-      let keys = ap keys_of is.exchangers_are ∙ exchanger_names-keys (exchangers_of ls) in
-      subst (AllPairs (λ (a b : List ℕ). a ≢ b))
+      let keys = ap keys_of is.exchangers_are ∙ exchanger_names-keys (exchangers_of ls) in subst (AllPairs (λ (a b : List ℕ). a ≢ b))
       (map-append (λ (x : Exchanger). x.name) (exchangers_of ls) own ∙ ap (λ ns. ns ++ map (λ (x : Exchanger). x.name) own) (sym keys)) all
 
   pub new_names : AllPairs (λ a b. a ≢ b) (keys_of es ++ members e.names)
@@ -118,11 +119,9 @@ module _ {es : List (List ℕ × ℕ)} {used : List ℕ} {xs : List (List ℕ ×
       → IsTracked (es ++ made_entries stream) (used ++ uses e.line) (xs ++ map named_sides (option_to_list (exchanger_of e.line)))
       (passed ++ option_to_list (passage_of (map named_branch es) e.line)) (ls ++ e.line ∷ [])
   tracked-with stream room =
-      let l = e.line in let bs = map named_branch es in let more = made_entries stream in
-      let own = map named_sides (option_to_list (exchanger_of l)) in
+      let l = e.line in let bs = map named_branch es in let more = made_entries stream in let own = map named_sides (option_to_list (exchanger_of l)) in
       let all : map named_branch (es ++ more) ≡ bs ++ map named_branch more = map-append named_branch es more in
-      let wide : length bs ≡ length es = length-map es named_branch in
-      let before : All (λ k. k < length bs) (used_by ls) = rw wide is.made in
+      let wide : length bs ≡ length es = length-map es named_branch in let before : All (λ k. k < length bs) (used_by ls) = rw wide is.made in
       let made : All (λ k. k < length bs) (used_by (ls ++ l ∷ [])) = rw (used_by-push ls l)
       (All-append (λ k. k < length bs) (used_by ls) (uses l) before fresh.known) in
       let long : length (es ++ more) ≡ length es + length (members e.names) = length-append es more
@@ -142,3 +141,53 @@ module _ {es : List (List ℕ × ℕ)} {used : List ℕ} {xs : List (List ℕ ×
         few_lines = omega (arith, room, length-append ls (l ∷ []));
         few_branches = omega (arith, is.few_branches, long, few_members e.names, length-append ls (l ∷ []));
       }
+
+-- The branches of the streams themselves, and their table.
+
+own_keys : (streams : List Stream) → keys_of (own_entries streams) ≡ map (λ (s : Stream). s.name) streams
+unfolding own_entries
+own_keys streams = map-map (λ (e : List ℕ × ℕ). e.0) own_entry (enumerate_from 0 streams)
+    ∙ sym (map-map (λ (s : Stream). s.name) (λ (p : ℕ × Stream). p.1) (enumerate_from 0 streams))
+    ∙ ap (map (λ (s : Stream). s.name)) (map-enumerate_from_item 0 streams)
+
+-- one stream more
+pub own_entries-more : (streams : List Stream) (i : ℕ) (s : Stream) → i < length streams → get_or streams i s ≡ s
+    → own_entries (take (i + 1) streams) ≡ own_entries (take i streams) ++ (s.name, i) ∷ []
+unfolding own_entries
+own_entries-more streams i s within here =
+    let more = take_more streams i s within ∙ ap (λ x. take i streams ++ x ∷ []) here in
+    let count : 0 + length (take i streams) ≡ i = omega (arith, length-take-le i streams (omega arith)) in ap (λ l. map own_entry (enumerate_from 0 l)) more
+    ∙ ap (map own_entry) (enumerate_from-push 0 (take i streams) s ∙ ap (λ k. enumerate_from 0 (take i streams) ++ (k, s) ∷ []) count)
+    ∙ map-append own_entry (enumerate_from 0 (take i streams)) ((i, s) ∷ [])
+
+-- its name is none of those before it
+pub own_entries-new : (streams : List Stream) (i : ℕ) (s : Stream) → i < length streams → get_or streams i s ≡ s
+    → AllPairs (λ a b. a ≢ b) (map (λ (s : Stream). s.name) streams) → list_any (bytes_eq s.name) (keys_of (own_entries (take i streams))) ≡ false
+own_entries-new streams i s within here distinct =
+    let names = map (λ (t : Stream). t.name) streams in let inside : i < length names = omega (arith, within, length-map streams (λ (t : Stream). t.name)) in
+    let name : get_or names i [] ≡ s.name = get_or-map (λ (t : Stream). t.name) streams i s [] within ∙ ap (λ (t : Stream). t.name) here in
+    let earlier = subst (λ n. All (λ m. m ≢ n) (take i names)) name (AllPairs-before (λ (a b : List ℕ). a ≢ b) names i [] distinct inside) in
+    ap (list_any (bytes_eq s.name)) (own_keys (take i streams) ∙ sym (take-map (λ (t : Stream). t.name) i streams))
+    ∙ list_any_none (bytes_eq s.name) (take i names)
+    (All-weaker (λ m. m ≢ s.name) (λ m. bytes_eq s.name m ≡ false) (λ m other. other_name s.name m other) (take i names) earlier)
+
+-- ---- before the first statement
+
+pub own-view : (case : Case) → so_far (own_entries case.streams) [] ≡ start case
+unfolding own_entries own_branches start
+own-view case = λ i. record { branches = map-map named_branch own_entry (enumerate_from 0 case.streams) i; lines = [] }
+
+pub own-tracked : (case : Case) → StaysValid case → IsTracked (own_entries case.streams) [] [] [] []
+unfolding own_entries used_by exchangers_of passages_of
+own-tracked case valid =
+    let few = length-map (enumerate_from 0 case.streams) own_entry ∙ length-enumerate_from 0 case.streams in
+    let names = All-front IsName (map (λ (s : Stream). s.name) case.streams) (map (λ (u : Utility). u.name) case.utilities) valid.names in record {
+      used_are = refl;
+      exchangers_are = refl;
+      passed_are = refl;
+      made = All-nil (λ k. k < length (own_entries case.streams));
+      branch_names = rw (own_keys case.streams) (All-weaker IsName IsAnyName (λ n is. inl is) (map (λ (s : Stream). s.name) case.streams) names);
+      exchanger_names = All-nil IsAnyName;
+      few_lines = omega arith;
+      few_branches = omega (arith, few, length-AreStreams case.streams valid.streams.are_streams);
+    }

@@ -1,7 +1,4 @@
 -- A network is what the grammar gives for its text.
-pub mod Front
-pub mod Branches
 pub mod Exchangers
-pub mod Steps
-pub mod Plain
 pub mod Law
+pub mod Steps

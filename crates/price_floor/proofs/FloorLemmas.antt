@@ -19,8 +19,7 @@ use Rattle.stream_case.specs.declared.source.Source.TheVariants as source
 
 pub least_product-at_most : (c low high : ℤ) (x : Rational) → IsAtMost (whole low) x → IsAtMost x (whole high)
     → IsAtMost (whole (least_product c low high)) (times (whole c) x)
-least_product-at_most (pos n) low high x from upto =
-    at_most_trans (whole (least_product (pos n) low high)) (whole (pos n *ℤ low)) (times (whole (pos n)) x)
+least_product-at_most (pos n) low high x from upto = at_most_trans (whole (least_product (pos n) low high)) (whole (pos n *ℤ low)) (times (whole (pos n)) x)
     (at_most-whole (least_product (pos n) low high) (pos n *ℤ low) (omega (arith, ints, clamps)))
     (subst (λ y. IsAtMost y (times (whole (pos n)) x)) (whole-times (pos n) low)
     (at_most-times_left (whole (pos n)) (whole low) x (at_most-whole (pos 0) (pos n) (omega (arith, ints))) from))
@@ -45,8 +44,7 @@ used-within case network places on p valid (inr (i, u, is)) =
     subst (IsUsedWithin network) (sym is.is) (record { least = range.least; most = range.most })
 
 pub uses-within : (case : Case) (network : Network) (places : List ℤ) (on : Side) (parts : List Part) → IsValidNetwork case network
-    → AreParts case.streams case.utilities places on parts
-    → (a : ℕ) (p : Part) → slice_get parts a ≡ Some p → IsUsedWithin network p
+    → AreParts case.streams case.utilities places on parts → (a : ℕ) (p : Part) → slice_get parts a ≡ Some p → IsUsedWithin network p
 uses-within case network places on parts valid are a p at =
     used-within case network places on p valid (all_at (IsPartOf case.streams case.utilities places on) parts a p are.each at)
 
@@ -56,8 +54,7 @@ pub whole-int_sum_from : {X : Type 0} (f : ℕ → X → ℤ) (n : ℕ) (xs : Li
     → whole (int_sum_from f n xs) ≡ rational_sum_by (λ (p : ℕ × X). whole (f p.0 p.1)) (enumerate_from n xs)
 whole-int_sum_from f n [] = refl
 whole-int_sum_from f n (x ∷ xs) =
-    let next : suc n ≡ n + 1 = omega arith in
-    sym (whole-plus (f n x) (int_sum_from f (suc n) xs))
+    let next : suc n ≡ n + 1 = omega arith in sym (whole-plus (f n x) (int_sum_from f (suc n) xs))
     ∙ ap (plus (whole (f n x))) (whole-int_sum_from f (suc n) xs ∙ ap (λ k. rational_sum_by (λ p. whole (f p.0 p.1)) (enumerate_from k xs)) next)
 
 -- what a part is used for costs
@@ -85,11 +82,9 @@ side_value-at_most : (network : Network) (on : Side) (parts : List Part) (prices
     → ((a : ℕ) (p : Part) → slice_get parts a ≡ Some p → IsUsedWithin network p)
     → IsAtMost (whole (side_value on parts prices)) (excess_rational on (rational_sum_by (part_cost network) parts) (worth_of_uses network prices parts))
 unfolding worth_of_uses
-side_value-at_most network on parts prices within =
-    subst₂ IsAtMost (sym (whole-int_sum_from value 0 parts)) split
+side_value-at_most network on parts prices within = subst₂ IsAtMost (sym (whole-int_sum_from value 0 parts)) split
     (at_most-rational_sum_by (λ (e : ℕ × Part). whole (value e.0 e.1)) (λ (e : ℕ × Part). times (whole (excess e.0 e.1)) (used_heat network e.1))
-    (enumerate_from 0 parts)
-    (All-enumerated (λ (e : ℕ × Part). IsAtMost (whole (value e.0 e.1)) (times (whole (excess e.0 e.1)) (used_heat network e.1))) parts
+    (enumerate_from 0 parts) (All-enumerated (λ (e : ℕ × Part). IsAtMost (whole (value e.0 e.1)) (times (whole (excess e.0 e.1)) (used_heat network e.1))) parts
     (λ a p at. let used = within a p at in least_product-at_most (excess a p) p.least p.most (used_heat network p) used.least used.most)))
   where
     excess : ℕ → Part → ℤ
@@ -100,13 +95,10 @@ side_value-at_most network on parts prices within =
 
     split : rational_sum_by (λ (e : ℕ × Part). times (whole (excess e.0 e.1)) (used_heat network e.1)) (enumerate_from 0 parts)
         ≡ excess_rational on (rational_sum_by (part_cost network) parts) (rational_sum_by (use_worth network prices) (enumerate_from 0 parts))
-    split =
-        rational_sum_by-same (λ (e : ℕ × Part). times (whole (excess e.0 e.1)) (used_heat network e.1))
-        (λ (e : ℕ × Part). excess_rational on (part_cost network e.1) (use_worth network prices e)) (enumerate_from 0 parts)
-        (All-enumerated
+    split = rational_sum_by-same (λ (e : ℕ × Part). times (whole (excess e.0 e.1)) (used_heat network e.1))
+        (λ (e : ℕ × Part). excess_rational on (part_cost network e.1) (use_worth network prices e)) (enumerate_from 0 parts) (All-enumerated
         (λ (e : ℕ × Part). times (whole (excess e.0 e.1)) (used_heat network e.1) ≡ excess_rational on (part_cost network e.1)
-        (use_worth network prices e)) parts
-        (λ a p at. excess-times on p.price (price_at prices a) (used_heat network p)))
+        (use_worth network prices e)) parts (λ a p at. excess-times on p.price (price_at prices a) (used_heat network p)))
         ∙ excess-sum on (λ (e : ℕ × Part). part_cost network e.1) (use_worth network prices) (enumerate_from 0 parts)
         ∙ ap (λ c. excess_rational on c (rational_sum_by (use_worth network prices) (enumerate_from 0 parts)))
         (sum-items (λ (e : ℕ × Part). part_cost network e.1) (part_cost network) parts (λ a p at. refl))
@@ -120,19 +112,16 @@ module _ {X : Type 0} (f : ℕ × X → Rational) (i : ℕ) where
 
   numbered-behind : (n : ℕ) (xs : List X) → i < n → rational_sum_by numbered (enumerate_from n xs) ≡ rational_zero
   numbered-behind n [] less = refl
-  numbered-behind n (x ∷ xs) less =
-      ap₂ plus (ap (λ b. if b then f (n, x) else rational_zero) (ne_eqb i n (λ same. absurd (omega (arith, less, same)))))
+  numbered-behind n (x ∷ xs) less = ap₂ plus (ap (λ b. if b then f (n, x) else rational_zero) (ne_eqb i n (λ same. absurd (omega (arith, less, same)))))
       (numbered-behind (n + 1) xs (omega (arith, less))) ∙ plus-zero rational_zero
 
   numbered-one : (n k : ℕ) (xs : List X) (x : X) → n + k ≡ i → slice_get xs k ≡ Some x → rational_sum_by numbered (enumerate_from n xs) ≡ f (i, x)
   numbered-one n k [] x is at = cc at
   numbered-one n zero (y ∷ xs) x is at =
-      let here : i ≡ n = omega (arith, is) in
-      let same : y ≡ x = cc at in
+      let here : i ≡ n = omega (arith, is) in let same : y ≡ x = cc at in
       ap₂ plus (ap (λ b. if b then f (n, y) else rational_zero) (eq-eqb i n here)) (numbered-behind (n + 1) xs (omega (arith, is))) ∙ plus-zero (f (n, y))
       ∙ (λ j. f (sym here j, same j))
-  numbered-one n (suc k) (y ∷ xs) x is at =
-      ap₂ plus (ap (λ b. if b then f (n, y) else rational_zero) (ne_eqb i n (λ same. absurd (omega (arith, is, same)))))
+  numbered-one n (suc k) (y ∷ xs) x is at = ap₂ plus (ap (λ b. if b then f (n, y) else rational_zero) (ne_eqb i n (λ same. absurd (omega (arith, is, same)))))
       (numbered-one (n + 1) k xs x (omega (arith, is)) at) ∙ zero-plus (f (i, x))
 
 -- the cost of a utility where it is this source
@@ -150,7 +139,7 @@ part_cost-is case network places on p (inr (i, u, is)) =
 
 not_before_itself : (p : Part) → comes_before p p → ⊥
 not_before_itself p (inl less) = omega (arith, ints, less)
-not_before_itself p (inr (inl same)) = let less = same.1 in omega (arith, ints, less)
+not_before_itself p (inr (inl same)) = omega (arith, ints)
 not_before_itself p (inr (inr same)) = by p.source same.2
   where
     by : (a : Source) → comes_before_source a a → ⊥
@@ -167,14 +156,9 @@ module _ {X : Type 0} (before : X → X → Type 0) (one_way : (x : X) → befor
 
   passed-one : (x : X) (xs : List X) → test x ≡ true → All (λ y. test y ≡ true → y ≡ x) xs → AllPairs before xs → Contains xs x → rational_sum_by passed xs ≡ c
   passed-one x [] passes only ordered (k, inside, is) = absurd (omega arith)
-  passed-one x (y ∷ xs) passes only ordered found =
-      ⊎_elim
-      (λ same.
-      let none : All (λ z. test z ≡ false) xs = λ k d inside.
+  passed-one x (y ∷ xs) passes only ordered found = ⊎_elim (λ same. let none : All (λ z. test z ≡ false) xs = λ k d inside.
       false_from_ne_true (test (get_or xs k d)) (λ holds. one_way y (subst (before y) (tail_only k d inside holds ∙ sym same) (later k d inside))) in
-      ap₂ plus (ap (λ b. if b then c else rational_zero) (ap test same ∙ passes)) (passed-none xs none) ∙ plus-zero c)
-      (λ inside.
-      let other : test y ≡ false =
+      ap₂ plus (ap (λ b. if b then c else rational_zero) (ap test same ∙ passes)) (passed-none xs none) ∙ plus-zero c) (λ inside. let other : test y ≡ false =
       false_from_ne_true (test y)
       (λ holds. one_way y (subst (before y) (sym (All-head (λ z. test z ≡ true → z ≡ x) y xs only holds)) (All-contains (before y) xs x later inside))) in
       ap₂ plus (ap (λ b. if b then c else rational_zero) other) (passed-one x xs passes tail_only (AllPairs-tail before y xs ordered) inside) ∙ zero-plus c)
@@ -188,15 +172,13 @@ module _ {X : Type 0} (before : X → X → Type 0) (one_way : (x : X) → befor
 
 -- a part of utility number i is its part
 its_part : (case : Case) (places : List ℤ) (on : Side) (i : ℕ) (u : Utility) (p : Part) → slice_get case.utilities i ≡ Some u
-    → IsPartOf case.streams case.utilities places on p → same_source p.source (source.Utility i) ≡ true
-    → (p ≡ utility_part i u) × (u.side ≡ on)
+    → IsPartOf case.streams case.utilities places on p → same_source p.source (source.Utility i) ≡ true → (p ≡ utility_part i u) × (u.side ≡ on)
 its_part case places on i u p here (inl (k, s, is)) same =
     let clash : source.Stream k ≡ source.Utility i = sym (ap (λ (q : Part). q.source) is.is) ∙ same_source-true p.source (source.Utility i) same in
     absurd (cc clash)
 its_part case places on i u p here (inr (k, v, is)) same =
     let both : source.Utility k ≡ source.Utility i = sym (ap (λ (q : Part). q.source) is.is) ∙ same_source-true p.source (source.Utility i) same in
-    let number : k ≡ i = cc both in
-    let one : v ≡ u = same_Some v u (sym is.utility ∙ ap (slice_get case.utilities) number ∙ here) in
+    let number : k ≡ i = cc both in let one : v ≡ u = same_Some v u (sym is.utility ∙ ap (slice_get case.utilities) number ∙ here) in
     (is.is ∙ (λ j. utility_part (number j) (one j)), sym (ap (λ (w : Utility). w.side) one) ∙ is.side_is)
 
 -- the cost of a utility if it is on the side
@@ -214,21 +196,17 @@ its_cost case places on parts i u c are here = by (same_side u.side on) refl
 
     by : (b : Bool) → same_side u.side on ≡ b
         → rational_sum_by (λ (p : Part). if same_source p.source (source.Utility i) then c else rational_zero) parts ≡ (if b then c else rational_zero)
-    by true own =
-        passed-one comes_before not_before_itself is_its c (utility_part i u) parts (same_source-same (source.Utility i))
+    by true own = passed-one comes_before not_before_itself is_its c (utility_part i u) parts (same_source-same (source.Utility i))
         (λ k d inside same. (its_part case places on i u (get_or parts k d) here (are.each k d inside) same).0) are.ordered
         (are.every (utility_part i u) (inr (i, u, record { utility = here; side_is = same_side-true u.side on own; is = refl })))
-    by false other =
-        passed-none comes_before not_before_itself is_its c parts (λ k d inside.
-        false_from_ne_true (is_its (get_or parts k d)) (λ same.
+    by false other = passed-none comes_before not_before_itself is_its c parts (λ k d inside. false_from_ne_true (is_its (get_or parts k d)) (λ same.
         let side_is = (its_part case places on i u (get_or parts k d) here (are.each k d inside) same).1 in
         true≢false (sym (own_side on) ∙ ap (λ s. same_side s on) (sym side_is) ∙ other)))
 
 side_cost-is : (case : Case) (network : Network) (places : List ℤ) (on : Side) (parts : List Part) → AreParts case.streams case.utilities places on parts
     → rational_sum_by (part_cost network) parts ≡ rational_sum_by (side_price network on) (enumerate_from 0 case.utilities)
 side_cost-is case network places on parts are =
-    let us = enumerate_from 0 case.utilities in
-    rational_sum_by-same (part_cost network) (λ (p : Part). rational_sum_by (own_price network p.source) us) parts
+    let us = enumerate_from 0 case.utilities in rational_sum_by-same (part_cost network) (λ (p : Part). rational_sum_by (own_price network p.source) us) parts
     (λ k d inside. part_cost-is case network places on (get_or parts k d) (are.each k d inside))
     ∙ rational_sum_by-swap (λ (p : Part). own_price network p.source) parts us
     ∙ rational_sum_by-same (λ e. rational_sum_by (λ (p : Part). own_price network p.source e) parts) (side_price network on) us
@@ -258,23 +236,19 @@ cost-is case network hot cold parts =
 
 -- what is taken from one sum is at least what is added to the other
 less_on_both : (a b w v : Rational) → IsAtMost v w → IsAtMost (plus (minus a w) (plus b v)) (plus a b)
-less_on_both =
-    by_four _ (λ n m l k d some h. let x = at_most_from_ratio k l d some h in
+less_on_both = by_four _ (λ n m l k d some h. let x = at_most_from_ratio k l d some h in
     simp one_denominator (at_most-ratio ((n -ℤ l) +ℤ (m +ℤ k)) (n +ℤ m) d some (omega (arith, ints, x))))
 
 pub no_network-costs_less : UsesAreOrdered → NoNetworkCostsLess
 no_network-costs_less uses case network hot cold y z complete shape valid parts supporting =
     let given = side_value-at_most network side.Hot hot y (uses-within case network parts.grid side.Hot hot valid parts.hot_parts) in
     let taken = side_value-at_most network side.Cold cold z (uses-within case network parts.grid side.Cold cold valid parts.cold_parts) in
-    let ordered = uses case network hot cold y z complete shape valid parts supporting in
-    let hot_cost = rational_sum_by (part_cost network) hot in
+    let ordered = uses case network hot cold y z complete shape valid parts supporting in let hot_cost = rational_sum_by (part_cost network) hot in
     let cold_cost = rational_sum_by (part_cost network) cold in
     at_most_trans (whole (value_of hot cold y z)) (plus (minus hot_cost (worth_of_uses network y hot)) (plus cold_cost (worth_of_uses network z cold)))
-    (cost_of case network)
-    (subst (λ v. IsAtMost v (plus (minus hot_cost (worth_of_uses network y hot)) (plus cold_cost (worth_of_uses network z cold))))
+    (cost_of case network) (subst (λ v. IsAtMost v (plus (minus hot_cost (worth_of_uses network y hot)) (plus cold_cost (worth_of_uses network z cold))))
     (whole-plus (side_value side.Hot hot y) (side_value side.Cold cold z))
     (at_most-plus_plus (whole (side_value side.Hot hot y)) (minus hot_cost (worth_of_uses network y hot)) (whole (side_value side.Cold cold z))
     (plus cold_cost (worth_of_uses network z cold)) given taken))
     (subst (λ c. IsAtMost (plus (minus hot_cost (worth_of_uses network y hot)) (plus cold_cost (worth_of_uses network z cold))) c)
-    (cost-is case network hot cold parts)
-    (less_on_both hot_cost cold_cost (worth_of_uses network y hot) (worth_of_uses network z cold) ordered))
+    (cost-is case network hot cold parts) (less_on_both hot_cost cold_cost (worth_of_uses network y hot) (worth_of_uses network z cold) ordered))

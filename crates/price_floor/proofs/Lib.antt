@@ -1,14 +1,7 @@
-pub mod StepLemmas
-pub mod BranchWorth
-pub mod NetworkWorth
-pub mod PartViews
-pub mod StepsOfParts
-pub mod StepSums
-pub mod StreamParts
-pub mod PartSums
-pub mod StreamWorth
-pub mod UtilityWorth
 pub mod UsesLemmas
 pub mod FloorLemmas
 pub mod CutLemmas
+pub mod NetworkWorth
+pub mod PartSums
+pub mod StepsOfParts
 pub mod Words

@@ -1,16 +1,369 @@
+-- Parts as views see them: which views a part stands above, and the last view that it does not.
+use Rattle.price_floor.proofs.Words.{All-cons, All-contains, All-contains_itself, All-enumerated, All-head, All-nil, All-slice_get, All-tail, All-weaker}
+use Rattle.price_floor.proofs.Words.{AllPairs-cons_if, AllPairs-head, AllPairs-nil, AllPairs-tail, AreAtMost, AreFalling, AreOrderedPrices, Case}
+use Rattle.price_floor.proofs.Words.{Contains-append_right, Contains-cons, Decides-int_eq, FallTo, IsAtMost, IsInterval, Part, Rational, Side, Source}
+use Rattle.price_floor.proofs.Words.{StepPrices, View, by_lt_z, clamps, comes_below, counts_for, enumerate_from, false_from_ne_true, greatest_price}
+use Rattle.price_floor.proofs.Words.{if◌then◌else◌, int_eq, int_le, int_le-false, int_le-from, int_le-true, int_lt, int_lt-false, int_lt-from, int_lt-true}
+use Rattle.price_floor.proofs.Words.{int_max, interval_below, interval_ends, interval_falls, ints, is_forbidden, last_price, minus, minus-interchange}
+use Rattle.price_floor.proofs.Words.{minus-self, part_reaches, passes_heat, plus, plus-interchange, plus-times, plus-zero, plus_assoc, plus_comm, price_at}
+use Rattle.price_floor.proofs.Words.{price_steps, rational_sum_by, rational_zero, rise_worth, same_source-same, same_source-true, stands_above, step_worth}
+use Rattle.price_floor.proofs.Words.{times, times-minus, times-plus, times-zero, views_of, whole, whole-plus, zero-plus, zero-times, ◌+ℤ◌, ◌<ℤ◌}
+use Rattle.std.proofs.Common.{All, AllPairs, Bool, Contains, List, Some, [], ap, ap₂, arith, false, get_or, inl, inr, not, pos, refl, slice_get, subst, suc}
+use Rattle.std.proofs.Common.{sym, true, zero, ℕ, ℤ, ⊎_elim, ◌&&◌, ◌+◌, ◌-ℤ◌, ◌∙◌, ◌∷◌, ◌≡◌, ◌≤ℤ◌, ◌⊎◌}
+use Rattle.std.proofs.lemmas.Bool.{and_from, and_parts, not_from_false, or_left, or_right}
+use Rattle.fractions.proofs.Comparisons.{at_most-plus_plus, at_most-plus_right, at_most-times_left, at_most-whole, at_most_from_same, at_most_refl}
+use Rattle.fractions.proofs.Comparisons.{at_most_trans, not_negative-times}
+use Rattle.stream_case.specs.declared.source.Side.TheVariants as side
+
+-- a part stands above a view
+abbrev pub stands : Part → View → Bool
+stands p v = stands_above v.from_itself v.place p
+
+-- at a place, or on the interval between two neighbours
+abbrev pub HasEnds : List ℤ → Part → Type 0
+HasEnds places p = ((p.high ≡ p.low) × Contains places p.high) ⊎ IsInterval places p.high p.low
+
+abbrev pub above_place : ℤ → View
+above_place place = record { place = place; from_itself = false }
+
+abbrev pub from_place : ℤ → View
+from_place place = record { place = place; from_itself = true }
+
+-- ---- the views of places
+
+-- what holds of both views of each place
+pub All-views : (P : View → Type 0) (places : List ℤ) → All (λ g. P (above_place g) × P (from_place g)) places → All P (views_of places)
+All-views P [] each = All-nil P
+All-views P (g ∷ places) each =
+    let both = All-head (λ x. P (above_place x) × P (from_place x)) g places each in All-cons P (above_place g) (from_place g ∷ views_of places) both.0
+    (All-cons P (from_place g) (views_of places) both.1 (All-views P places (All-tail (λ x. P (above_place x) × P (from_place x)) g places each)))
+
+pub views-places : (places : List ℤ) → All (λ v. Contains places v.place) (views_of places)
+views-places places = All-views (λ v. Contains places v.place) places
+    (All-weaker (Contains places) (λ g. Contains places g × Contains places g) (λ g found. (found, found)) places (All-contains_itself places))
+
+pub views-fall : (places : List ℤ) → AllPairs (λ a b. b <ℤ a) places → AllPairs comes_below (views_of places)
+views-fall [] falls = AllPairs-nil comes_below
+views-fall (g ∷ places) falls =
+    let less = AllPairs-head (λ a b. b <ℤ a) g places falls in let below = λ (v : View) (at : v.place ≡ g).
+    All-views (comes_below v) places (All-weaker (λ x. x <ℤ g) (λ x. comes_below v (above_place x) × comes_below v (from_place x))
+    (λ x h. (inl (omega (arith, ints)), inl (omega (arith, ints)))) places less) in
+    AllPairs-cons_if comes_below true (above_place g) (from_place g ∷ views_of places)
+    (λ e. All-cons (comes_below (above_place g)) (from_place g) (views_of places) (inr (refl, refl, refl)) (below (above_place g) refl))
+    (AllPairs-cons_if comes_below true (from_place g) (views_of places) (λ e. below (from_place g) refl)
+    (views-fall places (AllPairs-tail (λ a b. b <ℤ a) g places falls)))
+
+-- the lowest place, from which the last view is
+pub record IsLowest (places : List ℤ) (lowest : ℤ) : Type 0 where
+  pub place : Contains places lowest
+  pub each : All (λ x. lowest ≤ℤ x) places
+  pub last : (above : ℤ) (below : View → ℤ) → last_price above below (views_of places) ≡ below (from_place lowest)
+
+pub lowest_of : (g : ℤ) (places : List ℤ) → AllPairs (λ a b. b <ℤ a) (g ∷ places) → (lowest : ℤ) × IsLowest (g ∷ places) lowest
+lowest_of g [] falls =
+    (g, record { place = (0, omega arith, refl); each = All-cons (λ x. g ≤ℤ x) g [] (omega (arith, ints)) (All-nil (λ x. g ≤ℤ x)); last = λ above below. refl })
+lowest_of g (l ∷ places) falls =
+    let (lowest, h) = lowest_of l places (AllPairs-tail (λ a b. b <ℤ a) g (l ∷ places) falls) in let here = All-head (λ x. lowest ≤ℤ x) l places h.each in
+    let step = All-head (λ x. x <ℤ g) l places (AllPairs-head (λ a b. b <ℤ a) g (l ∷ places) falls) in (
+      lowest,
+      record {
+        place = Contains-append_right (g ∷ []) (l ∷ places) lowest h.place;
+        each = All-cons (λ x. lowest ≤ℤ x) g (l ∷ places) (omega (arith, ints)) h.each;
+        last = λ above below. h.last (below (from_place g)) below;
+      },
+    )
+
+pub some_lowest : (places : List ℤ) (x : ℤ) → AllPairs (λ a b. b <ℤ a) places → Contains places x → (lowest : ℤ) × IsLowest places lowest
+some_lowest [] x falls (k, within, is) = absurd (omega arith)
+some_lowest (g ∷ places) x falls found = lowest_of g places falls
+
+-- ---- the ends of a part
+
+pub ends_order : (places : List ℤ) (p : Part) → AllPairs (λ a b. b <ℤ a) places → HasEnds places p → p.low ≤ℤ p.high
+ends_order places p falls (inl (level, found)) = omega (arith, ints)
+ends_order places p falls (inr interval) = let less = interval_falls places p.high p.low falls interval in omega (arith, ints)
+
+pub low_on : (places : List ℤ) (p : Part) → HasEnds places p → Contains places p.low
+low_on places p (inl (level, found)) = subst (Contains places) level found
+low_on places p (inr interval) = (interval_ends places p.high p.low interval).1
+
+-- no place lies inside a part
+pub none_inside : (places : List ℤ) (p : Part) → AllPairs (λ a b. b <ℤ a) places → HasEnds places p → (x : ℤ) → Contains places x → x <ℤ p.high → x ≤ℤ p.low
+none_inside places p falls (inl (level, found)) x at less = omega (arith, ints)
+none_inside places p falls (inr interval) x at less = interval_below places p.high p.low x falls interval at less
+
+-- ---- views that a part stands above
+
+-- what stands above a view stands above each one that comes below it
+pub stands_later : (places : List ℤ) (p : Part) → AllPairs (λ a b. b <ℤ a) places → HasEnds places p → (u v : View) → Contains places u.place
+    → comes_below u v → stands p u ≡ true → stands p v ≡ true
+stands_later places p falls ends u v at below above = by v.from_itself v.place below (low u.from_itself above)
+  where
+    order : p.low ≤ℤ p.high
+    order = ends_order places p falls ends
+
+    low : (from : Bool) → stands_above from u.place p ≡ true → u.place ≤ℤ p.low
+    low true e = int_le-true u.place p.low e
+    low false e = none_inside places p falls ends u.place at (int_lt-true u.place p.high e)
+
+    by : (from : Bool) (place : ℤ) → (place <ℤ u.place) ⊎ ((place ≡ u.place) × (u.from_itself ≡ false) × (from ≡ true)) → u.place ≤ℤ p.low
+        → stands_above from place p ≡ true
+    by false place (inl less) h = let most = order in int_lt-from place p.high (omega (arith, ints, most))
+    by false place (inr (same, first, second)) h = absurd (cc)
+    by true place (inl less) h = int_le-from place p.low (omega (arith, ints))
+    by true place (inr (same, first, second)) h = int_le-from place p.low (omega (arith, ints))
+
+pub stands_lowest : (places : List ℤ) (p : Part) (lowest : ℤ) → HasEnds places p → IsLowest places lowest → stands p (from_place lowest) ≡ true
+stands_lowest places p lowest ends h = int_le-from lowest p.low (All-contains (λ x. lowest ≤ℤ x) places p.low h.each (low_on places p ends))
+
+-- the part stands above no view up to one of them, and above each behind it
+abbrev pub LeavesAt : Part → View → List View → Type 0
+LeavesAt p own [] = ⊥
+LeavesAt p own (v ∷ views) = (stands p v ≡ false) × (((v ≡ own) × All (λ w. stands p w ≡ true) views) ⊎ LeavesAt p own views)
+
+-- the last view that a part does not stand above: above its place, or from the higher one
+abbrev pub own_view : (places : List ℤ) (p : Part) → HasEnds places p → View
+own_view places p (inl level) = above_place p.high
+own_view places p (inr interval) = from_place p.high
+
+module _ (p : Part) (order : p.low ≤ℤ p.high) where
+  -- above both views of places at which it does not end and which are not above it
+  stands_all : (places : List ℤ) → All (λ x. (x <ℤ p.high) × (x ≤ℤ p.low)) places → All (λ w. stands p w ≡ true) (views_of places)
+  stands_all places each =
+      All-views (λ w. stands p w ≡ true) places (All-weaker (λ x. (x <ℤ p.high) × (x ≤ℤ p.low)) (λ x. (int_lt x p.high ≡ true) × (int_le x p.low ≡ true))
+      (λ x h. (int_lt-from x p.high h.0, int_le-from x p.low h.1)) places each)
+
+  leaves_level : p.high ≡ p.low → (places : List ℤ) → AllPairs (λ a b. b <ℤ a) places → Contains places p.high
+      → LeavesAt p (above_place p.high) (views_of places)
+  leaves_level level [] falls (k, within, is) = absurd (omega arith)
+  leaves_level level (g ∷ places) falls found =
+      ⊎_elim here (λ inside. later inside (leaves_level level places (AllPairs-tail (λ a b. b <ℤ a) g places falls) inside))
+      (Contains-cons g places p.high found)
+    where
+      less : All (λ x. x <ℤ g) places
+      less = AllPairs-head (λ a b. b <ℤ a) g places falls
+
+      here : g ≡ p.high → LeavesAt p (above_place p.high) (views_of (g ∷ places))
+      here e =
+          let rest = stands_all places (All-weaker (λ x. x <ℤ g) (λ x. (x <ℤ p.high) × (x ≤ℤ p.low))
+          (λ x h. (omega (arith, ints), omega (arith, ints))) places less) in (
+            int_lt-false g p.high (omega (arith, ints)),
+            inl (ap above_place e, All-cons (λ w. stands p w ≡ true) (from_place g) (views_of places) (int_le-from g p.low (omega (arith, ints))) rest),
+          )
+
+      later : Contains places p.high → LeavesAt p (above_place p.high) (views_of places) → LeavesAt p (above_place p.high) (views_of (g ∷ places))
+      later inside next =
+          let under = All-contains (λ x. x <ℤ g) places p.high less inside in
+          (int_lt-false g p.high (omega (arith, ints)), inr (int_le-false g p.low (omega (arith, ints)), inr next))
+
+  leaves_interval : p.low <ℤ p.high → (places : List ℤ) → AllPairs (λ a b. b <ℤ a) places → Contains places p.high
+      → All (λ x. x <ℤ p.high → x ≤ℤ p.low) places → LeavesAt p (from_place p.high) (views_of places)
+  leaves_interval width [] falls (k, within, is) none = absurd (omega arith)
+  leaves_interval width (g ∷ places) falls found none =
+      ⊎_elim here (λ inside. later inside (leaves_interval width places (AllPairs-tail (λ a b. b <ℤ a) g places falls) inside others))
+      (Contains-cons g places p.high found)
+    where
+      less : All (λ x. x <ℤ g) places
+      less = AllPairs-head (λ a b. b <ℤ a) g places falls
+
+      others : All (λ x. x <ℤ p.high → x ≤ℤ p.low) places
+      others = All-tail (λ x. x <ℤ p.high → x ≤ℤ p.low) g places none
+
+      here : g ≡ p.high → LeavesAt p (from_place p.high) (views_of (g ∷ places))
+      here e =
+          let both : All (λ x. (x <ℤ p.high) × (x ≤ℤ p.low)) places = λ k d within.
+          let under : get_or places k d <ℤ p.high = subst (λ y. get_or places k d <ℤ y) e (less k d within) in (under, others k d within under) in
+          (int_lt-false g p.high (omega (arith, ints)), inr (int_le-false g p.low (omega (arith, ints)), inl (ap from_place e, stands_all places both)))
+
+      later : Contains places p.high → LeavesAt p (from_place p.high) (views_of places) → LeavesAt p (from_place p.high) (views_of (g ∷ places))
+      later inside next =
+          let under = All-contains (λ x. x <ℤ g) places p.high less inside in
+          (int_lt-false g p.high (omega (arith, ints)), inr (int_le-false g p.low (omega (arith, ints)), inr next))
+
+pub leaves_own : (places : List ℤ) (p : Part) → AllPairs (λ a b. b <ℤ a) places → (ends : HasEnds places p)
+    → LeavesAt p (own_view places p ends) (views_of places)
+leaves_own places p falls (inl (level, found)) = leaves_level p (omega (arith, ints)) level places falls found
+leaves_own places p falls (inr interval) =
+    let less = interval_falls places p.high p.low falls interval in
+    leaves_interval p (omega (arith, ints)) less places falls (interval_ends places p.high p.low interval).0
+    (All-weaker (Contains places) (λ x. x <ℤ p.high → x ≤ℤ p.low) (λ x at h. interval_below places p.high p.low x falls interval at h) places
+    (All-contains_itself places))
+
+-- a part does not stand above its own view
+pub own_not : (places : List ℤ) (p : Part) → AllPairs (λ a b. b <ℤ a) places → (ends : HasEnds places p) → stands p (own_view places p ends) ≡ false
+own_not places p falls (inl level) = int_lt-false p.high p.high (omega (arith, ints))
+own_not places p falls (inr interval) = int_le-false p.high p.low (interval_falls places p.high p.low falls interval)
+
+-- What heat is worth at step prices: additive in the heat, and no less for more heat or at higher prices.
+
+-- ---- sums and differences of heat
+
+rise_worth-same : (above : ℤ) (below : View → ℤ) (x y : View → Rational) (views : List View) → ((v : View) → x v ≡ y v)
+    → rise_worth above below x views ≡ rise_worth above below y views
+rise_worth-same above below x y [] same = refl
+rise_worth-same above below x y (v ∷ views) same = ap₂ plus (ap (times (whole (above -ℤ below v))) (same v)) (rise_worth-same (below v) below x y views same)
+
+rise_worth-plus : (above : ℤ) (below : View → ℤ) (x y : View → Rational) (views : List View)
+    → rise_worth above below (λ v. plus (x v) (y v)) views ≡ plus (rise_worth above below x views) (rise_worth above below y views)
+rise_worth-plus above below x y [] = sym (plus-zero rational_zero)
+rise_worth-plus above below x y (v ∷ views) =
+    let rise = whole (above -ℤ below v) in ap₂ plus (times-plus rise (x v) (y v)) (rise_worth-plus (below v) below x y views)
+    ∙ plus-interchange (times rise (x v)) (times rise (y v)) (rise_worth (below v) below x views) (rise_worth (below v) below y views)
+
+rise_worth-minus : (above : ℤ) (below : View → ℤ) (x y : View → Rational) (views : List View)
+    → rise_worth above below (λ v. minus (x v) (y v)) views ≡ minus (rise_worth above below x views) (rise_worth above below y views)
+rise_worth-minus above below x y [] = sym (minus-self rational_zero)
+rise_worth-minus above below x y (v ∷ views) =
+    let rise = whole (above -ℤ below v) in ap₂ plus (times-minus rise (x v) (y v)) (rise_worth-minus (below v) below x y views)
+    ∙ sym (minus-interchange (times rise (x v)) (rise_worth (below v) below x views) (times rise (y v)) (rise_worth (below v) below y views))
+
+module _ (least : ℤ) (views : List View) (p : StepPrices) where
+  pub step_worth-same : (a b : Rational) (x y : View → Rational) → a ≡ b → ((v : View) → x v ≡ y v)
+      → step_worth least views p a x ≡ step_worth least views p b y
+  step_worth-same a b x y all same = ap₂ plus (ap (times (whole least)) all) (rise_worth-same p.top p.below x y views same)
+
+  pub step_worth-plus : (a b : Rational) (x y : View → Rational)
+      → step_worth least views p (plus a b) (λ v. plus (x v) (y v)) ≡ plus (step_worth least views p a x) (step_worth least views p b y)
+  step_worth-plus a b x y = ap₂ plus (times-plus (whole least) a b) (rise_worth-plus p.top p.below x y views)
+      ∙ plus-interchange (times (whole least) a) (times (whole least) b) (rise_worth p.top p.below x views) (rise_worth p.top p.below y views)
+
+  pub step_worth-minus : (a b : Rational) (x y : View → Rational)
+      → step_worth least views p (minus a b) (λ v. minus (x v) (y v)) ≡ minus (step_worth least views p a x) (step_worth least views p b y)
+  step_worth-minus a b x y = ap₂ plus (times-minus (whole least) a b) (rise_worth-minus p.top p.below x y views)
+      ∙ sym (minus-interchange (times (whole least) a) (rise_worth p.top p.below x views) (times (whole least) b) (rise_worth p.top p.below y views))
+
+-- ---- more heat
+
+not_negative-fall : (above below : ℤ) → below ≤ℤ above → IsAtMost rational_zero (whole (above -ℤ below))
+not_negative-fall above below falls = at_most-whole (pos 0) (above -ℤ below) (omega (arith, ints, falls))
+
+rise_worth-at_most : (above : ℤ) (below : View → ℤ) (x y : View → Rational) (views : List View) → AreFalling above below views
+    → ((v : View) → IsAtMost (x v) (y v)) → IsAtMost (rise_worth above below x views) (rise_worth above below y views)
+rise_worth-at_most above below x y [] falls more = at_most_refl rational_zero
+rise_worth-at_most above below x y (v ∷ views) falls more =
+    at_most-plus_plus _ _ _ _ (at_most-times_left (whole (above -ℤ below v)) (x v) (y v) (not_negative-fall above (below v) falls.0) (more v))
+    (rise_worth-at_most (below v) below x y views falls.1 more)
+
+pub step_worth-at_most : (least : ℤ) (views : List View) (p : StepPrices) → FallTo least views p → (a : Rational) (x y : View → Rational)
+    → ((v : View) → IsAtMost (x v) (y v)) → IsAtMost (step_worth least views p a x) (step_worth least views p a y)
+step_worth-at_most least views p falls a x y more =
+    at_most-plus_plus _ _ _ _ (at_most_refl (times (whole least) a)) (rise_worth-at_most p.top p.below x y views falls.falling more)
+
+-- ---- higher prices
+
+-- heat is no less in views that see more
+abbrev pub AreRising : (View → Rational) → Type 0
+AreRising x = (v w : View) → comes_below v w → IsAtMost (x v) (x w)
+
+-- from one price to another by way of a third
+pub two_steps : (a b c : ℤ) (x : Rational) → plus (times (whole (a -ℤ b)) x) (times (whole (b -ℤ c)) x) ≡ times (whole (a -ℤ c)) x
+two_steps a b c x =
+    sym (plus-times (whole (a -ℤ b)) (whole (b -ℤ c)) x) ∙ ap (λ rise. times rise x) (whole-plus (a -ℤ b) (b -ℤ c) ∙ ap whole (omega (arith, ints)))
+
+-- the same heat at the rises of both prices, with what the second ones are above the first ones
+shifted_rises : (p q p_next q_next : ℤ) (x rest : Rational)
+    → plus (plus (times (whole (p -ℤ p_next)) x) rest) (times (whole (q -ℤ p)) x)
+    ≡ plus (times (whole (q -ℤ q_next)) x) (plus rest (times (whole (q_next -ℤ p_next)) x))
+shifted_rises p q p_next q_next x rest =
+    let here = times (whole (p -ℤ p_next)) x in let higher = times (whole (q -ℤ p)) x in
+    let first = times (whole (q -ℤ q_next)) x in let next = times (whole (q_next -ℤ p_next)) x in
+    plus_comm (plus here rest) higher ∙ sym (plus_assoc higher here rest) ∙ ap (λ y. plus y rest) (two_steps q p p_next x ∙ sym (two_steps q q_next p_next x))
+    ∙ plus_assoc first next rest ∙ ap (plus first) (plus_comm next rest)
+
+module _ (least : ℤ) (p q : View → ℤ) (x : View → Rational) (more : (v : View) → p v ≤ℤ q v) (rising : AreRising x) where
+  -- prices that fall to the same one: at the higher prices the heat is worth more, at least by what they are higher at the
+  -- top for as much heat as each view sees
+  rise_worth-ordered : (p_top q_top : ℤ) (c : Rational) (views : List View) → p_top ≤ℤ q_top
+      → last_price p_top p views ≡ least → last_price q_top q views ≡ least → AllPairs comes_below views → All (λ v. IsAtMost c (x v)) views
+      → IsAtMost (plus (rise_worth p_top p x views) (times (whole (q_top -ℤ p_top)) c)) (rise_worth q_top q x views)
+  rise_worth-ordered p_top q_top c [] higher p_last q_last pairs seen =
+      let level : q_top -ℤ p_top ≡ pos 0 = omega (arith, ints, p_last, q_last) in
+      at_most_from_same _ _ (zero-plus _ ∙ ap (λ n. times (whole n) c) level ∙ zero-times c)
+  rise_worth-ordered p_top q_top c (v ∷ views) higher p_last q_last pairs seen =
+      let above_next : All (λ w. IsAtMost (x v) (x w)) views = λ k d within. rising v (get_or views k d) (AllPairs-head comes_below v views pairs k d within) in
+      let rest = rise_worth-ordered (p v) (q v) (x v) views (more v) p_last q_last (AllPairs-tail comes_below v views pairs) above_next in
+      let here = at_most-times_left (whole (q_top -ℤ p_top)) c (x v) (not_negative-fall q_top p_top higher) (All-head (λ w. IsAtMost c (x w)) v views seen) in
+      at_most_trans _ _ _ (at_most-plus_plus _ _ _ _ (at_most_refl (rise_worth p_top p x (v ∷ views))) here)
+      (subst (λ y. IsAtMost y (rise_worth q_top q x (v ∷ views))) (sym (shifted_rises p_top q_top (p v) (q v) (x v) (rise_worth (p v) p x views)))
+      (at_most-plus_plus _ _ _ _ (at_most_refl (times (whole (q_top -ℤ q v)) (x v))) rest))
+
+pub step_worth-ordered : (least : ℤ) (views : List View) (p q : StepPrices) → FallTo least views p → FallTo least views q → AreAtMost p q
+    → AllPairs comes_below views → (a : Rational) (x : View → Rational) → AreRising x → ((v : View) → IsAtMost rational_zero (x v))
+    → IsAtMost (step_worth least views p a x) (step_worth least views q a x)
+step_worth-ordered least views p q p_falls q_falls more pairs a x rising some =
+    let no_heat = times (whole (q.top -ℤ p.top)) rational_zero in
+    let none : IsAtMost rational_zero no_heat = not_negative-times _ _ (not_negative-fall q.top p.top more.top) (at_most_refl rational_zero) in
+    at_most-plus_plus _ _ _ _ (at_most_refl (times (whole least) a)) (at_most_trans _ _ _ (at_most-plus_right (rise_worth p.top p.below x views) no_heat none)
+    (rise_worth-ordered least p.below q.below x more.below rising p.top q.top rational_zero views more.top p_falls.last q_falls.last pairs
+    (λ k d within. some (get_or views k d))))
+
+-- Sums of what heats are worth at step prices; and the one price at which the heat of a part is worth it.
+
+-- ---- heats that are the same in these views, and none
+
+module _ (below : View → ℤ) where
+  rise-same : (above : ℤ) (f g : View → Rational) (views : List View) → All (λ v. f v ≡ g v) views
+      → rise_worth above below f views ≡ rise_worth above below g views
+  rise-same above f g [] same = refl
+  rise-same above f g (v ∷ views) same = ap₂ plus (ap (times (whole (above -ℤ below v))) (All-head (λ w. f w ≡ g w) v views same))
+      (rise-same (below v) f g views (All-tail (λ w. f w ≡ g w) v views same))
+
+  rise-none : (above : ℤ) (views : List View) → rise_worth above below (λ v. rational_zero) views ≡ rational_zero
+  rise-none above [] = refl
+  rise-none above (v ∷ views) = ap₂ plus (times-zero (whole (above -ℤ below v))) (rise-none (below v) views) ∙ plus-zero rational_zero
+
+-- ---- heat at step prices
+
+module _ (least : ℤ) (views : List View) (q : StepPrices) where
+  pub step-same : (all some : Rational) (f g : View → Rational) → all ≡ some → All (λ v. f v ≡ g v) views
+      → step_worth least views q all f ≡ step_worth least views q some g
+  step-same all some f g one same = ap₂ plus (ap (times (whole least)) one) (rise-same q.below q.top f g views same)
+
+  pub step-none : step_worth least views q rational_zero (λ v. rational_zero) ≡ rational_zero
+  step-none = ap₂ plus (times-zero (whole least)) (rise-none q.below q.top views) ∙ plus-zero rational_zero
+
+  pub step-sum : {X : Type 0} (all : X → Rational) (heat : X → View → Rational) (xs : List X)
+      → rational_sum_by (λ x. step_worth least views q (all x) (heat x)) xs
+      ≡ step_worth least views q (rational_sum_by all xs) (λ v. rational_sum_by (λ x. heat x v) xs)
+  step-sum all heat [] = sym step-none
+  step-sum all heat (x ∷ xs) = ap (plus (step_worth least views q (all x) (heat x))) (step-sum all heat xs)
+      ∙ sym (step_worth-plus least views q (all x) (rational_sum_by all xs) (heat x) (λ v. rational_sum_by (λ y. heat y v) xs))
+
+-- ---- a part
+
+-- a heat at the views that the part stands above
+abbrev pub stood : Part → Rational → View → Rational
+stood p heat v = if stands p v then heat else rational_zero
+
+module _ (p : Part) (x : Rational) (below : View → ℤ) where
+  rise-all : (above : ℤ) (views : List View) → All (λ v. stands p v ≡ true) views
+      → rise_worth above below (stood p x) views ≡ times (whole (above -ℤ last_price above below views)) x
+  rise-all above [] all = let none : pos 0 ≡ above -ℤ above = omega (arith, ints) in sym (zero-times x) ∙ ap (λ n. times (whole n) x) none
+  rise-all above (v ∷ views) all =
+      ap₂ plus (ap (λ b. times (whole (above -ℤ below v)) (if b then x else rational_zero)) (All-head (λ w. stands p w ≡ true) v views all))
+      (rise-all (below v) views (All-tail (λ w. stands p w ≡ true) v views all)) ∙ two_steps above (below v) (last_price (below v) below views) x
+
+  rise-leaves : (own : View) (above : ℤ) (views : List View) → LeavesAt p own views
+      → rise_worth above below (stood p x) views ≡ times (whole (below own -ℤ last_price above below views)) x
+  rise-leaves own above [] leaves = absurd leaves
+  rise-leaves own above (v ∷ views) (under, inl (is, all)) =
+      ap₂ plus (ap (λ b. times (whole (above -ℤ below v)) (if b then x else rational_zero)) under ∙ times-zero (whole (above -ℤ below v)))
+      (rise-all (below v) views all) ∙ zero-plus (times (whole (below v -ℤ last_price (below v) below views)) x)
+      ∙ ap (λ w. times (whole (below w -ℤ last_price (below v) below views)) x) is
+  rise-leaves own above (v ∷ views) (under, inr later) =
+      ap₂ plus (ap (λ b. times (whole (above -ℤ below v)) (if b then x else rational_zero)) under ∙ times-zero (whole (above -ℤ below v)))
+      (rise-leaves own (below v) views later) ∙ zero-plus (times (whole (below own -ℤ last_price (below v) below views)) x)
+
+-- the heat of a part is worth the price below the last view that the part does not stand above
+pub step-part : (least : ℤ) (views : List View) (q : StepPrices) (p : Part) (own : View) (x : Rational) → last_price q.top q.below views ≡ least
+    → LeavesAt p own views → step_worth least views q x (stood p x) ≡ times (whole (q.below own)) x
+step-part least views q p own x last leaves =
+    let total : least +ℤ (q.below own -ℤ least) ≡ q.below own = omega (arith, ints) in
+    ap (plus (times (whole least) x)) (rise-leaves p x q.below own q.top views leaves ∙ ap (λ n. times (whole (q.below own -ℤ n)) x) last)
+    ∙ sym (plus-times (whole least) (whole (q.below own -ℤ least)) x) ∙ ap (λ y. times y x) (whole-plus least (q.below own -ℤ least) ∙ ap whole total)
+
 -- The step prices that prices of cold parts make: they fall to the least price, they are ordered, and where a part lies
 -- they are at most its price if it is hot, and at least its price if it is cold.
-use Rattle.price_floor.proofs.Words.{All-enumerated, All-head, All-slice_get, All-tail, All-weaker, AllPairs-head, AllPairs-tail, AreAtMost, AreFalling}
-use Rattle.price_floor.proofs.Words.{AreOrderedPrices, Case, Decides-int_eq, FallTo, IsInterval, Part, Side, Source, StepPrices, View, by_lt_z, clamps}
-use Rattle.price_floor.proofs.Words.{comes_below, counts_for, enumerate_from, false_from_ne_true, greatest_price, if◌then◌else◌, int_eq, int_le, int_le-from}
-use Rattle.price_floor.proofs.Words.{int_lt-from, int_max, interval_below, interval_ends, interval_falls, ints, is_forbidden, last_price, part_reaches}
-use Rattle.price_floor.proofs.Words.{passes_heat, price_at, price_steps, same_source-same, same_source-true, views_of, ℤ, ◌<ℤ◌, ◌≤ℤ◌}
-use Rattle.price_floor.proofs.PartViews.{HasEnds, from_place, low_on, lowest_of, none_inside, own_not, own_view, stands, stands_later, stands_lowest}
-use Rattle.price_floor.proofs.PartViews.{views-fall, views-places}
-use Rattle.std.proofs.Common.{All, AllPairs, Bool, Contains, List, Some, [], ap, arith, false, get_or, inl, inr, not, refl, slice_get, subst, suc, sym, true}
-use Rattle.std.proofs.Common.{zero, ℕ, ◌&&◌, ◌+◌, ◌∙◌, ◌∷◌, ◌≡◌, ◌⊎◌}
-use Rattle.std.proofs.lemmas.Bool.{and_from, and_parts, not_from_false, or_left, or_right}
-use Rattle.stream_case.specs.declared.source.Side.TheVariants as side
 
 -- ---- the greatest of two
 
@@ -36,9 +389,7 @@ module _ (least : ℤ) (prices : List ℤ) where
       → greatest_price least counts prices parts ≤ℤ greatest_price least more prices parts
   greatest-more counts more [] h = omega (arith, ints)
   greatest-more counts more ((b, p) ∷ parts) h =
-      let x = price_at prices b in
-      let rest = greatest_price least counts prices parts in
-      let others = greatest_price least more prices parts in
+      let x = price_at prices b in let rest = greatest_price least counts prices parts in let others = greatest_price least more prices parts in
       both_upto (if counts p then x else least) rest (int_max (if more p then x else least) others)
       (by (counts p) (more p) (All-head (λ (e : ℕ × Part). counts e.1 ≡ true → more e.1 ≡ true) (b, p) parts h) x others (greatest-least more parts))
       (behind rest (if more p then x else least) others
@@ -66,8 +417,7 @@ module _ (least : ℤ) (prices : List ℤ) where
       → price_at prices (n + b) ≤ℤ greatest_price least counts prices (enumerate_from n parts)
   greatest-at counts n [] b p at h = absurd (cc)
   greatest-at counts n (q ∷ parts) zero p at h =
-      let is : q ≡ p = cc in
-      let index : n + 0 ≡ n = omega arith in
+      let is : q ≡ p = cc in let index : n + 0 ≡ n = omega arith in
       let here : (if counts q then price_at prices n else least) ≡ price_at prices n = ap (λ c. if c then price_at prices n else least) (ap counts is ∙ h) in
       subst (λ k. price_at prices k ≤ℤ greatest_price least counts prices (enumerate_from n (q ∷ parts))) (sym index)
       (front (price_at prices n) (if counts q then price_at prices n else least) (greatest_price least counts prices (enumerate_from (n + 1) parts))
@@ -79,8 +429,7 @@ module _ (least : ℤ) (prices : List ℤ) where
       (greatest_price least counts prices (enumerate_from (n + 1) parts)) (greatest-at counts (n + 1) parts b p at h))
 
   -- the same of the cold parts of a side with their indices
-  more_counted : (counts more : Part → Bool) (cold : List Part)
-      → ((b : ℕ) (p : Part) → slice_get cold b ≡ Some p → counts p ≡ true → more p ≡ true)
+  more_counted : (counts more : Part → Bool) (cold : List Part) → ((b : ℕ) (p : Part) → slice_get cold b ≡ Some p → counts p ≡ true → more p ≡ true)
       → greatest_price least counts prices (enumerate_from 0 cold) ≤ℤ greatest_price least more prices (enumerate_from 0 cold)
   more_counted counts more cold each =
       greatest-more counts more (enumerate_from 0 cold) (All-enumerated (λ (e : ℕ × Part). counts e.1 ≡ true → more e.1 ≡ true) cold each)
@@ -131,34 +480,26 @@ module _ (case : Case) (least : ℤ) (prices : List ℤ) (cold : List Part) (gri
       where
         more : (b : ℕ) (p : Part) → slice_get cold b ≡ Some p → counts_below on s v p ≡ true → counts_below on s u p ≡ true
         more b p here h =
-            let (counted, under) = below-parts on s v p h in
-            below-from on s u p counted
+            let (counted, under) = below-parts on s v p h in below-from on s u p counted
             (false_from_ne_true (stands p u) (λ e. let later = stands_later grid p falls (ends_at b p here) u v at below e in cc))
 
     none_counts : (counted : Part → Bool) → ((b : ℕ) (p : Part) → slice_get cold b ≡ Some p → counted p ≡ true → ⊥)
         → greatest_price least counted prices (enumerate_from 0 cold) ≡ least
     none_counts counted none =
         let upto = upto_counted least prices counted least cold (omega (arith, ints)) (λ b p at h. absurd (none b p at h)) in
-        let from = greatest-least least prices counted (enumerate_from 0 cold) in
-        omega (arith, ints)
+        let from = greatest-least least prices counted (enumerate_from 0 cold) in omega (arith, ints)
 
-    last_least : (places : List ℤ) → AllPairs (λ a b. b <ℤ a) places → All (HasEnds places) cold
-        → last_price steps.top steps.below (views_of places) ≡ least
+    last_least : (places : List ℤ) → AllPairs (λ a b. b <ℤ a) places → All (HasEnds places) cold → last_price steps.top steps.below (views_of places) ≡ least
     last_least [] down each =
         none_counts (counts_for case on s) (λ b p at h. let (k, within, is) = low_on [] p (All-slice_get (HasEnds []) cold b p each at) in omega arith)
     last_least (g ∷ places) down each =
-        let (lowest, h) = lowest_of g places down in
-        h.last steps.top steps.below
-        ∙ none_counts (counts_below on s (from_place lowest))
-        (λ b p at counted.
+        let (lowest, h) = lowest_of g places down in h.last steps.top steps.below ∙ none_counts (counts_below on s (from_place lowest)) (λ b p at counted.
         let above = stands_lowest (g ∷ places) p lowest (All-slice_get (HasEnds (g ∷ places)) cold b p each at) h in
-        let under = (below-parts on s (from_place lowest) p counted).1 in
-        cc)
+        let under = (below-parts on s (from_place lowest) p counted).1 in cc)
 
     pub steps_fall : FallTo least (views_of grid) (price_steps case least prices cold on s)
     steps_fall = record {
-      falling =
-          falling_along comes_below (λ v. Contains grid v.place) steps.below below_before steps.top (views_of grid)
+      falling = falling_along comes_below (λ v. Contains grid v.place) steps.below below_before steps.top (views_of grid)
           (λ k d within. below_top (get_or (views_of grid) k d)) (views-fall grid falls) (views-places grid);
       last = last_least grid falls ends;
     }
@@ -172,11 +513,9 @@ module _ (case : Case) (least : ℤ) (prices : List ℤ) (cold : List Part) (gri
   steps_ordered : (giver taker : Source) → is_forbidden case.forbids giver taker ≡ false
       → AreAtMost (price_steps case least prices cold side.Cold taker) (price_steps case least prices cold side.Hot giver)
   steps_ordered giver taker permitted = record {
-    top =
-        more_counted least prices (counts_for case side.Cold taker) (counts_for case side.Hot giver) cold
+    top = more_counted least prices (counts_for case side.Cold taker) (counts_for case side.Hot giver) cold
         (λ b p at own. counts_more giver taker permitted p own);
-    below = λ v.
-        more_counted least prices (counts_below side.Cold taker v) (counts_below side.Hot giver v) cold
+    below = λ v. more_counted least prices (counts_below side.Cold taker v) (counts_below side.Hot giver v) cold
         (λ b p at h. let (own, under) = below-parts side.Cold taker v p h in below-from side.Hot giver v p (counts_more giver taker permitted p own) under);
   }
 
@@ -202,13 +541,10 @@ module _ (case : Case) (least : ℤ) (prices : List ℤ) (cold : List Part) (gri
       -- no end of the one lies inside the other
       same : p.low <ℤ q.high → (p.high ≡ q.high) × (p.low ≡ q.low)
       same more =
-          let low = none_inside grid q falls other p.low (interval_ends grid p.high p.low interval).1 more in
-          let wide = width in
-          let under = lower in (
+          let low = none_inside grid q falls other p.low (interval_ends grid p.high p.low interval).1 more in let wide = width in let under = lower in (
             by_lt_z p.high q.high
                 (λ up. let inside = none_inside grid q falls other p.high (interval_ends grid p.high p.low interval).0 up in absurd (omega (arith, ints)))
-                (λ upto.
-                by_lt_z q.high p.high
+                (λ upto. by_lt_z q.high p.high
                 (λ down. let inside = interval_below grid p.high p.low q.high falls interval (high_on q other) down in absurd (omega (arith, ints)))
                 (λ from. omega (arith, ints))),
             omega (arith, ints),
@@ -216,16 +552,14 @@ module _ (case : Case) (least : ℤ) (prices : List ℤ) (cold : List Part) (gri
 
   -- heat passes from a hot part to each cold part that does not stand above the hot part's own view
   passes_own : (p q : Part) (own : HasEnds grid p) → HasEnds grid q → stands q (own_view grid p own) ≡ false → passes_heat p q ≡ true
-  passes_own p q (inl (level, found)) other under =
-      by_lt_z p.high q.high (λ more. let stood = int_lt-from p.high q.high more in absurd (cc))
+  passes_own p q (inl (level, found)) other under = by_lt_z p.high q.high (λ more. let stood = int_lt-from p.high q.high more in absurd (cc))
       (λ most. or_left (int_le q.high p.low) (int_eq p.high q.high && int_eq p.low q.low) (int_le-from q.high p.low (omega (arith, ints))))
   passes_own p q (inr interval) other under =
       by_lt_z q.low p.high (λ less. by (on_interval p q interval other less)) (λ more. let stood = int_le-from p.high q.low more in absurd (cc))
     where
       by : (q.high ≤ℤ p.low) ⊎ ((p.high ≡ q.high) × (p.low ≡ q.low)) → passes_heat p q ≡ true
       by (inl below) = or_left (int_le q.high p.low) (int_eq p.high q.high && int_eq p.low q.low) (int_le-from q.high p.low below)
-      by (inr (high, low)) =
-          or_right (int_le q.high p.low) (int_eq p.high q.high && int_eq p.low q.low)
+      by (inr (high, low)) = or_right (int_le q.high p.low) (int_eq p.high q.high && int_eq p.low q.low)
           (and_from (int_eq p.high q.high) (int_eq p.low q.low) ((Decides-int_eq p.high q.high).1 high) ((Decides-int_eq p.low q.low).1 low))
 
   -- a hot part's is at most a price that is at least that of each cold part that it reaches
@@ -233,9 +567,7 @@ module _ (case : Case) (least : ℤ) (prices : List ℤ) (cold : List Part) (gri
       → ((b : ℕ) (q : Part) → slice_get cold b ≡ Some q → part_reaches case p q ≡ true → price_at prices b ≤ℤ price)
       → (price_steps case least prices cold side.Hot p.source).below (own_view grid p own) ≤ℤ price
   hot_price p own price some reached =
-      let v = own_view grid p own in
-      upto_counted least prices (counts_below side.Hot p.source v) price cold some
-      (λ b q at h.
+      let v = own_view grid p own in upto_counted least prices (counts_below side.Hot p.source v) price cold some (λ b q at h.
       let (permitted, under) = below-parts side.Hot p.source v q h in
       reached b q at (and_from (passes_heat p q) (not (is_forbidden case.forbids p.source q.source)) (passes_own p q own (ends_at b q at) under) permitted))
 
@@ -243,8 +575,7 @@ module _ (case : Case) (least : ℤ) (prices : List ℤ) (cold : List Part) (gri
   pub cold_price : (b : ℕ) (p : Part) (at : slice_get cold b ≡ Some p) (own : HasEnds grid p)
       → price_at prices b ≤ℤ (price_steps case least prices cold side.Cold p.source).below (own_view grid p own)
   cold_price b p at own =
-      let v = own_view grid p own in
-      let index : 0 + b ≡ b = omega arith in
+      let v = own_view grid p own in let index : 0 + b ≡ b = omega arith in
       subst (λ k. price_at prices k ≤ℤ (price_steps case least prices cold side.Cold p.source).below v) index
       (greatest-at least prices (counts_below side.Cold p.source v) 0 cold b p at
       (below-from side.Cold p.source v p (same_source-same p.source) (own_not grid p falls own)))

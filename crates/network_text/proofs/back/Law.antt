@@ -1,22 +1,51 @@
--- The text of a network is read as the network.
-use Rattle.network_text.proofs.Words.{Case, Exchanger, Give, HasShape, IsNetwork, IsNetworkOf, Joins, Line, Network, Source, StaysValid-IsComplete, all_give_at}
-use Rattle.network_text.proofs.Words.{exchangers_of, find_none, first_missing, get_or-range_with_len, grammar, is_missed, is_passed, length-range_with_len}
-use Rattle.network_text.proofs.Words.{line_at, line_of, misses_pass, no_value, nothing_gives, one_value, passages_of, range_with_len, same_passage}
-use Rattle.network_text.proofs.Words.{some_counted, start, statement_of, statements-back, statements_of, text_of}
-use Rattle.network_text.proofs.back.Branches.{IsReadable}
-use Rattle.network_text.proofs.back.Front.{front, front-first, front-last}
-use Rattle.network_text.proofs.back.Plain.{statements_plain}
+-- The statements of a printed network are of plain fields.
+use Rattle.network_text.proofs.Words.{All-map, Case, Exchanger, Give, HasShape, IsLineOf, IsName-source_name, IsNetwork, IsNetworkOf, IsPlainField}
+use Rattle.network_text.proofs.Words.{IsPlainStatement, IsSourceOf, Joins, Line, Network, Source, StaysValid, StaysValid-IsComplete, all_give_at, branch_name}
+use Rattle.network_text.proofs.Words.{exchanger_name, exchangers_of, find_none, first_missing, get_or-range_with_len, grammar, is_missed, is_passed}
+use Rattle.network_text.proofs.Words.{length-range_with_len, line_at, line_of, misses_pass, name_plain, no_value, nothing_gives, one_value, own_exchanger}
+use Rattle.network_text.proofs.Words.{passages_of, plain_statement, range_with_len, same_passage, some_counted, source_name, start, statement_of}
+use Rattle.network_text.proofs.Words.{statements-back, statements_of, text_of, word_plain}
+use Rattle.std.proofs.Common.{All, Err, List, None, Ok, Some, [], ap, arith, codes, false, get_or, inl, inr, length, map, not, option_map, refl, slice_get}
+use Rattle.std.proofs.Common.{subst, sym, take, ℕ, ◌+◌, ◌<◌, ◌∙◌, ◌≡◌}
+use Rattle.network_text.proofs.back.Exchangers.{IsReadable, front, front-first, front-last}
 use Rattle.network_text.proofs.back.Steps.{line_follows}
-use Rattle.network_text.proofs.shape.Counts.{network-keeps_counts}
-use Rattle.network_text.proofs.shape.Law.{network-has_shape}
+use Rattle.network_text.proofs.print.Fields.{any_name_plain, fraction_plain}
+use Rattle.network_text.proofs.print.Lengths.{branch_named, exchanger_named}
+use Rattle.network_text.proofs.shape.Law.{network-has_shape, network-keeps_counts}
 use Rattle.network_text.specs.Laws.{GivenNetworksAreReadAgain, GivenNetworksAreTheOneOutcome, IsOneOutcomeOf, TextsGiveNoOther, TextsGiveTheirNetworks}
 use Rattle.networks.proofs.OfShape.{exchanger_at}
-use Rattle.std.proofs.Common.{Err, List, None, Ok, Some, [], ap, arith, false, get_or, inl, inr, length, map, not, option_map, refl, slice_get, subst, sym}
-use Rattle.std.proofs.Common.{take, ℕ, ◌+◌, ◌<◌, ◌∙◌, ◌≡◌}
+use Rattle.networks.specs.declared.network.Line.TheVariants as line
 use Rattle.network_text.specs.declared.fault.NetFault.TheVariants as fault
 use Rattle.network_text.specs.declared.fault.NetWhy.TheVariants as why
-use Rattle.networks.specs.declared.network.Line.TheVariants as line
 use Rattle.stream_case.specs.declared.source.Source.TheVariants as source
+
+module _ {case : Case} {network : Network} (valid : StaysValid case) (shape : HasShape case network) where
+  branch_plain : (b : ℕ) → b < length network.branches → IsPlainField (branch_name network b)
+  branch_plain b within = any_name_plain (branch_name network b) (branch_named shape b within)
+
+  exchanger_plain : (number : ℕ) → number < length (exchangers_of network.lines) → IsPlainField (exchanger_name network number)
+  exchanger_plain number within = name_plain (exchanger_name network number) (exchanger_named shape number within)
+
+  source_plain : (s : Source) → IsSourceOf case s → IsPlainField (source_name case s)
+  source_plain s is = name_plain (source_name case s) (IsName-source_name case valid.names s is)
+
+  statement_plain : {index : ℕ} (l : Line) → IsLineOf case network index l → IsPlainStatement (statement_of case network l)
+  statement_plain {index} (line.Exchanger name hot cold duty) of =
+      let e = own_exchanger shape index name hot cold duty of.at.here in plain_statement _ _ (word_plain (codes "exchanger") (omega arith) refl) refl
+      (name_plain name e.name, (source_plain hot of.known.0, (source_plain cold of.known.1, (fraction_plain duty e.duty.within, tt))))
+  statement_plain (line.Split from first cp second) of = plain_statement _ _ (word_plain (codes "split") (omega arith) refl) refl
+      (branch_plain from of.known.0, (branch_plain first of.known.1, (fraction_plain cp of.flow.within, (branch_plain second of.known.2, tt))))
+  statement_plain (line.Pass from exchanger to) of = plain_statement _ _ (word_plain (codes "pass") (omega arith) refl) refl
+      (branch_plain from of.known.0, (exchanger_plain exchanger of.known.1, (branch_plain to of.known.2, tt)))
+  statement_plain (line.Mix first second to) of = plain_statement _ _ (word_plain (codes "mix") (omega arith) refl) refl
+      (branch_plain first of.known.0, (branch_plain second of.known.1, (branch_plain to of.known.2, tt)))
+  statement_plain (line.End branch) of = plain_statement _ _ (word_plain (codes "end") (omega arith) refl) refl (branch_plain branch of.known, tt)
+
+  pub statements_plain : All IsPlainStatement (map (statement_of case network) network.lines)
+  statements_plain = All-map IsPlainStatement (statement_of case network) network.lines (λ k d within.
+      statement_plain (get_or network.lines k d) (line_of shape k (get_or network.lines k d) (line_at network.lines k d within).here))
+
+-- The text of a network is read as the network.
 
 -- ---- the statements, one after the other
 
@@ -33,9 +62,8 @@ statements_give {case} {network} readable =
 
 -- ---- no pass is missing
 
-none_missed : {case : Case} {network : Network} → HasShape case network → (number : ℕ) (e : Exchanger)
-    → slice_get (exchangers_of network.lines) number ≡ Some e → (s : Source) → ((stream : ℕ) → s ≡ source.Stream stream → Joins e stream)
-    → is_missed network number s ≡ false
+none_missed : {case : Case} {network : Network} → HasShape case network → (number : ℕ) (e : Exchanger) → slice_get (exchangers_of network.lines) number ≡ Some e
+    → (s : Source) → ((stream : ℕ) → s ≡ source.Stream stream → Joins e stream) → is_missed network number s ≡ false
 unfolding is_passed
 none_missed shape number e at (source.Utility i) joins = refl
 none_missed {network = network} shape number e at (source.Stream i) joins =
@@ -46,12 +74,9 @@ no_side_missed : {case : Case} {network : Network} → HasShape case network →
     → misses_pass network index ≡ false
 unfolding misses_pass
 no_side_missed {network = network} shape index (line.Exchanger name hot cold duty) here =
-    let e : Exchanger = record { name = name; hot = hot; cold = cold; duty = duty } in
-    let number = length (exchangers_of (take index network.lines)) in
-    let at = exchanger_at network.lines index name hot cold duty here in
-    let no_hot = none_missed shape number e at hot (λ stream is. inl is) in
-    let no_cold = none_missed shape number e at cold (λ stream is. inr is) in
-    rw (here, no_hot, no_cold) refl
+    let e : Exchanger = record { name = name; hot = hot; cold = cold; duty = duty } in let number = length (exchangers_of (take index network.lines)) in
+    let at = exchanger_at network.lines index name hot cold duty here in let no_hot = none_missed shape number e at hot (λ stream is. inl is) in
+    let no_cold = none_missed shape number e at cold (λ stream is. inr is) in rw (here, no_hot, no_cold) refl
 no_side_missed shape index other here = rw here refl
 
 none-missing : {case : Case} {network : Network} → HasShape case network → first_missing network ≡ None
@@ -74,8 +99,7 @@ shape-is_network case network complete shape counts =
       complete = ap (λ n. option_map (λ index. (index + 1, why.MissingPass)) (first_missing n)) (sym give.given_is)
           ∙ ap (option_map (λ index. (index + 1, why.MissingPass))) (none-missing shape);
       value_is = give.given_is;
-    } in
-    let back = statements-back (map (statement_of case network) network.lines) (statements_plain valid shape) in
+    } in let back = statements-back (map (statement_of case network) network.lines) (statements_plain valid shape) in
     subst (λ statements. IsNetwork case statements network) (sym back) is
 
 -- ---- what is printed is read again
@@ -91,8 +115,7 @@ shape-once case network complete shape counts = one_network case (text_of case n
 
 pub printed-again : GivenNetworksAreReadAgain
 printed-again case statements network complete is =
-    let shape = network-has_shape case statements network complete is in
-    shape-is_network case network complete shape (network-keeps_counts case statements network is)
+    shape-is_network case network complete (network-has_shape case statements network complete is) (network-keeps_counts case statements network is)
 
 pub printed-once : GivenNetworksAreTheOneOutcome
 printed-once case statements network complete is = one_network case (text_of case network) network (printed-again case statements network complete is)

@@ -28,8 +28,7 @@ no_slash text bytes = All-weaker IsNumberByte (λ b. is_slash b ≡ false) (λ b
 
 slash_place : (front back : List ℕ) → All (λ b. is_slash b ≡ false) front → position_or_len is_slash (front ++ 47 ∷ back) ≡ length front
 slash_place front back none =
-    let long = length-append front (47 ∷ back) in
-    position_or_len_is is_slash (front ++ 47 ∷ back) (length front) 0 (omega (arith, long))
+    let long = length-append front (47 ∷ back) in position_or_len_is is_slash (front ++ 47 ∷ back) (length front) 0 (omega (arith, long))
     (λ k early. rw (get_or_append_left front (47 ∷ back) 0 k early) (none k 0 early)) (λ within. rw (get_or_at front 47 back 0 (length front) refl) refl)
 
 before_slash : (front back : List ℕ) → All (λ b. is_slash b ≡ false) front → before_first is_slash (front ++ 47 ∷ back) ≡ front
@@ -37,8 +36,7 @@ before_slash front back none = ap (λ n. take n (front ++ 47 ∷ back)) (slash_p
 
 after_slash : (front back : List ℕ) → All (λ b. is_slash b ≡ false) front → after_first is_slash (front ++ 47 ∷ back) ≡ back
 after_slash front back none =
-    ap (λ n. drop (n + 1) (front ++ 47 ∷ back)) (slash_place front back none)
-    ∙ ap (drop (length front + 1)) (sym (append_assoc front (47 ∷ []) back))
+    ap (λ n. drop (n + 1) (front ++ 47 ∷ back)) (slash_place front back none) ∙ ap (drop (length front + 1)) (sym (append_assoc front (47 ∷ []) back))
     ∙ drop_at (front ++ 47 ∷ []) back (length front + 1) (length-append front (47 ∷ []))
 
 all_before : (text : List ℕ) → All (λ b. is_slash b ≡ false) text → before_first is_slash text ≡ text
@@ -50,9 +48,7 @@ bounded_back : (a : Rational) → IsWithinLimits a → (d : ℕ) → a.den ≡ d
 unfolding bounded_ratio
 bounded_back a within zero none = absurd (omega (arith, none, a.positive))
 bounded_back a within (suc d) some =
-    let same : ratio a.num (suc d) ≡ a = ap (ratio a.num) (sym some) ∙ ratio-self a in
-    let fits = (Decides-is_within_limits a).1 within in
-    rw (same, fits) refl
+    let same : ratio a.num (suc d) ≡ a = ap (ratio a.num) (sym some) ∙ ratio-self a in let fits = (Decides-is_within_limits a).1 within in rw (same, fits) refl
 
 denominator_read : (front : List ℕ) (d : ℕ) → All (λ b. is_slash b ≡ false) front → d < 10 ^ MOST_DIGITS → denominator_in (front ++ 47 ∷ decimal d) ≡ Some d
 unfolding denominator_in
@@ -67,13 +63,11 @@ fraction-back a within = by (a.den == 1) refl
   where
     by : (b : Bool) → (a.den == 1) ≡ b → fraction_in (if b then signed_decimal a.num else (signed_decimal a.num ++ 47 ∷ decimal a.den)) ≡ Some a
     by true one =
-        let none = no_slash (signed_decimal a.num) (signed_bytes a.num (short a within)) in
-        let den : a.den ≡ 1 = grind (arith, nat_tests) in
+        let none = no_slash (signed_decimal a.num) (signed_bytes a.num (short a within)) in let den : a.den ≡ 1 = grind (arith, nat_tests) in
         let whole : list_any is_slash (signed_decimal a.num) ≡ false = list_any_none is_slash (signed_decimal a.num) none in
         rw (all_before (signed_decimal a.num) none, whole, numerator_read a within) (bounded_back a within 1 den)
     by false other =
-        let none = no_slash (signed_decimal a.num) (signed_bytes a.num (short a within)) in
-        rw (
+        let none = no_slash (signed_decimal a.num) (signed_bytes a.num (short a within)) in rw (
           before_slash (signed_decimal a.num) (decimal a.den) none,
           numerator_read a within,
           denominator_read (signed_decimal a.num) a.den none (omega (arith, within.den)),

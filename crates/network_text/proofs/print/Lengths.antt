@@ -1,12 +1,80 @@
--- How long the fields and the lines of a printed network are.
-use Rattle.network_text.proofs.Words.{All-head, All-map, All-tail, Case, HasShape, IsAnyName, IsLineOf, IsName, IsName-source_name, IsPositive, IsSourceOf}
-use Rattle.network_text.proofs.Words.{LONGEST_LINE, Line, Network, Rational, Source, Statement, StaysValid, branch_name, exchanger_name, exchangers_of}
-use Rattle.network_text.proofs.Words.{fields_text, fraction_text, ints, length-decimal-le_wide, length-map, line_at, line_of, own_exchanger, signed_decimal}
-use Rattle.network_text.proofs.Words.{source_name, statement_of, statement_text, sum_by-cons, text_of}
-use Rattle.network_text.proofs.print.Names.{branch_named, exchanger_named}
-use Rattle.std.proofs.Common.{All, Bool, List, [], ap, arith, codes, decimal, false, flat_map, get_or, if◌then◌else◌, inl, inr, length, length-append, map}
-use Rattle.std.proofs.Common.{negsuc, pos, refl, subst, sum_by, sym, true, unsigned_abs, ℕ, ℤ, ◌*◌, ◌++◌, ◌+◌, ◌<◌, ◌==◌, ◌^◌, ◌∙◌, ◌∷◌, ◌≡◌, ◌≤◌}
+-- The text of a network, line by line.
+use Rattle.network_text.proofs.Words.{All-head, All-map, All-tail, AllPairs-take, Branch, Case, Exchanger, HasShape, IsAnyName, IsLineOf, IsName}
+use Rattle.network_text.proofs.Words.{IsName-source_name, IsPositive, IsSourceOf, LONGEST_LINE, Line, Network, Rational, Source, Statement, StaysValid}
+use Rattle.network_text.proofs.Words.{branch_name, cons_option, exchanger_name, exchanger_names, exchanger_of, exchangers_of, fields_text, fraction_text}
+use Rattle.network_text.proofs.Words.{get_or-map, get_or_default, ints, length-decimal-le_wide, length-map, line_at, line_of, names_of, no_place_of}
+use Rattle.network_text.proofs.Words.{own_exchanger, place_of, signed_decimal, source_name, statement_of, statement_text, sum_by-cons, text_of}
+use Rattle.std.proofs.Common.{All, AllPairs, Bool, List, None, Option, Some, [], ap, arith, bytes_eq, codes, decimal, false, filter_map, flat_map, get_or}
+use Rattle.std.proofs.Common.{get_or-take, if◌then◌else◌, inl, inr, length, length-append, length-take-le, map, negsuc, option_map, pos, position, refl, subst}
+use Rattle.std.proofs.Common.{sum_by, sym, take, take_all, true, unsigned_abs, ℕ, ℤ, ◌*◌, ◌++◌, ◌+◌, ◌<◌, ◌==◌, ◌^◌, ◌∙◌, ◌∷◌, ◌≡◌, ◌≢◌, ◌≤◌}
 use Rattle.networks.specs.declared.network.Line.TheVariants as line
+
+-- the text of the first lines
+abbrev pub text_before : Case → Network → ℕ → List ℕ
+text_before case network index = flat_map statement_text (map (statement_of case network) (take index network.lines))
+
+pub text_all : (case : Case) (network : Network) (i : ℕ) → length network.lines ≤ i → text_before case network i ≡ text_of case network
+unfolding text_of
+text_all case network i past = ap (λ ls. flat_map statement_text (map (statement_of case network) ls)) (take_all i network.lines past)
+
+-- What is named is found by its name, among the first of some names that differ.
+
+pub found_in_front : (names : List (List ℕ)) (m i : ℕ) → AllPairs (λ a b. a ≢ b) names → i < m → m ≤ length names
+    → position (bytes_eq (get_or names i [])) (take m names) ≡ Some i
+found_in_front names m i distinct early within =
+    let front = AllPairs-take (λ (a b : List ℕ). a ≢ b) m names distinct in let short = length-take-le m names within in
+    ap (λ name. position (bytes_eq name) (take m names)) (sym (get_or-take m names i [] early)) ∙ place_of (take m names) i front (omega (arith, short, early))
+
+pub none_in_front : (names : List (List ℕ)) (m i : ℕ) → AllPairs (λ a b. a ≢ b) names → m ≤ i → i < length names
+    → position (bytes_eq (get_or names i [])) (take m names) ≡ None
+none_in_front names m i distinct late within =
+    no_place_of (take m names) (get_or names i []) (λ k d inside. let short = length-take-le m names (omega (arith, late, within)) in
+    let early : k < m = omega (arith, inside, short) in λ same. distinct k i [] (omega (arith, early, late)) within
+    (get_or_default names k [] d (omega (arith, early, late, within)) ∙ sym (get_or-take m names k d early) ∙ same))
+
+-- ---- the names of branches and of exchangers
+
+pub many_names : (network : Network) → length (names_of network.branches) ≡ length network.branches
+unfolding names_of
+many_names network = length-map network.branches (λ (b : Branch). b.name)
+
+pub branch_name-at : (network : Network) (number : ℕ) (b : Branch) → number < length network.branches → b ≡ get_or network.branches number b
+    → b.name ≡ branch_name network number
+unfolding branch_name names_of
+branch_name-at network number b within here = ap (λ (x : Branch). x.name) here ∙ sym (get_or-map (λ (x : Branch). x.name) network.branches number b [] within)
+
+pub many_exchangers : (network : Network) → length (exchanger_names network) ≡ length (exchangers_of network.lines)
+unfolding exchanger_names
+many_exchangers network = length-map (exchangers_of network.lines) (λ (e : Exchanger). e.name)
+
+-- they are those that the lines declare
+declared : (lines : List Line) → filter_map (λ l. option_map (λ e. e.name) (exchanger_of l)) lines ≡ map (λ e. e.name) (filter_map exchanger_of lines)
+declared [] = refl
+declared (l ∷ lines) = by (exchanger_of l) (declared lines)
+  where
+    by : (o : Option Exchanger) → filter_map (λ l. option_map (λ e. e.name) (exchanger_of l)) lines ≡ map (λ e. e.name) (filter_map exchanger_of lines)
+        → cons_option (option_map (λ e. e.name) o) (filter_map (λ l. option_map (λ e. e.name) (exchanger_of l)) lines) ≡ map (λ e. e.name)
+        (cons_option o (filter_map exchanger_of lines))
+    by None rest = rest
+    by (Some e) rest = ap (λ names. e.name ∷ names) rest
+
+pub exchanger_names-declared : (network : Network) → filter_map (λ l. option_map (λ e. e.name) (exchanger_of l)) network.lines ≡ exchanger_names network
+unfolding exchanger_names exchangers_of
+exchanger_names-declared network = declared network.lines
+
+-- in a network of the shape they are names
+pub branch_named : {case : Case} {network : Network} → HasShape case network → (b : ℕ) → b < length network.branches → IsAnyName (branch_name network b)
+unfolding branch_name
+branch_named {network = network} shape b within = shape.named.names b [] (omega (arith, within, many_names network))
+
+pub exchanger_named : {case : Case} {network : Network} → HasShape case network → (number : ℕ) → number < length (exchangers_of network.lines)
+    → IsName (exchanger_name network number)
+unfolding exchanger_names
+exchanger_named {network = network} shape number within =
+    let names = All-map IsName (λ (e : Exchanger). e.name) (exchangers_of network.lines) (λ k d inside. (shape.exchangers.each k d inside).name) in
+    names number [] (omega (arith, within, many_exchangers network))
+
+-- How long the fields and the lines of a printed network are.
 
 -- ---- fields
 
@@ -72,8 +140,7 @@ module _ {case : Case} {network : Network} (valid : StaysValid case) (shape : Ha
 
   line_short : {index : ℕ} (l : Line) → IsLineOf case network index l → length (statement_text (statement_of case network l)) ≤ LONGEST_LINE
   line_short {index} (line.Exchanger name hot cold duty) of =
-      let e = own_exchanger shape index name hot cold duty of.at.here in
-      omega (
+      let e = own_exchanger shape index name hot cold duty of.at.here in omega (
         arith,
         statement_length (codes "exchanger") (name ∷ source_name case hot ∷ source_name case cold ∷ fraction_text duty ∷ []),
         name_short name e.name,
@@ -81,31 +148,28 @@ module _ {case : Case} {network : Network} (valid : StaysValid case) (shape : Ha
         source_short cold of.known.1,
         fraction_short duty e.duty,
       )
-  line_short (line.Split from first cp second) of =
-      omega (
-        arith,
-        statement_length (codes "split") (branch_name network from ∷ branch_name network first ∷ fraction_text cp ∷ branch_name network second ∷ []),
-        branch_short from of.known.0,
-        branch_short first of.known.1,
-        fraction_short cp of.flow,
-        branch_short second of.known.2,
-      )
-  line_short (line.Pass from exchanger to) of =
-      omega (
-        arith,
-        statement_length (codes "pass") (branch_name network from ∷ exchanger_name network exchanger ∷ branch_name network to ∷ []),
-        branch_short from of.known.0,
-        exchanger_short exchanger of.known.1,
-        branch_short to of.known.2,
-      )
-  line_short (line.Mix first second to) of =
-      omega (
-        arith,
-        statement_length (codes "mix") (branch_name network first ∷ branch_name network second ∷ branch_name network to ∷ []),
-        branch_short first of.known.0,
-        branch_short second of.known.1,
-        branch_short to of.known.2,
-      )
+  line_short (line.Split from first cp second) of = omega (
+    arith,
+    statement_length (codes "split") (branch_name network from ∷ branch_name network first ∷ fraction_text cp ∷ branch_name network second ∷ []),
+    branch_short from of.known.0,
+    branch_short first of.known.1,
+    fraction_short cp of.flow,
+    branch_short second of.known.2,
+  )
+  line_short (line.Pass from exchanger to) of = omega (
+    arith,
+    statement_length (codes "pass") (branch_name network from ∷ exchanger_name network exchanger ∷ branch_name network to ∷ []),
+    branch_short from of.known.0,
+    exchanger_short exchanger of.known.1,
+    branch_short to of.known.2,
+  )
+  line_short (line.Mix first second to) of = omega (
+    arith,
+    statement_length (codes "mix") (branch_name network first ∷ branch_name network second ∷ branch_name network to ∷ []),
+    branch_short first of.known.0,
+    branch_short second of.known.1,
+    branch_short to of.known.2,
+  )
   line_short (line.End branch) of = omega (arith, statement_length (codes "end") (branch_name network branch ∷ []), branch_short branch of.known)
 
   pub text-short : length (text_of case network) ≤ LONGEST_LINE * length network.lines

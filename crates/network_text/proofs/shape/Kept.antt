@@ -3,11 +3,9 @@ use Rattle.network_text.proofs.Words.{All-append, All-cons, All-nil, All-push, A
 use Rattle.network_text.proofs.Words.{HasPositiveFlow, IsExchanger, IsOfOneStream, Network, Passes, Statement, StaysValid, checks, entry_in, exchanger_of}
 use Rattle.network_text.proofs.Words.{exchangers_of, exchangers_of-push, given_has, grammar, next, option_to_list, own_branches, passages_of, same_Some, start}
 use Rattle.network_text.proofs.Words.{used_by, with_any, with_entry}
-use Rattle.network_text.proofs.shape.Adding.{Adds, HasShapeSoFar}
-use Rattle.network_text.proofs.shape.Entries.{added}
+use Rattle.network_text.proofs.shape.Entries.{Adds, HasShapeSoFar, added}
 use Rattle.std.proofs.Common.{All, AllPairs, List, None, Option, Some, [], arith, refl, subst, sym, ℕ, ◌∙◌, ◌≡◌, ◌≢◌}
 use Rattle.network_text.proofs.shape.Branches as branches
-use Rattle.network_text.proofs.shape.Passes as passes
 
 each_of : (case : Case) (o : Option Exchanger) → ForSome o (IsExchanger case) → All (IsExchanger case) (option_to_list o)
 each_of case None is = All-nil (IsExchanger case)
@@ -37,8 +35,8 @@ kept shape adds = record {
   one_stream = branches.one_stream shape adds;
   flows = flows_kept shape adds;
   exchangers = exchangers_kept shape adds;
-  declared_first = passes.declared_first shape adds;
-  at_most_once = passes.at_most_once shape adds;
+  declared_first = branches.declared_first shape adds;
+  at_most_once = branches.at_most_once shape adds;
 }
 
 shape_first : (case : Case) → StaysValid case → HasShapeSoFar case (start case)
@@ -58,19 +56,16 @@ shape_first case valid = record {
 
 shape_next : (case : Case) (given : Network) (s : Statement) → HasShapeSoFar case given → Passes (checks case given s) → HasShapeSoFar case (next case given s)
 shape_next case given s shape passes =
-    let (e, is, adds) = added case given s shape passes in
-    subst (λ o. HasShapeSoFar case (with_any given o)) (sym is) (kept shape adds)
+    let (e, is, adds) = added case given s shape passes in subst (λ o. HasShapeSoFar case (with_any given o)) (sym is) (kept shape adds)
 
 -- so what sound statements give has it
 pub shape_so_far : {case : Case} {statements : List Statement} {given : Network} → StaysValid case → Give (grammar case) statements given
     → HasShapeSoFar case given
-shape_so_far {case} {statements} {given} valid give =
-    subst (HasShapeSoFar case) (sym give.given_is)
+shape_so_far {case} {statements} {given} valid give = subst (HasShapeSoFar case) (sym give.given_is)
     (given_has (grammar case) (HasShapeSoFar case) (shape_first case valid) (shape_next case) statements give.sound)
 
 -- what a sound statement gives may be added
 pub adds_next : {case : Case} {given : Network} {e : Entry} → HasShapeSoFar case given → (s : Statement) → Passes (checks case given s)
     → entry_in case given s ≡ Some e → Adds case given e
 adds_next {case} {given} {e} shape s passes gives =
-    let (other, is, adds) = added case given s shape passes in
-    subst (Adds case given) (same_Some other e (sym is ∙ gives)) adds
+    let (other, is, adds) = added case given s shape passes in subst (Adds case given) (same_Some other e (sym is ∙ gives)) adds

@@ -12,14 +12,12 @@ use Rattle.network_audit.specs.declared.findings.Place.TheVariants as place
 
 -- the items behind the statements, read from the tables
 abbrev behind : In_default → List Item
-behind c =
-    stream_items c.args.case.now c.args.network.now ++ (joint_items c.args.case.now c.audit_statements.new.values c.args.joints.now
+behind c = stream_items c.args.case.now c.args.network.now ++ (joint_items c.args.case.now c.audit_statements.new.values c.args.joints.now
     ++ (all_heat_items c.args.joints.now c.as_slice-utilities.result.now ++ balance_items c.args.case.now c.args.network.now))
 
 all_found : (c : In_default) → first_finding (items c.args.case.now c.args.network.now c.audit_statements.new.values (length c.args.network.now.lines))
     ≡ first_finding (behind c)
-all_found c =
-    found-all c.args.case.now c.args.network.now c.audit_statements.new.values c.args.joints.now c.as_slice-utilities.result.now c.requires.shape
+all_found c = found-all c.args.case.now c.args.network.now c.audit_statements.new.values c.args.joints.now c.as_slice-utilities.result.now c.requires.shape
     c.requires.table c.as_slice-utilities.ensures c.in_default.ensures.1
 
 is_finding : (c : In_default) (found : Finding) → first_finding (behind c) ≡ Some found → IsFinding c.args.case.now c.args.network.now found
@@ -58,8 +56,7 @@ returns-in-Err-audit_exchangers c =
     ∙ found-front _ _ _ c.in-Err-audit_exchangers.ensures)
 
 pub returns-in-Err-audit_utilities : goal.returns-in-Err-audit_utilities
-returns-in-Err-audit_utilities c =
-    is_finding (goal.at.returns-in-Err-audit_utilities c).In_default c.in-Err-audit_utilities.found
+returns-in-Err-audit_utilities c = is_finding (goal.at.returns-in-Err-audit_utilities c).In_default c.in-Err-audit_utilities.found
     (found-behind _ _ c.in_default-audit_streams.ensures.0 ∙ found-behind _ _ c.in_default-audit_exchangers.ensures.0
     ∙ found-front _ _ _ c.in-Err-audit_utilities.ensures)
 

@@ -18,8 +18,7 @@ returns-then-eq c =
     )
 
 pub mean-requires : goal.mean-requires
-mean-requires c =
-    subst (IsBelow rational_zero) (sym (value_formed _ _ _ c.in-Some.is c.plus.ensures))
+mean-requires c = subst (IsBelow rational_zero) (sym (value_formed _ _ _ c.in-Some.is c.plus.ensures))
     (mixed_positive c.args.first.now c.args.second.now c.requires.first c.requires.second)
 
 pub returns-in_err-t : goal.returns-in_err-t

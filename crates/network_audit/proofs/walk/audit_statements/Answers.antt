@@ -19,8 +19,7 @@ loop-index-init c =
 
 -- the line of this turn
 here : (c : After-line-item) → IsLineOf c.args.case.now c.args.network.now c.loop-index.index c.line-item.result
-here c =
-    line_here c.args.case.now c.args.network.now c.as_slice-line-items.result.now c.loop-index.index c.line-item.result c.requires.shape
+here c = line_here c.args.case.now c.args.network.now c.as_slice-line-items.result.now c.loop-index.index c.line-item.result c.requires.shape
     c.as_slice-line-items.ensures c.loop-index-test.true c.line-item.is
 
 pub made_by-requires-clause-known : goal.made_by-requires-clause-known

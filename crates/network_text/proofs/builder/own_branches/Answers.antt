@@ -1,4 +1,4 @@
-use Rattle.network_text.proofs.OwnBranches.{own_entries-more, own_entries-new}
+use Rattle.network_text.proofs.Tables.{own_entries-more, own_entries-new}
 use Rattle.network_text.proofs.Words.{own_entries}
 use Rattle.std.proofs.Common.{List, [], ap, sym, take_all, ℕ, ◌++◌, ◌∙◌, ◌∷◌}
 use Rattle.network_text.proofs.builder.own_branches.Goals as goal

@@ -6,8 +6,7 @@ add_declared-requires c = let fresh = rw (← c.builder.view_is) at c.requires.f
 
 pub mark_any_passed-requires : goal.mark_any_passed-requires
 mark_any_passed-requires c =
-    let fresh = rw (← c.builder.view_is) at c.requires.fresh in
-    let passage = rw (← c.builder.view_is) at c.passage_of-passage.ensures in
+    let fresh = rw (← c.builder.view_is) at c.requires.fresh in let passage = rw (← c.builder.view_is) at c.passage_of-passage.ensures in
     rw passage (unpassed c.builder.invariant c.args.entry fresh)
 
 pub add_branches-requires : goal.add_branches-requires
@@ -15,10 +14,8 @@ add_branches-requires c = let fresh = rw (← c.builder.view_is) at c.requires.f
 
 pub invariant_of-builder : goal.invariant_of-builder
 invariant_of-builder c =
-    let fresh = rw (← c.builder.view_is) at c.requires.fresh in
-    let room = rw (← c.builder.view_is) at c.requires.room in
-    let passage = rw (← c.builder.view_is) at c.passage_of-passage.ensures in
-    rw (
+    let fresh = rw (← c.builder.view_is) at c.requires.fresh in let room = rw (← c.builder.view_is) at c.requires.room in
+    let passage = rw (← c.builder.view_is) at c.passage_of-passage.ensures in rw (
       c.in_ok-add_branches.ensures,
       c.in_ok-mark_all_used.ensures,
       c.uses-used.ensures,
@@ -26,8 +23,7 @@ invariant_of-builder c =
       c.in_ok-mark_any_passed.ensures,
       passage,
       c.in_ok-push.ensures.items,
-    )
-    (tracked-with c.builder.invariant c.args.entry fresh c.first_stream-stream.result room)
+    ) (tracked-with c.builder.invariant c.args.entry fresh c.first_stream-stream.result room)
 
 pub returns : goal.returns
 returns c =
