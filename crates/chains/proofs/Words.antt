@@ -43,6 +43,7 @@ pub use Rattle.std.proofs.lemmas.Grind.{get_or-set_at}
 pub use Rattle.std.proofs.lemmas.Int.{by_lt_z, clamps, ints, to_z-of_z}
 pub use Rattle.std.proofs.lemmas.Iterator.Search.{position_from_yields_List}
 pub use Rattle.std.proofs.lemmas.List.{append-nil, flat_map_more, get_or-set_other, get_or-set_same, get_or-take, get_or_default, get_or_read, length-append}
+pub use Rattle.std.proofs.lemmas.List.{get_or-map, length-map, map-append}
 pub use Rattle.std.proofs.lemmas.List.{length-set, length-take, length-take-le, length_push, nil_from_length, take_all, take_more, take_more_set}
 pub use Rattle.std.proofs.lemmas.List.Concat.{length-flat_map}
 pub use Rattle.std.proofs.lemmas.List.Elements.{All-append, All-cons, All-contains, All-drop, All-head, All-map, All-nil, All-pop, All-push, All-set, All-tail}

@@ -1,10 +1,11 @@
 //! The links of a net of chains.
-ghost use Rattle.std.specs.Prelude.{◌≡◌, ◌↔◌, ◌≤◌, ◌*◌, ◌++◌, true, length, IsTrue, IfOk, OnOk, All, Contains, Some};
+ghost use Rattle.std.specs.Prelude.{◌≡◌, ◌↔◌, ◌≤◌, ◌+◌, ◌*◌, ◌++◌, true, length, map, IsTrue, IfOk, OnOk, All, Contains, Some};
 ghost use Rattle.stream_case.specs.declared.source.Source.{Source};
 ghost use Rattle.stream_case.specs.declared.limits.TheConstants.{MOST_PARTS, MOST_PLACES};
 ghost use Rattle.stream_case.specs.declared.source.Side.TheVariants.{Cold};
 ghost use Rattle.stream_case.specs.Case.{side_of, IsComplete};
 ghost use Rattle.chains.specs.declared.net.TheConstants.{MOST_INNER_NODES};
+ghost use Rattle.chains.specs.Ranks.{rank_of};
 ghost use Rattle.chains.specs.ChainNet.{entering, first_node_of, is_permitted, leaving, onward, open_link, stride_links};
 
 use crate::groups::{has_source, sources_of};
@@ -136,17 +137,19 @@ fn is_one_of(sources: &[Source], source: Source) -> bool
 }
 
 /// Appends a link from a group's chain, at the part's rank, to each cold part whose source is
-/// permitted to the group.
+/// permitted to the group. Beside the cold parts stand their ranks on the places.
 pub(crate) fn push_leaving(
     links: &mut Vec<Link>,
     alloc: Global,
     case: &Case,
     group: &Group,
     places: &[i32],
+    ranks: &[u32],
     parts: &Parts,
 ) -> Result<(), AllocError>
     requires complete { IsComplete case.now }
-    requires few_places { length places.now ≤ MOST_PLACES }
+    requires ranks { ranks.now ≡ map (rank_of places.now) parts.now.cold }
+    requires small { All (λ r. r ≤ 2 * MOST_PLACES + 1) ranks.now }
     requires node { group.now.first_node ≤ MOST_INNER_NODES }
     requires cold { All (λ part. side_of case.now part.source ≡ Some Cold) parts.now.cold }
     ensures { OnOk result
@@ -157,7 +160,7 @@ pub(crate) fn push_leaving(
     let hots = parts.hot.len() as u32;
     for (index, part) in parts.cold.as_slice().iter().enumerate() {
         if is_one_of(permitted.as_slice(), part.source) {
-            let node = group.first_node + rank_of(places, part);
+            let node = group.first_node + ranks[index];
             links.push(open_link(node, hots + index as u32))?;
         }
     }

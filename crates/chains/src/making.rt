@@ -11,7 +11,7 @@ ghost use Rattle.chains.specs.Sizes.{IsSmall};
 use crate::groups::groups_of;
 use crate::links::{push_entering, push_leaving, push_onward};
 use crate::net::Chains;
-use crate::ranks::rank_count;
+use crate::ranks::{rank_count, ranks_of};
 use flow_net::Net;
 use grid::{Parts, grid_of};
 use std::alloc::{AllocError, Global};
@@ -43,9 +43,10 @@ pub fn chains_of(alloc: Global, case: &Case, parts: &Parts) -> Result<Chains, Al
     let groups = groups_of(alloc, case, first, ranks)?;
     let mut links = Vec::new(alloc);
     push_entering(&mut links, places, groups.as_slice(), parts.hot.as_slice())?;
+    let cold_ranks = ranks_of(alloc, places, parts.cold.as_slice())?;
     for group in &groups {
         push_onward(&mut links, group, ranks)?;
-        push_leaving(&mut links, alloc, case, group, places, parts)?;
+        push_leaving(&mut links, alloc, case, group, places, &cold_ranks, parts)?;
     }
     Ok(Chains {
         net: Net {

@@ -1,9 +1,10 @@
 //! The ranks of parts: the numbers of their places and intervals, from the highest down.
-ghost use Rattle.std.specs.Prelude.{◌≡◌, ◌+◌, ◌*◌, ◌≤◌, length};
+ghost use Rattle.std.specs.Prelude.{◌≡◌, ◌+◌, ◌*◌, ◌≤◌, length, map, All, IfOk};
 ghost use Rattle.stream_case.specs.declared.limits.TheConstants.{MOST_PLACES};
 ghost use Rattle.chains.specs.Ranks.{place_index, rank_of, rank_count};
 
 use grid::Part;
+use std::alloc::{AllocError, Global};
 
 /// The index of a temperature, in tenths of °C, among the places; their number where it is none
 /// of them.
@@ -29,6 +30,23 @@ pub(crate) fn rank_of(places: &[i32], part: &Part) -> u32
     } else {
         2 * place + 1
     }
+}
+
+/// The ranks of parts, in their order.
+pub(crate) fn ranks_of(
+    alloc: Global,
+    places: &[i32],
+    parts: &[Part],
+) -> Result<Vec<u32>, AllocError>
+    requires few { length places.now ≤ MOST_PLACES }
+    ensures value { IfOk result (λ ranks. ranks.items ≡ map (rank_of places.now) parts.now) }
+    ensures within { IfOk result (λ ranks. All (λ r. r ≤ 2 * MOST_PLACES + 1) ranks.items) }
+{
+    let mut ranks = Vec::with_capacity(alloc, parts.len())?;
+    for part in parts {
+        ranks.push(rank_of(places, part))?;
+    }
+    Ok(ranks)
 }
 
 /// How many ranks there are: one for each place, and one between each two.

@@ -1,13 +1,18 @@
 -- One cold part more.
 use Rattle.chains.proofs.FlatMaps.{enumerated-step}
 use Rattle.chains.proofs.links.push_leaving.Goals.{else-is_one_of, then-is_one_of+in_ok-push}
-use Rattle.chains.proofs.Words.{Cold, Contains, append-nil, blank, cons_if, false_from_ne_true, get_or_default, is_permitted, leaving_at, not_from_Decides}
-use Rattle.chains.proofs.Words.{open_link, rank_of, side_of}
+use Rattle.chains.proofs.Words.{Cold, Contains, append-nil, blank, cons_if, false_from_ne_true, get_or-map, get_or_default, is_permitted, leaving_at}
+use Rattle.chains.proofs.Words.{length-map, not_from_Decides, open_link, rank_of, side_of}
 use Rattle.std.proofs.Common.{Bool, Some, [], ap, ap₂, arith, get_or, length, subst, sym, true, ◌++◌, ◌+◌, ◌<◌, ◌∙◌, ◌∷◌, ◌≡◌}
 use Rattle.chains.proofs.links.push_leaving.Goals as goal
 
 pub overflow_add-node : goal.overflow_add-node
-overflow_add-node c = omega (arith, c.requires.node, c.rank_of.ensures.within, c.requires.few_places)
+overflow_add-node c =
+    let cold = c.args.parts.now.cold in
+    let each = ap length c.requires.ranks ∙ length-map cold (rank_of c.args.places.now) in
+    let within = subst (λ xs. c.loop-index.index < length xs) c.as_slice-part-items.ensures c.loop-index-test.true in
+    let small = c.requires.small c.loop-index.index 0 (omega (arith, each, within)) in
+    omega (arith, c.requires.node, small)
 
 pub loop-index-preserved : goal.loop-index-preserved
 loop-index-preserved c =
@@ -25,11 +30,13 @@ loop-index-preserved c =
     let permitted = c.in_ok-permitted.ensures p.source side in
     let after = c.loop-index.links.items in
     let out = open_link (g.first_node + rank_of places p) (length hot + i) in
+    let rank : get_or c.args.ranks.now i 0 ≡ rank_of places p = ap (λ xs. get_or xs i 0) c.requires.ranks
+    ∙ (get_or-map (rank_of places) cold i p 0 within ∙ ap (rank_of places) (sym is)) in
     let pushes = λ (b : Bool). after ++ cons_if b out [] in
     elim c.if-is_one_of.branch [
       | then-is_one_of+in_ok-push w ↦
           let found = subst (λ xs. Contains xs p.source) c.as_slice.ensures.value (c.is_one_of.ensures.0 w.if-is_one_of.true) in
-          let link = w.open_link.ensures ∙ ap₂ (λ r n. open_link (g.first_node + r) (n + i)) w.rank_of.ensures.value c.len-hots.ensures in
+          let link = w.open_link.ensures ∙ ap₂ (λ r n. open_link (g.first_node + r) (n + i)) rank c.len-hots.ensures in
           enumerated-step cold i p _ after _ within is (leaving_at case places (length hot) g) c.loop-index.invariant
           (ap (λ v. v.items) w.links-is ∙ w.in_ok-push.ensures.items ∙ ap (λ l. after ++ l ∷ []) link ∙ ap pushes (sym (permitted.0 found)))
       | else-is_one_of w ↦

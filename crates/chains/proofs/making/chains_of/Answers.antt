@@ -7,8 +7,8 @@ use Rattle.chains.proofs.RankLemmas.{places_some}
 use Rattle.chains.proofs.making.chains_of.Goals.{After-as_slice-places, After-drop-grid-2, After-len-2, After-len-3, After-rank_count-ranks, In-loop-group}
 use Rattle.chains.proofs.making.chains_of.Goals.{In_ok-groups}
 use Rattle.chains.proofs.Words.{All, AreGroups, Group, IsGrid, MOST_INNER_NODES, MOST_PARTS, MOST_PLACES, StandInLine, append-nil, chain_links, entering}
-use Rattle.chains.proofs.Words.{flat_map, leaving, length-grid, links_of_group, onward, rank_count, take_all}
-use Rattle.std.proofs.Common.{ap, append_assoc, ap₂, arith, get_or, length, subst, subst₂, sym, ◌*◌, ◌++◌, ◌+◌, ◌<◌, ◌∙◌, ◌≡◌, ◌≤◌}
+use Rattle.chains.proofs.Words.{flat_map, leaving, length-grid, links_of_group, onward, rank_count, rank_of, take_all}
+use Rattle.std.proofs.Common.{ap, append_assoc, ap₂, arith, get_or, length, map, subst, subst₂, sym, ◌*◌, ◌++◌, ◌+◌, ◌<◌, ◌∙◌, ◌≡◌, ◌≤◌}
 use Rattle.chains.proofs.making.chains_of.Goals as goal
 
 grid : (c : After-as_slice-places) → IsGrid c.args.case.now c.as_slice-places.result.now
@@ -70,8 +70,16 @@ push_onward-requires-clause-some c =
 pub push_onward-requires-clause-ranks : goal.push_onward-requires-clause-ranks
 push_onward-requires-clause-ranks c = few_ranks (goal.at.push_onward-requires-clause-ranks c).After-rank_count-ranks
 
-pub push_leaving-requires-clause-few_places : goal.push_leaving-requires-clause-few_places
-push_leaving-requires-clause-few_places c = few_places (goal.at.push_leaving-requires-clause-few_places c).After-as_slice-places
+pub ranks_of-requires : goal.ranks_of-requires
+ranks_of-requires c = record { few = few_places (goal.at.ranks_of-requires c).After-as_slice-places }
+
+pub push_leaving-requires-clause-ranks : goal.push_leaving-requires-clause-ranks
+push_leaving-requires-clause-ranks c =
+    c.deref.ensures.value ∙ (c.in_ok-cold_ranks.ensures.value ∙ ap (map (rank_of c.as_slice-places.result.now)) c.as_slice-3.ensures)
+
+pub push_leaving-requires-clause-small : goal.push_leaving-requires-clause-small
+push_leaving-requires-clause-small c =
+    subst (All (λ r. r ≤ 2 * MOST_PLACES + 1)) (sym c.deref.ensures.value) c.in_ok-cold_ranks.ensures.within
 
 pub push_leaving-requires-clause-node : goal.push_leaving-requires-clause-node
 push_leaving-requires-clause-node c = first_node (goal.at.push_leaving-requires-clause-node c).In-loop-group c.group-item.result c.group-item.is
