@@ -1,5 +1,5 @@
 -- Shares in order, gathered into transfers one after the other.
-use Rattle.chains.proofs.ListSums.{if_add, int_sum_by-front, int_sum_by-permutation, int_sum_by-term}
+use Rattle.chains.proofs.SpreadLemmas.{if_add, int_sum_by-front, int_sum_by-permutation, int_sum_by-term}
 use Rattle.chains.proofs.Words.{All, All-contains, All-head, All-permutation, All-pop, All-push, All-weaker, AllPairs, AllPairs-across, AllPairs-front}
 use Rattle.chains.proofs.Words.{AreGathered, AreOfOnePair, Bor, Called, Cold, ComputesKey, Contains, Contains-append_left, Contains-permutation, Contains-push}
 use Rattle.chains.proofs.Words.{Hot, IsAdded, IsJoined, IsNotAfter, IsPermutation, IsPermutation-sym, IsPushed, IsSortedByKey, Mut, Share, Side, Transfer}

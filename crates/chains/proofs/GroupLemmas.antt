@@ -1,12 +1,165 @@
+-- Lists of exactly the values that meet a predicate, each once: one value more, and what a loop over such a list keeps.
+use Rattle.chains.proofs.Words.{ALL_UTILITIES, All, All-append, All-cons, All-cons_if, All-contains, All-enumerated, All-flat_map, All-nil, All-slice_get}
+use Rattle.chains.proofs.Words.{All-weaker, AllPairs, AllPairs-append, AllPairs-before, AllPairs-cons, AllPairs-cons_if, AllPairs-nil, Any, Any-push, AreGroups}
+use Rattle.chains.proofs.Words.{AreSources, AreStreams-IsComplete, Case, Cold, Contains, Contains-append_left, Contains-append_right, Contains-flat_map}
+use Rattle.chains.proofs.Words.{Contains-push, Contains-push_cases, Group, HaveSamePartners, Hot, IsComplete, IsLike, Lists-same, ListsOnce, MOST_INNER_NODES}
+use Rattle.chains.proofs.Words.{MOST_PARTS, MOST_PLACES, MOST_STREAMS, Side, Source, StandInLine, StandsIn, Stream, Utility, all_pairs_push, cases_order}
+use Rattle.chains.proofs.Words.{cons_if, count_by, count_by-cons, count_by-le-length, enumerate_from, flat_map, get_or_default, get_or_from_slice_get}
+use Rattle.chains.proofs.Words.{is_forbidden, length-take, length-utilities, length_push, mul-le, own_side, same_Some, same_side, same_side-true, side_among}
+use Rattle.chains.proofs.Words.{side_of, slice_get_push, slice_get_read, slice_get_within, streams_on, take_all, take_more, utilities_on}
+use Rattle.std.proofs.Common.{Bool, List, None, Option, Some, [], ap, arith, cond, false, get_or, inl, inr, length, length-append, option_map, refl, slice_get}
+use Rattle.std.proofs.Common.{subst, subst₂, sym, take, true, ℕ, ⊎_elim, ◌*◌, ◌++◌, ◌+◌, ◌<◌, ◌∙◌, ◌∷◌, ◌≡◌, ◌≢◌, ◌≤◌, ◌⊎◌}
+use Rattle.chains.proofs.FlatMaps.{Contains-enumerated}
+use Rattle.stream_case.specs.declared.source.Source.TheVariants.{Stream as of_stream, Utility as of_utility}
+
+module _ {X : Type 0} where
+  -- one value more
+  pub once-push : (P Q : X → Type 0) (xs : List X) (x : X) → ListsOnce P xs → (P x → ⊥) → Q x → ((y : X) → P y → Q y) → ((y : X) → Q y → P y ⊎ (y ≡ x))
+      → ListsOnce Q (xs ++ x ∷ [])
+  once-push P Q xs x h new own there back = record {
+    ordered = AllPairs-append (λ a b. a ≢ b) xs (x ∷ []) h.ordered (AllPairs-cons (λ a b. a ≢ b) x [] (All-nil (λ b. x ≢ b)) (AllPairs-nil (λ a b. a ≢ b)))
+        (All-weaker P (λ a. All (λ b. a ≢ b) (x ∷ [])) (λ a p. All-cons (λ b. a ≢ b) x [] (λ e. new (subst P e p)) (All-nil (λ b. a ≢ b))) xs h.each);
+    each = All-append Q xs (x ∷ []) (All-weaker P Q there xs h.each) (All-cons Q x [] own (All-nil Q));
+    every = λ y q. ⊎_elim (λ p. Contains-append_left xs (x ∷ []) y (h.every y p)) (λ e. subst (Contains (xs ++ x ∷ [])) (sym e) (Contains-push xs x))
+        (back y q);
+  }
+
+  -- ---- what a loop over such a list has kept so far
+
+  -- of the first n values, those that meet P
+  abbrev pub KeptSoFar : (X → Type 0) → List X → ℕ → List X → Type 0
+  KeptSoFar P xs n kept = ListsOnce (λ x. Contains (take n xs) x × P x) kept
+
+  module _ (P : X → Type 0) (xs : List X) (differ : AllPairs (λ a b. a ≢ b) xs) (i : ℕ) (within : i < length xs) (x : X) (is : x ≡ get_or xs i x)
+      (kept : List X) (before : KeptSoFar P xs i kept) where
+    new_here : Contains (take i xs) x → ⊥
+    new_here found = All-contains (λ y. y ≢ get_or xs i x) (take i xs) x (AllPairs-before (λ a b. a ≢ b) xs i x differ within) found is
+
+    grown : take (i + 1) xs ≡ take i xs ++ x ∷ []
+    grown = subst (λ y. take (i + 1) xs ≡ take i xs ++ y ∷ []) (sym is) (take_more xs i x within)
+
+    pub kept-push : P x → KeptSoFar P xs (i + 1) (kept ++ x ∷ [])
+    kept-push own =
+        subst (λ ys. ListsOnce (λ y. Contains ys y × P y) (kept ++ x ∷ [])) (sym grown)
+        (once-push (λ y. Contains (take i xs) y × P y) (λ y. Contains (take i xs ++ x ∷ []) y × P y) kept x before (λ h. new_here h.0)
+        (Contains-push (take i xs) x, own)
+        (λ y h. (Contains-append_left (take i xs) (x ∷ []) y h.0, h.1))
+        (λ y h. ⊎_elim (λ early. inl (early, h.1)) (λ last. inr (sym last)) (Contains-push_cases (take i xs) x y h.0)))
+
+    pub kept-pass : (P x → ⊥) → KeptSoFar P xs (i + 1) kept
+    kept-pass other =
+        subst (λ ys. ListsOnce (λ y. Contains ys y × P y) kept) (sym grown)
+        (Lists-same (λ a b. a ≢ b) (λ y. Contains (take i xs) y × P y) (λ y. Contains (take i xs ++ x ∷ []) y × P y) kept
+        (λ y h. (Contains-append_left (take i xs) (x ∷ []) y h.0, h.1))
+        (λ y h. ⊎_elim (λ early. (early, h.1)) (λ last. absurd (other (subst P (sym last) h.1))) (Contains-push_cases (take i xs) x y h.0))
+        before)
+
+-- The lists of the sources on a side.
+
+abbrev Differ : Source → Source → Type 0
+Differ a b = a ≢ b
+
+-- of items that have a side, the sources by their indexes
+module _ {X : Type 0} (side_in : X → Side) (source : ℕ → Source) (side : Side) where
+  abbrev on : X → Bool
+  on x = same_side (side_in x) side
+
+  abbrev of_item : ℕ × X → List Source
+  of_item p = cons_if (on p.1) (source p.0) []
+
+  abbrev from : ℕ → List X → List Source
+  from n xs = flat_map of_item (enumerate_from n xs)
+
+  abbrev IsAt : List X → Source → Type 0
+  IsAt xs s = (i : ℕ) × (s ≡ source i) × (option_map side_in (slice_get xs i) ≡ Some side)
+
+  each_is : (xs : List X) → All (IsAt xs) (from 0 xs)
+  each_is xs =
+      All-flat_map (IsAt xs) of_item (enumerate_from 0 xs)
+      (All-enumerated (λ p. All (IsAt xs) (of_item p)) xs
+      (λ i x at.
+      All-cons_if (IsAt xs) (on x) (source i) [] (λ is. (i, refl, ap (option_map side_in) at ∙ ap Some (same_side-true (side_in x) side is)))
+      (All-nil (IsAt xs))))
+
+  every_is : (xs : List X) (i : ℕ) → option_map side_in (slice_get xs i) ≡ Some side → Contains (from 0 xs) (source i)
+  every_is xs i = at (slice_get xs i) refl
+    where
+      at : (o : Option X) → slice_get xs i ≡ o → option_map side_in o ≡ Some side → Contains (from 0 xs) (source i)
+      at None none is = cc is
+      at (Some x) there is =
+          let test : on x ≡ true = ap (λ a. same_side a side) (same_Some (side_in x) side is) ∙ own_side side in
+          Contains-flat_map of_item (enumerate_from 0 xs) (i, x) (source i) (Contains-enumerated xs i x there)
+          (subst (λ b. Contains (cons_if b (source i) []) (source i)) (sym test) (0, omega arith, refl))
+
+  few_on : (n : ℕ) (xs : List X) → length (from n xs) ≤ count_by on xs
+  few_on n [] = omega arith
+  few_on n (x ∷ xs) =
+      omega (arith, count_by-cons on x xs, length-append (of_item (n, x)) (from (n + 1) xs), few_on (n + 1) xs, one_or_none (on x) (source n))
+    where
+      one_or_none : (b : Bool) (s : Source) → length (cons_if b s []) ≡ cond b 1 0
+      one_or_none true s = refl
+      one_or_none false s = refl
+
+  -- the later ones have greater indexes
+  abbrev IsLate : ℕ → Source → Type 0
+  IsLate n s = (i : ℕ) × (n ≤ i) × (s ≡ source i)
+
+  each_late : (n : ℕ) (xs : List X) → All (IsLate n) (from n xs)
+  each_late n [] = All-nil (IsLate n)
+  each_late n (x ∷ xs) =
+      All-append (IsLate n) (of_item (n, x)) (from (n + 1) xs)
+      (All-cons_if (IsLate n) (on x) (source n) [] (λ is. (n, omega arith, refl)) (All-nil (IsLate n)))
+      (All-weaker (IsLate (n + 1)) (IsLate n) (λ s h. (h.0, omega (arith, h.1), h.2)) (from (n + 1) xs) (each_late (n + 1) xs))
+
+  once : ((i j : ℕ) → source i ≡ source j → i ≡ j) → (n : ℕ) (xs : List X) → AllPairs Differ (from n xs)
+  once one n [] = AllPairs-nil Differ
+  once one n (x ∷ xs) =
+      let later = from (n + 1) xs in
+      let differ = λ (s : Source) (h : IsLate (n + 1) s) (e : source n ≡ s). absurd (omega (arith, h.1, one n h.0 (e ∙ h.2))) in
+      AllPairs-append Differ (of_item (n, x)) later (AllPairs-cons_if Differ (on x) (source n) [] (λ is. All-nil (Differ (source n))) (AllPairs-nil Differ))
+      (once one (n + 1) xs)
+      (All-cons_if (λ a. All (Differ a) later) (on x) (source n) []
+      (λ is. All-weaker (IsLate (n + 1)) (Differ (source n)) differ later (each_late (n + 1) xs)) (All-nil (λ a. All (Differ a) later)))
+
+module _ (streams : List Stream) (utilities : List Utility) (side : Side) where
+  abbrev IsOn : Source → Type 0
+  IsOn source = side_among streams utilities source ≡ Some side
+
+  every_on : (source : Source) → IsOn source → Contains (streams_on side streams ++ utilities_on side utilities) source
+  every_on (of_stream i) is =
+      Contains-append_left (streams_on side streams) (utilities_on side utilities) (of_stream i) (every_is (λ (s : Stream). s.side) of_stream side streams i is)
+  every_on (of_utility i) is =
+      Contains-append_right (streams_on side streams) (utilities_on side utilities) (of_utility i)
+      (every_is (λ (u : Utility). u.side) of_utility side utilities i is)
+
+  pub AreSources-on : AreSources streams utilities side (streams_on side streams ++ utilities_on side utilities)
+  AreSources-on =
+      let firsts = streams_on side streams in
+      let others = utilities_on side utilities in
+      let of_streams = each_is (λ (s : Stream). s.side) of_stream side streams in
+      let of_utilities = each_is (λ (u : Utility). u.side) of_utility side utilities in
+      let IsFirst = IsAt (λ (s : Stream). s.side) of_stream side streams in
+      let IsOther = IsAt (λ (u : Utility). u.side) of_utility side utilities in
+      let differ = λ (s : Source) (h : IsFirst s). All-weaker IsOther (Differ s) (λ u k e. (cc (e, h.1, k.1))) others of_utilities in
+      record {
+        listed = record {
+          ordered =
+              AllPairs-append Differ firsts others (once (λ (s : Stream). s.side) of_stream side (λ i j e. (cc)) 0 streams)
+              (once (λ (u : Utility). u.side) of_utility side (λ i j e. (cc)) 0 utilities)
+              (All-weaker IsFirst (λ a. All (Differ a) others) differ firsts of_streams);
+          each =
+              All-append IsOn firsts others (All-weaker IsFirst IsOn (λ s h. subst IsOn (sym h.1) h.2) firsts of_streams)
+              (All-weaker IsOther IsOn (λ u h. subst IsOn (sym h.1) h.2) others of_utilities);
+          every = every_on;
+        };
+        few =
+            (let streams_few = few_on (λ (s : Stream). s.side) of_stream side 0 streams in
+            let utilities_few = few_on (λ (u : Utility). u.side) of_utility side 0 utilities in
+            let all = count_by-le-length (λ (u : Utility). same_side u.side side) utilities in
+            omega (arith, streams_few, utilities_few, all, length-append firsts others));
+      }
+
 -- Groups of hot sources, one hot source after another.
-use Rattle.chains.proofs.OnceLemmas.{KeptSoFar}
-use Rattle.chains.proofs.Words.{ALL_UTILITIES, All, All-append, All-cons, All-contains, All-nil, All-slice_get, All-weaker, AllPairs, Any, Any-push, AreGroups}
-use Rattle.chains.proofs.Words.{AreSources, AreStreams-IsComplete, Case, Cold, Contains, Contains-append_left, Contains-push, Group, HaveSamePartners, Hot}
-use Rattle.chains.proofs.Words.{IsComplete, IsLike, Lists-same, ListsOnce, MOST_INNER_NODES, MOST_PARTS, MOST_PLACES, MOST_STREAMS, Source, StandInLine}
-use Rattle.chains.proofs.Words.{StandsIn, all_pairs_push, cases_order, get_or_default, get_or_from_slice_get, is_forbidden, length-take, length-utilities}
-use Rattle.chains.proofs.Words.{length_push, mul-le, same_Some, side_of, slice_get, slice_get_push, slice_get_read, slice_get_within, take_all, take_more}
-use Rattle.std.proofs.Common.{List, Some, [], ap, arith, get_or, length, refl, subst, subst₂, sym, take, ℕ, ⊎_elim, ◌*◌, ◌++◌, ◌+◌, ◌<◌, ◌∙◌, ◌∷◌, ◌≡◌, ◌≢◌}
-use Rattle.std.proofs.Common.{◌≤◌}
 
 -- ---- partners
 

@@ -1,6 +1,5 @@
 -- The hot sources that are like the first one are kept.
-use Rattle.chains.proofs.GroupLemmas.{HaveSamePartners-all, all-HaveSamePartners, likes-all}
-use Rattle.chains.proofs.OnceLemmas.{KeptSoFar, kept-pass, kept-push}
+use Rattle.chains.proofs.GroupLemmas.{HaveSamePartners-all, KeptSoFar, all-HaveSamePartners, kept-pass, kept-push, likes-all}
 use Rattle.chains.proofs.groups.sources_like.Goals.{else-are_alike, then-are_alike+in_ok-push}
 use Rattle.chains.proofs.Words.{HaveSamePartners, false≢true, get_or_default}
 use Rattle.std.proofs.Common.{ap, get_or, subst, sym, ◌+◌, ◌∙◌}

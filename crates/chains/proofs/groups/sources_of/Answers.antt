@@ -1,4 +1,4 @@
-use Rattle.chains.proofs.SourceLists.{AreSources-on}
+use Rattle.chains.proofs.GroupLemmas.{AreSources-on}
 use Rattle.chains.proofs.Words.{AreSources, AreStreams-IsComplete, length-AreStreams, length-utilities, streams_on, utilities_on}
 use Rattle.std.proofs.Common.{ap, arith, subst, sym, ◌++◌, ◌∙◌}
 use Rattle.chains.proofs.groups.sources_of.Goals as goal

@@ -1,6 +1,6 @@
 -- The cold sources that are permitted to a group are kept.
-use Rattle.chains.proofs.LinkLemmas.{IsPermitted}
-use Rattle.chains.proofs.OnceLemmas.{KeptSoFar, kept-pass, kept-push}
+use Rattle.chains.proofs.NetLemmas.{IsPermitted}
+use Rattle.chains.proofs.GroupLemmas.{KeptSoFar, kept-pass, kept-push}
 use Rattle.chains.proofs.links.permitted_to.Goals.{else-is_permitted, then-is_permitted+in_ok-push}
 use Rattle.std.proofs.Common.{ap, get_or, subst, sym, take, ◌+◌, ◌∙◌, ◌≢◌}
 use Rattle.chains.proofs.Words.{All-contains, AllPairs, Contains, false≢true, get_or_default, take_all}

@@ -1,6 +1,6 @@
 -- One hot part more.
 use Rattle.chains.proofs.FlatMaps.{enumerated-step}
-use Rattle.chains.proofs.LinkLemmas.{node_at_most}
+use Rattle.chains.proofs.NetLemmas.{node_at_most}
 use Rattle.chains.proofs.links.push_entering.Goals.{in-Some+in_ok-push, in_default}
 use Rattle.chains.proofs.Words.{MOST_INNER_NODES, append-nil, blank, entering, entering_at, get_or_default, open_link, rank_of, take_all}
 use Rattle.std.proofs.Common.{Option, [], ap, arith, get_or, option_map, option_to_list, sym, ℕ, ◌++◌, ◌+◌, ◌∙◌, ◌∷◌}

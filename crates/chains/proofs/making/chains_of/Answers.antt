@@ -1,9 +1,7 @@
 -- The net of the chains of a case, group by group.
 use Rattle.chains.proofs.FlatMaps.{flat_map-step}
 use Rattle.chains.proofs.GroupLemmas.{few_chain_nodes}
-use Rattle.chains.proofs.NetLemmas.{AreChains, AreChains-made, cold_on_places, first_nodes_few, hot_on_places}
-use Rattle.chains.proofs.PathLemmas.{AreForChains}
-use Rattle.chains.proofs.RankLemmas.{places_some}
+use Rattle.chains.proofs.NetLemmas.{AreChains, AreChains-made, AreForChains, cold_on_places, first_nodes_few, hot_on_places, places_some}
 use Rattle.chains.proofs.making.chains_of.Goals.{After-as_slice-places, After-drop-grid-2, After-len-2, After-len-3, After-rank_count-ranks, In-loop-group}
 use Rattle.chains.proofs.making.chains_of.Goals.{In_ok-groups}
 use Rattle.chains.proofs.Words.{All, AreGroups, Group, IsGrid, MOST_INNER_NODES, MOST_PARTS, MOST_PLACES, StandInLine, append-nil, chain_links, entering}

@@ -1,7 +1,6 @@
 -- The flow is under way from the first share to the last, and then its shares at the cold parts are gathered.
-use Rattle.chains.proofs.PassLemmas.{IsUnderWay-arrived, IsUnderWay-passed, carried_in_all, length_passed, share_popped, some_way_left}
-use Rattle.chains.proofs.SetOutLemmas.{IsUnderWay-first}
-use Rattle.chains.proofs.SpreadLemmas.{IsSpread-gathered, carried_smaller, given_fits, left_not_negative}
+use Rattle.chains.proofs.SpreadLemmas.{IsSpread-gathered, IsUnderWay-arrived, IsUnderWay-first, IsUnderWay-passed, carried_in_all, carried_smaller, given_fits}
+use Rattle.chains.proofs.SpreadLemmas.{left_not_negative, length_passed, share_popped, some_way_left}
 use Rattle.chains.proofs.spreading.spread.Goals.{In-Some, In_default}
 use Rattle.chains.proofs.Words.{AreGathered, Flow, IfOk-weaker, IsShare, IsSpread, IsUnderWay, ints, left_in_all, length_push, nil_from_length}
 use Rattle.std.proofs.Common.{[], ap, arith, length, subst, sym, ◌++◌, ◌+◌, ◌<◌, ◌∙◌, ◌∷◌, ◌≤◌}

@@ -1,4 +1,4 @@
-use Rattle.chains.proofs.PassLemmas.{moved_one, moved_two}
+use Rattle.chains.proofs.SpreadLemmas.{moved_one, moved_two}
 use Rattle.chains.proofs.stock.pass_on.Goals.{else-part-share, then-part-share+in_ok-push}
 use Rattle.chains.proofs.Words.{IsCarried, ints, to_z-of_z}
 use Rattle.std.proofs.Common.{ap, arith, of_z, rules, subst, to_z, w64, ◌∙◌, ◌≡◌}

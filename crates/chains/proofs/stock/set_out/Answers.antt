@@ -1,4 +1,4 @@
-use Rattle.chains.proofs.SetOutLemmas.{set_out_none, set_out_share, set_out_way}
+use Rattle.chains.proofs.SpreadLemmas.{set_out_none, set_out_share, set_out_way}
 use Rattle.chains.proofs.stock.set_out.Goals.{else-heat-gt0, then-heat-gt0+else-link-hots+in_ok-push-2, then-heat-gt0+then-link-hots+in_ok-push}
 use Rattle.chains.proofs.Words.{flow_on, ints, to_z-of_z}
 use Rattle.std.proofs.Common.{ap, arith, of_z, rules, to_z, w64, ◌∙◌, ◌≡◌}
