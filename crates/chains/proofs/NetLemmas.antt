@@ -3,15 +3,15 @@ use Rattle.chains.proofs.Words.{ALL_UTILITIES, All-append, All-cons, All-cons_if
 use Rattle.chains.proofs.Words.{All-weaker, AllPairs-head, AllPairs-tail, AllPass-from_list_all, Any-from_list_any, AreGroups, AreOnGrid, Case, Chains, Cold}
 use Rattle.chains.proofs.Words.{Contains-append_left, Contains-append_right, Contains-cons, Contains-flat_map, Contains-get_or, Contains-slice_get}
 use Rattle.chains.proofs.Words.{Decides-int_eq, Group, Hot, IsComplete, IsGrid, IsInner, IsInnerLink, IsInterval, IsOnPlaces, IsPath, IsSmall, LeadsTo, Link}
-use Rattle.chains.proofs.Words.{ListsFalling-unique, MOST_INNER_LINKS, MOST_INNER_NODES, MOST_PARTS, MOST_PLACES, MOST_STREAMS, Net, Part, PathsAreReaches}
-use Rattle.chains.proofs.Words.{Side, Source, StandInLine, StartsChain, StaysValid-IsComplete, Stream, and_from, and_parts, append-nil, both_reach, cases_eq}
+use Rattle.chains.proofs.Words.{ListsFalling-unique, MOST_INNER_NODES, MOST_PARTS, MOST_PLACES, MOST_STREAMS, Net, Part, PathsAreReaches, Side, Source}
+use Rattle.chains.proofs.Words.{StandInLine, StartsChain, StaysValid-IsComplete, Stream, and_from, and_parts, append-nil, both_parts, both_reach, cases_eq}
 use Rattle.chains.proofs.Words.{cases_lt, chain_links, cons_if, div-mul-le_self, entering, entering_at, enumerate_from, false≢true, find, first_node_of}
 use Rattle.chains.proofs.Words.{flat_map, get_or_from_slice_get, has_source, high_end, int_eq, int_eq-false, int_le-from, int_le-true, interval_falls, ints}
 use Rattle.chains.proofs.Words.{is_forbidden, is_permitted, le-div, le-div_iff_mul-le, leaving, leaving_at, length-enumerate_from, length-flat_map, length-grid}
 use Rattle.chains.proofs.Words.{links_of_group, list_all-from_AllPass, list_any-from_Any, mul-add-lt, mul-le, none-some, not-true, not_from_false, onward}
-use Rattle.chains.proofs.Words.{open_link, or_cases, or_left, or_right, part_reaches, passes_heat, place_index, places_of, range_with_len, rank_count, rank_of}
-use Rattle.chains.proofs.Words.{reach_between, same_Some, same_from_place, same_source, same_source-same, same_source-true, shifted_level, slice_get_read}
-use Rattle.chains.proofs.Words.{slice_get_within, stream_ends, stride_link, stride_links, strides}
+use Rattle.chains.proofs.Words.{open_link, or_cases, or_left, or_right, passes_heat, place_index, places_of, range_with_len, rank_count, rank_of, reach_between}
+use Rattle.chains.proofs.Words.{same_Some, same_from_place, same_source, same_source-same, same_source-true, shifted_level, slice_get_read, slice_get_within}
+use Rattle.chains.proofs.Words.{stream_ends, stride_link, stride_links, strides}
 use Rattle.std.proofs.Common.{All, AllPairs, Bool, Contains, IsTrue, List, None, Option, Some, [], ap, append_assoc, ap₂, arith, cond, false, get_or}
 use Rattle.std.proofs.Common.{if◌then◌else◌, inl, inr, int_le, length, length-append, map, not, option_map, option_to_list, refl, slice_get, subst, subst₂, suc}
 use Rattle.std.proofs.Common.{sym, true, zero, ℕ, ℤ, ⊎_elim, ◌&&◌, ◌*◌, ◌++◌, ◌+◌, ◌-◌, ◌/◌, ◌<ℤ◌, ◌<◌, ◌∙◌, ◌∷◌, ◌≡◌, ◌≤ℤ◌, ◌≤◌, ◌⊎◌}
@@ -29,8 +29,7 @@ some_end (s ∷ ss) levels some = (high_end s, (0, omega arith, refl))
 pub places_some : (c : Case) (places : List ℤ) → IsComplete c → IsGrid c places → 0 < length places
 places_some c places complete grid =
     let (x, found) = some_end c.streams (map shifted_level c.utilities) (StaysValid-IsComplete c complete).streams.some in
-    let (k, within, is) = grid.every x found in
-    omega (arith, within)
+    let (k, within, is) = grid.every x found in omega (arith, within)
 
 -- the index of a place is where it stands
 pub place_index-at : (places : List ℤ) → AllPairs (λ a b. b <ℤ a) places → (i : ℕ) (x : ℤ) → slice_get places i ≡ Some x → place_index places x ≡ i
@@ -51,8 +50,7 @@ module _ (places : List ℤ) (falls : AllPairs (λ a b. b <ℤ a) places) where
   as_high : (i j : ℕ) (x y : ℤ) → slice_get places i ≡ Some x → slice_get places j ≡ Some y → i ≤ j → y ≤ℤ x
   as_high i j x y from to before =
       ⊎_elim (λ e. let same : x ≡ y = same_Some x y (sym from ∙ ap (slice_get places) e ∙ to) in omega (arith, ints))
-      (λ other. let less = higher i j x y from to (omega (arith, before, other)) in omega (arith, ints))
-      (cases_eq i j)
+      (λ other. let less = higher i j x y from to (omega (arith, before, other)) in omega (arith, ints)) (cases_eq i j)
 
   as_early : (i j : ℕ) (x y : ℤ) → slice_get places i ≡ Some x → slice_get places j ≡ Some y → y ≤ℤ x → i ≤ j
   as_early i j x y from to low = ⊎_elim (λ late. let less = higher j i y x to from late in absurd (omega (arith, ints))) (λ early. early) (cases_lt j i)
@@ -75,17 +73,9 @@ module _ (c : Case) (places : List ℤ) (falls : AllPairs (λ a b. b <ℤ a) pla
       at_place (level, (k, within, is)) =
           let at : slice_get places k ≡ Some p.high = slice_get_read places (length places) k p.high refl within (sym is) in
           let rank : rank_of places p ≡ 2 * k + 0 =
-          ap₂ (λ n b. 2 * n + (if b then 0 else 1)) (place_index-at places falls k p.high at) ((Decides-int_eq p.high p.low).1 level) in (
-            k,
-            k,
-            record {
-              high_at = at;
-              low_at = subst (λ t. slice_get places k ≡ Some t) level at;
-              from = omega arith;
-              upto = omega arith;
-              rank = omega (arith, rank);
-            },
-          )
+          ap₂ (λ n b. 2 * n + (if b then 0 else 1)) (place_index-at places falls k p.high at) ((Decides-int_eq p.high p.low).1 level) in
+          let low = subst (λ t. slice_get places k ≡ Some t) level at in
+          (k, k, record { high_at = at; low_at = low; from = omega arith; upto = omega arith; rank = omega (arith, rank) })
 
       between : IsInterval places p.high p.low → (upper : ℕ) × (lower : ℕ) × StandsAt places p upper lower
       between i =
@@ -97,9 +87,7 @@ module _ (c : Case) (places : List ℤ) (falls : AllPairs (λ a b. b <ℤ a) pla
 
   pub rank_within : (side : Side) (p : Part) → IsOnPlaces c places side p → rank_of places p < rank_count places
   rank_within side p h =
-      let (upper, lower, at) = stands_at side p h in
-      let within = slice_get_within places lower p.low at.low_at in
-      omega (arith, within, at.from, at.rank)
+      let (upper, lower, at) = stands_at side p h in let within = slice_get_within places lower p.low at.low_at in omega (arith, within, at.from, at.rank)
 
   -- heat passes downward by rank
   pub passes-rank : (side other : Side) (p q : Part) → IsOnPlaces c places side p → IsOnPlaces c places other q → passes_heat p q ≡ true
@@ -107,8 +95,7 @@ module _ (c : Case) (places : List ℤ) (falls : AllPairs (λ a b. b <ℤ a) pla
   passes-rank side other p q h k passes =
       ⊎_elim
       (λ down.
-      let (upper, lower, at) = stands_at side p h in
-      let (high, low, to) = stands_at other q k in
+      let (upper, lower, at) = stands_at side p h in let (high, low, to) = stands_at other q k in
       let le = as_early places falls lower high p.low q.high at.low_at to.high_at (int_le-true q.high p.low down) in
       omega (arith, le, at.from, at.rank, to.from, to.rank))
       (λ same.
@@ -116,14 +103,12 @@ module _ (c : Case) (places : List ℤ) (falls : AllPairs (λ a b. b <ℤ a) pla
       let rank : rank_of places p ≡ rank_of places q =
       ap₂ (λ high low. 2 * place_index places high + (if int_eq high low then 0 else 1)) ((Decides-int_eq p.high q.high).0 ends.0)
       ((Decides-int_eq p.low q.low).0 ends.1) in
-      omega (arith, rank))
-      (or_cases (int_le q.high p.low) (int_eq p.high q.high && int_eq p.low q.low) passes)
+      omega (arith, rank)) (or_cases (int_le q.high p.low) (int_eq p.high q.high && int_eq p.low q.low) passes)
 
   pub rank-passes : (side other : Side) (p q : Part) → IsOnPlaces c places side p → IsOnPlaces c places other q → rank_of places p ≤ rank_of places q
       → passes_heat p q ≡ true
   rank-passes side other p q h k le =
-      let (upper, lower, at) = stands_at side p h in
-      let (high, low, to) = stands_at other q k in
+      let (upper, lower, at) = stands_at side p h in let (high, low, to) = stands_at other q k in
       ⊎_elim
       (λ late.
       let same_upper : upper ≡ high = omega (arith, late, le, at.from, at.upto, at.rank, to.from, to.upto, to.rank) in
@@ -133,8 +118,7 @@ module _ (c : Case) (places : List ℤ) (falls : AllPairs (λ a b. b <ℤ a) pla
       or_right (int_le q.high p.low) (int_eq p.high q.high && int_eq p.low q.low)
       (and_from (int_eq p.high q.high) (int_eq p.low q.low) ((Decides-int_eq p.high q.high).1 highs) ((Decides-int_eq p.low q.low).1 lows)))
       (λ early. or_left (int_le q.high p.low) (int_eq p.high q.high && int_eq p.low q.low)
-      (int_le-from q.high p.low (as_high places falls lower high p.low q.high at.low_at to.high_at early)))
-      (cases_lt high lower)
+      (int_le-from q.high p.low (as_high places falls lower high p.low q.high at.low_at to.high_at early))) (cases_lt high lower)
 
 -- Paths of links: none, a link more, two paths one after the other, and what the links of a path keep.
 
@@ -239,10 +223,8 @@ strides_positive (suc (suc (suc (suc (suc k))))) d within = absurd (omega (arith
 next_onward : (first ranks r : ℕ) → (r + 1) < ranks → Contains (onward first ranks) (open_link (first + r) (first + (r + 1)))
 unfolding onward
 next_onward first ranks r within =
-    let next = open_link (first + r) (first + (r + 1)) in
-    let same : stride_link first 1 r ≡ next = ap₂ open_link (omega arith) (omega arith) in
-    let count = (ranks - 1) / 1 in
-    let early : r < count = omega (arith, within) in
+    let next = open_link (first + r) (first + (r + 1)) in let same : stride_link first 1 r ≡ next = ap₂ open_link (omega arith) (omega arith) in
+    let count = (ranks - 1) / 1 in let early : r < count = omega (arith, within) in
     let stands = get_or-map-range_with_len (stride_link first 1) 0 count r r next early (omega arith) in
     let among : r < length (stride_links first ranks 1) = omega (arith, early, length-map-range_with_len (stride_link first 1) 0 count) in
     Contains-flat_map (stride_links first ranks) strides 1 next (0, omega arith, refl) (r, among, stands ∙ same)
@@ -250,8 +232,7 @@ next_onward first ranks r within =
 few_onward : (first ranks : ℕ) → length (onward first ranks) ≤ (ranks - 1) + (ranks - 1) / 2
 unfolding onward
 few_onward first ranks =
-    let n = ranks - 1 in
-    let each = λ (stride : ℕ). length-map-range_with_len (stride_link first stride) 0 (n / stride) in
+    let n = ranks - 1 in let each = λ (stride : ℕ). length-map-range_with_len (stride_link first stride) 0 (n / stride) in
     let half = le-div (n / 3 + n / 9 + n / 27 + n / 81) n 2 (omega arith)
     (omega (arith, div-mul-le_self n 3, div-mul-le_self n 9, div-mul-le_self n 27, div-mul-le_self n 81)) in
     omega (arith, half, div-mul-le_self n 1, each 1, each 3, each 9, each 27, each 81, length-flat_map (stride_links first ranks) strides)
@@ -307,8 +288,7 @@ module _ (c : Case) (places : List ℤ) (hot cold : List Part) (groups : List Gr
     unfolding onward
     all_of_group g found =
         let ranks = rank_count places in
-        All-append P (onward g.first_node ranks) (leaving c places (length hot) g cold)
-        (All-flat_map P (stride_links g.first_node ranks) strides
+        All-append P (onward g.first_node ranks) (leaving c places (length hot) g cold) (All-flat_map P (stride_links g.first_node ranks) strides
         (All-weaker (λ stride. 0 < stride) (λ stride. All P (stride_links g.first_node ranks stride)) (all_of_stride g found) strides strides_positive))
         (All-flat_map P (leaving_at c places (length hot) g) (enumerate_from 0 cold)
         (All-enumerated (λ p. All P (leaving_at c places (length hot) g p)) cold (all_leaving g found)))
@@ -318,18 +298,17 @@ module _ (c : Case) (places : List ℤ) (hot cold : List Part) (groups : List Gr
     All-chain_links =
         All-append P (entering places groups hot) (flat_map (links_of_group c places (length hot) cold) groups)
         (All-flat_map P (entering_at places groups) (enumerate_from 0 hot) (All-enumerated (λ p. All P (entering_at places groups p)) hot all_entering))
-        (All-flat_map P (links_of_group c places (length hot) cold) groups
-        (λ k d within. all_of_group (get_or groups k d) (Contains-get_or groups k d within)))
+        (All-flat_map P (links_of_group c places (length hot) cold) groups (λ k d within. all_of_group (get_or groups k d) (Contains-get_or groups k d within)))
 
   -- ---- links that stand among them
 
-  abbrev links : List Link
-  links = chain_links c places hot cold groups
+  abbrev all_links : List Link
+  all_links = chain_links c places hot cold groups
 
-  in_entering : (l : Link) → Contains (entering places groups hot) l → Contains links l
+  in_entering : (l : Link) → Contains (entering places groups hot) l → Contains all_links l
   in_entering l there = Contains-append_left (entering places groups hot) (flat_map (links_of_group c places (length hot) cold) groups) l there
 
-  in_group : (g : Group) (l : Link) → Contains groups g → Contains (links_of_group c places (length hot) cold g) l → Contains links l
+  in_group : (g : Group) (l : Link) → Contains groups g → Contains (links_of_group c places (length hot) cold g) l → Contains all_links l
   in_group g l there link =
       Contains-append_right (entering places groups hot) (flat_map (links_of_group c places (length hot) cold) groups) l
       (Contains-flat_map (links_of_group c places (length hot) cold) groups g l there link)
@@ -344,36 +323,34 @@ module _ (c : Case) (places : List ℤ) (hot cold : List Part) (groups : List Gr
   pub record EntersBy (a : ℕ) (p : Part) (g : Group) : Type 0 where
     pub group_is : Contains groups g
     pub stands : Contains g.sources p.source
-    pub link : Contains links (open_link a (g.first_node + rank_of places p))
+    pub link : Contains all_links (open_link a (g.first_node + rank_of places p))
 
   pub entered : (a : ℕ) (p : Part) (f : Group) → slice_get hot a ≡ Some p → Contains groups f → Contains f.sources p.source → (g : Group) × EntersBy a p g
   entered a p f at there stands =
       let (g, found) = find-there (has_source p.source) groups f there (has_source-there p.source f stands) in
-      let (first, has) = find-some (has_source p.source) groups g found in
-      let into = λ (node : ℕ). open_link a (node + rank_of places p) in
+      let (first, has) = find-some (has_source p.source) groups g found in let into = λ (node : ℕ). open_link a (node + rank_of places p) in
       let is = ap (λ o. option_to_list (option_map into (option_map (λ (h : Group). h.first_node) o))) found in
       let link = in_entering (into g.first_node) (of_part (entering_at places groups) hot a p (into g.first_node) at is) in
       (g, record { group_is = first; stands = has_source-true p.source g has; link = link })
 
-  pub led_on : (g : Group) (r : ℕ) → Contains groups g → (r + 1) < rank_count places → Contains links (open_link (g.first_node + r) (g.first_node + (r + 1)))
+  pub led_on : (g : Group) (r : ℕ) → Contains groups g → (r + 1) < rank_count places
+      → Contains all_links (open_link (g.first_node + r) (g.first_node + (r + 1)))
   led_on g r there within =
-      let next = open_link (g.first_node + r) (g.first_node + (r + 1)) in
-      let ranks = rank_count places in
+      let next = open_link (g.first_node + r) (g.first_node + (r + 1)) in let ranks = rank_count places in
       in_group g next there
       (Contains-append_left (onward g.first_node ranks) (leaving c places (length hot) g cold) next (next_onward g.first_node ranks r within))
 
   pub left : (g : Group) (b : ℕ) (q : Part) → Contains groups g → slice_get cold b ≡ Some q → is_permitted c g q.source ≡ true
-      → Contains links (open_link (g.first_node + rank_of places q) (length hot + b))
+      → Contains all_links (open_link (g.first_node + rank_of places q) (length hot + b))
   left g b q there at permitted =
       let out = open_link (g.first_node + rank_of places q) (length hot + b) in
       let is : leaving_at c places (length hot) g (b, q) ≡ out ∷ [] = ap (λ b. cons_if b out []) permitted in
-      in_group g out there
-      (Contains-append_right (onward g.first_node (rank_count places)) (leaving c places (length hot) g cold) out
+      in_group g out there (Contains-append_right (onward g.first_node (rank_count places)) (leaving c places (length hot) g cold) out
       (of_part (leaving_at c places (length hot) g) cold b q out at is))
 
   -- ---- how many there are
 
-  pub few_chain_links : length links ≤ length hot + length groups * (length cold + 3 * length places)
+  pub few_chain_links : length all_links ≤ length hot + length groups * (length cold + 3 * length places)
   few_chain_links =
       let into = length-flat_map-le (entering_at places groups) 1 (enumerate_from 0 hot) (λ p. at_most_one p.0 p.1 (first_node_of groups p.1.source)) in
       let rest = length-flat_map-le (links_of_group c places (length hot) cold) (length cold + 3 * length places) groups few in
@@ -405,11 +382,6 @@ record AreJoined (c : Case) (hot cold : List Part) (a b : ℕ) (p q : Part) : Ty
   pub cold_part : slice_get cold b ≡ Some q
   pub passes : passes_heat p q ≡ true
   pub free : is_forbidden c.forbids p.source q.source ≡ false
-
-both_parts : (c : Case) (x y : Option Part) → both_reach c x y ≡ true → (p : Part) × (q : Part) × (x ≡ Some p) × (y ≡ Some q) × (part_reaches c p q ≡ true)
-both_parts c None y h = absurd (false≢true h)
-both_parts c (Some p) None h = absurd (false≢true h)
-both_parts c (Some p) (Some q) h = (p, q, refl, refl, h)
 
 module _ (c : Case) (hot cold : List Part) (a b : ℕ) where
   joined_parts : IsTrue (reach_between c hot cold a b) → (p : Part) × (q : Part) × AreJoined c hot cold a b p q
@@ -473,14 +445,12 @@ module _ (c : Case) (places : List ℤ) (hot cold : List Part) (groups : List Gr
       → ((length hot + length cold) ≤ g.first_node + r) × ((g.first_node + r) < (length hot + length cold) + length groups * rank_count places)
   node_of g (i, within, is) r below =
       let first = for.in_line i g (slice_get_read groups (length groups) i g refl within (sym is)) in
-      let last = mul-add-lt i (rank_count places) r (length groups) within below in
-      (omega (arith, first), omega (arith, first, last))
+      let last = mul-add-lt i (rank_count places) r (length groups) within below in (omega (arith, first), omega (arith, first, last))
 
   same_node : (g h : Group) → Contains groups g → Contains groups h → (r s : ℕ) → r < rank_count places → s < rank_count places
       → g.first_node + r ≡ h.first_node + s → (g ≡ h) × (r ≡ s)
   same_node g h g_in h_in r s r_in s_in same =
-      let (i, from) = group_index groups g g_in in
-      let (j, to) = group_index groups h h_in in
+      let (i, from) = group_index groups g g_in in let (j, to) = group_index groups h h_in in
       let e = same_place (length hot + length cold) i j (rank_count places) g.first_node h.first_node r s (for.in_line i g from)
       (for.in_line j h to) r_in s_in same in
       (same_Some g h (sym from ∙ ap (slice_get groups) e.0 ∙ to), e.1)
@@ -492,40 +462,37 @@ module _ (c : Case) (places : List ℤ) (hot cold : List Part) (groups : List Gr
       let (i, here) = group_index groups g is in
       (for.are.alike i i other source (g, here, beside) (g, here, stands)).0 refl q.source (cold_place b q at).source ∙ free
 
-  abbrev all_links : List Link
-  all_links = chain_links c places hot cold groups
+  abbrev links : List Link
+  links = chain_links c places hot cold groups
 
   -- ---- where parts reach, a path leads
 
-  down : (g : Group) → Contains groups g → (r k : ℕ) → r + k < rank_count places → LeadsTo all_links (g.first_node + r) (g.first_node + (r + k))
+  down : (g : Group) → Contains groups g → (r k : ℕ) → r + k < rank_count places → LeadsTo links (g.first_node + r) (g.first_node + (r + k))
   down g is r zero within =
       let same : r ≡ r + zero = omega arith in
-      subst (λ n. LeadsTo all_links (g.first_node + r) (g.first_node + n)) same (LeadsTo-none all_links (g.first_node + r))
+      subst (λ n. LeadsTo links (g.first_node + r) (g.first_node + n)) same (LeadsTo-none links (g.first_node + r))
   down g is r (suc k) within =
-      let same : r + k + 1 ≡ r + suc k = omega arith in
-      let next = open_link (g.first_node + (r + k)) (g.first_node + (r + k + 1)) in
-      subst (λ n. LeadsTo all_links (g.first_node + r) (g.first_node + n)) same
-      (LeadsTo-link all_links (g.first_node + r) next (down g is r k (omega (arith, within)))
+      let same : r + k + 1 ≡ r + suc k = omega arith in let next = open_link (g.first_node + (r + k)) (g.first_node + (r + k + 1)) in
+      subst (λ n. LeadsTo links (g.first_node + r) (g.first_node + n)) same
+      (LeadsTo-link links (g.first_node + r) next (down g is r k (omega (arith, within)))
       (led_on c places hot cold groups g (r + k) is (omega (arith, within))))
 
   to_cold : (g : Group) → Contains groups g → (source : Source) → Contains g.sources source → (r b : ℕ) (q : Part) → slice_get cold b ≡ Some q
-      → r ≤ rank_of places q → is_forbidden c.forbids source q.source ≡ false → LeadsTo all_links (g.first_node + r) (length hot + b)
+      → r ≤ rank_of places q → is_forbidden c.forbids source q.source ≡ false → LeadsTo links (g.first_node + r) (length hot + b)
   to_cold g is source stands r b q at le free =
-      let within = cold_rank b q at in
-      let same : r + (rank_of places q - r) ≡ rank_of places q = omega (arith, le) in
+      let within = cold_rank b q at in let same : r + (rank_of places q - r) ≡ rank_of places q = omega (arith, le) in
       let last = open_link (g.first_node + rank_of places q) (length hot + b) in
-      LeadsTo-link all_links (g.first_node + r) last
-      (subst (λ n. LeadsTo all_links (g.first_node + r) (g.first_node + n)) same (down g is r (rank_of places q - r) (omega (arith, same, within))))
+      LeadsTo-link links (g.first_node + r) last
+      (subst (λ n. LeadsTo links (g.first_node + r) (g.first_node + n)) same (down g is r (rank_of places q - r) (omega (arith, same, within))))
       (left c places hot cold groups g b q is at (permitted-all c g q.source (λ other beside. permitted g is source other stands beside b q at free)))
 
-  joined_leads : (a b : ℕ) (p q : Part) → AreJoined c hot cold a b p q → LeadsTo all_links a (length hot + b)
+  joined_leads : (a b : ℕ) (p q : Part) → AreJoined c hot cold a b p q → LeadsTo links a (length hot + b)
   joined_leads a b p q h =
-      let on = hot_place a p h.hot_part in
-      let (i, (f, at, f_stands)) = for.are.some p.source on.source in
+      let on = hot_place a p h.hot_part in let (i, (f, at, f_stands)) = for.are.some p.source on.source in
       let (g, by) = entered c places hot cold groups a p f h.hot_part (Contains-slice_get groups i f at) f_stands in
       let le = passes-rank c places for.is_grid.ordered Hot Cold p q on (cold_place b q h.cold_part) h.passes in
       let first = open_link a (g.first_node + rank_of places p) in
-      LeadsTo-append all_links a (g.first_node + rank_of places p) (length hot + b) (LeadsTo-link all_links a first (LeadsTo-none all_links a) by.link)
+      LeadsTo-append links a (g.first_node + rank_of places p) (length hot + b) (LeadsTo-link links a first (LeadsTo-none links a) by.link)
       (to_cold g by.group_is p.source by.stands (rank_of places p) b q h.cold_part le h.free)
 
   -- ---- a path leads to nothing else
@@ -549,8 +516,7 @@ module _ (c : Case) (places : List ℤ) (hot cold : List Part) (groups : List Gr
         let is = ap (λ (f : Group). f.first_node + (r + stride)) (sym one) in
         inl (record { rank = r + stride; is = is; within = within; from = omega (arith, same, here.from) })
     descend h r stride h_in some within (inr taker) =
-        let node = node_of h h_in r (omega (arith, within)) in
-        absurd (omega (arith, slice_get_within cold taker.index taker.part taker.at, node, taker.is))
+        let node = node_of h h_in r (omega (arith, within)) in absurd (omega (arith, slice_get_within cold taker.index taker.part taker.at, node, taker.is))
 
     leave : Leaves c places hot cold groups GoesOn
     leave h i q h_in at permitted (inl here) =
@@ -561,28 +527,26 @@ module _ (c : Case) (places : List ℤ) (hot cold : List Part) (groups : List Gr
         let node = node_of h h_in (rank_of places q) (cold_rank i q at) in
         absurd (omega (arith, slice_get_within cold taker.index taker.part taker.at, node, taker.is))
 
-    step : (l : Link) → Contains all_links l → GoesOn l
-    step l there = All-contains GoesOn all_links l (All-chain_links c places hot cold groups GoesOn enter descend leave) there
+    step : (l : Link) → Contains links l → GoesOn l
+    step l there = All-contains GoesOn links l (All-chain_links c places hot cold groups GoesOn enter descend leave) there
 
   taker_reaches : (a b : ℕ) (p : Part) → slice_get hot a ≡ Some p → IsTaker c places hot cold p (length hot + b) → IsTrue (reach_between c hot cold a b)
   taker_reaches a b p hot_part taker =
-      let place : taker.index ≡ b = omega (arith, taker.is) in
-      let cold_part = subst (λ n. slice_get cold n ≡ Some taker.part) place taker.at in
+      let place : taker.index ≡ b = omega (arith, taker.is) in let cold_part = subst (λ n. slice_get cold n ≡ Some taker.part) place taker.at in
       let passes = rank-passes c places for.is_grid.ordered Hot Cold p taker.part (hot_place a p hot_part) (cold_place b taker.part cold_part) taker.from in
       reach_from_joined c hot cold a b p taker.part (record { hot_part = hot_part; cold_part = cold_part; passes = passes; free = taker.free })
 
   -- a path that begins at a hot part begins with its entering link, and ends at a cold part that it reaches
   abbrev LeadsRight : Link → Type 0
-  LeadsRight l = (b : ℕ) (path : List Link) → l.from < length hot → b < length cold → IsPath all_links path l.to (length hot + b)
+  LeadsRight l = (b : ℕ) (path : List Link) → l.from < length hot → b < length cold → IsPath links path l.to (length hot + b)
       → IsTrue (reach_between c hot cold l.from b)
 
   right_entering : Enters c places hot cold groups LeadsRight
   right_entering i p g at g_in stands b path hot_in b_in rest =
-      let within = rank_within c places for.is_grid.ordered Hot p (hot_place i p at) in
-      let node = g.first_node + rank_of places p in
+      let within = rank_within c places for.is_grid.ordered Hot p (hot_place i p at) in let node = g.first_node + rank_of places p in
       let start : IsBelow c places hot cold g p node = record { rank = rank_of places p; is = refl; within = within; from = omega arith } in
       ⊎_elim (λ below. absurd (omega (arith, node_of g g_in below.rank below.within, below.is, b_in))) (taker_reaches i b p at)
-      (IsPath-keeps all_links (Goes g p) (step g g_in p stands) path node (length hot + b) rest (inl start))
+      (IsPath-keeps links (Goes g p) (step g g_in p stands) path node (length hot + b) rest (inl start))
 
   right_down : Descends c places hot cold groups LeadsRight
   right_down g r stride g_in some within b path hot_in b_in rest = absurd (omega (arith, node_of g g_in r (omega (arith, within)), hot_in))
@@ -590,15 +554,15 @@ module _ (c : Case) (places : List ℤ) (hot cold : List Part) (groups : List Gr
   right_leaving : Leaves c places hot cold groups LeadsRight
   right_leaving g i q g_in at permitted b path hot_in b_in rest = absurd (omega (arith, node_of g g_in (rank_of places q) (cold_rank i q at), hot_in))
 
-  path_reaches : (a b : ℕ) (path : List Link) → a < length hot → b < length cold → IsPath all_links path a (length hot + b) → IsTrue (reach_between c hot cold a b)
+  path_reaches : (a b : ℕ) (path : List Link) → a < length hot → b < length cold → IsPath links path a (length hot + b) → IsTrue (reach_between c hot cold a b)
   path_reaches a b [] a_in b_in same = absurd (omega (arith, same, a_in))
   path_reaches a b (l ∷ path) a_in b_in (there, from, rest) =
       let all = All-chain_links c places hot cold groups LeadsRight right_entering right_down right_leaving in
-      subst (λ v. IsTrue (reach_between c hot cold v b)) from (All-contains LeadsRight all_links l all there b path (omega (arith, from, a_in)) b_in rest)
+      subst (λ v. IsTrue (reach_between c hot cold v b)) from (All-contains LeadsRight links l all there b path (omega (arith, from, a_in)) b_in rest)
 
   -- ---- so paths are reaches, and from the first node of a chain paths lead to all that its hot parts reach
 
-  pub paths_are_reaches : PathsAreReaches (length hot) (length cold) all_links (reach_between c hot cold)
+  pub paths_are_reaches : PathsAreReaches (length hot) (length cold) links (reach_between c hot cold)
   paths_are_reaches = record {
     hot_within = λ a b reach. let (p, q, h) = joined_parts c hot cold a b reach in slice_get_within hot a p h.hot_part;
     cold_within = λ a b reach. let (p, q, h) = joined_parts c hot cold a b reach in slice_get_within cold b q h.cold_part;
@@ -606,43 +570,23 @@ module _ (c : Case) (places : List ℤ) (hot cold : List Part) (groups : List Gr
     reaches = λ a b a_in b_in leads. path_reaches a b leads.0 a_in b_in leads.1;
   }
 
-  pub starts_chain : IsComplete c → (net : Net) → net.links ≡ all_links → net.nodes ≡ (length hot + length cold) + length groups * rank_count places → (g : Group)
+  pub starts_chain : IsComplete c → (net : Net) → net.links ≡ links → net.nodes ≡ (length hot + length cold) + length groups * rank_count places → (g : Group)
       → Contains groups g → StartsChain c hot cold net g
   starts_chain complete net same nodes g is =
-      let some = places_some c places complete for.is_grid in
-      let node = node_of g is 0 (omega (arith, some)) in
+      let some = places_some c places complete for.is_grid in let node = node_of g is 0 (omega (arith, some)) in
       let first : g.first_node + 0 ≡ g.first_node = omega arith in
       record {
         from = omega (arith, node);
         within = omega (arith, node, nodes);
         leads = λ a b p hot_part stands reach.
-            let (r, q, h) = joined_parts c hot cold a b reach in
-            let e : r ≡ p = same_Some r p (sym h.hot_part ∙ hot_part) in
+            let (r, q, h) = joined_parts c hot cold a b reach in let e : r ≡ p = same_Some r p (sym h.hot_part ∙ hot_part) in
             let free = subst (λ (x : Part). is_forbidden c.forbids x.source q.source ≡ false) e h.free in
             subst (λ xs. LeadsTo xs g.first_node (length hot + b)) (sym same)
-            (subst (λ n. LeadsTo all_links n (length hot + b)) first (to_cold g is p.source stands 0 b q h.cold_part (omega arith) free));
+            (subst (λ n. LeadsTo links n (length hot + b)) first (to_cold g is p.source stands 0 b q h.cold_part (omega arith) free));
       }
 
--- The net of chains is an inner net, and it is small.
+  -- ---- the net of the chains is an inner net
 
--- ---- nodes
-
--- the first node of each group, where the chains stand in line
-pub first_nodes_within : (first ranks : ℕ) (groups : List Group) → StandInLine first ranks groups → (g : Group) → Contains groups g
-    → (i : ℕ) × (i < length groups) × (g.first_node ≡ first + i * ranks)
-first_nodes_within first ranks groups in_line g (i, within, is) = (i, within, in_line i g (slice_get_read groups (length groups) i g refl within (sym is)))
-
--- all of them are within the limit
-pub first_nodes_few : (first ranks : ℕ) (groups : List Group) → StandInLine first ranks groups → length groups ≤ MOST_STREAMS + ALL_UTILITIES
-    → first ≤ 2 * MOST_PARTS → ranks ≤ 2 * MOST_PLACES → All (λ g. g.first_node ≤ MOST_INNER_NODES) groups
-first_nodes_few first ranks groups in_line few few_parts few_ranks k d within =
-    let g = get_or groups k d in
-    let (i, before, is) = first_nodes_within first ranks groups in_line g (Contains-get_or groups k d within) in
-    let fewer = mul-le i ranks (length groups) ranks (omega (arith, before)) (omega arith) in
-    let most = few_chain_nodes (length groups) ranks few few_ranks in
-    omega (arith, is, fewer, most, few_parts)
-
-module _ (c : Case) (places : List ℤ) (hot cold : List Part) (groups : List Group) (for : AreForChains c places hot cold groups) where
   abbrev first : ℕ
   first = length hot + length cold
 
@@ -661,47 +605,38 @@ module _ (c : Case) (places : List ℤ) (hot cold : List Part) (groups : List Gr
 
   into_chains : Enters c places hot cold groups IsAmong
   into_chains i p g at g_in stands =
-      let index = slice_get_within hot i p at in
-      let on = All-slice_get (IsOnPlaces c places Hot) hot i p for.hot_on at in
-      let node = node_of c places hot cold groups for g g_in _ (rank_within c places for.is_grid.ordered Hot p on) in
+      let index = slice_get_within hot i p at in let node = node_of g g_in _ (rank_within c places for.is_grid.ordered Hot p (hot_place i p at)) in
       among _ _ (omega (arith, index)) (omega (arith, node)) (inl index) (omega (arith, node)) (λ late _. absurd (omega (arith, late, index)))
 
   down_chains : Descends c places hot cold groups IsAmong
   down_chains g r stride g_in some within =
-      let from = node_of c places hot cold groups for g g_in r (omega (arith, within)) in
-      let to = node_of c places hot cold groups for g g_in (r + stride) within in
+      let from = node_of g g_in r (omega (arith, within)) in let to = node_of g g_in (r + stride) within in
       among _ _ (omega (arith, from)) (omega (arith, to)) (inr (omega (arith, from))) (omega (arith, to)) (λ _ _. omega (arith, some))
 
   out_of_chains : Leaves c places hot cold groups IsAmong
   out_of_chains g i q g_in at permitted =
-      let index = slice_get_within cold i q at in
-      let on = All-slice_get (IsOnPlaces c places Cold) cold i q for.cold_on at in
-      let node = node_of c places hot cold groups for g g_in _ (rank_within c places for.is_grid.ordered Cold q on) in
+      let index = slice_get_within cold i q at in let node = node_of g g_in _ (cold_rank i q at) in
       among _ _ (omega (arith, node)) (omega (arith, index)) (inr (omega (arith, node))) (omega arith) (λ _ late. absurd (omega (arith, late, index)))
 
-  pub IsInner-chains : (net : Net) → net.links ≡ chain_links c places hot cold groups → net.nodes ≡ nodes_in_all → IsInner (length hot) (length cold) net
+  pub IsInner-chains : (net : Net) → net.links ≡ links → net.nodes ≡ nodes_in_all → IsInner (length hot) (length cold) net
   IsInner-chains net links nodes =
       let all = All-chain_links c places hot cold groups IsAmong into_chains down_chains out_of_chains in
       record { nodes = omega (arith, nodes); links = subst₂ (λ n ls. All (IsInnerLink (length hot) (length cold) n) ls) (sym nodes) (sym links) all }
 
+-- The net of chains is small.
+
+-- where the chains stand in line, all their first nodes are within the limit
+pub first_nodes_few : (first ranks : ℕ) (groups : List Group) → StandInLine first ranks groups → length groups ≤ MOST_STREAMS + ALL_UTILITIES
+    → first ≤ 2 * MOST_PARTS → ranks ≤ 2 * MOST_PLACES → All (λ g. g.first_node ≤ MOST_INNER_NODES) groups
+first_nodes_few first ranks groups in_line few few_parts few_ranks k d within =
+    let (i, at) = group_index groups (get_or groups k d) (Contains-get_or groups k d within) in let is = in_line i (get_or groups k d) at in
+    let fewer = mul-le i ranks (length groups) ranks (omega (arith, slice_get_within groups i (get_or groups k d) at)) (omega arith) in
+    let most = few_chain_nodes (length groups) ranks few few_ranks in omega (arith, is, fewer, most, few_parts)
+
 -- ---- sizes
 
--- so many groups with so many places
-record AreFew (groups places colds hots : ℕ) : Type 0 where
-  pub groups_few : groups ≤ MOST_STREAMS + ALL_UTILITIES
-  pub places_few : places ≤ MOST_PLACES
-  pub hots_few : hots ≤ MOST_PARTS
-  pub colds_few : colds ≤ MOST_PARTS
-
-pub chain_nodes : (g p : ℕ) → g * (2 * p - 1) ≤ 2 * g * p
-chain_nodes g p =
-    let fewer = mul-le g (2 * p - 1) g (2 * p) (omega arith) (omega arith) in
-    omega (arith, fewer)
-
-few_links : (g p k h n : ℕ) → AreFew g p k h → n ≤ h + g * (k + 3 * p) → n ≤ MOST_INNER_LINKS
-few_links g p k h n few most =
-    let product = mul-le g (k + 3 * p) (MOST_STREAMS + ALL_UTILITIES) (MOST_PARTS + 3 * MOST_PLACES) few.groups_few (omega (arith, few)) in
-    omega (arith, few, most, product)
+chain_nodes : (g p : ℕ) → g * (2 * p - 1) ≤ 2 * g * p
+chain_nodes g p = let fewer = mul-le g (2 * p - 1) g (2 * p) (omega arith) (omega arith) in omega (arith, fewer)
 
 module _ (c : Case) (places : List ℤ) (hot cold : List Part) (complete : IsComplete c) (is_grid : IsGrid c places) (few_hot : length hot ≤ MOST_PARTS)
     (few_cold : length cold ≤ MOST_PARTS) where
@@ -713,12 +648,13 @@ module _ (c : Case) (places : List ℤ) (hot cold : List Part) (complete : IsCom
       let same = λ (other : List ℤ) (grid : IsGrid c other). ListsFalling-unique (Contains (places_of c.streams c.utilities)) places other is_grid grid in
       let most_nodes = chain_nodes (length chains.groups) (length places) in
       let all_nodes = few_chain_nodes (length chains.groups) (rank_count places) few (omega (arith, few_places)) in
+      let most_links = mul-le (length chains.groups) (length cold + 3 * length places) (MOST_STREAMS + ALL_UTILITIES) (MOST_PARTS + 3 * MOST_PLACES) few
+      (omega (arith, few_cold, few_places)) in
       record {
         links = λ other grid. subst (λ ps. length chains.net.links ≤ length hot + length chains.groups * (length cold + 3 * length ps)) (same other grid) links;
         nodes = λ other grid. subst (λ ps. chains.net.nodes ≤ (length hot + length cold) + 2 * length chains.groups * length ps) (same other grid)
             (omega (arith, nodes, most_nodes));
-        few_links = few_links (length chains.groups) (length places) (length cold) (length hot) (length chains.net.links)
-            (record { groups_few = few; places_few = few_places; hots_few = few_hot; colds_few = few_cold }) links;
+        few_links = omega (arith, links, most_links, few_hot);
         few_nodes = omega (arith, nodes, all_nodes, few_hot, few_cold);
       }
 
@@ -733,15 +669,11 @@ pub record AreChains (c : Case) (hot cold : List Part) (chains : Chains) : Type 
   pub small : IsSmall c (length hot) (length cold) chains
 
 -- the parts stand on the one grid of the case
-pub hot_on_places : (c : Case) (places : List ℤ) (hot cold : List Part) → IsGrid c places → AreOnGrid c hot cold → All (IsOnPlaces c places Hot) hot
-hot_on_places c places hot cold is_grid on =
-    subst (λ ps. All (IsOnPlaces c ps Hot) hot) (ListsFalling-unique (Contains (places_of c.streams c.utilities)) on.grid places on.is_grid is_grid)
-    on.hot_parts
-
-pub cold_on_places : (c : Case) (places : List ℤ) (hot cold : List Part) → IsGrid c places → AreOnGrid c hot cold → All (IsOnPlaces c places Cold) cold
-cold_on_places c places hot cold is_grid on =
-    subst (λ ps. All (IsOnPlaces c ps Cold) cold) (ListsFalling-unique (Contains (places_of c.streams c.utilities)) on.grid places on.is_grid is_grid)
-    on.cold_parts
+pub on_places : (c : Case) (places : List ℤ) (hot cold : List Part) → IsGrid c places → AreOnGrid c hot cold
+    → All (IsOnPlaces c places Hot) hot × All (IsOnPlaces c places Cold) cold
+on_places c places hot cold is_grid on =
+    let same = ListsFalling-unique (Contains (places_of c.streams c.utilities)) on.grid places on.is_grid is_grid in
+    (subst (λ ps. All (IsOnPlaces c ps Hot) hot) same on.hot_parts, subst (λ ps. All (IsOnPlaces c ps Cold) cold) same on.cold_parts)
 
 module _ (c : Case) (places : List ℤ) (hot cold : List Part) (chains : Chains) (complete : IsComplete c)
     (for : AreForChains c places hot cold chains.groups) where

@@ -22,14 +22,11 @@ module _ {X : Type 0} (f : X → ℤ) where
 
   exchanged : (l : List X) (i j : ℕ) (d : X) → i < length l → j < length l → int_sum_by f (set (set l i (get_or l j d)) j (get_or l i d)) ≡ int_sum_by f l
   exchanged l i j d early late =
-      let w : List X = set l i (get_or l j d) in
-      let long = length-set l i (get_or l j d) in
+      let w : List X = set l i (get_or l j d) in let long = length-set l i (get_or l j d) in
       let there : get_or w j d ≡ get_or l j d =
       ⊎_elim (λ e. ap (λ n. get_or w n d) e ∙ get_or-set_same l i (get_or l j d) d early) (λ n. get_or-set_other l i j (get_or l j d) d n) (cases_eq j i) in
-      let read = ap f there in
-      let first = int_sum_by-set l i (get_or l j d) d early in
-      let second = int_sum_by-set w j (get_or l i d) d (omega (arith, long, late)) in
-      omega (arith, ints)
+      let read = ap f there in let first = int_sum_by-set l i (get_or l j d) d early in
+      let second = int_sum_by-set w j (get_or l i d) d (omega (arith, long, late)) in omega (arith, ints)
 
   swapped : (l : List X) (i j : ℕ) → i < length l → j < length l → int_sum_by f (swap l i j) ≡ int_sum_by f l
   swapped [] i j early late = absurd (omega (arith, early))
@@ -57,15 +54,12 @@ module _ {X : Type 0} (f : X → ℤ) where
   int_sum_by-term [] h i d within = absurd (omega (arith, within))
   int_sum_by-term (x ∷ xs) h zero d within = let others = int_sum_by-not_negative f xs (All-tail (λ y. pos 0 ≤ℤ f y) x xs h) in omega (arith, ints)
   int_sum_by-term (x ∷ xs) h (suc i) d within =
-      let first = All-head (λ y. pos 0 ≤ℤ f y) x xs h in
-      let rest = int_sum_by-term xs (All-tail (λ y. pos 0 ≤ℤ f y) x xs h) i d (omega (arith, within)) in
+      let first = All-head (λ y. pos 0 ≤ℤ f y) x xs h in let rest = int_sum_by-term xs (All-tail (λ y. pos 0 ≤ℤ f y) x xs h) i d (omega (arith, within)) in
       omega (arith, ints)
 
   pub int_sum_by-front : (n : ℕ) (xs : List X) → All (λ x. pos 0 ≤ℤ f x) xs → int_sum_by f (take n xs) ≤ℤ int_sum_by f xs
   int_sum_by-front n xs h =
-      let both = int_sum_by-split f n xs in
-      let others = int_sum_by-not_negative f (drop n xs) (All-drop (λ x. pos 0 ≤ℤ f x) n xs h) in
-      omega (arith, ints)
+      let both = int_sum_by-split f n xs in let others = int_sum_by-not_negative f (drop n xs) (All-drop (λ x. pos 0 ≤ℤ f x) n xs h) in omega (arith, ints)
 
 -- a number where a test holds, and 0 elsewhere: above 0, and with another such number
 pub if_positive : (b : Bool) (x : ℤ) → pos 0 <ℤ (if b then x else pos 0) → (b ≡ true) × (pos 0 <ℤ x)
@@ -118,16 +112,13 @@ pub next_way : (ways : List Way) (next : List ℕ) (node : ℕ) → AreOpen ways
 next_way ways next node are_open node_in some =
     let (i, i_in, term) = int_sum_by-some (λ (w : Way). if w.from == node then w.left else pos 0) ways some in
     let (test, left) = if_positive ((way_at ways i).from == node) (way_at ways i).left (term no_way) in
-    let from_i : (way_at ways i).from ≡ node = eqb-true (way_at ways i).from node test in
-    let index = slice_index next node in
+    let from_i : (way_at ways i).from ≡ node = eqb-true (way_at ways i).from node test in let index = slice_index next node in
     let upto : index ≤ i = elim (cases_lt i index) [
       | inl early ↦ absurd (let none = are_open.done i i_in (subst (λ n. i < slice_index next n) (sym from_i) early) in omega (arith, ints, none, left))
       | inr from ↦ from
     ] in
-    let within : index < length ways = omega (arith, upto, i_in) in
-    let low = are_open.behind node index node_in (omega arith) within in
-    let high = are_open.rising index i upto i_in in
-    let from_is : (way_at ways index).from ≡ node = omega (arith, low, high, from_i) in
+    let within : index < length ways = omega (arith, upto, i_in) in let low = are_open.behind node index node_in (omega arith) within in
+    let high = are_open.rising index i upto i_in in let from_is : (way_at ways index).from ≡ node = omega (arith, low, high, from_i) in
     let same = ap (slice_index next) from_is in
     record { within = within; from_is = from_is; some_left = are_open.undone index within (omega (arith, same)) }
 
@@ -155,10 +146,8 @@ module _ (ways : List Way) (index : ℕ) (left : ℤ) (within : index < length w
     rising = λ i j le j_in. let low = same_from i in let high = same_from j in let old = are_open.rising i j le (omega (arith, j_in, size)) in
         omega (arith, low, high, old);
     behind = λ v k v_in from k_in.
-        let same = same_from k in
-        let grows = least v in
-        let old = are_open.behind v k (omega (arith, v_in, long)) (omega (arith, grows, from)) (omega (arith, k_in, size)) in
-        omega (arith, same, old);
+        let same = same_from k in let grows = least v in
+        let old = are_open.behind v k (omega (arith, v_in, long)) (omega (arith, grows, from)) (omega (arith, k_in, size)) in omega (arith, same, old);
     done = λ k k_in early. ⊎_elim (is_done k k_in early) (other_done k k_in early) (cases_eq k index);
     undone = λ k k_in from. ⊎_elim (is_undone k k_in from) (other_undone k k_in from) (cases_eq k index);
   }
@@ -210,11 +199,8 @@ module _ (ways : List Way) (index : ℕ) (left : ℤ) (within : index < length w
       other_undone : (k : ℕ) → k < length (with_left ways index left) → slice_index after (way_at (with_left ways index left) k).from ≤ k → k ≢ index
           → pos 0 <ℤ (way_at (with_left ways index left) k).left
       other_undone k k_in from other =
-          let at = after_from k in
-          let grows = least (way_at ways k).from in
-          let is = left_there k other in
-          let some = are_open.undone k (omega (arith, k_in, size)) (omega (arith, at, grows, from)) in
-          omega (arith, ints, is, some)
+          let at = after_from k in let grows = least (way_at ways k).from in let is = left_there k other in
+          let some = are_open.undone k (omega (arith, k_in, size)) (omega (arith, at, grows, from)) in omega (arith, ints, is, some)
 
 -- the same for the way as it is read
 pub carried_open : (ways : List Way) (next after : List ℕ) (node index : ℕ) (way : Way) (left : ℤ) → AreOpen ways next → IsNext ways node index
@@ -249,9 +235,7 @@ pub record IsHeatOfWay (most left heat : ℤ) : Type 0 where
 pub heat_of_way : (most left heat : ℤ) → FitsSigned w64 most → FitsSigned w64 left → FitsSigned w64 heat → pos 0 <ℤ most → pos 0 <ℤ left
     → heat ≡ int_min (to_z w64 (of_z w64 most)) (to_z w64 (of_z w64 left)) → IsHeatOfWay most left heat
 heat_of_way most left heat most_fits left_fits heat_fits some_most some_left is =
-    let most_is = to_z-of_z w64 most most_fits in
-    let left_is = to_z-of_z w64 left left_fits in
-    let heat_is = to_z-of_z w64 heat heat_fits in
+    let most_is = to_z-of_z w64 most most_fits in let left_is = to_z-of_z w64 left left_fits in let heat_is = to_z-of_z w64 heat heat_fits in
     record {
       positive = omega (arith, ints, clamps);
       limited = omega (arith, ints, clamps);
@@ -364,11 +348,9 @@ module _ (hots colds : ℕ) (net : Net) (flow : List ℤ) (inner : IsInner hots 
     ways_stand = All-permutation (IsWay hots net.links) ways sorted same out.ways_stand;
     given = λ a within. let all = out.given a within in omega (arith, ints);
     balance = λ v behind.
-        let goes = out.goes_on v behind in
-        let comes = out.enters v in
+        let goes = out.goes_on v behind in let comes = out.enters v in
         let from = int_sum_by-permutation (λ (w : Way). if w.from == v then w.left else pos 0) ways sorted same in
-        let into = int_sum_by-permutation (λ (w : Way). if w.to == v then w.left else pos 0) ways sorted same in
-        omega (arith, ints);
+        let into = int_sum_by-permutation (λ (w : Way). if w.to == v then w.left else pos 0) ways sorted same in omega (arith, ints);
   }
 
 -- A part of a flow under way: a share passes on along a way, or has come to a cold part.
@@ -403,8 +385,7 @@ module _ (shares : List Share) (s : Share) (part : Way) (le : part.left ≤ℤ s
   moved_of : (a : ℕ) → held_of (shares ++ moved s part) a ≡ held_of (shares ++ s ∷ []) a
   moved_of a =
       let new = sum_moved (λ t. if t.hot == a then t.heat else pos 0) shares s part in
-      let old = int_sum_by-append (λ t. if t.hot == a then t.heat else pos 0) shares (s ∷ []) in
-      let rest = rest_is (s.hot == a) s.heat part.left le in
+      let old = int_sum_by-append (λ t. if t.hot == a then t.heat else pos 0) shares (s ∷ []) in let rest = rest_is (s.hot == a) s.heat part.left le in
       omega (arith, ints)
 
   -- what the way carries goes from the one node to the other
@@ -412,8 +393,7 @@ module _ (shares : List Share) (s : Share) (part : Way) (le : part.left ≤ℤ s
       +ℤ (if part.to == v then part.left else pos 0)
   moved_at v =
       let new = sum_moved (λ t. if t.node == v then t.heat else pos 0) shares s part in
-      let old = int_sum_by-append (λ t. if t.node == v then t.heat else pos 0) shares (s ∷ []) in
-      let rest = rest_is (s.node == v) s.heat part.left le in
+      let old = int_sum_by-append (λ t. if t.node == v then t.heat else pos 0) shares (s ∷ []) in let rest = rest_is (s.node == v) s.heat part.left le in
       omega (arith, ints)
 
 module _ (ways after : List Way) (node : ℕ) (most : ℤ) (part : Way) (carried : IsCarried ways after node most part) where
@@ -428,17 +408,13 @@ module _ (ways after : List Way) (node : ℕ) (most : ℤ) (part : Way) (carried
 
   carried_from : (v : ℕ) → left_from after v ≡ left_from ways v -ℤ (if node == v then part.left else pos 0)
   carried_from v =
-      let sum = sum_carried (λ w. if w.from == v then w.left else pos 0) in
-      let less = if_sub (old_way.from == v) old_way.left part.left in
-      let same = ap (λ n. if n == v then part.left else pos 0) carried.from_is in
-      omega (arith, ints)
+      let sum = sum_carried (λ w. if w.from == v then w.left else pos 0) in let less = if_sub (old_way.from == v) old_way.left part.left in
+      let same = ap (λ n. if n == v then part.left else pos 0) carried.from_is in omega (arith, ints)
 
   carried_into : (v : ℕ) → left_into after v ≡ left_into ways v -ℤ (if part.to == v then part.left else pos 0)
   carried_into v =
-      let sum = sum_carried (λ w. if w.to == v then w.left else pos 0) in
-      let less = if_sub (old_way.to == v) old_way.left part.left in
-      let same = ap (λ n. if n == v then part.left else pos 0) carried.to_is in
-      omega (arith, ints)
+      let sum = sum_carried (λ w. if w.to == v then w.left else pos 0) in let less = if_sub (old_way.to == v) old_way.left part.left in
+      let same = ap (λ n. if n == v then part.left else pos 0) carried.to_is in omega (arith, ints)
 
   pub carried_in_all : left_in_all after ≡ left_in_all ways -ℤ part.left
   carried_in_all = let sum = sum_carried (λ w. w.left) in omega (arith, ints)
@@ -446,8 +422,7 @@ module _ (ways after : List Way) (node : ℕ) (most : ℤ) (part : Way) (carried
   carried_ways : (hots : ℕ) (links : List Link) → All (IsWay hots links) ways → All (IsWay hots links) after
   carried_ways hots links stand =
       let old = stand carried.index no_way carried.within in
-      subst (All (IsWay hots links)) (sym carried.is)
-      (All-set (IsWay hots links) ways carried.index new_way
+      subst (All (IsWay hots links)) (sym carried.is) (All-set (IsWay hots links) ways carried.index new_way
       (record {
         link = old.link;
         stands = old.stands;
@@ -488,9 +463,7 @@ length_moved s part = by (int_lt part.left s.heat)
 pub length_passed : (s : Share) (shares after : List Share) (ways ways_after : List Way) → HasPassed s shares after ways ways_after
     → length after ≤ length shares + 2
 length_passed s shares after ways ways_after passed =
-    let is = ap length passed.is in
-    let both = length-append shares (moved s passed.part) in
-    let few = length_moved s passed.part in
+    let is = ap length passed.is in let both = length-append shares (moved s passed.part) in let few = length_moved s passed.part in
     omega (arith, is, both, few)
 
 -- ---- steps
@@ -502,8 +475,7 @@ module _ (hots colds : ℕ) (net : Net) (flow : List ℤ) where
   way_on inner s share w way from_is =
       let is = All-contains (IsInnerLink hots colds net.nodes) net.links way.link inner.links way.stands in
       let before : LeadsTo net.links s.hot way.link.from = subst (LeadsTo net.links s.hot) (sym (way.from_is ∙ from_is)) share.leads in
-      let same = way.to_is in
-      let enters = is.enters in
+      let same = way.to_is in let enters = is.enters in
       let within = is.to_in in (
         omega (arith, same, enters),
         omega (arith, same, within),
@@ -525,42 +497,31 @@ module _ (hots colds : ℕ) (net : Net) (flow : List ℤ) where
       at_cold = All-push (λ t. t.node < (hots + colds)) there s under_way.at_cold cold;
       ways_stand = under_way.ways_stand;
       given = λ a within.
-          let old = under_way.given a within in
-          let one = int_sum_by-append (λ t. if t.hot == a then t.heat else pos 0) moving (s ∷ []) in
-          let two = int_sum_by-append (λ t. if t.hot == a then t.heat else pos 0) there (s ∷ []) in
-          omega (arith, ints);
+          let old = under_way.given a within in let one = int_sum_by-append (λ t. if t.hot == a then t.heat else pos 0) moving (s ∷ []) in
+          let two = int_sum_by-append (λ t. if t.hot == a then t.heat else pos 0) there (s ∷ []) in omega (arith, ints);
       balance = λ v behind.
-          let old = under_way.balance v behind in
-          let one = int_sum_by-append (λ t. if t.node == v then t.heat else pos 0) moving (s ∷ []) in
-          let two = int_sum_by-append (λ t. if t.node == v then t.heat else pos 0) there (s ∷ []) in
-          omega (arith, ints);
+          let old = under_way.balance v behind in let one = int_sum_by-append (λ t. if t.node == v then t.heat else pos 0) moving (s ∷ []) in
+          let two = int_sum_by-append (λ t. if t.node == v then t.heat else pos 0) there (s ∷ []) in omega (arith, ints);
     }
 
     pub IsUnderWay-passed : IsInner hots colds net → (after : List Share) (ways_after : List Way) → HasPassed s moving after ways ways_after
         → IsUnderWay hots colds net flow after there ways_after
     IsUnderWay-passed inner after ways_after passed =
-        let part = passed.part in
-        let carried = passed.carried in
-        let limited = carried.limited in
-        let positive = carried.positive in
-        let way = under_way.ways_stand carried.index no_way carried.within in
-        let (enters, within, leads) = way_on inner s popped.1 (way_at ways carried.index) way carried.from_is in
-        let same = carried.to_is in
-        let share = popped.1 in
-        let left : Share = record s { heat = s.heat -ℤ part.left } in
+        let part = passed.part in let carried = passed.carried in let limited = carried.limited in
+        let positive = carried.positive in let way = under_way.ways_stand carried.index no_way carried.within in
+        let (enters, within, leads) = way_on inner s popped.1 (way_at ways carried.index) way carried.from_is in let same = carried.to_is in
+        let share = popped.1 in let left : Share = record s { heat = s.heat -ℤ part.left } in
         let gone : Share = record s { node = part.to; heat = part.left } in
         record {
           moving_shares = subst (All (IsShare hots net)) (sym passed.is)
-              (All-append (IsShare hots net) moving (moved s part) popped.0
-              (All-cons_if (IsShare hots net) (int_lt part.left s.heat) left (gone ∷ [])
+              (All-append (IsShare hots net) moving (moved s part) popped.0 (All-cons_if (IsShare hots net) (int_lt part.left s.heat) left (gone ∷ [])
               (λ less. record {
                 hot_in = share.hot_in;
                 behind = share.behind;
                 node_in = share.node_in;
                 positive = (let some = int_lt-true part.left s.heat less in omega (arith, ints));
                 leads = share.leads;
-              })
-              (All-cons (IsShare hots net) gone []
+              }) (All-cons (IsShare hots net) gone []
               (record {
                 hot_in = share.hot_in;
                 behind = omega (arith, enters, same);
@@ -572,27 +533,19 @@ module _ (hots colds : ℕ) (net : Net) (flow : List ℤ) where
           at_cold = under_way.at_cold;
           ways_stand = carried_ways ways ways_after s.node s.heat part carried hots net.links under_way.ways_stand;
           given = λ a a_in.
-              let old = under_way.given a a_in in
-              let is = ap (λ xs. held_of xs a) passed.is in
-              let new = moved_of moving s part limited a in
+              let old = under_way.given a a_in in let is = ap (λ xs. held_of xs a) passed.is in let new = moved_of moving s part limited a in
               omega (arith, ints);
           balance = λ v behind.
-              let old = under_way.balance v behind in
-              let is = ap (λ xs. held_at xs v) passed.is in
-              let new = moved_at moving s part limited v in
+              let old = under_way.balance v behind in let is = ap (λ xs. held_at xs v) passed.is in let new = moved_at moving s part limited v in
               let from = carried_from ways ways_after s.node s.heat part carried v in
-              let into = carried_into ways ways_after s.node s.heat part carried v in
-              omega (arith, ints);
+              let into = carried_into ways ways_after s.node s.heat part carried v in omega (arith, ints);
         }
 
     -- at a chain node, what is there has a way on
     pub some_way_left : inflow net.links flow s.node ≡ outflow net.links flow s.node → pos 0 <ℤ left_from ways s.node
     some_way_left balances =
-        let share = popped.1 in
-        let behind = under_way.balance s.node share.behind in
-        let at = λ (t : Share). if t.node == s.node then t.heat else pos 0 in
-        let into = λ (w : Way). if w.to == s.node then w.left else pos 0 in
-        let both = int_sum_by-append at moving (s ∷ []) in
+        let share = popped.1 in let behind = under_way.balance s.node share.behind in let at = λ (t : Share). if t.node == s.node then t.heat else pos 0 in
+        let into = λ (w : Way). if w.to == s.node then w.left else pos 0 in let both = int_sum_by-append at moving (s ∷ []) in
         let here = ap (λ b. if b then s.heat else pos 0) (eq-eqb s.node s.node refl) in
         let others = int_sum_by-not_negative at moving
         (λ k d within. let t = popped.0 k d within in let some = t.positive in
@@ -602,8 +555,7 @@ module _ (hots colds : ℕ) (net : Net) (flow : List ℤ) where
         (if_between ((get_or there k d).node == s.node) (get_or there k d).heat (omega (arith, ints))).0) in
         let coming = int_sum_by-not_negative into ways
         (λ k d within. let w = under_way.ways_stand k d within in (if_between ((get_or ways k d).to == s.node) (get_or ways k d).left w.not_negative).0) in
-        let positive = share.positive in
-        omega (arith, ints)
+        let positive = share.positive in omega (arith, ints)
 
 -- A flow that is under way no more: all ways have carried their heat, and the transfers of the shares are those of the flow.
 
@@ -618,11 +570,8 @@ module _ (hots colds : ℕ) (net : Net) (flow : List ℤ) (inner : IsInner hots 
 
   chain_way : (w : Way) → IsWay hots net.links w → IsChainWay w
   chain_way w way =
-      let is = All-contains (IsInnerLink hots colds net.nodes) net.links way.link inner.links way.stands in
-      let from = way.from_is in
-      let to = way.to_is in
-      let later = way.later in
-      let from_in = is.from_in in
+      let is = All-contains (IsInnerLink hots colds net.nodes) net.links way.link inner.links way.stands in let from = way.from_is in let to = way.to_is in
+      let later = way.later in let from_in = is.from_in in
       let chain : (hots + colds) ≤ w.from = ⊎_elim (λ hot. absurd (omega (arith, hot, from, later))) (λ behind. omega (arith, behind, from)) is.leaves in
       record {
         chain = chain;
@@ -652,19 +601,13 @@ module _ (hots colds : ℕ) (net : Net) (flow : List ℤ) (inner : IsInner hots 
 
   none_from : (n : ℕ) → (hots + colds) ≤ n → n < net.nodes → NoneLeftBelow n → left_from ways n ≡ pos 0
   none_from n chain within below =
-      let balance = ended.balance n (omega (arith, chain)) in
-      let here = none_at_chains n chain in
-      let into = none_into n chain below in
-      let same = balances n chain within in
-      omega (arith, ints)
+      let balance = ended.balance n (omega (arith, chain)) in let here = none_at_chains n chain in let into = none_into n chain below in
+      let same = balances n chain within in omega (arith, ints)
 
   none_here : (n : ℕ) → NoneLeftBelow n → (k : ℕ) (d : Way) → k < length ways → (get_or ways k d).from ≡ n → (get_or ways k d).left ≡ pos 0
   none_here n below k d within e =
-      let w = get_or ways k d in
-      let is = chain_way w (ended.ways_stand k d within) in
-      let chain = is.chain in
-      let from_in = is.from_in in
-      let none = none_from n (omega (arith, chain, e)) (omega (arith, from_in, e)) below in
+      let w = get_or ways k d in let is = chain_way w (ended.ways_stand k d within) in let chain = is.chain in
+      let from_in = is.from_in in let none = none_from n (omega (arith, chain, e)) (omega (arith, from_in, e)) below in
       let terms = int_sum_by-none (λ (x : Way). if x.from == n then x.left else pos 0) ways
       (λ j c inside. (if_between ((get_or ways j c).from == n) (get_or ways j c).left (ended.ways_stand j c inside).not_negative).0) none in
       ap (λ b. if b then w.left else pos 0) (sym (eq-eqb w.from n e)) ∙ terms k d within
@@ -684,8 +627,7 @@ module _ (hots colds : ℕ) (net : Net) (flow : List ℤ) (inner : IsInner hots 
       sum_below-zero (length net.links) (λ k. if (link_at net.links k).from == (hots + b) then flow_on flow k else pos 0)
       (λ k within.
       let leaves = (inner.links k (record { from = 0; to = 0; room = pos 0; cost = pos 0 }) within).leaves in
-      ap (λ t. if t then flow_on flow k else pos 0)
-      (ne_eqb (link_at net.links k).from (hots + b)
+      ap (λ t. if t then flow_on flow k else pos 0) (ne_eqb (link_at net.links k).from (hots + b)
       (λ e. ⊎_elim (λ hot. absurd (omega (arith, hot, e))) (λ chain. absurd (omega (arith, chain, e, cold))) leaves)))
 
   -- so all that enters a cold part is there
@@ -696,8 +638,7 @@ module _ (hots colds : ℕ) (net : Net) (flow : List ℤ) (inner : IsInner hots 
       (λ k d within. if_zero ((get_or ways k d).to == (hots + b)) (get_or ways k d).left (none_left k d within)) in
       let from = int_sum_by-zero (λ w. if w.from == (hots + b) then w.left else pos 0) ways
       (λ k d within. if_zero ((get_or ways k d).from == (hots + b)) (get_or ways k d).left (none_left k d within)) in
-      let leaves = none_leaves b cold in
-      omega (arith, ints)
+      let leaves = none_leaves b cold in omega (arith, ints)
 
   all_given : (a : ℕ) → a < hots → held_of there a ≡ outflow net.links flow a
   all_given a within = let given = ended.given a within in omega (arith, ints)
@@ -723,12 +664,8 @@ pub given_fits : (hot cold : List Part) (net : Net) (flow : List ℤ) (there : L
 given_fits [] cold net flow there ways bounded heat ended k d within = let share = ended.there_shares k d within in let none = share.hot_in in
     absurd (omega (arith, none))
 given_fits (q ∷ hot) cold net flow there ways bounded heat ended k d within =
-    let a = (get_or there k d).hot in
-    let a_in = (ended.there_shares k d within).hot_in in
-    let given = ended.given a a_in in
-    let upto = heat.given a (get_or (q ∷ hot) a q) (slice_get-get_or (q ∷ hot) a q a_in) in
-    let most = (bounded a q a_in).most in
-    let least = most.upto in
+    let a = (get_or there k d).hot in let a_in = (ended.there_shares k d within).hot_in in let given = ended.given a a_in in
+    let upto = heat.given a (get_or (q ∷ hot) a q) (slice_get-get_or (q ∷ hot) a q a_in) in let most = (bounded a q a_in).most in let least = most.upto in
     omega (arith, ints)
 
 -- the measure of a step falls: less heat is left to carry, and one share more may wait

@@ -11,21 +11,14 @@ overflow_add-node c = omega (arith, c.requires.node, c.rank_of.ensures.within, c
 
 pub loop-index-preserved : goal.loop-index-preserved
 loop-index-preserved c =
-    let case = c.args.case.now in
-    let places = c.args.places.now in
-    let hot = c.args.parts.now.hot in
-    let cold = c.args.parts.now.cold in
-    let g = c.args.group.now in
-    let i = c.loop-index.index in
-    let slice = c.as_slice-part-items in
-    let within = subst (λ xs. i < length xs) slice.ensures c.loop-index-test.true in
+    let case = c.args.case.now in let places = c.args.places.now in let hot = c.args.parts.now.hot in
+    let cold = c.args.parts.now.cold in let g = c.args.group.now in let i = c.loop-index.index in
+    let slice = c.as_slice-part-items in let within = subst (λ xs. i < length xs) slice.ensures c.loop-index-test.true in
     let p = get_or slice.result.now i blank in
     let is = get_or_default slice.result.now i blank p c.loop-index-test.true ∙ ap (λ xs. get_or xs i p) slice.ensures in
     let side = subst (λ q. side_of case q.source ≡ Some Cold) (sym is) (c.requires.cold i p within) in
-    let permitted = c.in_ok-permitted.ensures p.source side in
-    let after = c.loop-index.links.items in
-    let out = open_link (g.first_node + rank_of places p) (length hot + i) in
-    let pushes = λ (b : Bool). after ++ cons_if b out [] in
+    let permitted = c.in_ok-permitted.ensures p.source side in let after = c.loop-index.links.items in
+    let out = open_link (g.first_node + rank_of places p) (length hot + i) in let pushes = λ (b : Bool). after ++ cons_if b out [] in
     elim c.if-is_one_of.branch [
       | then-is_one_of+in_ok-push w ↦
           let found = subst (λ xs. Contains xs p.source) c.as_slice.ensures.value (c.is_one_of.ensures.0 w.if-is_one_of.true) in

@@ -6,15 +6,9 @@ use Rattle.chains.proofs.stock.set_out.Goals as goal
 
 pub loop-index-preserved : goal.loop-index-preserved
 loop-index-preserved c =
-    let hots = c.args.hots in
-    let links = c.args.links.now in
-    let flow = c.args.flow.now in
-    let i = c.loop-index.index in
-    let within = c.loop-index-test.true in
-    let shares = c.loop-index.shares.items in
-    let ways = c.loop-index.ways.items in
-    let before = c.loop-index.invariant in
-    let heat = to_z w64 (of_z w64 (flow_on flow i)) in
+    let hots = c.args.hots in let links = c.args.links.now in let flow = c.args.flow.now in
+    let i = c.loop-index.index in let within = c.loop-index-test.true in let shares = c.loop-index.shares.items in
+    let ways = c.loop-index.ways.items in let before = c.loop-index.invariant in let heat = to_z w64 (of_z w64 (flow_on flow i)) in
     let kept : to_z w64 (of_z w64 (flow_on flow i)) ≡ flow_on flow i = to_z-of_z w64 (flow_on flow i) (search rules) in
     let from = c.requires.not_negative i within in
     elim c.if-heat-gt0.branch [

@@ -29,15 +29,13 @@ add_share-requires-clause-positive c = (here (goal.at.add_share-requires-clause-
 
 pub add_share-requires-clause-fits : goal.add_share-requires-clause-fits
 add_share-requires-clause-fits c =
-    let items = c.deref-share-items.result.now in
-    let i = c.loop-share.share-index in
+    let items = c.deref-share-items.result.now in let i = c.loop-share.share-index in
     room_for_it c.args.hots _ items i (get_or items i no_share) (here (goal.at.add_share-requires-clause-fits c).In-loop-share _ c.requires.fits)
     c.loop-share.transfers.items c.loop-share.transfers.items c.loop-share.invariant
 
 pub loop-share-preserved : goal.loop-share-preserved
 loop-share-preserved c =
-    let items = c.deref-share-items.result.now in
-    let i = c.loop-share.share-index in
+    let items = c.deref-share-items.result.now in let i = c.loop-share.share-index in
     AreGathered-more c.args.hots _ items i (get_or items i no_share) (here (goal.at.loop-share-preserved c).In-loop-share _ c.requires.fits)
     c.loop-share.transfers.items c.add_share.new.transfers.items c.loop-share.invariant c.in_ok-add_share.ensures
 
