@@ -236,12 +236,8 @@ pub heat_of_way : (most left heat : ℤ) → FitsSigned w64 most → FitsSigned 
     → heat ≡ int_min (to_z w64 (of_z w64 most)) (to_z w64 (of_z w64 left)) → IsHeatOfWay most left heat
 heat_of_way most left heat most_fits left_fits heat_fits some_most some_left is =
     let most_is = to_z-of_z w64 most most_fits in let left_is = to_z-of_z w64 left left_fits in let heat_is = to_z-of_z w64 heat heat_fits in
-    record {
-      positive = omega (arith, ints, clamps);
-      limited = omega (arith, ints, clamps);
-      spared = omega (arith, ints, clamps);
-      kept = omega (arith, ints, clamps);
-    }
+    let upto : to_z w64 (of_z w64 heat) ≤ℤ most = omega (arith, ints, clamps) in
+    record { positive = omega (arith, ints, clamps); limited = upto; spared = omega (arith, ints, clamps); kept = omega (arith, ints, clamps) }
 
 -- The heat of the links, set out as shares and ways.
 
@@ -331,13 +327,8 @@ module _ (hots colds : ℕ) (net : Net) (flow : List ℤ) (inner : IsInner hots 
   first_share s first =
       let is = All-contains (IsInnerLink hots colds net.nodes) net.links first.link inner.links first.stands in
       let before : LeadsTo net.links s.hot first.link.from = subst (LeadsTo net.links s.hot) (sym first.from_is) (LeadsTo-none net.links s.hot) in
-      record {
-        hot_in = first.hot_in;
-        behind = let enters = is.enters in let same = first.to_is in omega (arith, enters, same);
-        node_in = let within = is.to_in in let same = first.to_is in omega (arith, within, same);
-        positive = first.positive;
-        leads = subst (LeadsTo net.links s.hot) first.to_is (LeadsTo-link net.links s.hot first.link before first.stands);
-      }
+      let leads = subst (LeadsTo net.links s.hot) first.to_is (LeadsTo-link net.links s.hot first.link before first.stands) in
+      record { hot_in = first.hot_in; behind = omega arith; node_in = omega arith; positive = first.positive; leads = leads }
 
   pub IsUnderWay-first : (shares : List Share) (ways sorted : List Way) → HaveSetOut hots net.links flow (length net.links) shares ways
       → IsPermutation ways sorted → IsUnderWay hots colds net flow shares [] sorted
@@ -423,15 +414,7 @@ module _ (ways after : List Way) (node : ℕ) (most : ℤ) (part : Way) (carried
   carried_ways hots links stand =
       let old = stand carried.index no_way carried.within in
       subst (All (IsWay hots links)) (sym carried.is) (All-set (IsWay hots links) ways carried.index new_way
-      (record {
-        link = old.link;
-        stands = old.stands;
-        from_is = old.from_is;
-        to_is = old.to_is;
-        later = old.later;
-        not_negative = let spared = carried.spared in
-            omega (arith, ints);
-      }) stand)
+      (record { link = old.link; stands = old.stands; from_is = old.from_is; to_is = old.to_is; later = old.later; not_negative = omega (arith, ints) }) stand)
 
 -- the shares that a step leaves, as the code pushes them
 pub moved_two : (s : Share) (part : Way) (shares first last : List Share) (rest gone : ℤ) → part.left <ℤ s.heat
@@ -475,13 +458,7 @@ module _ (hots colds : ℕ) (net : Net) (flow : List ℤ) where
   way_on inner s share w way from_is =
       let is = All-contains (IsInnerLink hots colds net.nodes) net.links way.link inner.links way.stands in
       let before : LeadsTo net.links s.hot way.link.from = subst (LeadsTo net.links s.hot) (sym (way.from_is ∙ from_is)) share.leads in
-      let same = way.to_is in let enters = is.enters in
-      let within = is.to_in in (
-        omega (arith, same, enters),
-        omega (arith, same, within),
-        subst (LeadsTo net.links s.hot) way.to_is
-            (LeadsTo-link net.links s.hot way.link before way.stands),
-      )
+      (omega arith, omega arith, subst (LeadsTo net.links s.hot) way.to_is (LeadsTo-link net.links s.hot way.link before way.stands))
 
   module _ (moving there : List Share) (s : Share) (ways : List Way) (under_way : IsUnderWay hots colds net flow (moving ++ s ∷ []) there ways) where
     popped : All (IsShare hots net) moving × IsShare hots net s
@@ -507,36 +484,26 @@ module _ (hots colds : ℕ) (net : Net) (flow : List ℤ) where
     pub IsUnderWay-passed : IsInner hots colds net → (after : List Share) (ways_after : List Way) → HasPassed s moving after ways ways_after
         → IsUnderWay hots colds net flow after there ways_after
     IsUnderWay-passed inner after ways_after passed =
-        let part = passed.part in let carried = passed.carried in let limited = carried.limited in
-        let positive = carried.positive in let way = under_way.ways_stand carried.index no_way carried.within in
-        let (enters, within, leads) = way_on inner s popped.1 (way_at ways carried.index) way carried.from_is in let same = carried.to_is in
-        let share = popped.1 in let left : Share = record s { heat = s.heat -ℤ part.left } in
-        let gone : Share = record s { node = part.to; heat = part.left } in
+        let part = passed.part in let carried = passed.carried in let way = under_way.ways_stand carried.index no_way carried.within in
+        let (enters, within, leads) = way_on inner s popped.1 (way_at ways carried.index) way carried.from_is in let share = popped.1 in
+        let left : Share = record s { heat = s.heat -ℤ part.left } in let gone : Share = record s { node = part.to; heat = part.left } in
+        let left_is : int_lt part.left s.heat ≡ true → IsShare hots net left = λ less. let some = int_lt-true part.left s.heat less in
+        record { hot_in = share.hot_in; behind = share.behind; node_in = share.node_in; positive = omega (arith, ints); leads = share.leads } in
+        let led = subst (LeadsTo net.links s.hot) carried.to_is leads in
+        let gone_is : IsShare hots net gone =
+        record { hot_in = share.hot_in; behind = omega arith; node_in = omega arith; positive = carried.positive; leads = led } in
         record {
           moving_shares = subst (All (IsShare hots net)) (sym passed.is)
               (All-append (IsShare hots net) moving (moved s part) popped.0 (All-cons_if (IsShare hots net) (int_lt part.left s.heat) left (gone ∷ [])
-              (λ less. record {
-                hot_in = share.hot_in;
-                behind = share.behind;
-                node_in = share.node_in;
-                positive = (let some = int_lt-true part.left s.heat less in omega (arith, ints));
-                leads = share.leads;
-              }) (All-cons (IsShare hots net) gone []
-              (record {
-                hot_in = share.hot_in;
-                behind = omega (arith, enters, same);
-                node_in = omega (arith, within, same);
-                positive = positive;
-                leads = subst (LeadsTo net.links s.hot) same leads;
-              }) (All-nil (IsShare hots net)))));
+              left_is (All-cons (IsShare hots net) gone [] gone_is (All-nil (IsShare hots net)))));
           there_shares = under_way.there_shares;
           at_cold = under_way.at_cold;
           ways_stand = carried_ways ways ways_after s.node s.heat part carried hots net.links under_way.ways_stand;
           given = λ a a_in.
-              let old = under_way.given a a_in in let is = ap (λ xs. held_of xs a) passed.is in let new = moved_of moving s part limited a in
+              let old = under_way.given a a_in in let is = ap (λ xs. held_of xs a) passed.is in let new = moved_of moving s part carried.limited a in
               omega (arith, ints);
           balance = λ v behind.
-              let old = under_way.balance v behind in let is = ap (λ xs. held_at xs v) passed.is in let new = moved_at moving s part limited v in
+              let old = under_way.balance v behind in let is = ap (λ xs. held_at xs v) passed.is in let new = moved_at moving s part carried.limited v in
               let from = carried_from ways ways_after s.node s.heat part carried v in
               let into = carried_into ways ways_after s.node s.heat part carried v in omega (arith, ints);
         }
@@ -570,14 +537,9 @@ module _ (hots colds : ℕ) (net : Net) (flow : List ℤ) (inner : IsInner hots 
 
   chain_way : (w : Way) → IsWay hots net.links w → IsChainWay w
   chain_way w way =
-      let is = All-contains (IsInnerLink hots colds net.nodes) net.links way.link inner.links way.stands in let from = way.from_is in let to = way.to_is in
-      let later = way.later in let from_in = is.from_in in
-      let chain : (hots + colds) ≤ w.from = ⊎_elim (λ hot. absurd (omega (arith, hot, from, later))) (λ behind. omega (arith, behind, from)) is.leaves in
-      record {
-        chain = chain;
-        from_in = omega (arith, from_in, from);
-        onward = λ ends. let on = is.onward (omega (arith, chain, from)) (omega (arith, ends, to)) in omega (arith, on, from, to);
-      }
+      let is = All-contains (IsInnerLink hots colds net.nodes) net.links way.link inner.links way.stands in
+      let chain : (hots + colds) ≤ w.from = ⊎_elim (λ hot. absurd (omega arith)) (λ behind. omega arith) is.leaves in
+      record { chain = chain; from_in = omega arith; onward = λ ends. let on = is.onward (omega arith) (omega arith) in omega arith }
 
   -- the shares stand at cold parts
   none_at_chains : (v : ℕ) → (hots + colds) ≤ v → held_at there v ≡ pos 0
@@ -606,8 +568,7 @@ module _ (hots colds : ℕ) (net : Net) (flow : List ℤ) (inner : IsInner hots 
 
   none_here : (n : ℕ) → NoneLeftBelow n → (k : ℕ) (d : Way) → k < length ways → (get_or ways k d).from ≡ n → (get_or ways k d).left ≡ pos 0
   none_here n below k d within e =
-      let w = get_or ways k d in let is = chain_way w (ended.ways_stand k d within) in let chain = is.chain in
-      let from_in = is.from_in in let none = none_from n (omega (arith, chain, e)) (omega (arith, from_in, e)) below in
+      let w = get_or ways k d in let is = chain_way w (ended.ways_stand k d within) in let none = none_from n (omega arith) (omega arith) below in
       let terms = int_sum_by-none (λ (x : Way). if x.from == n then x.left else pos 0) ways
       (λ j c inside. (if_between ((get_or ways j c).from == n) (get_or ways j c).left (ended.ways_stand j c inside).not_negative).0) none in
       ap (λ b. if b then w.left else pos 0) (sym (eq-eqb w.from n e)) ∙ terms k d within
@@ -661,12 +622,10 @@ module _ (hots colds : ℕ) (net : Net) (flow : List ℤ) (inner : IsInner hots 
 -- what a hot part gives is within the limits
 pub given_fits : (hot cold : List Part) (net : Net) (flow : List ℤ) (there : List Share) (ways : List Way) → All IsBounded hot → IsHeatOf hot cold net flow
     → IsUnderWay (length hot) (length cold) net flow [] there ways → All (λ s. held_of there s.hot ≤ℤ MOST_HEAT) there
-given_fits [] cold net flow there ways bounded heat ended k d within = let share = ended.there_shares k d within in let none = share.hot_in in
-    absurd (omega (arith, none))
+given_fits [] cold net flow there ways bounded heat ended k d within = let share = ended.there_shares k d within in absurd (omega arith)
 given_fits (q ∷ hot) cold net flow there ways bounded heat ended k d within =
     let a = (get_or there k d).hot in let a_in = (ended.there_shares k d within).hot_in in let given = ended.given a a_in in
-    let upto = heat.given a (get_or (q ∷ hot) a q) (slice_get-get_or (q ∷ hot) a q a_in) in let most = (bounded a q a_in).most in let least = most.upto in
-    omega (arith, ints)
+    let upto = heat.given a (get_or (q ∷ hot) a q) (slice_get-get_or (q ∷ hot) a q a_in) in let most = (bounded a q a_in).most in omega (arith, ints)
 
 -- the measure of a step falls: less heat is left to carry, and one share more may wait
 pub carried_smaller : (old new : ℤ) (m n : ℕ) → pos 0 ≤ℤ new → new <ℤ old → n ≤ m + 1 → 2 * unsigned_abs new + n < 2 * unsigned_abs old + m
