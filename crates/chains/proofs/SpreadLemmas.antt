@@ -148,8 +148,13 @@ module _ (ways : List Way) (index : ℕ) (left : ℤ) (within : index < length w
     behind = λ v k v_in from k_in.
         let same = same_from k in let grows = least v in
         let old = are_open.behind v k (omega (arith, v_in, long)) (omega (arith, grows, from)) (omega (arith, k_in, size)) in omega (arith, same, old);
-    done = λ k k_in early. ⊎_elim (is_done k k_in early) (other_done k k_in early) (cases_eq k index);
-    undone = λ k k_in from. ⊎_elim (is_undone k k_in from) (other_undone k k_in from) (cases_eq k index);
+    done = λ k k_in early. ⊎_elim (λ e. let at = after_here k e in ⊎_elim (λ h. absurd (omega (arith, at, h.0, early, e))) (λ h. left_here k e ∙ h.1) here)
+        (λ other. let at = ap (slice_index after) (same_from k) in
+        left_there k other ∙ are_open.done k (omega (arith, k_in, size)) (bound k other (omega (arith, at, early)))) (cases_eq k index);
+    undone = λ k k_in from. ⊎_elim (λ e. let at = after_here k e in let is = left_here k e in
+        ⊎_elim (λ h. let some = h.1 in omega (arith, ints, is, some)) (λ h. absurd (omega (arith, at, h.0, from, e))) here)
+        (λ other. let at = ap (slice_index after) (same_from k) in let grows = least (way_at ways k).from in let is = left_there k other in
+        let some = are_open.undone k (omega (arith, k_in, size)) (omega (arith, at, grows, from)) in omega (arith, ints, is, some)) (cases_eq k index);
   }
     where
       size : length (with_left ways index left) ≡ length ways
@@ -170,9 +175,6 @@ module _ (ways : List Way) (index : ℕ) (left : ℤ) (within : index < length w
           ⊎_elim (λ h. omega (arith, one, two, h, at_next, early)) (λ h. omega (arith, one, two, h, at_next, early, other)) next_is)
           (λ apart. let same = others (way_at ways k).from apart in omega (arith, same, early)) (cases_eq (way_at ways k).from node)
 
-      after_from : (k : ℕ) → slice_index after (way_at (with_left ways index left) k).from ≡ slice_index after (way_at ways k).from
-      after_from k = ap (slice_index after) (same_from k)
-
       after_here : (k : ℕ) → k ≡ index → slice_index after (way_at (with_left ways index left) k).from ≡ slice_index after node
       after_here k e = ap (slice_index after) (same_from k ∙ (ap (λ n. (way_at ways n).from) e ∙ from_is))
 
@@ -181,26 +183,6 @@ module _ (ways : List Way) (index : ℕ) (left : ℤ) (within : index < length w
 
       left_there : (k : ℕ) → k ≢ index → (way_at (with_left ways index left) k).left ≡ (way_at ways k).left
       left_there k other = ap (λ (w : Way). w.left) (with_left-other k other)
-
-      is_done : (k : ℕ) → k < length (with_left ways index left) → k < slice_index after (way_at (with_left ways index left) k).from → k ≡ index
-          → (way_at (with_left ways index left) k).left ≡ pos 0
-      is_done k k_in early e = let at = after_here k e in ⊎_elim (λ h. absurd (omega (arith, at, h.0, early, e))) (λ h. left_here k e ∙ h.1) here
-
-      other_done : (k : ℕ) → k < length (with_left ways index left) → k < slice_index after (way_at (with_left ways index left) k).from → k ≢ index
-          → (way_at (with_left ways index left) k).left ≡ pos 0
-      other_done k k_in early other = let at = after_from k in
-          left_there k other ∙ are_open.done k (omega (arith, k_in, size)) (bound k other (omega (arith, at, early)))
-
-      is_undone : (k : ℕ) → k < length (with_left ways index left) → slice_index after (way_at (with_left ways index left) k).from ≤ k → k ≡ index
-          → pos 0 <ℤ (way_at (with_left ways index left) k).left
-      is_undone k k_in from e = let at = after_here k e in let is = left_here k e in
-          ⊎_elim (λ h. let some = h.1 in omega (arith, ints, is, some)) (λ h. absurd (omega (arith, at, h.0, from, e))) here
-
-      other_undone : (k : ℕ) → k < length (with_left ways index left) → slice_index after (way_at (with_left ways index left) k).from ≤ k → k ≢ index
-          → pos 0 <ℤ (way_at (with_left ways index left) k).left
-      other_undone k k_in from other =
-          let at = after_from k in let grows = least (way_at ways k).from in let is = left_there k other in
-          let some = are_open.undone k (omega (arith, k_in, size)) (omega (arith, at, grows, from)) in omega (arith, ints, is, some)
 
 -- the same for the way as it is read
 pub carried_open : (ways : List Way) (next after : List ℕ) (node index : ℕ) (way : Way) (left : ℤ) → AreOpen ways next → IsNext ways node index
@@ -264,17 +246,20 @@ module _ (hots : ℕ) (links : List Link) (flow : List ℤ) where
       enters = λ v. let old = before.enters v in let zero = if_zero (link.to == v) heat none in omega (arith, ints);
     }
 
+    here : n < length links → Contains links link
+    here within = (n, within, get_or_default links n link (record { from = 0; to = 0; room = pos 0; cost = pos 0 }) within)
+
     apart : (a : ℕ) → link.from ≢ a → (if link.from == a then heat else pos 0) ≡ pos 0
     apart a other = ap (λ b. if b then heat else pos 0) (ne_eqb link.from a other)
 
     -- a link that leaves a hot part
-    pub HaveSetOut-share : Contains links link → link.from < hots → pos 0 <ℤ heat
+    pub HaveSetOut-share : n < length links → link.from < hots → pos 0 <ℤ heat
         → HaveSetOut hots links flow (suc n) (shares ++ record { hot = link.from; node = link.to; heat = heat } ∷ []) ways
-    HaveSetOut-share stands leaves some =
+    HaveSetOut-share within leaves some =
         let s : Share = record { hot = link.from; node = link.to; heat = heat } in
         record {
           first_shares = All-push (IsFirstShare hots links) shares s before.first_shares
-              (record { link = link; stands = stands; from_is = refl; to_is = refl; hot_in = leaves; positive = some });
+              (record { link = link; stands = here within; from_is = refl; to_is = refl; hot_in = leaves; positive = some });
           ways_stand = before.ways_stand;
           some_left = before.some_left;
           given = λ a within. let old = before.given a within in let more = sum_push (λ (t : Share). if t.hot == a then t.heat else pos 0) shares s in
@@ -284,14 +269,14 @@ module _ (hots : ℕ) (links : List Link) (flow : List ℤ) where
         }
 
     -- a link that leaves another node
-    pub HaveSetOut-way : Contains links link → hots ≤ link.from → pos 0 <ℤ heat
+    pub HaveSetOut-way : n < length links → hots ≤ link.from → pos 0 <ℤ heat
         → HaveSetOut hots links flow (suc n) shares (ways ++ record { from = link.from; to = link.to; left = heat } ∷ [])
-    HaveSetOut-way stands later some =
+    HaveSetOut-way within later some =
         let w : Way = record { from = link.from; to = link.to; left = heat } in
         record {
           first_shares = before.first_shares;
           ways_stand = All-push (IsWay hots links) ways w before.ways_stand
-              (record { link = link; stands = stands; from_is = refl; to_is = refl; later = later; not_negative = omega (arith, ints, some) });
+              (record { link = link; stands = here within; from_is = refl; to_is = refl; later = later; not_negative = omega (arith, ints, some) });
           some_left = All-push (λ x. pos 0 <ℤ x.left) ways w before.some_left some;
           given = λ a within. let old = before.given a within in let zero = apart a (λ e. absurd (omega (arith, later, within, e))) in omega (arith, ints);
           goes_on = λ v behind. let old = before.goes_on v behind in let more = sum_push (λ (x : Way). if x.from == v then x.left else pos 0) ways w in
@@ -299,27 +284,10 @@ module _ (hots : ℕ) (links : List Link) (flow : List ℤ) where
           enters = λ v. let old = before.enters v in let more = sum_push (λ (x : Way). if x.to == v then x.left else pos 0) ways w in omega (arith, ints);
         }
 
-    -- the same as a loop has it
-    here : n < length links → Contains links link
-    here within = (n, within, get_or_default links n link (record { from = 0; to = 0; room = pos 0; cost = pos 0 }) within)
-
-    pub set_out_share : (heat_read : ℤ) (shares' : List Share) (ways' : List Way) → n < length links → heat_read ≡ heat
-        → shares' ≡ shares ++ record { hot = link.from; node = link.to; heat = heat_read } ∷ [] → ways' ≡ ways → link.from < hots → pos 0 <ℤ heat_read
-        → HaveSetOut hots links flow (n + 1) shares' ways'
-    set_out_share heat_read shares' ways' within is pushed kept leaves some =
-        let same = pushed ∙ ap (λ z. shares ++ record { hot = link.from; node = link.to; heat = z } ∷ []) is in
-        rw add-one (subst₂ (HaveSetOut hots links flow (suc n)) (sym same) (sym kept) (HaveSetOut-share (here within) leaves (omega (arith, ints, is, some))))
-
-    pub set_out_way : (heat_read : ℤ) (shares' : List Share) (ways' : List Way) → n < length links → heat_read ≡ heat → shares' ≡ shares
-        → ways' ≡ ways ++ record { from = link.from; to = link.to; left = heat_read } ∷ [] → hots ≤ link.from → pos 0 <ℤ heat_read
-        → HaveSetOut hots links flow (n + 1) shares' ways'
-    set_out_way heat_read shares' ways' within is kept pushed later some =
-        let same = pushed ∙ ap (λ z. ways ++ record { from = link.from; to = link.to; left = z } ∷ []) is in
-        rw add-one (subst₂ (HaveSetOut hots links flow (suc n)) (sym kept) (sym same) (HaveSetOut-way (here within) later (omega (arith, ints, is, some))))
-
-    pub set_out_none : (shares' : List Share) (ways' : List Way) → heat ≡ pos 0 → shares' ≡ shares → ways' ≡ ways
-        → HaveSetOut hots links flow (n + 1) shares' ways'
-    set_out_none shares' ways' none kept also = rw add-one (subst₂ (HaveSetOut hots links flow (suc n)) (sym kept) (sym also) (HaveSetOut-pass none))
+  -- the same as a loop has it
+  pub set_out_step : (n : ℕ) (shares' shares : List Share) (ways' ways : List Way) → shares' ≡ shares → ways' ≡ ways → HaveSetOut hots links flow (suc n) shares ways
+      → HaveSetOut hots links flow (n + 1) shares' ways'
+  set_out_step n shares' shares ways' ways same also out = rw add-one (subst₂ (HaveSetOut hots links flow (suc n)) (sym same) (sym also) out)
 
 -- as heat sets out, all is under way
 module _ (hots colds : ℕ) (net : Net) (flow : List ℤ) (inner : IsInner hots colds net) where
@@ -552,14 +520,10 @@ module _ (hots colds : ℕ) (net : Net) (flow : List ℤ) (inner : IsInner hots 
   NoneLeftBelow n = All (λ w. w.from < n → w.left ≡ pos 0) ways
 
   none_into : (n : ℕ) → (hots + colds) ≤ n → NoneLeftBelow n → left_into ways n ≡ pos 0
-  none_into n chain below =
-      int_sum_by-zero (λ w. if w.to == n then w.left else pos 0) ways (λ k d within. by (get_or ways k d) (ended.ways_stand k d within) (below k d within))
-    where
-      by : (w : Way) → IsWay hots net.links w → (w.from < n → w.left ≡ pos 0) → (if w.to == n then w.left else pos 0) ≡ pos 0
-      by w way none =
-          let is = chain_way w way in
-          ⊎_elim (λ e. let on = is.onward (omega (arith, chain, e)) in if_zero (w.to == n) w.left (none (omega (arith, on, e))))
-          (λ other. ap (λ b. if b then w.left else pos 0) (ne_eqb w.to n other)) (cases_eq w.to n)
+  none_into n chain below = int_sum_by-zero (λ w. if w.to == n then w.left else pos 0) ways (λ k d within.
+      let w = get_or ways k d in let is = chain_way w (ended.ways_stand k d within) in
+      ⊎_elim (λ e. let on = is.onward (omega (arith, chain, e)) in if_zero (w.to == n) w.left (below k d within (omega (arith, on, e))))
+      (λ other. ap (λ b. if b then w.left else pos 0) (ne_eqb w.to n other)) (cases_eq w.to n))
 
   none_from : (n : ℕ) → (hots + colds) ≤ n → n < net.nodes → NoneLeftBelow n → left_from ways n ≡ pos 0
   none_from n chain within below =
