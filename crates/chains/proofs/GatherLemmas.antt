@@ -47,10 +47,8 @@ neighbours_from_sort {g = g} {f = f} shares sorted h k d within =
 not_after_later : (shares : List Share) → Neighbours shares → (n i : ℕ) (d : Share) → i + n < length shares
     → IsNotAfter (get_or shares i d) (get_or shares (i + n) d)
 not_after_later shares next zero i d within =
-    inr (
-      ap (λ k. (get_or shares k d).hot) {x = i} {y = i + zero} (omega arith),
-      let same = ap (λ k. (get_or shares k d).node) {x = i} {y = i + zero} (omega arith) in omega (arith, same),
-    )
+    let at : i ≡ i + zero = omega arith in let same = ap (λ k. (get_or shares k d).node) at in
+    inr (ap (λ k. (get_or shares k d).hot) at, omega (arith, same))
 not_after_later shares next (suc n) i d within =
     let step : i + suc n ≡ i + n + 1 = omega arith in
     subst (λ k. IsNotAfter (get_or shares i d) (get_or shares k d)) (sym step)
@@ -72,10 +70,6 @@ same_cold node hots b behind =
     ⊎_elim (λ e. eq-eqb (node - hots) b (omega (arith, e)) ∙ sym (eq-eqb node (hots + b) e))
     (λ other. ne_eqb (node - hots) b (λ e. other (omega (arith, e, behind))) ∙ sym (ne_eqb node (hots + b) other)) (cases_eq node (hots + b))
 
-index_with_heat : (side : Side) (t : Transfer) (heat : ℤ) → part_index side (record t { heat = heat }) ≡ part_index side t
-index_with_heat Hot t heat = refl
-index_with_heat Cold t heat = refl
-
 index_of_pair : (side : Side) (s t : Transfer) → AreOfOnePair s t → part_index side s ≡ part_index side t
 index_of_pair Hot s t same = same.0
 index_of_pair Cold s t same = same.1
@@ -91,7 +85,7 @@ added_heat side a old t new (inl joined) =
     let more : Transfer = record last { heat = last.heat +ℤ t.heat } in let was = ap (int_sum_by f) joined.old_is in
     let is = ap (int_sum_by f) joined.new_is in let before = int_sum_by-append f joined.front (last ∷ []) in
     let after = int_sum_by-append f joined.front (more ∷ []) in
-    let one = ap (λ n. if n == a then more.heat else pos 0) (index_with_heat side last more.heat) in
+    let one = ap (λ n. if n == a then more.heat else pos 0) (index_of_pair side more last (refl, refl)) in
     let sum = if_add (part_index side last == a) last.heat t.heat in
     let two = ap (λ n. if n == a then t.heat else pos 0) (index_of_pair side last t joined.one_pair) in omega (arith, ints)
 

@@ -31,13 +31,11 @@ module _ {X : Type 0} where
 
   module _ (P : X → Type 0) (xs : List X) (differ : AllPairs (λ a b. a ≢ b) xs) (i : ℕ) (within : i < length xs) (x : X) (is : x ≡ get_or xs i x)
       (kept : List X) (before : KeptSoFar P xs i kept) where
-    new_here : Contains (take i xs) x → ⊥
-    new_here found = All-contains (λ y. y ≢ get_or xs i x) (take i xs) x (AllPairs-before (λ a b. a ≢ b) xs i x differ within) found is
-
     pub kept-push : P x → KeptSoFar P xs (i + 1) (kept ++ x ∷ [])
     kept-push own =
         subst (λ ys. ListsOnce (λ y. Contains ys y × P y) (kept ++ x ∷ [])) (sym (taken-more xs i x within is))
-        (once-push (λ y. Contains (take i xs) y × P y) (λ y. Contains (take i xs ++ x ∷ []) y × P y) kept x before (λ h. new_here h.0)
+        (once-push (λ y. Contains (take i xs) y × P y) (λ y. Contains (take i xs ++ x ∷ []) y × P y) kept x before
+        (λ h. All-contains (λ y. y ≢ get_or xs i x) (take i xs) x (AllPairs-before (λ a b. a ≢ b) xs i x differ within) h.0 is)
         (Contains-push (take i xs) x, own) (λ y h. (Contains-append_left (take i xs) (x ∷ []) y h.0, h.1))
         (λ y h. ⊎_elim (λ early. inl (early, h.1)) (λ last. inr (sym last)) (Contains-push_cases (take i xs) x y h.0)))
 
@@ -209,9 +207,6 @@ module _ (c : Case) (early : List Source) (first ranks : ℕ) (groups : List Gro
 
   module _ (g : Group) (hot : side_of c source ≡ Some Hot) (sources : ListsOnce (IsLike c source) g.sources)
       (node : g.first_node ≡ first + length groups * ranks) (new : StandsInOne groups source → ⊥) where
-    own : Contains g.sources source
-    own = sources.every source (record { side = hot; alike = λ cold at. refl })
-
     still : (s : Source) → StandsInOne groups s → StandsInOne (groups ++ g ∷ []) s
     still s (k, f, within, is, found) = let (j, j_in, there) = Contains-append_left groups (g ∷ []) f (k, within, is) in (j, f, j_in, there, found)
 
@@ -226,7 +221,7 @@ module _ (c : Case) (early : List Source) (first ranks : ℕ) (groups : List Gro
 
     -- one that begins a group
     pub groups-push : HoldsGroups c (early ++ source ∷ []) first ranks (groups ++ g ∷ [])
-    groups-push = record {
+    groups-push = let own = sources.every source (record { side = hot; alike = λ cold at. refl }) in record {
       each = All-push (IsGroupFrom c (early ++ source ∷ [])) groups g
           (All-weaker (IsGroupFrom c early) (IsGroupFrom c (early ++ source ∷ [])) more_early groups h.each)
           (record { first = source; is_early = Contains-push early source; sources = sources });

@@ -305,9 +305,6 @@ module _ (c : Case) (places : List ℤ) (hot cold : List Part) (groups : List Gr
   abbrev all_links : List Link
   all_links = chain_links c places hot cold groups
 
-  in_entering : (l : Link) → Contains (entering places groups hot) l → Contains all_links l
-  in_entering l there = Contains-append_left (entering places groups hot) (flat_map (links_of_group c places (length hot) cold) groups) l there
-
   in_group : (g : Group) (l : Link) → Contains groups g → Contains (links_of_group c places (length hot) cold g) l → Contains all_links l
   in_group g l there link =
       Contains-append_right (entering places groups hot) (flat_map (links_of_group c places (length hot) cold) groups) l
@@ -330,7 +327,8 @@ module _ (c : Case) (places : List ℤ) (hot cold : List Part) (groups : List Gr
       let (g, found) = find-there (has_source p.source) groups f there (has_source-there p.source f stands) in
       let (first, has) = find-some (has_source p.source) groups g found in let into = λ (node : ℕ). open_link a (node + rank_of places p) in
       let is = ap (λ o. option_to_list (option_map into (option_map (λ (h : Group). h.first_node) o))) found in
-      let link = in_entering (into g.first_node) (of_part (entering_at places groups) hot a p (into g.first_node) at is) in
+      let link = Contains-append_left (entering places groups hot) (flat_map (links_of_group c places (length hot) cold) groups) (into g.first_node)
+      (of_part (entering_at places groups) hot a p (into g.first_node) at is) in
       (g, record { group_is = first; stands = has_source-true p.source g has; link = link })
 
   pub led_on : (g : Group) (r : ℕ) → Contains groups g → (r + 1) < rank_count places
@@ -400,11 +398,6 @@ module _ (c : Case) (hot cold : List Part) (a b : ℕ) where
 group_index : (groups : List Group) (g : Group) → Contains groups g → (i : ℕ) × (slice_get groups i ≡ Some g)
 group_index groups g (i, within, is) = (i, slice_get_read groups (length groups) i g refl within (sym is))
 
--- a node of two chains is the same node of the same chain
-same_place : (first i j n x y r s : ℕ) → x ≡ first + i * n → y ≡ first + j * n → r < n → s < n → x + r ≡ y + s → (i ≡ j) × (r ≡ s)
-same_place first i j n x y r s x_is y_is r_in s_in same = let places : i * n + r ≡ j * n + s = omega (arith, x_is, y_is, same) in
-    same_from_place i r j s n r_in s_in places
-
 module _ (c : Case) (places : List ℤ) (hot cold : List Part) where
   -- a node of the chain of a group, at the rank of a hot part or a greater one
   record IsBelow (g : Group) (p : Part) (v : ℕ) : Type 0 where
@@ -447,12 +440,13 @@ module _ (c : Case) (places : List ℤ) (hot cold : List Part) (groups : List Gr
       let first = for.in_line i g (slice_get_read groups (length groups) i g refl within (sym is)) in
       let last = mul-add-lt i (rank_count places) r (length groups) within below in (omega (arith, first), omega (arith, first, last))
 
+  -- a node of two chains is the same node of the same chain
   same_node : (g h : Group) → Contains groups g → Contains groups h → (r s : ℕ) → r < rank_count places → s < rank_count places
       → g.first_node + r ≡ h.first_node + s → (g ≡ h) × (r ≡ s)
   same_node g h g_in h_in r s r_in s_in same =
       let (i, from) = group_index groups g g_in in let (j, to) = group_index groups h h_in in
-      let e = same_place (length hot + length cold) i j (rank_count places) g.first_node h.first_node r s (for.in_line i g from)
-      (for.in_line j h to) r_in s_in same in
+      let x = for.in_line i g from in let y = for.in_line j h to in
+      let e = same_from_place i r j s (rank_count places) r_in s_in (omega (arith, x, y, same)) in
       (same_Some g h (sym from ∙ ap (slice_get groups) e.0 ∙ to), e.1)
 
   -- what is permitted to one source of a group is permitted to each
@@ -635,9 +629,6 @@ first_nodes_few first ranks groups in_line few few_parts few_ranks k d within =
 
 -- ---- sizes
 
-chain_nodes : (g p : ℕ) → g * (2 * p - 1) ≤ 2 * g * p
-chain_nodes g p = let fewer = mul-le g (2 * p - 1) g (2 * p) (omega arith) (omega arith) in omega (arith, fewer)
-
 module _ (c : Case) (places : List ℤ) (hot cold : List Part) (complete : IsComplete c) (is_grid : IsGrid c places) (few_hot : length hot ≤ MOST_PARTS)
     (few_cold : length cold ≤ MOST_PARTS) where
   pub IsSmall-chains : (chains : Chains) → length chains.groups ≤ MOST_STREAMS + ALL_UTILITIES
@@ -646,7 +637,7 @@ module _ (c : Case) (places : List ℤ) (hot cold : List Part) (complete : IsCom
   IsSmall-chains chains few links nodes =
       let few_places = length-grid c places complete is_grid in
       let same = λ (other : List ℤ) (grid : IsGrid c other). ListsFalling-unique (Contains (places_of c.streams c.utilities)) places other is_grid grid in
-      let most_nodes = chain_nodes (length chains.groups) (length places) in
+      let most_nodes = mul-le (length chains.groups) (rank_count places) (length chains.groups) (2 * length places) (omega arith) (omega arith) in
       let all_nodes = few_chain_nodes (length chains.groups) (rank_count places) few (omega (arith, few_places)) in
       let most_links = mul-le (length chains.groups) (length cold + 3 * length places) (MOST_STREAMS + ALL_UTILITIES) (MOST_PARTS + 3 * MOST_PLACES) few
       (omega (arith, few_cold, few_places)) in

@@ -285,8 +285,8 @@ module _ (hots : ℕ) (links : List Link) (flow : List ℤ) where
         }
 
   -- the same as a loop has it
-  pub set_out_step : (n : ℕ) (shares' shares : List Share) (ways' ways : List Way) → shares' ≡ shares → ways' ≡ ways → HaveSetOut hots links flow (suc n) shares ways
-      → HaveSetOut hots links flow (n + 1) shares' ways'
+  pub set_out_step : (n : ℕ) (shares' shares : List Share) (ways' ways : List Way) → shares' ≡ shares → ways' ≡ ways
+      → HaveSetOut hots links flow (suc n) shares ways → HaveSetOut hots links flow (n + 1) shares' ways'
   set_out_step n shares' shares ways' ways same also out = rw add-one (subst₂ (HaveSetOut hots links flow (suc n)) (sym same) (sym also) out)
 
 -- as heat sets out, all is under way

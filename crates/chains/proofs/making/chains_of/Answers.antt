@@ -54,26 +54,17 @@ first_node c g is =
     (first_nodes (goal.at.In-loop-group c).In_ok-groups) c.loop-group.group-index g c.loop-group-test.true in
     subst (λ (h : Group). h.first_node ≤ MOST_INNER_NODES) (sym is) here
 
-pub push_onward-requires-clause-node : goal.push_onward-requires-clause-node
-push_onward-requires-clause-node c = first_node (goal.at.push_onward-requires-clause-node c).In-loop-group c.group-item.result c.group-item.is
+pub push_onward-requires : goal.push_onward-requires
+push_onward-requires c =
+    let p = goal.at.push_onward-requires c in let node = first_node p.In-loop-group c.group-item.result c.group-item.is in
+    let some = places_some c.args.case.now c.as_slice-places.result.now c.requires.complete (grid p.After-as_slice-places) in
+    record { node = node; some = omega (arith, some, c.rank_count-ranks.ensures); ranks = few_ranks p.After-rank_count-ranks }
 
-pub push_onward-requires-clause-some : goal.push_onward-requires-clause-some
-push_onward-requires-clause-some c =
-    let some = places_some c.args.case.now c.as_slice-places.result.now c.requires.complete
-    (grid (goal.at.push_onward-requires-clause-some c).After-as_slice-places) in
-    omega (arith, some, c.rank_count-ranks.ensures)
-
-pub push_onward-requires-clause-ranks : goal.push_onward-requires-clause-ranks
-push_onward-requires-clause-ranks c = few_ranks (goal.at.push_onward-requires-clause-ranks c).After-rank_count-ranks
-
-pub push_leaving-requires-clause-few_places : goal.push_leaving-requires-clause-few_places
-push_leaving-requires-clause-few_places c = few_places (goal.at.push_leaving-requires-clause-few_places c).After-as_slice-places
-
-pub push_leaving-requires-clause-node : goal.push_leaving-requires-clause-node
-push_leaving-requires-clause-node c = first_node (goal.at.push_leaving-requires-clause-node c).In-loop-group c.group-item.result c.group-item.is
-
-pub push_leaving-requires-clause-cold : goal.push_leaving-requires-clause-cold
-push_leaving-requires-clause-cold c = λ k d within. (c.requires.parts.cold_parts k d within).source
+pub push_leaving-requires : goal.push_leaving-requires
+push_leaving-requires c =
+    let p = goal.at.push_leaving-requires c in let node = first_node p.In-loop-group c.group-item.result c.group-item.is in
+    let few = few_places p.After-as_slice-places in
+    record { complete = c.requires.complete; few_places = few; node = node; cold = λ k d within. (c.requires.parts.cold_parts k d within).source }
 
 pub loop-group-preserved : goal.loop-group-preserved
 loop-group-preserved c =
@@ -129,17 +120,5 @@ made c =
     AreChains-made case places hot cold _ c.requires.complete for c.args.parts.now.few_hot c.args.parts.now.few_cold
     (omega (arith, answer.few, ap length c.from_vec-2.ensures)) links nodes
 
-pub returns-clause-groups : goal.returns-clause-groups
-returns-clause-groups c = (made c).groups
-
-pub returns-clause-first_nodes : goal.returns-clause-first_nodes
-returns-clause-first_nodes c = (made c).first_nodes
-
-pub returns-clause-inner : goal.returns-clause-inner
-returns-clause-inner c = (made c).inner
-
-pub returns-clause-paths : goal.returns-clause-paths
-returns-clause-paths c = (made c).paths
-
-pub returns-clause-small : goal.returns-clause-small
-returns-clause-small c = (made c).small
+pub returns : goal.returns
+returns c = let m = made c in record { groups = m.groups; first_nodes = m.first_nodes; inner = m.inner; paths = m.paths; small = m.small }
