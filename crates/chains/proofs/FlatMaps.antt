@@ -7,13 +7,12 @@ use Rattle.chains.proofs.Words.{length-enumerate_from, length-take-le, slice_get
 module _ {X : Type 0} where
   pub Contains-enumerated : (xs : List X) (i : ℕ) (x : X) → slice_get xs i ≡ Some x → Contains (enumerate_from 0 xs) (i, x)
   Contains-enumerated xs i x at =
-      let within = slice_get_within xs i x at in
-      let place : 0 + i ≡ i = omega arith in
+      let within = slice_get_within xs i x at in let place : 0 + i ≡ i = omega arith in
       let is = get_or-enumerate_from 0 xs i (i, x) within ∙ ap (λ n. (n, get_or xs i x)) place ∙ ap (λ y. (i, y)) (get_or_from_slice_get xs i x x at) in
       (i, omega (arith, within, length-enumerate_from 0 xs), is)
 
   -- one element more
-  taken-more : (xs : List X) (i : ℕ) (x : X) → i < length xs → x ≡ get_or xs i x → take (i + 1) xs ≡ take i xs ++ x ∷ []
+  pub taken-more : (xs : List X) (i : ℕ) (x : X) → i < length xs → x ≡ get_or xs i x → take (i + 1) xs ≡ take i xs ++ x ∷ []
   taken-more xs i x within is = subst (λ y. take (i + 1) xs ≡ take i xs ++ y ∷ []) (sym is) (take_more xs i x within)
 
   enumerated-more : (xs : List X) (i : ℕ) (x : X) → i < length xs → x ≡ get_or xs i x

@@ -1,11 +1,12 @@
 -- Shares in order, gathered into transfers one after the other.
-use Rattle.chains.proofs.ListSums.{if_add, int_sum_by-front, int_sum_by-permutation, int_sum_by-term}
+use Rattle.chains.proofs.SpreadLemmas.{if_add, int_sum_by-front, int_sum_by-permutation, int_sum_by-term}
 use Rattle.chains.proofs.Words.{All, All-contains, All-head, All-permutation, All-pop, All-push, All-weaker, AllPairs, AllPairs-across, AllPairs-front}
 use Rattle.chains.proofs.Words.{AreGathered, AreOfOnePair, Bor, Called, Cold, ComputesKey, Contains, Contains-append_left, Contains-permutation, Contains-push}
 use Rattle.chains.proofs.Words.{Hot, IsAdded, IsJoined, IsNotAfter, IsPermutation, IsPermutation-sym, IsPushed, IsSortedByKey, Mut, Share, Side, Transfer}
 use Rattle.chains.proofs.Words.{all_pairs_push, always_returns_same, by_ranked, cases_eq, eq-eqb, false≢true, get_or-take, get_or_default, held_at, held_of}
 use Rattle.chains.proofs.Words.{if_between, if◌then◌else◌, int_sum_by, int_sum_by-append, int_sum_by-more, ints, is_lt, length-set, length-take-le, nat_cmp}
-use Rattle.chains.proofs.Words.{ne_eqb, ordering_then, pos, ranked, set, subst₂, take_all, take_more, take_more_set, transfer_of, ℤ, ◌+ℤ◌, ◌<ℤ◌, ◌≤ℤ◌}
+use Rattle.chains.proofs.Words.{ne_eqb, ordering_then, pos, precedes-trans, ranked, set, subst₂, take_all, take_more, take_more_set, transfer_of, ℤ, ◌+ℤ◌, ◌<ℤ◌}
+use Rattle.chains.proofs.Words.{◌≤ℤ◌}
 use Rattle.heat_flow.specs.Flow.{heat_at, part_index, precedes}
 use Rattle.std.proofs.Common.{List, Some, [], ap, arith, false, get_or, inl, inr, length, refl, subst, suc, sym, take, zero, ℕ, ⊎_elim, ◌++◌, ◌+◌, ◌-◌, ◌<◌}
 use Rattle.std.proofs.Common.{◌==◌, ◌∙◌, ◌∷◌, ◌≡◌, ◌≤◌, ◌⊎◌}
@@ -46,11 +47,8 @@ neighbours_from_sort {g = g} {f = f} shares sorted h k d within =
 not_after_later : (shares : List Share) → Neighbours shares → (n i : ℕ) (d : Share) → i + n < length shares
     → IsNotAfter (get_or shares i d) (get_or shares (i + n) d)
 not_after_later shares next zero i d within =
-    inr (
-      ap (λ k. (get_or shares k d).hot) {x = i} {y = i + zero} (omega arith),
-      let same =
-          ap (λ k. (get_or shares k d).node) {x = i} {y = i + zero} (omega arith) in omega (arith, same),
-    )
+    let at : i ≡ i + zero = omega arith in let same = ap (λ k. (get_or shares k d).node) at in
+    inr (ap (λ k. (get_or shares k d).hot) at, omega (arith, same))
 not_after_later shares next (suc n) i d within =
     let step : i + suc n ≡ i + n + 1 = omega arith in
     subst (λ k. IsNotAfter (get_or shares i d) (get_or shares k d)) (sym step)
@@ -60,8 +58,7 @@ not_after_later shares next (suc n) i d within =
 -- the shares in front of one are not after it
 earlier : (shares : List Share) → Neighbours shares → (i : ℕ) (d : Share) → i < length shares → All (λ u. IsNotAfter u (get_or shares i d)) (take i shares)
 earlier shares next i d within k e early =
-    let inside : k < i = omega (arith, early, length-take-le i shares (omega (arith, within))) in
-    let on : k + (i - k) ≡ i = omega (arith, inside) in
+    let inside : k < i = omega (arith, early, length-take-le i shares (omega (arith, within))) in let on : k + (i - k) ≡ i = omega (arith, inside) in
     let both = not_after_later shares next (i - k) k e (omega (arith, within, on)) in
     subst₂ IsNotAfter (sym (get_or-take i shares k e inside)) (ap (λ n. get_or shares n e) on ∙ get_or_default shares i e d within) both
 
@@ -73,10 +70,6 @@ same_cold node hots b behind =
     ⊎_elim (λ e. eq-eqb (node - hots) b (omega (arith, e)) ∙ sym (eq-eqb node (hots + b) e))
     (λ other. ne_eqb (node - hots) b (λ e. other (omega (arith, e, behind))) ∙ sym (ne_eqb node (hots + b) other)) (cases_eq node (hots + b))
 
-index_with_heat : (side : Side) (t : Transfer) (heat : ℤ) → part_index side (record t { heat = heat }) ≡ part_index side t
-index_with_heat Hot t heat = refl
-index_with_heat Cold t heat = refl
-
 index_of_pair : (side : Side) (s t : Transfer) → AreOfOnePair s t → part_index side s ≡ part_index side t
 index_of_pair Hot s t same = same.0
 index_of_pair Cold s t same = same.1
@@ -85,29 +78,22 @@ index_of_pair Cold s t same = same.1
 added_heat : (side : Side) (a : ℕ) (old : List Transfer) (t : Transfer) (new : List Transfer) → IsAdded old t new
     → heat_at side new a ≡ heat_at side old a +ℤ (if part_index side t == a then t.heat else pos 0)
 added_heat side a old t new (inr pushed) =
-    let f = λ (u : Transfer). if part_index side u == a then u.heat else pos 0 in
-    let is = ap (int_sum_by f) pushed.new_is in
-    let both = int_sum_by-append f old (t ∷ []) in
-    omega (arith, ints)
+    let f = λ (u : Transfer). if part_index side u == a then u.heat else pos 0 in let is = ap (int_sum_by f) pushed.new_is in
+    let both = int_sum_by-append f old (t ∷ []) in omega (arith, ints)
 added_heat side a old t new (inl joined) =
-    let f = λ (u : Transfer). if part_index side u == a then u.heat else pos 0 in
-    let last = joined.last in
-    let more : Transfer = record last { heat = last.heat +ℤ t.heat } in
-    let was = ap (int_sum_by f) joined.old_is in
-    let is = ap (int_sum_by f) joined.new_is in
-    let before = int_sum_by-append f joined.front (last ∷ []) in
+    let f = λ (u : Transfer). if part_index side u == a then u.heat else pos 0 in let last = joined.last in
+    let more : Transfer = record last { heat = last.heat +ℤ t.heat } in let was = ap (int_sum_by f) joined.old_is in
+    let is = ap (int_sum_by f) joined.new_is in let before = int_sum_by-append f joined.front (last ∷ []) in
     let after = int_sum_by-append f joined.front (more ∷ []) in
-    let one = ap (λ n. if n == a then more.heat else pos 0) (index_with_heat side last more.heat) in
+    let one = ap (λ n. if n == a then more.heat else pos 0) (index_of_pair side more last (refl, refl)) in
     let sum = if_add (part_index side last == a) last.heat t.heat in
-    let two = ap (λ n. if n == a then t.heat else pos 0) (index_of_pair side last t joined.one_pair) in
-    omega (arith, ints)
+    let two = ap (λ n. if n == a then t.heat else pos 0) (index_of_pair side last t joined.one_pair) in omega (arith, ints)
 
 -- a transfer of the last pair, written into the last transfer
 pub is_joined : (old : List Transfer) (n : ℕ) (last t : Transfer) (heat : ℤ) → n + 1 ≡ length old → last ≡ get_or old n last → AreOfOnePair last t
     → heat ≡ last.heat +ℤ t.heat → IsJoined old t (set old n (record { hot = last.hot; cold = last.cold; heat = heat }))
 is_joined old n last t heat long read one_pair sum =
-    let within : n < length old = omega (arith, long) in
-    let more : Transfer = record { hot = last.hot; cold = last.cold; heat = heat } in
+    let within : n < length old = omega (arith, long) in let more : Transfer = record { hot = last.hot; cold = last.cold; heat = heat } in
     record {
       front = take n old;
       last = last;
@@ -131,8 +117,7 @@ pub share_at : (hots : ℕ) (most : ℤ) (unsorted shares : List Share) → IsPe
     → All (λ u. pos 0 <ℤ u.heat) unsorted → All (λ u. held_of unsorted u.hot ≤ℤ most) unsorted → (i : ℕ) (d : Share) → i < length shares
     → IsShareAt hots most shares i (get_or shares i d)
 share_at hots most unsorted shares same next at_cold positive fits i d within =
-    let s = get_or shares i d in
-    let some = All-permutation (λ (u : Share). pos 0 <ℤ u.heat) unsorted shares same positive in
+    let s = get_or shares i d in let some = All-permutation (λ (u : Share). pos 0 <ℤ u.heat) unsorted shares same positive in
     let upto = All-permutation (λ (u : Share). held_of unsorted u.hot ≤ℤ most) unsorted shares same fits i d within in
     let sum = int_sum_by-permutation (λ (u : Share). if u.hot == s.hot then u.heat else pos 0) unsorted shares same in
     record {
@@ -188,17 +173,13 @@ module _ (hots : ℕ) where
 
     taken_more : IsAdded transfers t new → (b : ℕ) → heat_at Cold new b ≡ held_at (take (i + 1) shares) (hots + b)
     taken_more added b =
-        let old = before.taken b in
-        let more = held_at_more (hots + b) in
-        let heat = added_heat Cold b transfers t new added in
-        let same = ap (λ test. if test then s.heat else pos 0) (same_cold s.node hots b at.at_cold) in
-        omega (arith, ints)
+        let old = before.taken b in let more = held_at_more (hots + b) in let heat = added_heat Cold b transfers t new added in
+        let same = ap (λ test. if test then s.heat else pos 0) (same_cold s.node hots b at.at_cold) in omega (arith, ints)
 
     -- behind transfers of which the last one is of another pair
     behind : IsPushed transfers t new → (k : ℕ) (d : Transfer) → k < length transfers → precedes (get_or transfers k d) t
     behind pushed k d k_in =
-        let last = length transfers - 1 in
-        let another = pushed.another_pair d (omega (arith, k_in)) in
+        let last = length transfers - 1 in let another = pushed.another_pair d (omega (arith, k_in)) in
         let by_last : precedes (get_or transfers last d) t =
         ⊎_elim (λ less. inl less)
         (λ same. let low = same.1 in
@@ -207,12 +188,6 @@ module _ (hots : ℕ) where
         ⊎_elim (λ e. subst (λ n. precedes (get_or transfers n d) t) (sym e) by_last)
         (λ other. precedes-trans (get_or transfers k d) (get_or transfers last d) t (before.ordered k last d (omega (arith, k_in, other)) (omega (arith, k_in)))
         by_last) (cases_eq k last)
-      where
-        precedes-trans : (u v w : Transfer) → precedes u v → precedes v w → precedes u w
-        precedes-trans u v w (inl less) (inl more) = inl (omega (arith, less, more))
-        precedes-trans u v w (inl less) (inr same) = let e = same.0 in inl (omega (arith, less, e))
-        precedes-trans u v w (inr same) (inl more) = let e = same.0 in inl (omega (arith, e, more))
-        precedes-trans u v w (inr same) (inr also) = let one = same.1 in let two = also.1 in inr (same.0 ∙ also.0, omega (arith, one, two))
 
     pub AreGathered-more : IsAdded transfers t new → AreGathered hots (take (i + 1) shares) new
     AreGathered-more (inr pushed) = record {
@@ -225,9 +200,7 @@ module _ (hots : ℕ) where
       taken = taken_more (inr pushed);
     }
     AreGathered-more (inl joined) =
-        let front = joined.front in
-        let last = joined.last in
-        let more : Transfer = record last { heat = last.heat +ℤ t.heat } in
+        let front = joined.front in let last = joined.last in let more : Transfer = record last { heat = last.heat +ℤ t.heat } in
         let positive = All-pop (λ (u : Transfer). pos 0 <ℤ u.heat) transfers front (Some last) joined.old_is before.positive in
         let pairs = All-pop (HasShare (take i shares)) transfers front (Some last) joined.old_is before.pairs in
         let ordered = subst (AllPairs precedes) joined.old_is before.ordered in
@@ -247,16 +220,13 @@ module _ (hots : ℕ) where
     -- what is gathered of its hot part leaves room for it
     pub room_for_it : All (λ (u : Transfer). u.hot ≡ s.hot → (u.heat +ℤ s.heat) ≤ℤ most) transfers
     room_for_it k d k_in same =
-        let u = get_or transfers k d in
-        let f = λ (v : Transfer). if v.hot == s.hot then v.heat else pos 0 in
+        let u = get_or transfers k d in let f = λ (v : Transfer). if v.hot == s.hot then v.heat else pos 0 in
         let g = λ (v : Share). if v.hot == s.hot then v.heat else pos 0 in
         let term = int_sum_by-term f transfers
         (λ j c j_in. let had = before.positive j c j_in in
         (if_between ((get_or transfers j c).hot == s.hot) (get_or transfers j c).heat (omega (arith, ints, had))).0) k d k_in in
         let one = ap (λ b. if b then u.heat else pos 0) (eq-eqb u.hot s.hot same) in
-        let two = ap (λ b. if b then s.heat else pos 0) (eq-eqb s.hot s.hot refl) in
-        let gathered = before.given s.hot in
-        let more = held_more s.hot in
+        let two = ap (λ b. if b then s.heat else pos 0) (eq-eqb s.hot s.hot refl) in let gathered = before.given s.hot in let more = held_more s.hot in
         let fits = at.fits in
         let upto = int_sum_by-front g (i + 1) shares
         (λ j c j_in. let had = at.positive j c j_in in (if_between ((get_or shares j c).hot == s.hot) (get_or shares j c).heat (omega (arith, ints, had))).0) in

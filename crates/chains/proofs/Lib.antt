@@ -1,16 +1,6 @@
 pub mod FlatMaps
 mod GatherLemmas
 mod GroupLemmas
-pub mod LeadsToLemmas
-mod LinkLemmas
-mod ListSums
-mod NetLemmas
-mod OnceLemmas
-mod PassLemmas
-pub mod PathLemmas
-pub mod RankLemmas
-mod SetOutLemmas
-mod SourceLists
+pub mod NetLemmas
 mod SpreadLemmas
-mod WayLemmas
 pub mod Words

@@ -13,7 +13,7 @@ pub use Rattle.chains.specs.Stock.{HasPassed, HaveSetOut, IsFirstShare, IsShare,
 pub use Rattle.chains.specs.Ways.{AreOpen, IsCarried, IsFirstWay, IsWay, left_from, left_in_all, left_into, way_at}
 pub use Rattle.chains.specs.declared.net.Chains.{Chains}
 pub use Rattle.chains.specs.declared.net.Group.{Group}
-pub use Rattle.chains.specs.declared.net.TheConstants.{MOST_INNER_LINKS, MOST_INNER_NODES}
+pub use Rattle.chains.specs.declared.net.TheConstants.{MOST_INNER_NODES}
 pub use Rattle.chains.specs.declared.stock.Share.{Share}
 pub use Rattle.chains.specs.declared.ways.Way.{Way}
 pub use Rattle.flow_net.proofs.Sums.{sum_below-zero}
@@ -28,7 +28,9 @@ pub use Rattle.grid.specs.OnGrid.{AreOnGrid, IsOnPlaces}
 pub use Rattle.grid.specs.Part.{IsInterval}
 pub use Rattle.grid.specs.declared.part.Part.{Part}
 pub use Rattle.heat_flow.proofs.Blanks.{blank}
-pub use Rattle.heat_flow.specs.Reach.{both_reach, part_reaches, passes_heat, reach_between}
+pub use Rattle.heat_flow.proofs.CheckLemmas.{precedes-trans}
+pub use Rattle.heat_flow.proofs.ReachLemmas.{both_parts}
+pub use Rattle.heat_flow.specs.Reach.{both_reach, passes_heat, reach_between}
 pub use Rattle.heat_flow.specs.declared.flow.Flow.{Flow}
 pub use Rattle.heat_flow.specs.declared.flow.Transfer.{Transfer}
 pub use Rattle.std.proofs.Math.ListN.{set}
@@ -50,7 +52,6 @@ pub use Rattle.std.proofs.lemmas.List.Elements.{All-append, All-cons, All-contai
 pub use Rattle.std.proofs.lemmas.List.Elements.{All-weaker, Contains-append_left, Contains-append_right, Contains-get_or, Contains-push, Contains-push_cases}
 pub use Rattle.std.proofs.lemmas.List.Folds.{Any-from_list_any, list_any-from_Any}
 pub use Rattle.std.proofs.lemmas.List.FromFn.{get_or-enumerate_from, length-enumerate_from, map-range_with_len_more}
-pub use Rattle.std.proofs.lemmas.List.Kept.{AllPairs-cons}
 pub use Rattle.std.proofs.lemmas.List.Quantifiers.{Any-push, all_pairs_push}
 pub use Rattle.std.proofs.lemmas.List.Recursion.{is_position_or_len}
 pub use Rattle.std.proofs.lemmas.List.Sorted.{All-permutation, Contains-permutation, IsNonDecreasingBy-from_sort_by_key, IsPartitionPoint-from_clause}
@@ -65,8 +66,7 @@ pub use Rattle.std.specs.Int.RustNames.{unsigned_abs}
 pub use Rattle.std.specs.List.{enumerate_from, find, flat_map, position_or_len, range_with_len, swap}
 pub use Rattle.std.specs.List.Sorted.{IsNonDecreasingBy, IsPermutation, IsSortedByKey}
 pub use Rattle.std.specs.Ordering.{int_eq, is_lt, nat_cmp, ordering_then}
-pub use Rattle.std.specs.Prelude.{All, AllPairs, Any, Contains, count_by, if◌then◌else◌, int_lt, negsuc, pos, slice_get, unwrap_or, ℤ, ◌*◌, ◌+ℤ◌, ◌-ℤ◌, ◌<ℤ◌}
-pub use Rattle.std.specs.Prelude.{◌≤ℤ◌}
+pub use Rattle.std.specs.Prelude.{All, AllPairs, Any, Contains, count_by, if◌then◌else◌, int_lt, negsuc, pos, unwrap_or, ℤ, ◌*◌, ◌+ℤ◌, ◌-ℤ◌, ◌<ℤ◌, ◌≤ℤ◌}
 pub use Rattle.stream_case.proofs.CaseLemmas.{length-AreStreams}
 pub use Rattle.stream_case.proofs.CompleteLemmas.{AreStreams-IsComplete, StaysValid-IsComplete, length-utilities}
 pub use Rattle.stream_case.proofs.SourceLemmas.{own_side, same_side-true, same_source-same, same_source-true}

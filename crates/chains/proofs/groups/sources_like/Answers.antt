@@ -1,6 +1,5 @@
 -- The hot sources that are like the first one are kept.
-use Rattle.chains.proofs.GroupLemmas.{HaveSamePartners-all, all-HaveSamePartners, likes-all}
-use Rattle.chains.proofs.OnceLemmas.{KeptSoFar, kept-pass, kept-push}
+use Rattle.chains.proofs.GroupLemmas.{HaveSamePartners-all, KeptSoFar, all-HaveSamePartners, kept-pass, kept-push, likes-all}
 use Rattle.chains.proofs.groups.sources_like.Goals.{else-are_alike, then-are_alike+in_ok-push}
 use Rattle.chains.proofs.Words.{HaveSamePartners, false≢true, get_or_default}
 use Rattle.std.proofs.Common.{ap, get_or, subst, sym, ◌+◌, ◌∙◌}
@@ -9,15 +8,9 @@ use Rattle.stream_case.specs.declared.source.Source.TheVariants.{Stream as of_st
 
 pub loop-source-preserved : goal.loop-source-preserved
 loop-source-preserved c =
-    let hot = c.args.hot.now in
-    let cold = c.args.cold.now in
-    let case = c.args.case.now in
-    let first = c.args.first in
-    let i = c.loop-source.source-index in
-    let within = c.loop-source-test.true in
-    let source = get_or hot i (of_stream 0) in
-    let is = get_or_default hot i (of_stream 0) source within in
-    let same = HaveSamePartners case first in
+    let hot = c.args.hot.now in let cold = c.args.cold.now in let case = c.args.case.now in
+    let first = c.args.first in let i = c.loop-source.source-index in let within = c.loop-source-test.true in
+    let source = get_or hot i (of_stream 0) in let is = get_or_default hot i (of_stream 0) source within in let same = HaveSamePartners case first in
     elim c.if-are_alike.branch [
       | then-are_alike+in_ok-push w ↦
           subst (KeptSoFar same hot (i + 1)) (sym (ap (λ v. v.items) w.sources-is ∙ w.in_ok-push.ensures.items))

@@ -1,4 +1,4 @@
-use Rattle.chains.proofs.OnceLemmas.{KeptSoFar}
+use Rattle.chains.proofs.GroupLemmas.{KeptSoFar}
 use Rattle.chains.proofs.Words.{HaveSamePartners}
 use Rattle.chains.proofs.groups.sources_like.Given as goal
 

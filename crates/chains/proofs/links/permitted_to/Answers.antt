@@ -1,6 +1,6 @@
 -- The cold sources that are permitted to a group are kept.
-use Rattle.chains.proofs.LinkLemmas.{IsPermitted}
-use Rattle.chains.proofs.OnceLemmas.{KeptSoFar, kept-pass, kept-push}
+use Rattle.chains.proofs.NetLemmas.{IsPermitted}
+use Rattle.chains.proofs.GroupLemmas.{KeptSoFar, kept-pass, kept-push}
 use Rattle.chains.proofs.links.permitted_to.Goals.{else-is_permitted, then-is_permitted+in_ok-push}
 use Rattle.std.proofs.Common.{ap, get_or, subst, sym, take, ◌+◌, ◌∙◌, ◌≢◌}
 use Rattle.chains.proofs.Words.{All-contains, AllPairs, Contains, false≢true, get_or_default, take_all}
@@ -9,12 +9,8 @@ use Rattle.stream_case.specs.declared.source.Source.TheVariants.{Stream as of_st
 
 pub loop-source-preserved : goal.loop-source-preserved
 loop-source-preserved c =
-    let colds = c.deref-source-items.result.now in
-    let free = IsPermitted c.args.case.now c.args.group.now in
-    let i = c.loop-source.source-index in
-    let within = c.loop-source-test.true in
-    let source = get_or colds i (of_stream 0) in
-    let is = get_or_default colds i (of_stream 0) source within in
+    let colds = c.deref-source-items.result.now in let free = IsPermitted c.args.case.now c.args.group.now in let i = c.loop-source.source-index in
+    let within = c.loop-source-test.true in let source = get_or colds i (of_stream 0) in let is = get_or_default colds i (of_stream 0) source within in
     let differ = subst (AllPairs (λ a b. a ≢ b)) (sym c.deref-source-items.ensures.value) c.in_ok-cold.ensures.listed.ordered in
     elim c.if-is_permitted.branch [
       | then-is_permitted+in_ok-push w ↦
@@ -29,9 +25,7 @@ loop-source-preserved c =
 
 pub returns : goal.returns
 returns c = λ cold side.
-    let i = c.loop-source.source-index in
-    let colds = c.deref-source-items.result.now in
-    let kept = c.loop-source.invariant in
+    let i = c.loop-source.source-index in let colds = c.deref-source-items.result.now in let kept = c.loop-source.invariant in
     let whole = take_all i colds c.loop-source-test.false ∙ c.deref-source-items.ensures.value in (
       λ found. (All-contains (λ x. Contains (take i colds) x × IsPermitted c.args.case.now c.args.group.now x) c.loop-source.permitted.items cold kept.each
           found).1,

@@ -1,5 +1,5 @@
-use Rattle.chains.proofs.LinkLemmas.{IsPermitted}
-use Rattle.chains.proofs.OnceLemmas.{KeptSoFar}
+use Rattle.chains.proofs.NetLemmas.{IsPermitted}
+use Rattle.chains.proofs.GroupLemmas.{KeptSoFar}
 use Rattle.chains.proofs.links.permitted_to.Given as goal
 
 abbrev pub invariant-loop-source : goal.invariant-loop-source

@@ -16,23 +16,16 @@ overflow_add-node c =
 
 pub loop-index-preserved : goal.loop-index-preserved
 loop-index-preserved c =
-    let case = c.args.case.now in
-    let places = c.args.places.now in
-    let hot = c.args.parts.now.hot in
-    let cold = c.args.parts.now.cold in
-    let g = c.args.group.now in
-    let i = c.loop-index.index in
-    let slice = c.as_slice-part-items in
-    let within = subst (λ xs. i < length xs) slice.ensures c.loop-index-test.true in
+    let case = c.args.case.now in let places = c.args.places.now in let hot = c.args.parts.now.hot in
+    let cold = c.args.parts.now.cold in let g = c.args.group.now in let i = c.loop-index.index in
+    let slice = c.as_slice-part-items in let within = subst (λ xs. i < length xs) slice.ensures c.loop-index-test.true in
     let p = get_or slice.result.now i blank in
     let is = get_or_default slice.result.now i blank p c.loop-index-test.true ∙ ap (λ xs. get_or xs i p) slice.ensures in
     let side = subst (λ q. side_of case q.source ≡ Some Cold) (sym is) (c.requires.cold i p within) in
-    let permitted = c.in_ok-permitted.ensures p.source side in
-    let after = c.loop-index.links.items in
-    let out = open_link (g.first_node + rank_of places p) (length hot + i) in
+    let permitted = c.in_ok-permitted.ensures p.source side in let after = c.loop-index.links.items in
+    let out = open_link (g.first_node + rank_of places p) (length hot + i) in let pushes = λ (b : Bool). after ++ cons_if b out [] in
     let rank : get_or c.args.ranks.now i 0 ≡ rank_of places p = ap (λ xs. get_or xs i 0) c.requires.ranks
     ∙ (get_or-map (rank_of places) cold i p 0 within ∙ ap (rank_of places) (sym is)) in
-    let pushes = λ (b : Bool). after ++ cons_if b out [] in
     elim c.if-is_one_of.branch [
       | then-is_one_of+in_ok-push w ↦
           let found = subst (λ xs. Contains xs p.source) c.as_slice.ensures.value (c.is_one_of.ensures.0 w.if-is_one_of.true) in

@@ -1,5 +1,5 @@
 -- The links of one stride after the other.
-use Rattle.chains.proofs.LinkLemmas.{strides-all}
+use Rattle.chains.proofs.NetLemmas.{strides-all}
 use Rattle.chains.proofs.Words.{on_ok_weaker}
 use Rattle.chains.proofs.links.push_onward.Goals as goal
 

@@ -1,9 +1,7 @@
 -- The net of the chains of a case, group by group.
 use Rattle.chains.proofs.FlatMaps.{flat_map-step}
 use Rattle.chains.proofs.GroupLemmas.{few_chain_nodes}
-use Rattle.chains.proofs.NetLemmas.{AreChains, AreChains-made, cold_on_places, first_nodes_few, hot_on_places}
-use Rattle.chains.proofs.PathLemmas.{AreForChains}
-use Rattle.chains.proofs.RankLemmas.{places_some}
+use Rattle.chains.proofs.NetLemmas.{AreChains, AreChains-made, AreForChains, first_nodes_few, on_places, places_some}
 use Rattle.chains.proofs.making.chains_of.Goals.{After-as_slice-places, After-drop-grid-2, After-len-2, After-len-3, After-rank_count-ranks, In-loop-group}
 use Rattle.chains.proofs.making.chains_of.Goals.{In_ok-groups}
 use Rattle.chains.proofs.Words.{All, AreGroups, Group, IsGrid, MOST_INNER_NODES, MOST_PARTS, MOST_PLACES, StandInLine, append-nil, chain_links, entering}
@@ -45,9 +43,7 @@ push_entering-requires-clause-nodes c =
 
 pub loop-group-init : goal.loop-group-init
 loop-group-init c =
-    let hot = c.args.parts.now.hot in
-    let places = c.as_slice-places.result.now in
-    let groups = c.deref-group-items.result.now in
+    let hot = c.args.parts.now.hot in let places = c.as_slice-places.result.now in let groups = c.deref-group-items.result.now in
     let whole = ap₂ (entering places) (c.as_slice.ensures.value ∙ sym c.deref-group-items.ensures.value) c.as_slice-2.ensures in
     c.in_ok-push_entering.ensures ∙ ap₂ ◌++◌ c.new-links.ensures.items whole ∙ sym (append-nil (entering places groups hot))
 
@@ -58,17 +54,11 @@ first_node c g is =
     (first_nodes (goal.at.In-loop-group c).In_ok-groups) c.loop-group.group-index g c.loop-group-test.true in
     subst (λ (h : Group). h.first_node ≤ MOST_INNER_NODES) (sym is) here
 
-pub push_onward-requires-clause-node : goal.push_onward-requires-clause-node
-push_onward-requires-clause-node c = first_node (goal.at.push_onward-requires-clause-node c).In-loop-group c.group-item.result c.group-item.is
-
-pub push_onward-requires-clause-some : goal.push_onward-requires-clause-some
-push_onward-requires-clause-some c =
-    let some = places_some c.args.case.now c.as_slice-places.result.now c.requires.complete
-    (grid (goal.at.push_onward-requires-clause-some c).After-as_slice-places) in
-    omega (arith, some, c.rank_count-ranks.ensures)
-
-pub push_onward-requires-clause-ranks : goal.push_onward-requires-clause-ranks
-push_onward-requires-clause-ranks c = few_ranks (goal.at.push_onward-requires-clause-ranks c).After-rank_count-ranks
+pub push_onward-requires : goal.push_onward-requires
+push_onward-requires c =
+    let p = goal.at.push_onward-requires c in let node = first_node p.In-loop-group c.group-item.result c.group-item.is in
+    let some = places_some c.args.case.now c.as_slice-places.result.now c.requires.complete (grid p.After-as_slice-places) in
+    record { node = node; some = omega (arith, some, c.rank_count-ranks.ensures); ranks = few_ranks p.After-rank_count-ranks }
 
 pub ranks_of-requires : goal.ranks_of-requires
 ranks_of-requires c = record { few = few_places (goal.at.ranks_of-requires c).After-as_slice-places }
@@ -78,26 +68,19 @@ push_leaving-requires-clause-ranks c =
     c.deref.ensures.value ∙ (c.in_ok-cold_ranks.ensures.value ∙ ap (map (rank_of c.as_slice-places.result.now)) c.as_slice-3.ensures)
 
 pub push_leaving-requires-clause-small : goal.push_leaving-requires-clause-small
-push_leaving-requires-clause-small c =
-    subst (All (λ r. r ≤ 2 * MOST_PLACES + 1)) (sym c.deref.ensures.value) c.in_ok-cold_ranks.ensures.within
+push_leaving-requires-clause-small c = subst (All (λ r. r ≤ 2 * MOST_PLACES + 1)) (sym c.deref.ensures.value) c.in_ok-cold_ranks.ensures.within
 
 pub push_leaving-requires-clause-node : goal.push_leaving-requires-clause-node
 push_leaving-requires-clause-node c = first_node (goal.at.push_leaving-requires-clause-node c).In-loop-group c.group-item.result c.group-item.is
 
 pub push_leaving-requires-clause-cold : goal.push_leaving-requires-clause-cold
-push_leaving-requires-clause-cold c =
-    λ k d within. (c.requires.parts.cold_parts k d within).source
+push_leaving-requires-clause-cold c = λ k d within. (c.requires.parts.cold_parts k d within).source
 
 pub loop-group-preserved : goal.loop-group-preserved
 loop-group-preserved c =
-    let case = c.args.case.now in
-    let places = c.as_slice-places.result.now in
-    let hot = c.args.parts.now.hot in
-    let cold = c.args.parts.now.cold in
-    let groups = c.deref-group-items.result.now in
-    let g = c.group-item.result in
-    let after = c.loop-group.links.items in
-    let out = leaving case places (length hot) g cold in
+    let case = c.args.case.now in let places = c.as_slice-places.result.now in let hot = c.args.parts.now.hot in
+    let cold = c.args.parts.now.cold in let groups = c.deref-group-items.result.now in let g = c.group-item.result in
+    let after = c.loop-group.links.items in let out = leaving case places (length hot) g cold in
     let ranks = ap (λ n. after ++ (onward g.first_node n ++ out)) c.rank_count-ranks.ensures in
     let pushed = c.in_ok-push_leaving.ensures ∙ ap (λ links. links ++ out) c.in_ok-push_onward.ensures
     ∙ append_assoc after (onward g.first_node c.rank_count-ranks.result) out ∙ ranks in
@@ -113,8 +96,7 @@ overflow_mul-result c = let most = few_nodes (goal.at.overflow_mul-result c).Aft
 
 pub overflow_add-result : goal.overflow_add-result
 overflow_add-result c =
-    let most = few_nodes (goal.at.overflow_add-result c).After-len-3 in
-    let parts = few_parts (goal.at.overflow_add-result c).After-len-2 in
+    let most = few_nodes (goal.at.overflow_add-result c).After-len-3 in let parts = few_parts (goal.at.overflow_add-result c).After-len-2 in
     omega (arith, most, parts)
 
 made : (c : After-drop-grid-2)
@@ -124,12 +106,8 @@ made : (c : After-drop-grid-2)
       net = record { nodes = (c.len.result + c.len-2.result) + c.len-3.result * c.rank_count-ranks.result; links = c.from_vec.result };
     })
 made c =
-    let case = c.args.case.now in
-    let places = c.as_slice-places.result.now in
-    let hot = c.args.parts.now.hot in
-    let cold = c.args.parts.now.cold in
-    let answer = c.in_ok-groups.ensures in
-    let same = sym c.from_vec-2.ensures in
+    let case = c.args.case.now in let places = c.as_slice-places.result.now in let hot = c.args.parts.now.hot in
+    let cold = c.args.parts.now.cold in let answer = c.in_ok-groups.ensures in let same = sym c.from_vec-2.ensures in
     let first : c.len.result + c.len-2.result ≡ length hot + length cold = ap₂ ◌+◌ c.len.ensures c.len-2.ensures in
     let in_line = subst₂ (λ n ranks. StandInLine n ranks c.from_vec-2.result) first c.rank_count-ranks.ensures
     (subst (StandInLine (c.len.result + c.len-2.result) c.rank_count-ranks.result) same answer.chains) in
@@ -141,29 +119,16 @@ made c =
     let count : c.len-3.result ≡ length c.from_vec-2.result = omega (arith, c.len-3.ensures, ap length c.from_vec-2.ensures) in
     let nodes : (c.len.result + c.len-2.result) + c.len-3.result * c.rank_count-ranks.result
     ≡ (length hot + length cold) + length c.from_vec-2.result * rank_count places = ap₂ ◌+◌ first (ap₂ ◌*◌ count c.rank_count-ranks.ensures) in
-    let is_grid = grid (goal.at.After-drop-grid-2 c).After-as_slice-places in
-    let on = c.requires.parts in
+    let is_grid = grid (goal.at.After-drop-grid-2 c).After-as_slice-places in let on = on_places case places hot cold is_grid c.requires.parts in
     let for : AreForChains case places hot cold c.from_vec-2.result = record {
       is_grid = is_grid;
-      hot_on = hot_on_places case places hot cold is_grid on;
-      cold_on = cold_on_places case places hot cold is_grid on;
+      hot_on = on.0;
+      cold_on = on.1;
       are = subst (AreGroups case) same answer.groups;
       in_line = in_line;
     } in
     AreChains-made case places hot cold _ c.requires.complete for c.args.parts.now.few_hot c.args.parts.now.few_cold
     (omega (arith, answer.few, ap length c.from_vec-2.ensures)) links nodes
 
-pub returns-clause-groups : goal.returns-clause-groups
-returns-clause-groups c = (made c).groups
-
-pub returns-clause-first_nodes : goal.returns-clause-first_nodes
-returns-clause-first_nodes c = (made c).first_nodes
-
-pub returns-clause-inner : goal.returns-clause-inner
-returns-clause-inner c = (made c).inner
-
-pub returns-clause-paths : goal.returns-clause-paths
-returns-clause-paths c = (made c).paths
-
-pub returns-clause-small : goal.returns-clause-small
-returns-clause-small c = (made c).small
+pub returns : goal.returns
+returns c = let m = made c in record { groups = m.groups; first_nodes = m.first_nodes; inner = m.inner; paths = m.paths; small = m.small }

@@ -10,8 +10,7 @@ first_or_all k n within = grind (arith, nat_tests)
 
 pub returns-clause-value : goal.returns-clause-value
 returns-clause-value c =
-    let places = c.args.places.now in
-    let t = c.args.temperature in
+    let places = c.args.places.now in let t = c.args.temperature in
     let found = position_from_yields_List (λ place. int_eq place t) _ _ c.position.result c.position.ensures.ran (YieldsList-from_slice places cc)
     (λ x b q k. search (rules, tests)) in
     let next : (n : ℕ) → suc n ≡ 1 + n = λ n. omega arith in

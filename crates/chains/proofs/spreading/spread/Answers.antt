@@ -1,7 +1,6 @@
 -- The flow is under way from the first share to the last, and then its shares at the cold parts are gathered.
-use Rattle.chains.proofs.PassLemmas.{IsUnderWay-arrived, IsUnderWay-passed, carried_in_all, length_passed, share_popped, some_way_left}
-use Rattle.chains.proofs.SetOutLemmas.{IsUnderWay-first}
-use Rattle.chains.proofs.SpreadLemmas.{IsSpread-gathered, carried_smaller, given_fits, left_not_negative}
+use Rattle.chains.proofs.SpreadLemmas.{IsSpread-gathered, IsUnderWay-arrived, IsUnderWay-first, IsUnderWay-passed, carried_in_all, carried_smaller, given_fits}
+use Rattle.chains.proofs.SpreadLemmas.{left_not_negative, length_passed, share_popped, some_way_left}
 use Rattle.chains.proofs.spreading.spread.Goals.{In-Some, In_default}
 use Rattle.chains.proofs.Words.{AreGathered, Flow, IfOk-weaker, IsShare, IsSpread, IsUnderWay, ints, left_in_all, length_push, nil_from_length}
 use Rattle.std.proofs.Common.{[], ap, arith, length, subst, sym, ◌++◌, ◌+◌, ◌<◌, ◌∙◌, ◌∷◌, ◌≤◌}
@@ -9,12 +8,8 @@ use Rattle.chains.proofs.spreading.spread.Goals as goal
 
 pub loop-share-init : goal.loop-share-init
 loop-share-init c =
-    let hots = length c.args.parts.now.hot in
-    let colds = length c.args.parts.now.cold in
-    let net = c.args.chains.now.net in
-    let flow = c.args.flow.now in
-    let shares = c.in_ok-shares.field-0.shares.items in
-    let ways = c.in_ok-shares.field-0.ways.items in
+    let hots = length c.args.parts.now.hot in let colds = length c.args.parts.now.cold in let net = c.args.chains.now.net in
+    let flow = c.args.flow.now in let shares = c.in_ok-shares.field-0.shares.items in let ways = c.in_ok-shares.field-0.ways.items in
     let out = rw (c.len-hots.ensures, c.as_slice-links.ensures, c.as_slice.ensures) at c.in_ok-shares.ensures in
     let first = IsUnderWay-first hots colds net flow c.requires.inner shares ways c.in_ok-open_ways.open_ways.sorted.items out
     c.in_ok-open_ways.ensures.same_ways in
@@ -36,12 +31,8 @@ is_share c = share_popped (length c.args.parts.now.hot) (length c.args.parts.now
 
 pub loop-share-preserved-in-Continue-branch-3 : goal.loop-share-preserved-in-Continue-branch-3
 loop-share-preserved-in-Continue-branch-3 c =
-    let hots = length c.args.parts.now.hot in
-    let colds = length c.args.parts.now.cold in
-    let net = c.args.chains.now.net in
-    let flow = c.args.flow.now in
-    let ways = c.loop-share.open_ways.sorted.items in
-    let moving = c.pop.new.self.items in
+    let hots = length c.args.parts.now.hot in let colds = length c.args.parts.now.cold in let net = c.args.chains.now.net in
+    let flow = c.args.flow.now in let ways = c.loop-share.open_ways.sorted.items in let moving = c.pop.new.self.items in
     let cold : c.in-Some.share.node < (hots + colds) = omega (arith, c.if-share-first_chain_node.true, c.len.ensures, c.len-2.ensures) in
     let there = IsUnderWay-arrived hots colds net flow moving c.loop-share.arrived.items c.in-Some.share ways
     (popped (goal.at.loop-share-preserved-in-Continue-branch-3 c).In-Some) cold in
@@ -57,9 +48,7 @@ pass_on-requires-clause-node c = let within = (is_share (goal.at.pass_on-require
 
 pub pass_on-requires-clause-some_left : goal.pass_on-requires-clause-some_left
 pass_on-requires-clause-some_left c =
-    let p = (goal.at.pass_on-requires-clause-some_left c).In-Some in
-    let hots = length c.args.parts.now.hot in
-    let colds = length c.args.parts.now.cold in
+    let p = (goal.at.pass_on-requires-clause-some_left c).In-Some in let hots = length c.args.parts.now.hot in let colds = length c.args.parts.now.cold in
     let within = (is_share p).node_in in
     let chain : (hots + colds) ≤ c.in-Some.share.node = omega (arith, c.if-share-first_chain_node.false, c.len.ensures, c.len-2.ensures) in
     some_way_left hots colds c.args.chains.now.net c.args.flow.now c.pop.new.self.items c.loop-share.arrived.items c.in-Some.share
@@ -70,29 +59,21 @@ pass_on-requires-clause-some_heat c = (is_share (goal.at.pass_on-requires-clause
 
 pub loop-share-smaller : goal.loop-share-smaller
 loop-share-smaller c =
-    let p = (goal.at.loop-share-smaller c).In-Some in
-    let hots = length c.args.parts.now.hot in
-    let colds = length c.args.parts.now.cold in
-    let net = c.args.chains.now.net in
-    let s = c.in-Some.share in
-    let ways = c.loop-share.open_ways.sorted.items in
-    let after = c.pass_on.new.ways.sorted.items in
-    let passed = c.in_ok-pass_on.ensures.passed in
+    let p = (goal.at.loop-share-smaller c).In-Some in let hots = length c.args.parts.now.hot in let colds = length c.args.parts.now.cold in
+    let net = c.args.chains.now.net in let s = c.in-Some.share in let ways = c.loop-share.open_ways.sorted.items in
+    let after = c.pass_on.new.ways.sorted.items in let passed = c.in_ok-pass_on.ensures.passed in
     let under_way = IsUnderWay-passed hots colds net c.args.flow.now c.pop.new.self.items c.loop-share.arrived.items s ways
     (popped p) c.requires.inner c.pass_on.new.shares.items after passed in
     let left = left_not_negative hots net.links after under_way.ways_stand in
-    let sum = carried_in_all ways after s.node s.heat passed.part passed.carried in
-    let positive = passed.carried.positive in
-    let more = length_passed s c.pop.new.self.items c.pass_on.new.shares.items ways after passed in
-    let was = ap length c.in-Some.ensures.items in
+    let sum = carried_in_all ways after s.node s.heat passed.part passed.carried in let positive = passed.carried.positive in
+    let more = length_passed s c.pop.new.self.items c.pass_on.new.shares.items ways after passed in let was = ap length c.in-Some.ensures.items in
     let one = length_push c.pop.new.self.items s in
     carried_smaller (left_in_all ways) (left_in_all after) (length c.loop-share.shares.items) (length c.pass_on.new.shares.items) left
     (omega (arith, ints, sum, positive)) (omega (arith, more, was, one))
 
 pub loop-share-preserved : goal.loop-share-preserved
 loop-share-preserved c =
-    let p = (goal.at.loop-share-preserved c).In-Some in
-    let passed = c.in_ok-pass_on.ensures in
+    let p = (goal.at.loop-share-preserved c).In-Some in let passed = c.in_ok-pass_on.ensures in
     record {
       under_way = IsUnderWay-passed (length c.args.parts.now.hot) (length c.args.parts.now.cold) c.args.chains.now.net c.args.flow.now c.pop.new.self.items
           c.loop-share.arrived.items c.in-Some.share c.loop-share.open_ways.sorted.items (popped p) c.requires.inner c.pass_on.new.shares.items
@@ -118,9 +99,7 @@ transfers_of-requires-clause-fits c =
 
 pub returns : goal.returns
 returns c =
-    let hots = length c.args.parts.now.hot in
-    let colds = length c.args.parts.now.cold in
-    let net = c.args.chains.now.net in
+    let hots = length c.args.parts.now.hot in let colds = length c.args.parts.now.cold in let net = c.args.chains.now.net in
     let there = c.loop-share.arrived.items in
     IfOk-weaker c.transfers_of.result (λ (flow : Flow). AreGathered c.len-hots.result there flow.transfers)
     (λ (flow : Flow). IsSpread hots colds net.links c.args.flow.now flow.transfers)

@@ -21,23 +21,16 @@ here c most fits =
     share_at c.args.hots most c.args.shares.items c.deref-share-items.result.now (same (goal.at.In-loop-share c).After-deref-share-items) next
     c.requires.at_cold c.requires.positive fits c.loop-share.share-index no_share c.loop-share-test.true
 
-pub add_share-requires-clause-at_cold : goal.add_share-requires-clause-at_cold
-add_share-requires-clause-at_cold c = (here (goal.at.add_share-requires-clause-at_cold c).In-loop-share _ c.requires.fits).at_cold
-
-pub add_share-requires-clause-positive : goal.add_share-requires-clause-positive
-add_share-requires-clause-positive c = (here (goal.at.add_share-requires-clause-positive c).In-loop-share _ c.requires.fits).some
-
-pub add_share-requires-clause-fits : goal.add_share-requires-clause-fits
-add_share-requires-clause-fits c =
-    let items = c.deref-share-items.result.now in
-    let i = c.loop-share.share-index in
-    room_for_it c.args.hots _ items i (get_or items i no_share) (here (goal.at.add_share-requires-clause-fits c).In-loop-share _ c.requires.fits)
-    c.loop-share.transfers.items c.loop-share.transfers.items c.loop-share.invariant
+pub add_share-requires : goal.add_share-requires
+add_share-requires c =
+    let items = c.deref-share-items.result.now in let i = c.loop-share.share-index in
+    let at = here (goal.at.add_share-requires c).In-loop-share _ c.requires.fits in
+    let fits = room_for_it c.args.hots _ items i (get_or items i no_share) at c.loop-share.transfers.items c.loop-share.transfers.items c.loop-share.invariant in
+    record { at_cold = at.at_cold; positive = at.some; fits = fits }
 
 pub loop-share-preserved : goal.loop-share-preserved
 loop-share-preserved c =
-    let items = c.deref-share-items.result.now in
-    let i = c.loop-share.share-index in
+    let items = c.deref-share-items.result.now in let i = c.loop-share.share-index in
     AreGathered-more c.args.hots _ items i (get_or items i no_share) (here (goal.at.loop-share-preserved c).In-loop-share _ c.requires.fits)
     c.loop-share.transfers.items c.add_share.new.transfers.items c.loop-share.invariant c.in_ok-add_share.ensures
 
