@@ -6,10 +6,7 @@ use Rattle.transport.proofs.pairs.push_row.Goals as goal
 
 pub loop-cold-preserved : goal.loop-cold-preserved
 loop-cold-preserved c =
-    let r = c.args.reach.now in
-    let a = c.args.hot in
-    let b = c.loop-cold.cold in
-    let after = c.loop-cold.links.items in
+    let r = c.args.reach.now in let a = c.args.hot in let b = c.loop-cold.cold in let after = c.loop-cold.links.items in
     let pushes = λ (t : Bool). after ++ cons_if t (pair_link r a b) [] in
     elim c.if-reaches.branch [
       | then-reaches+in_ok-push w ↦
