@@ -1,24 +1,24 @@
--- A cut of a net around an inner net, which the most of all parts cannot pass, leaves a cut of parts.
+-- A cut of a net around an inner net, which the most of all parts cannot pass, leaves a cut of parts, wherever the paths are the pairs that reach.
 use Rattle.transport.proofs.Words.{All, All-cons_if, All-head, All-nil, All-slice_get, All-tail, All-weaker, AllPairs, AllPairs-cons_if, AllPairs-nil}
 use Rattle.transport.proofs.Words.{Any-from_list_any, BlocksMost, Cold, Cut, CutKind, Demand, Hot, IsAnswer, IsBounded, IsCut, IsCutOf, IsCutWithin}
 use Rattle.transport.proofs.Words.{IsInnerLink, IsPath, IsSideHeat, Link, MOST_ROOM, Net, Part, PathsAreReaches, Side, Some, Stuck, Supply, by_lt_z, cases_Bool}
-use Rattle.transport.proofs.Words.{cut_side, cuts_refuse_flows, ends_behind, false≢true, get_or_from_slice_get, if_between, if◌then◌else◌, int_lt, int_lt-from}
-use Rattle.transport.proofs.Words.{int_lt-true, int_sum_by, int_sum_by-cons_if, int_sum_from, int_sum_from-by, int_sum_from-le_each, int_sum_from-same_each}
-use Rattle.transport.proofs.Words.{int_sum_from-sub, ints, is_in, joins, least_at, leaves, link_at, links_between, meets, members_of, most_of, need_of}
-use Rattle.transport.proofs.Words.{needing_from, net_around, offer_of, opposite, parts_of, pos, slice_get, slice_get-append, slice_get-get_or, slice_get_within}
-use Rattle.transport.proofs.Words.{spare_link, whole_link, ℤ, ◌+ℤ◌, ◌-ℤ◌, ◌<ℤ◌, ◌≤ℤ◌}
+use Rattle.transport.proofs.Words.{cut_side, cuts_refuse_flows, false≢true, get_or_from_slice_get, if_between, if◌then◌else◌, int_lt, int_lt-false, int_lt-from}
+use Rattle.transport.proofs.Words.{int_lt-true, int_sum_by, int_sum_by-cons_if, int_sum_from, int_sum_from-le_each, int_sum_from-same_each, int_sum_from-sub}
+use Rattle.transport.proofs.Words.{ints, is_in, joins, least_at, leaves, link_at, links_between, meets, members_of, most_of, need_of, needing_from, net_around}
+use Rattle.transport.proofs.Words.{offer_of, opposite, parts_of, pos, slice_get, slice_get-append, slice_get-get_or, slice_get_within, spare_link, whole_link}
+use Rattle.transport.proofs.Words.{ℤ, ◌+ℤ◌, ◌-ℤ◌, ◌<ℤ◌, ◌≤ℤ◌}
 use Rattle.std.proofs.Common.{Bool, List, [], add-zero, ap, ap₂, arith, false, length, not, refl, subst, subst₂, suc, sym, true, zero-add, ℕ, ⊎_elim, ◌&&◌, ◌+◌}
 use Rattle.std.proofs.Common.{◌<◌, ◌∙◌, ◌∷◌, ◌≡◌, ◌≤◌}
 use Rattle.transport.proofs.NetAround.{IsAround, between_at, between_is, between_sum, ends, int_sum_from-not_negative, int_sum_from-term, limits_around}
-use Rattle.transport.proofs.NetAround.{most_within, no_link, parts_sum, room_around, sum_around, sum_over_links}
+use Rattle.transport.proofs.NetAround.{most_within, mosts, no_link, parts_sum, room_around, sum_around, sum_over_links}
 
 -- ---- a shortage leaves a cut
 
 -- the picked parts of a side need more than all the near parts of the other side can exchange, and whatever reaches a picked part,
 -- or is reached by one, is near
-pub record IsShort (side : Side) (reach : ℕ → ℕ → Bool) (hot cold : List Part) (picked near : ℕ → Bool) : Type 0 where
-  pub closed : (i j : ℕ) → joins side reach i j ≡ true → picked i ≡ true → near j ≡ true
-  pub short :
+record IsShort (side : Side) (reach : ℕ → ℕ → Bool) (hot cold : List Part) (picked near : ℕ → Bool) : Type 0 where
+  closed : (i j : ℕ) → joins side reach i j ≡ true → picked i ≡ true → near j ≡ true
+  short :
       int_sum_from (λ j p. if near j then p.most else pos 0) 0 (parts_of (opposite side) hot cold)
       <ℤ int_sum_from (λ i p. if picked i then p.least else pos 0) 0 (parts_of side hot cold)
 
@@ -65,10 +65,7 @@ module _ (picked : ℕ → Bool) where
   need_term false x y same least = refl
   need_term true x y same least =
       by_lt_z (pos 0) y (λ some. ap (λ t. if t then x else pos 0) (int_lt-from (pos 0) y some) ∙ same)
-      (λ none. ap (λ t. if t then x else pos 0) (int_lt-not y none) ∙ omega (arith, ints, least, none))
-    where
-      int_lt-not : (z : ℤ) → z ≤ℤ pos 0 → int_lt (pos 0) z ≡ false
-      int_lt-not z none = grind (arith, ints)
+      (λ none. ap (λ t. if t then x else pos 0) (int_lt-false (pos 0) y none) ∙ omega (arith, ints, least, none))
 
   need-picked : (f : ℕ → ℤ) (n : ℕ) (parts : List Part) → GivesLeasts f n parts → All IsBounded parts
       → int_sum_by f (needing_from picked n parts) ≡ int_sum_from (λ i p. if picked i then p.least else pos 0) n parts
@@ -93,43 +90,30 @@ if_le true c x some h = rw (h refl) (omega (arith, ints))
 if_le false true x some h = some
 if_le false false x some h = omega (arith, ints)
 
--- the numbers of a cut
-pub record IsCutFrom (side : Side) (reach : ℕ → ℕ → Bool) (hot cold : List Part) (picked near : ℕ → Bool) : Type 0 where
-  pub cut : IsCut side reach hot cold (needing_from picked 0 (parts_of side hot cold))
-  pub need_upto : need_of (parts_of side hot cold) (needing_from picked 0 (parts_of side hot cold)) ≤ℤ most_of (parts_of side hot cold)
-  pub offer_from : pos 0 ≤ℤ offer_of side reach (parts_of (opposite side) hot cold) (needing_from picked 0 (parts_of side hot cold))
-
-if_upto : (b : Bool) (x y : ℤ) → pos 0 ≤ℤ x → x ≤ℤ y → (if b then x else pos 0) ≤ℤ y
-if_upto true x y some le = le
-if_upto false x y some le = omega (arith, ints, some, le)
-
-pub IsCutFrom-short : (side : Side) (reach : ℕ → ℕ → Bool) (hot cold : List Part) (picked near : ℕ → Bool) → All IsBounded (parts_of side hot cold)
-    → All IsBounded (parts_of (opposite side) hot cold) → IsShort side reach hot cold picked near → IsCutFrom side reach hot cold picked near
-IsCutFrom-short side reach hot cold picked near bounded others h =
+-- so they are a cut, whose need and offer are at most the mosts of their side
+IsCutWithin-short : (side : Side) (reach : ℕ → ℕ → Bool) (hot cold : List Part) (picked near : ℕ → Bool) → All IsBounded (parts_of side hot cold)
+    → All IsBounded (parts_of (opposite side) hot cold) → IsSideHeat (most_of (parts_of side hot cold)) → IsShort side reach hot cold picked near
+    → IsCutWithin side reach hot cold (needing_from picked 0 (parts_of side hot cold))
+IsCutWithin-short side reach hot cold picked near bounded others most h =
     let own = parts_of side hot cold in let other = parts_of (opposite side) hot cold in let members = needing_from picked 0 own in
-    let each = members_picked picked 0 own in let need = need-picked picked (least_at own) 0 own (gives_leasts own) bounded in
-    let most_from = λ (parts : List Part) (b : All IsBounded parts) (i : ℕ) (p : Part) (at : slice_get parts i ≡ Some p). most_not_negative p
-    (All-slice_get IsBounded parts i p b at) in
-    let offer = int_sum_from-le_each (λ j p. if meets side reach members j then p.most else pos 0) (λ j p. if near j then p.most else pos 0) other
+    let each = members_picked picked 0 own in let sum = need-picked picked (least_at own) 0 own (gives_leasts own) bounded in
+    let less = int_sum_from-le_each (λ j p. if meets side reach members j then p.most else pos 0) (λ j p. if near j then p.most else pos 0) other
     (λ j p at. if_le (meets side reach members j) (near j) p.most (most_from other others j p at)
     (λ met. meets_near side reach picked near j members (λ i. h.closed i j) each met)) in
-    let short = h.short in
     let upto = int_sum_from-le_each (λ i p. if picked i then p.least else pos 0) (λ i p. p.most) own
-    (λ i p at. let b = All-slice_get IsBounded own i p bounded at in if_upto (picked i) p.least p.most b.least.from b.most.from) in
-    let mosts = int_sum_from-by (λ (p : Part). p.most) 0 own in
+    (λ i p at. let b = All-slice_get IsBounded own i p bounded at in omega (arith, ints, (if_between (picked i) p.least b.least.from).1, b.most.from)) in
+    let from = int_sum_from-not_negative (λ j p. if meets side reach members j then p.most else pos 0) other
+    (λ j p at. (if_between (meets side reach members j) p.most (most_from other others j p at)).0) in
+    let short : offer_of side reach other members <ℤ need_of own members = omega (arith, ints, sum, less, h.short) in
+    let need : need_of own members ≤ℤ most_of own = omega (arith, ints, sum, upto, mosts own) in
     record {
-      cut = record {
-        ordered = members_rise picked 0 own;
-        needing = members_need picked (least_at own) 0 own (gives_leasts own);
-        short = omega (arith, ints, need, offer, short);
-      };
-      need_upto = omega (arith, ints, need, upto, mosts);
-      offer_from = int_sum_from-not_negative (λ j p. if meets side reach members j then p.most else pos 0) other
-          (λ j p at. (if_between (meets side reach members j) p.most (most_from other others j p at)).0);
+      cut = record { ordered = members_rise picked 0 own; needing = members_need picked (least_at own) 0 own (gives_leasts own); short = short };
+      need = record { from = omega (arith, ints, short, from); upto = omega (arith, ints, need, most.upto) };
+      offer = record { from = from; upto = omega (arith, ints, short, need, most.upto) };
     }
   where
-    most_not_negative : (p : Part) → IsBounded p → pos 0 ≤ℤ p.most
-    most_not_negative p b = let least = b.least.from in let most = b.most.from in omega (arith, ints, least, most)
+    most_from : (parts : List Part) → All IsBounded parts → (i : ℕ) (p : Part) → slice_get parts i ≡ Some p → pos 0 ≤ℤ p.most
+    most_from parts each i p at = let b = All-slice_get IsBounded parts i p each at in omega (arith, ints, b.least.from, b.most.from)
 
 -- What a cut of the net says of the parts: those on one side of it need more than is on offer.
 
@@ -200,7 +184,7 @@ module _ (hot cold : List Part) (inner : Net) (g : IsAround hot cold inner) (set
       (λ stays. stays) (cases_Bool (leaves set l))
 
   -- so what an inner link leads to is inside with its first node
-  pub inner_closed : (k : ℕ) (l : Link) → slice_get inner.links k ≡ Some l → inside l.from ≡ true → inside l.to ≡ true
+  inner_closed : (k : ℕ) (l : Link) → slice_get inner.links k ≡ Some l → inside l.from ≡ true → inside l.to ≡ true
   inner_closed k l at first =
       let h = All-slice_get (IsInnerLink (length hot) (length cold) inner.nodes) inner.links k l g.inner_net.links at in
       stays_in (inside l.from) (inside l.to) (wide_stays k l (slice_get-append inner.links _ k l at) h.room) first
@@ -230,9 +214,6 @@ module _ (hot cold : List Part) (inner : Net) (g : IsAround hot cold inner) (set
   abbrev between_room : ℕ → ℤ
   between_room j = leaving set 0 (link_at (links_between (ends inner) (most_of hot) (most_of cold)) j)
 
-  mosts : (parts : List Part) → int_sum_from (λ i (p : Part). p.most) 0 parts ≡ most_of parts
-  mosts parts = int_sum_from-by (λ p. p.most) 0 parts
-
   -- ---- where the filler is inside, the cold parts that are not need too much
 
   demand_short : inside (ends inner).filler ≡ true → int_sum_from (λ j (p : Part). if not (inside j) then p.most else pos 0) 0 hot
@@ -261,28 +242,20 @@ module _ (hot cold : List Part) (inner : Net) (g : IsAround hot cold inner) (set
       let drains = λ (b : Bool) (spill : inside (ends inner).spill ≡ b). ap₂ (λ x y. if (x && not y) then most_of hot else pos 0) spill sink_out in
       ⊎_elim
       (λ spill. let drained : between_room 1 ≡ most_of hot = drains true spill in
-      let hot_some = int_sum_from-not_negative hot_rooms hot
-      (λ i p at. let b = All-slice_get IsBounded hot i p g.hot_bounded at in
-      two_rooms (leaves set (whole_link Hot (ends inner) (0 + i) p)) (leaves set (spare_link Hot (ends inner) (0 + i) p)) p.least p.most b.least.from
-      b.most.from) in
-      let cold_some = int_sum_from-not_negative cold_rooms cold
-      (λ i p at. let b = All-slice_get IsBounded cold i p g.cold_bounded at in
-      two_rooms (leaves set (whole_link Cold (ends inner) (length hot + i) p)) (leaves set (spare_link Cold (ends inner) (length hot + i) p)) p.least p.most
-      b.least.from b.most.from) in
+      let hot_some = int_sum_from-not_negative hot_rooms hot (λ i p at. two_rooms _ _ p (All-slice_get IsBounded hot i p g.hot_bounded at)) in
+      let cold_some = int_sum_from-not_negative cold_rooms cold (λ i p at. two_rooms _ _ p (All-slice_get IsBounded cold i p g.cold_bounded at)) in
       absurd (omega (arith, ints, around_short, passed, drained, last, hot_some, cold_some)))
-      (λ spill. let hots =
-      int_sum_from-same_each hot_rooms (λ i p. p.most -ℤ (if inside i then p.least else pos 0)) hot
+      (λ spill. let drained : between_room 1 ≡ pos 0 = drains false spill in
+      let hots = int_sum_from-same_each hot_rooms (λ i p. p.most -ℤ (if inside i then p.least else pos 0)) hot
       (λ i p at. rw (source_in, zero-add i) (hot_leaving_supply (inside i) (inside (ends inner).spill) p.least p.most spill))
       ∙ int_sum_from-sub (λ i p. p.most) (λ i (p : Part). if inside i then p.least else pos 0) 0 hot in
-      let drained : between_room 1 ≡ pos 0 = drains false spill in
       omega (arith, ints, around_short, colds, hots, passed, drained, last, mosts hot))
       (cases_Bool (inside (ends inner).spill))
     where
-      two_rooms : (b c : Bool) (least most : ℤ) → pos 0 ≤ℤ least → least ≤ℤ most
-          → pos 0 ≤ℤ ((if b then most else pos 0) +ℤ (if c then most -ℤ least else pos 0))
-      two_rooms b c least most from upto =
-          let first = (if_between b most (omega (arith, ints, from, upto))).0 in
-          let second = (if_between c (most -ℤ least) (omega (arith, ints, upto))).0 in omega (arith, ints, first, second)
+      two_rooms : (b c : Bool) (p : Part) → IsBounded p → pos 0 ≤ℤ ((if b then p.most else pos 0) +ℤ (if c then p.most -ℤ p.least else pos 0))
+      two_rooms b c p h =
+          let first = (if_between b p.most (omega (arith, ints, h.least.from, h.most.from))).0 in
+          let second = (if_between c (p.most -ℤ p.least) (omega (arith, ints, h.most.from))).0 in omega (arith, ints, first, second)
 
   -- ---- the shortages, where a path leads between the pairs that reach
 
@@ -297,53 +270,30 @@ module _ (hot cold : List Part) (inner : Net) (g : IsAround hot cold inner) (set
     reach_closed : (a b : ℕ) → reach a b ≡ true → inside a ≡ true → inside (length hot + b) ≡ true
     reach_closed a b joined first = let (path, is) = paths.leads a b joined in path_closed path a (length hot + b) is first
 
-    pub demand : inside (ends inner).filler ≡ true → IsShort Cold reach hot cold (λ i. not (inside (length hot + i))) (λ j. not (inside j))
+    demand : inside (ends inner).filler ≡ true → IsShort Cold reach hot cold (λ i. not (inside (length hot + i))) (λ j. not (inside j))
     demand filler = record {
       closed = λ i j joined picked. not_from (inside j) (inside (length hot + i)) (reach_closed j i joined) picked;
       short = demand_short filler;
     }
 
-    pub supply : inside (ends inner).filler ≡ false → IsShort Hot reach hot cold (λ i. inside (0 + i)) (λ j. inside (length hot + j))
+    supply : inside (ends inner).filler ≡ false → IsShort Hot reach hot cold (λ i. inside (0 + i)) (λ j. inside (length hot + j))
     supply filler = record {
       closed = λ i j joined picked. reach_closed i j joined (subst (λ v. inside v ≡ true) (zero-add i) picked);
-      short =
-          (let same = int_sum_from-same_each (λ i (p : Part). if inside (0 + i) then p.least else pos 0) (λ i p. if inside i then p.least else pos 0) hot
+      short = (let same = int_sum_from-same_each (λ i (p : Part). if inside (0 + i) then p.least else pos 0) (λ i p. if inside i then p.least else pos 0) hot
           (λ i p at. ap (λ v. if inside v then p.least else pos 0) (zero-add i)) in
-          let short = supply_short filler in
-          omega (arith, ints, same, short));
+          let least = supply_short filler in omega (arith, ints, same, least));
     }
 
--- The cut of parts that a cut of the net gives, wherever the paths of the inner net are the pairs that reach.
+    -- the cut of parts where the filler is in the set, and where it is not
+    pub within_demand : (members : List ℕ) → inside (ends inner).filler ≡ true → members ≡ members_of Demand (length hot) set cold
+        → IsCutWithin Cold reach hot cold members
+    within_demand members filler same = subst (IsCutWithin Cold reach hot cold) (sym same)
+        (IsCutWithin-short Cold reach hot cold _ _ g.cold_bounded g.hot_bounded (most_within cold g.few_cold g.cold_bounded) (demand filler))
 
-IsCutWithin-from : (side : Side) (reach : ℕ → ℕ → Bool) (hot cold : List Part) (picked near : ℕ → Bool) → IsSideHeat (most_of (parts_of side hot cold))
-    → IsCutFrom side reach hot cold picked near → IsCutWithin side reach hot cold (needing_from picked 0 (parts_of side hot cold))
-IsCutWithin-from side reach hot cold picked near most h =
-    let short = h.cut.short in let upto = h.need_upto in let from = h.offer_from in
-    record {
-      cut = h.cut;
-      need = record { from = omega (arith, ints, short, from); upto = omega (arith, ints, upto, most.upto) };
-      offer = record { from = from; upto = omega (arith, ints, short, upto, most.upto) };
-    }
-
-module _ (hot cold : List Part) (inner : Net) (g : IsAround hot cold inner) (set : List Bool) (cut : BlocksMost hot cold inner set) (reach : ℕ → ℕ → Bool)
-    (paths : PathsAreReaches (length hot) (length cold) inner.links reach) where
-  -- where the filler is in the set
-  pub within_demand : (members : List ℕ) → is_in set (ends_behind inner.nodes).filler ≡ true → members ≡ members_of Demand (length hot) set cold
-      → IsCutWithin Cold reach hot cold members
-  within_demand members filler same =
-      let picked = λ (i : ℕ). not (is_in set (length hot + i)) in let near = λ (j : ℕ). not (is_in set j) in
-      subst (IsCutWithin Cold reach hot cold) (sym same)
-      (IsCutWithin-from Cold reach hot cold picked near (most_within cold g.few_cold g.cold_bounded)
-      (IsCutFrom-short Cold reach hot cold picked near g.cold_bounded g.hot_bounded (demand hot cold inner g set cut reach paths filler)))
-
-  -- and where it is not
-  pub within_supply : (members : List ℕ) → is_in set (ends_behind inner.nodes).filler ≡ false → members ≡ members_of Supply 0 set hot
-      → IsCutWithin Hot reach hot cold members
-  within_supply members filler same =
-      let picked = λ (i : ℕ). is_in set (0 + i) in let near = λ (j : ℕ). is_in set (length hot + j) in
-      subst (IsCutWithin Hot reach hot cold) (sym same)
-      (IsCutWithin-from Hot reach hot cold picked near (most_within hot g.few_hot g.hot_bounded)
-      (IsCutFrom-short Hot reach hot cold picked near g.hot_bounded g.cold_bounded (supply hot cold inner g set cut reach paths filler)))
+    pub within_supply : (members : List ℕ) → inside (ends inner).filler ≡ false → members ≡ members_of Supply 0 set hot
+        → IsCutWithin Hot reach hot cold members
+    within_supply members filler same = subst (IsCutWithin Hot reach hot cold) (sym same)
+        (IsCutWithin-short Hot reach hot cold _ _ g.hot_bounded g.cold_bounded (most_within hot g.few_hot g.hot_bounded) (supply filler))
 
 -- a cut with these members, their need and their offer
 pub IsCutOf-members : (reach : ℕ → ℕ → Bool) (hot cold : List Part) (kind : CutKind) (members : List ℕ) (cut : Cut)

@@ -1,15 +1,15 @@
--- What any number given to the nodes of a net around an inner net falls along its links, times their flows: the one law from
--- which all sums over a routing follow.
+-- The most of all parts, routed through the net around an inner net. What any number given to the nodes falls along the links, times their
+-- flows, is the one law from which all sums over a routing follow.
 use Rattle.transport.proofs.Words.{All-slice_get, AreProofOfLeast, Cold, Hot, IsBetween, IsHeatOf, IsInnerLink, IsSpread, IsWithinRooms, Link, MOST_ROOM, Net}
 use Rattle.transport.proofs.Words.{Part, Side, Some, Transfer, blank, cases_lt, eq-eqb, falls_of_routing, flow_on, get_or-take, if◌then◌else◌, inflow}
-use Rattle.transport.proofs.Words.{int_sum_from, int_sum_from-by, int_sum_from-le_each, int_sum_from-same, int_sum_from-same_each, int_sum_from-single}
-use Rattle.transport.proofs.Words.{int_sum_from-sub, int_sum_from-zero, ints, le-ltb, length-take-le, link_at, lt-ltb, most_of, nat_lt, ne_eqb, neg_ℤ}
-use Rattle.transport.proofs.Words.{net_around, outflow, parts_of, pos, reduced_cost, slice_get, slice_get-get_or, slice_get_within, sum_below-same, ℤ, ◌*ℤ◌}
-use Rattle.transport.proofs.Words.{◌+ℤ◌, ◌-ℤ◌, ◌<ℤ◌, ◌==◌, ◌≤ℤ◌}
+use Rattle.transport.proofs.Words.{int_sum_from, int_sum_from-le_each, int_sum_from-same, int_sum_from-same_each, int_sum_from-single, int_sum_from-sub}
+use Rattle.transport.proofs.Words.{int_sum_from-zero, ints, le-ltb, length-take-le, link_at, lt-ltb, most_of, nat_lt, ne_eqb, neg_ℤ, net_around, outflow}
+use Rattle.transport.proofs.Words.{parts_of, pos, reduced_cost, slice_get, slice_get-get_or, slice_get_within, sum_below-same, ℤ, ◌*ℤ◌, ◌+ℤ◌, ◌-ℤ◌, ◌<ℤ◌, ◌==◌}
+use Rattle.transport.proofs.Words.{◌≤ℤ◌}
 use Rattle.std.proofs.Common.{Bool, List, ap, ap₂, arith, false, inl, inr, length, refl, subst, suc, sym, take, true, zero-add, ℕ, ⊎_elim, ◌+◌, ◌<◌, ◌∙◌, ◌≡◌}
 use Rattle.std.proofs.Common.{◌≢◌, ◌≤◌, ◌⊎◌}
 use Rattle.transport.proofs.NetAround.{IsFullRouting, IsLinkAt, between_at, between_is, ends, ends_around, inner_at, int_sum_from-equal}
-use Rattle.transport.proofs.NetAround.{int_sum_from-not_negative, int_sum_from-term, length-net_around, limits_around, most_within, no_link, parts_sum}
+use Rattle.transport.proofs.NetAround.{int_sum_from-not_negative, int_sum_from-term, length-net_around, limits_around, most_within, mosts, no_link, parts_sum}
 use Rattle.transport.proofs.NetAround.{spare_at, spare_is, sum_around, sum_over_links, whole_at, whole_is}
 
 -- a number for each node: one for each of the four further nodes, and those of an inner net
@@ -20,13 +20,8 @@ given_to nodes inside source sink filler spill v =
 module _ (nodes : ℕ) (inside : ℕ → ℤ) (s t f p : ℤ) where
   at_inner : (v : ℕ) → v < nodes → given_to nodes inside s t f p v ≡ inside v
   at_inner v within =
-      rw (
-        ne_eqb v nodes (λ e. omega (arith, e)),
-        ne_eqb v (nodes + 1) (λ e. omega (arith, e)),
-        ne_eqb v (nodes + 2) (λ e. omega (arith, e)),
-        ne_eqb v
-            (nodes + 3) (λ e. omega (arith, e)),
-      ) refl
+      let other = λ (k : ℕ) (later : v < k). ne_eqb v k (λ e. omega (arith, e, later)) in
+      rw (other nodes within, other (nodes + 1) (omega arith), other (nodes + 2) (omega arith), other (nodes + 3) (omega arith)) refl
 
   at_source : given_to nodes inside s t f p nodes ≡ s
   at_source = rw (eq-eqb nodes nodes refl) refl
@@ -200,31 +195,25 @@ module _ {hot cold : List Part} {inner : Net} {flow : List ℤ} (r : IsFullRouti
   drained_within : IsBetween (pos 0) (most_of hot) (between r 1)
   drained_within = carried (net_around hot cold inner) flow _ _ (between_is hot cold inner 1 (omega arith)) r.routing.rooms
 
-  -- the mosts of a side, as a sum over its parts with their indices
-  pub mosts : (parts : List Part) → int_sum_from (λ i (p : Part). p.most) 0 parts ≡ most_of parts
-  mosts parts = int_sum_from-by (λ p. p.most) 0 parts
-
   pub hot_full : (i : ℕ) (p : Part) → slice_get hot i ≡ Some p → whole r Hot i ≡ p.most
   hot_full =
-      let upto = passed_within.upto in
       int_sum_from-equal (λ i p. whole r Hot i) (λ i p. p.most) hot (λ i p at. (whole_within Hot i p at).upto)
-      (omega (arith, ints, source_gives, mosts hot, upto))
+      (omega (arith, ints, source_gives, mosts hot, passed_within.upto))
 
   pub cold_full : (i : ℕ) (p : Part) → slice_get cold i ≡ Some p → whole r Cold i ≡ p.most
   cold_full =
-      let upto = drained_within.upto in
       int_sum_from-equal (λ i p. whole r Cold i) (λ i p. p.most) cold (λ i p at. (whole_within Cold i p at).upto)
-      (omega (arith, ints, sink_takes, mosts cold, upto))
+      (omega (arith, ints, sink_takes, mosts cold, drained_within.upto))
 
   pub passed : between r 0 ≡ most_of cold
   passed =
-      let upto = passed_within.upto in let hots = int_sum_from-same_each (λ i (p : Part). whole r Hot i) (λ i p. p.most) hot hot_full in
-      omega (arith, ints, source_gives, mosts hot, upto, hots)
+      let hots = int_sum_from-same_each (λ i (p : Part). whole r Hot i) (λ i p. p.most) hot hot_full in
+      omega (arith, ints, source_gives, mosts hot, passed_within.upto, hots)
 
   pub drained : between r 1 ≡ most_of hot
   drained =
-      let upto = drained_within.upto in let colds = int_sum_from-same_each (λ i (p : Part). whole r Cold i) (λ i p. p.most) cold cold_full in
-      omega (arith, ints, sink_takes, mosts cold, upto, colds)
+      let colds = int_sum_from-same_each (λ i (p : Part). whole r Cold i) (λ i p. p.most) cold cold_full in
+      omega (arith, ints, sink_takes, mosts cold, drained_within.upto, colds)
 
   -- what the filler gives to the spill is at most what the cold parts can take
   pub exchanged_within : IsBetween (pos 0) (most_of cold) (between r 2)
@@ -243,7 +232,7 @@ module _ {hot cold : List Part} {inner : Net} {flow : List ℤ} (r : IsFullRouti
       let links =
       int_sum_from-same_each (λ k l. term (inside l.from) (inside l.to) (flow_on flow k)) (λ k l. if l.from == a then flow_on flow k else pos 0) inner.links
       (λ k l there. let h = All-slice_get (IsInnerLink (length hot) (length cold) inner.nodes) inner.links k l r.around.inner_net.links there in
-      term_from (l.from == a) (inside l.to) (flow_on flow k) (mark_other (pos 1) a l.to (λ e. let enters = h.enters in omega (arith, row, e, enters)))) in
+      term_from (l.from == a) (inside l.to) (flow_on flow k) (mark_other (pos 1) a l.to (λ e. omega (arith, row, e, h.enters)))) in
       let out = sum_over_links (λ k l. if l.from == a then flow_on flow k else pos 0) inner.links in let own = hot_fall r inside (pos 0) (pos 0) in
       let hots = int_sum_from-single (λ i (q : Part). own i) a 0 hot blank (omega arith) (omega (arith, row))
       (λ i q other. let none = mark_other (pos 1) a (0 + i) (λ e. other (sym (zero-add i) ∙ e)) in rw none (omega (arith, ints))) in
@@ -395,10 +384,10 @@ module _ {hot cold : List Part} {inner : Net} {flow : List ℤ} (r : IsFullRouti
       let one = inside_hot (length hot) (length cold) inner.nodes l.from (0 + i) (let row = slice_get_within hot i q there in omega (arith, row)) in
       gives_most (here (0 + i)) q.most (whole r Hot i) (spare r Hot i) one (whole_within r Hot i q there).upto (spare_within r Hot i q there).from) in
       let none = int_sum_from-zero (λ i (q : Part). pos 0) 0 hot (λ i q le. refl) in
-      let mosts = int_sum_from-sub (λ i (q : Part). pos 0) (λ i q. q.most) 0 hot in let sum = int_sum_from-by (λ (q : Part). q.most) 0 hot in
+      let less = int_sum_from-sub (λ i (q : Part). pos 0) (λ i q. q.most) 0 hot in
       let colds = cold_none r here
       (λ i early. outside_cold (length hot) (length cold) inner.nodes l.from (length hot + i) (omega arith) (omega (arith, early))) in
-      let small = (most_within hot r.around.few_hot r.around.hot_bounded).upto in omega (arith, ints, all, least, own, hots, mosts, sum, colds, none, small)
+      omega (arith, ints, all, least, own, hots, less, mosts hot, colds, none, (most_within hot r.around.few_hot r.around.hot_bounded).upto)
     where
       gives_most : (one most x y : ℤ) → one ≡ pos 1 → x ≤ℤ most → pos 0 ≤ℤ y → (pos 0 -ℤ most) ≤ℤ (term (pos 0) one x +ℤ term one (pos 0) y)
       gives_most one most x y is upto from = rw is (omega (arith, ints, upto, from))
@@ -411,7 +400,7 @@ module _ {hot cold : List Part} {inner : Net} {flow : List ℤ} (r : IsFullRouti
   front = take (length inner.links) flow
 
   pub front_within : length inner.links ≤ length flow
-  front_within = let one_each = r.routing.rooms.one_each in omega (arith, one_each, length-net_around hot cold inner)
+  front_within = omega (arith, r.routing.rooms.one_each, length-net_around hot cold inner)
 
   same_flow : (k : ℕ) → k < length inner.links → flow_on front k ≡ flow_on flow k
   same_flow k within = get_or-take (length inner.links) flow k (pos 0) within

@@ -1,17 +1,11 @@
 -- One element more of the lists that loops make.
-use Rattle.transport.proofs.Words.{Case, Cold, Ends, Forbid, ForbidAlike, Hot, MOST_PARTS, Part, Parts, Side, Source, append-nil, blank, both_reach, cons_if}
-use Rattle.transport.proofs.Words.{cons_if-append, flat_map, flat_map_more, if◌then◌else◌, int_lt, int_lt-from, ints, joins, joins_part, links_of_parts}
-use Rattle.transport.proofs.Words.{list_any, list_any-append, list_any_more, map-append, meets, meets_part, names, needing_from, opposite, parts_of}
-use Rattle.transport.proofs.Words.{passes_heat, pos, potential_at, prices_of, range_with_len, range_with_len-append, reach_between, refuses, same_source}
-use Rattle.transport.proofs.Words.{slice_get, slice_get-get_or, spare_link, take_more, whole_link, ℤ, ◌-ℤ◌, ◌<ℤ◌, ◌≤ℤ◌}
-use Rattle.std.proofs.Common.{Bool, List, None, Option, Some, [], add-zero, ap, append_assoc, ap₂, arith, false, get_or, length, length-take, map, not, refl}
-use Rattle.std.proofs.Common.{suc, sym, take, true, zero-add, ℕ, ◌&&◌, ◌++◌, ◌+◌, ◌<◌, ◌||◌, ◌∙◌, ◌∷◌, ◌≡◌, ◌≤◌}
-
-not_above : (x : ℤ) → x ≤ℤ pos 0 → int_lt (pos 0) x ≡ false
-not_above x none = grind (arith, ints)
-
-length_taken : {X : Type 0} (i : ℕ) (xs : List X) → i < length xs → length (take i xs) ≡ i
-length_taken i xs within = simp length-take (omega (arith, within))
+use Rattle.transport.proofs.Words.{Case, Cold, Ends, Forbid, ForbidAlike, Hot, MOST_PARTS, Part, Parts, Side, Source, and-false, append-nil, blank, both_reach}
+use Rattle.transport.proofs.Words.{cons_if, cons_if-append, flat_map, flat_map_more, if◌then◌else◌, int_lt, int_lt-false, int_lt-from, joins, joins_part}
+use Rattle.transport.proofs.Words.{length-take-le, links_of_parts, list_any, list_any-append, list_any_more, map-append, meets, meets_part, names, needing_from}
+use Rattle.transport.proofs.Words.{opposite, or-false, parts_of, passes_heat, pos, potential_at, prices_of, range_with_len, range_with_len-append}
+use Rattle.transport.proofs.Words.{reach_between, refuses, same_source, slice_get, slice_get-get_or, spare_link, take_more, whole_link, ℤ, ◌-ℤ◌, ◌<ℤ◌, ◌≤ℤ◌}
+use Rattle.std.proofs.Common.{Bool, List, None, Option, Some, [], add-zero, ap, append_assoc, ap₂, arith, false, get_or, length, map, not, refl, suc, sym, take}
+use Rattle.std.proofs.Common.{true, zero-add, ℕ, ◌&&◌, ◌++◌, ◌+◌, ◌<◌, ◌||◌, ◌∙◌, ◌∷◌, ◌≡◌, ◌≤◌}
 
 -- ---- lists that are made element by element, each with its index
 
@@ -28,8 +22,8 @@ module _ {X Y : Type 0} (F : ℕ → List X → List Y) (g : ℕ → X → List 
   from-more : (n : ℕ) (xs : List X) (i : ℕ) (d : X) → i < length xs → F n (take (i + 1) xs) ≡ F n (take i xs) ++ g (n + i) (get_or xs i d)
   from-more n xs i d within =
       let x = get_or xs i d in let alone = one (n + i) x [] ∙ ap (λ rest. g (n + i) x ++ rest) (none (suc (n + i))) ∙ append-nil (g (n + i) x) in
-      ap (F n) (take_more xs i d within) ∙ from-append n (take i xs) (x ∷ []) ∙ ap (λ k. F n (take i xs) ++ F (n + k) (x ∷ [])) (length_taken i xs within)
-      ∙ ap (λ made. F n (take i xs) ++ made) alone
+      ap (F n) (take_more xs i d within) ∙ from-append n (take i xs) (x ∷ [])
+      ∙ ap (λ k. F n (take i xs) ++ F (n + k) (x ∷ [])) (length-take-le i xs (omega (arith, within))) ∙ ap (λ made. F n (take i xs) ++ made) alone
 
 -- one number more of those from 0 on
 pub range-step : {Y : Type 0} (f : ℕ → List Y) (n : ℕ) (before after now : List Y) → after ≡ before ++ flat_map f (range_with_len 0 n) → now ≡ after ++ f n
@@ -73,9 +67,7 @@ module _ (picked : ℕ → Bool) (parts : List Part) (i : ℕ) (within : i < len
   member_other after other = passed after (ap (λ b. b && int_lt (pos 0) (get_or parts i blank).least) other)
 
   pub member_none : grown ≡ old → picked i ≡ true → (get_or parts i blank).least ≤ℤ pos 0 → grown ≡ needing_from picked 0 (take (i + 1) parts)
-  member_none after here none =
-      let x = (get_or parts i blank).least in let test : int_lt (pos 0) x ≡ false = not_above x none in
-      passed after (ap (λ b. b && int_lt (pos 0) x) here ∙ test)
+  member_none after here none = let x = (get_or parts i blank).least in passed after (ap (λ b. b && int_lt (pos 0) x) here ∙ int_lt-false (pos 0) x none)
 
 pub price_push : (potentials : List ℤ) (first i end : ℕ) (old grown : List ℤ) (x : ℤ) → grown ≡ old ++ x ∷ [] → old ≡ prices_of potentials first i end
     → x ≡ potential_at potentials (first + i) -ℤ potential_at potentials end → grown ≡ prices_of potentials first (i + 1) end
@@ -97,18 +89,10 @@ refuses-any : (side : Side) (forbids : List Forbid) (source other : Source) → 
 refuses-any Hot forbids source other = refl
 refuses-any Cold forbids source other = refl
 
-or_false : (b : Bool) → (b || false) ≡ b
-or_false true = refl
-or_false false = refl
-
-and_false : (b : Bool) → (b && false) ≡ false
-and_false true = refl
-and_false false = refl
-
 -- a match that is not one of the source is none of its matches
 none_named : (side : Side) (source other : Source) (f : Forbid) → names side source f ≡ false → is_match side source other f ≡ false
 none_named Hot source other f e = ap (λ b. b && same_source f.cold other) e
-none_named Cold source other f e = ap (λ b. same_source f.hot other && b) e ∙ and_false (same_source f.hot other)
+none_named Cold source other f e = ap (λ b. same_source f.hot other && b) e ∙ and-false (same_source f.hot other)
 
 module _ (side : Side) (source : Source) (forbids : List Forbid) (i : ℕ) (d : Forbid) (within : i < length forbids) (old grown : List Forbid)
     (before : ForbidAlike side source old (take i forbids)) where
@@ -123,13 +107,13 @@ module _ (side : Side) (source : Source) (forbids : List Forbid) (i : ℕ) (d : 
   forbid_push after other =
       ap (λ fs. refuses side fs source other) after ∙ refuses-any side (old ++ get_or forbids i d ∷ []) source other
       ∙ list_any-append (is_match side source other) old (get_or forbids i d ∷ [])
-      ∙ ap₂ (λ a b. a || b) (sym (refuses-any side old source other)) (or_false (is_match side source other (get_or forbids i d))) ∙ sym (more other)
+      ∙ ap₂ (λ a b. a || b) (sym (refuses-any side old source other)) (or-false (is_match side source other (get_or forbids i d))) ∙ sym (more other)
 
   pub forbid_pass : grown ≡ old → names side source (get_or forbids i d) ≡ false → ForbidAlike side source grown (take (i + 1) forbids)
   forbid_pass after apart other =
       ap (λ fs. refuses side fs source other) after
       ∙ sym (more other ∙ ap (λ b. refuses side old source other || b) (none_named side source other (get_or forbids i d) apart)
-      ∙ or_false (refuses side old source other))
+      ∙ or-false (refuses side old source other))
 
 -- ---- the parts that meet a member
 

@@ -1,18 +1,25 @@
--- Laws of sums over lists with indices.
+-- The net around an inner net: sums over its links, where they stand, and that it is within limits; and the inner net of the pairs that reach.
 use Rattle.transport.proofs.Words.{*ℤ-+ℤ, *ℤ-zero, All, All-append, All-cons, All-cons_if, All-contains, All-flat_map, All-nil, All-slice_get, All-weaker}
 use Rattle.transport.proofs.Words.{AreBounded, AreEnds, AreInitialPotentials, Cold, Contains, Contains-flat_map, Ends, Hot, IsBetween, IsBounded, IsInner}
 use Rattle.transport.proofs.Words.{IsInnerLink, IsLinkWithin, IsNodePotential, IsPath, IsPrice, IsRoom, IsRouting, IsTrue, IsWithinLimits, Link, MOST_HEAT}
 use Rattle.transport.proofs.Words.{MOST_PAIRS, MOST_PARTS, MOST_PRICE, MOST_ROOM, Net, Part, Parts, PathsAreReaches, Reach, Side, Some, cases_lt, cons_if}
 use Rattle.transport.proofs.Words.{ends_behind, false≢true, get_or-append-add, get_or-range_with_len, get_or-replicate, get_or_append_left, get_or_default}
-use Rattle.transport.proofs.Words.{greatest-le, int_sum_by-at_most, int_sum_by-not_negative, int_sum_from, int_sum_from-append, int_sum_from-le_each}
-use Rattle.transport.proofs.Words.{int_sum_from-zero, ints, largest_cost, length-flat_map-le, length-range_with_len, length-replicate, link_at, link_between}
-use Rattle.transport.proofs.Words.{links_between, links_of_parts, ltb-true, most_of, mul-le, neg_ℤ, net_around, pair_link, pair_links, pair_net, parts_of, pos}
-use Rattle.transport.proofs.Words.{potential_at, range_with_len, reduced_cost, row_links, same_Some, sizes, slice_get, slice_get_within, slice_index_or}
-use Rattle.transport.proofs.Words.{spare_link, start_of, sum_below, sum_below-same, unsigned_abs, whole_link, ℤ, ◌*ℤ◌, ◌+ℤ◌, ◌-ℤ◌, ◌<ℤ◌, ◌≤ℤ◌}
+use Rattle.transport.proofs.Words.{greatest-le, int_sum_by-at_most, int_sum_by-not_negative, int_sum_from, int_sum_from-append, int_sum_from-by}
+use Rattle.transport.proofs.Words.{int_sum_from-le_each, int_sum_from-zero, ints, largest_cost, length-flat_map-le, length-range_with_len, length-replicate}
+use Rattle.transport.proofs.Words.{link_at, link_between, links_between, links_of_parts, ltb-true, most_of, mul-le, neg_ℤ, net_around, pair_link, pair_links}
+use Rattle.transport.proofs.Words.{pair_net, parts_of, pos, potential_at, range_with_len, reduced_cost, row_links, same_Some, sizes, slice_get}
+use Rattle.transport.proofs.Words.{slice_get_within, slice_index_or, spare_link, start_of, sum_below, sum_below-same, unsigned_abs, whole_link, ℤ, ◌*ℤ◌, ◌+ℤ◌}
+use Rattle.transport.proofs.Words.{◌-ℤ◌, ◌<ℤ◌, ◌≤ℤ◌}
 use Rattle.std.proofs.Common.{Bool, List, [], add-zero, ap, ap₂, arith, false, get_or, inl, length, length-append, nat_lt, refl, replicate, subst, subst₂, suc}
 use Rattle.std.proofs.Common.{sym, true, zero, zero-add, ℕ, ⊎_elim, ◌&&◌, ◌*◌, ◌++◌, ◌+◌, ◌-◌, ◌<◌, ◌∙◌, ◌∷◌, ◌≡◌, ◌≤◌}
 use Rattle.chains.specs.declared.net.TheConstants.{MOST_INNER_LINKS, MOST_INNER_NODES}
 use Rattle.heat_flow.specs.Table.{HasSizes, reaches}
+
+-- ---- sums over lists with indices
+
+-- the mosts of parts, as such a sum
+pub mosts : (parts : List Part) → int_sum_from (λ i (p : Part). p.most) 0 parts ≡ most_of parts
+mosts parts = int_sum_from-by (λ p. p.most) 0 parts
 
 module _ {X : Type 0} where
   -- the indices one further
@@ -322,8 +329,8 @@ module _ (hot cold : List Part) (inner : Net) (g : IsAround hot cold inner) wher
   bounded_at Cold i p at = All-slice_get IsBounded cold i p g.cold_bounded at
 
   node_within : (side : Side) (i : ℕ) (p : Part) → slice_get (parts_of side hot cold) i ≡ Some p → (first_node hot cold inner side + i) < inner.nodes
-  node_within Hot i p at = let nodes = g.inner_net.nodes in omega (arith, nodes, slice_get_within hot i p at)
-  node_within Cold i p at = let nodes = g.inner_net.nodes in omega (arith, nodes, slice_get_within cold i p at)
+  node_within Hot i p at = omega (arith, g.inner_net.nodes, slice_get_within hot i p at)
+  node_within Cold i p at = omega (arith, g.inner_net.nodes, slice_get_within cold i p at)
 
   near : (l : Link) → l.from < inner.nodes + 4 → l.to < inner.nodes + 4 → IsRoom l.room → IsPrice l.cost → IsNear (inner.nodes + 4) l
   near l from to room price =
@@ -331,8 +338,8 @@ module _ (hot cold : List Part) (inner : Net) (g : IsAround hot cold inner) wher
 
   near_inner : (l : Link) → IsInnerLink (length hot) (length cold) inner.nodes l → IsNear (inner.nodes + 4) l
   near_inner l h =
-      let from_in = h.from_in in let to_in = h.to_in in let room = h.room in let cost = h.cost in
-      near l (omega (arith, from_in)) (omega (arith, to_in)) (record { from = omega (arith, ints, room); upto = omega (arith, ints, room) })
+      let room = h.room in let cost = h.cost in
+      near l (omega (arith, h.from_in)) (omega (arith, h.to_in)) (record { from = omega (arith, ints, room); upto = omega (arith, ints, room) })
       (record { from = omega (arith, ints, cost); upto = omega (arith, ints, cost) })
 
   near_whole : (side : Side) (node : ℕ) (p : Part) → node < inner.nodes → IsBounded p → IsNear (inner.nodes + 4) (whole_link side (ends inner) node p)
@@ -366,10 +373,9 @@ module _ (hot cold : List Part) (inner : Net) (g : IsAround hot cold inner) wher
 
   pub limits_around : IsWithinLimits (net_around hot cold inner)
   limits_around =
-      let nodes = g.few_nodes in let links = g.few_links in let hots = g.few_hot in let colds = g.few_cold in
-      record {
-        few_nodes = omega (arith, nodes);
-        few_links = omega (arith, links, hots, colds, length-net_around hot cold inner);
+      let links = g.few_links in record {
+        few_nodes = omega (arith, g.few_nodes);
+        few_links = omega (arith, links, g.few_hot, g.few_cold, length-net_around hot cold inner);
         links = λ k within. (near_all k no_link within).limits;
       }
 
@@ -437,8 +443,8 @@ module _ (hot cold : List Part) (inner : Net) (g : IsAround hot cold inner) wher
   fits_whole Cold node p within = rw (at_sink, start_inner node within) (omega (arith, ints))
 
   fits_spare : (side : Side) (node : ℕ) (p : Part) → node < inner.nodes → IsBounded p → Fits (spare_link side (ends inner) node p)
-  fits_spare Hot node p within b = let upto = b.price.upto in rw (at_spill, start_inner node within) (omega (arith, ints, upto))
-  fits_spare Cold node p within b = let upto = b.price.upto in rw (at_filler, start_inner node within) (omega (arith, ints, upto))
+  fits_spare Hot node p within b = rw (at_spill, start_inner node within) (omega (arith, ints, b.price.upto))
+  fits_spare Cold node p within b = rw (at_filler, start_inner node within) (omega (arith, ints, b.price.upto))
 
   fits_between : All Fits (links_between (ends inner) (most_of hot) (most_of cold))
   fits_between =
@@ -450,7 +456,7 @@ module _ (hot cold : List Part) (inner : Net) (g : IsAround hot cold inner) wher
       (All-cons Fits three [] (rw (at_filler, at_spill) (omega (arith, ints))) (All-nil Fits)))
 
   fits_inner : (l : Link) → IsInnerLink (length hot) (length cold) inner.nodes l → Fits l
-  fits_inner l h = let cost = h.cost in rw (start_inner l.from h.from_in, start_inner l.to h.to_in) (omega (arith, ints, cost))
+  fits_inner l h = rw (start_inner l.from h.from_in, start_inner l.to h.to_in) (omega (arith, ints, h.cost))
 
   pub start_around : AreInitialPotentials (net_around hot cold inner) (start_of inner.nodes)
   start_around = record {
@@ -473,15 +479,14 @@ module _ (hot cold : List Part) (inner : Net) (g : IsAround hot cold inner) wher
 
   pub potentials_within : (potentials : List ℤ) → AreBounded (net_around hot cold inner) (start_of inner.nodes) potentials → All IsNodePotential potentials
   potentials_within potentials bounded k d within =
-      let net = net_around hot cold inner in let node : k < net.nodes = (let e = bounded.one_each in omega (arith, e, within)) in
+      let net = net_around hot cold inner in let node : k < net.nodes = (omega (arith, bounded.one_each, within)) in
       let bound = bounded.bounded k node in
       let starts = greatest-le (λ (s : ℤ). s) (start_of inner.nodes) most_price (pos 0)
-      (λ j early. let h = start_within j (let e = start_around.one_each in omega (arith, e, early)) in omega (arith, sizes, h.from, h.upto)) in
+      (λ j early. let h = start_within j (omega (arith, start_around.one_each, early)) in omega (arith, sizes, h.from, h.upto)) in
       let costs = greatest-le (λ (l : Link). l.cost) net.links most_price no_link
       (λ j early. let h = (near_all j no_link early).price in omega (arith, sizes, h.from, h.upto)) in
-      let nodes = g.few_nodes in
       let times : net.nodes * largest_cost net ≤ most_nodes * most_price =
-      mul-le net.nodes (largest_cost net) most_nodes most_price (omega (arith, nodes)) costs in
+      mul-le net.nodes (largest_cost net) most_nodes most_price (omega (arith, g.few_nodes)) costs in
       let same = get_or_default potentials k d (pos 0) within in
       let small : unsigned_abs (get_or potentials k d) ≤ 3 * most_price + most_nodes * most_price = rw same (omega (arith, bound, starts, times)) in
       record { from = omega (arith, sizes, small); upto = omega (arith, sizes, small) }
@@ -557,8 +562,8 @@ module _ (r : Reach) where
   stays_at : (path : List Link) (u v : ℕ) → r.hots ≤ u → IsPath (pair_links r) path u v → u ≡ v
   stays_at [] u v cold is = is
   stays_at (l ∷ path) u v cold is =
-      let from = is.1 in let rows = All-pair_links (λ m. m.from < r.hots) (λ a b joined. hot_within r a b joined) in
-      absurd (omega (arith, cold, from, All-contains (λ (m : Link). m.from < r.hots) (pair_links r) l rows is.0))
+      let rows = All-pair_links (λ m. m.from < r.hots) (λ a b joined. hot_within r a b joined) in
+      absurd (omega (arith, cold, is.1, All-contains (λ (m : Link). m.from < r.hots) (pair_links r) l rows is.0))
 
   -- so one from a hot part's node is one link
   abbrev LeadsRight : Link → Type 0
@@ -593,8 +598,7 @@ module _ (r : Reach) (net : Net) (is : net ≡ pair_net r) where
   pub IsAround-pairs : (parts : Parts) → HasSizes r (length parts.hot) (length parts.cold) → r.hots * r.colds ≤ MOST_PAIRS → IsAround parts.hot parts.cold net
   IsAround-pairs parts sizes few =
       let hots = sizes.hots in let colds = sizes.colds in
-      let inner : IsInner r.hots r.colds (pair_net r) = record { nodes = omega arith; links = inner_links r } in let few_hot = parts.few_hot in
-      let few_cold = parts.few_cold in let links = few_pair_links r in
+      let inner : IsInner r.hots r.colds (pair_net r) = record { nodes = omega arith; links = inner_links r } in let links = few_pair_links r in
       subst (IsAround parts.hot parts.cold) (sym is)
-      (IsAround-parts parts (pair_net r) (subst₂ (λ h k. IsInner h k (pair_net r)) hots colds inner) (omega (arith, hots, colds, few_hot, few_cold))
+      (IsAround-parts parts (pair_net r) (subst₂ (λ h k. IsInner h k (pair_net r)) hots colds inner) (omega (arith, hots, colds, parts.few_hot, parts.few_cold))
       (omega (arith, links, few)))

@@ -2,16 +2,15 @@
 use Rattle.transport.proofs.Words.{*ℤ-+ℤ, *ℤ--ℤ, *ℤ-zero, *ℤ-≤ℤ_left, -ℤ-*ℤ, All, ArePartPrices, AreProofOfLeast, Cold, Flow, HasCost, HasCost-flow, Hot}
 use Rattle.transport.proofs.Words.{IsAnswer, IsBetween, IsCertified, IsHeatFlow, IsInnerLink, IsLeastCost, IsNodePotential, IsPartPrice, IsPath, IsSpread}
 use Rattle.transport.proofs.Words.{IsSupporting, KeepsRanges, Link, MOST_ROOM, Net, Part, PathsAreReaches, RoutesMost, Side, Some, Transfer, by_lt_z, cases_lt}
-use Rattle.transport.proofs.Words.{clamps, cost_of, excess_price, excess_price-*ℤ, flow_on, get_or_default, get_or_from_slice_get, get_or_past, heat_at}
-use Rattle.transport.proofs.Words.{int_sum_from, int_sum_from-add, int_sum_from-excess, int_sum_from-same_each, int_sum_from-sub, int_sum_from-zero, ints}
-use Rattle.transport.proofs.Words.{least_product, link_at, most_of, negsuc, net_around, outflow, parts_of, pos, potential_at, price_at, priced, prices_of}
-use Rattle.transport.proofs.Words.{range_with_len, reduced_cost, side_cost, side_value, slice_get, slice_get_within, spare_link, value_of, weak_duality}
-use Rattle.transport.proofs.Words.{zero_times, ℤ, ◌*ℤ◌, ◌+ℤ◌, ◌-ℤ◌, ◌<ℤ◌, ◌≤ℤ◌}
-use Rattle.std.proofs.Common.{Bool, List, [], add-zero, ap, ap₂, arith, get_or, length, map, refl, subst, subst₂, suc, sym, zero, zero-add, ℕ, ⊎_elim, ◌+◌, ◌<◌}
-use Rattle.std.proofs.Common.{◌∙◌, ◌∷◌, ◌≡◌}
+use Rattle.transport.proofs.Words.{clamps, cost_of, excess_price, excess_price-*ℤ, flow_on, get_or-map-range_with_len, get_or_default, get_or_from_slice_get}
+use Rattle.transport.proofs.Words.{get_or_past, heat_at, int_sum_from, int_sum_from-add, int_sum_from-excess, int_sum_from-same_each, int_sum_from-sub}
+use Rattle.transport.proofs.Words.{int_sum_from-zero, ints, least_product, length-map-range_with_len, link_at, most_of, negsuc, net_around, outflow, parts_of}
+use Rattle.transport.proofs.Words.{pos, potential_at, price_at, priced, prices_of, reduced_cost, side_cost, side_value, slice_get, slice_get_within, spare_link}
+use Rattle.transport.proofs.Words.{value_of, weak_duality, zero_times, ℤ, ◌*ℤ◌, ◌+ℤ◌, ◌-ℤ◌, ◌<ℤ◌, ◌≤ℤ◌}
+use Rattle.std.proofs.Common.{Bool, List, [], ap, ap₂, arith, get_or, length, refl, subst, subst₂, suc, sym, zero, zero-add, ℕ, ⊎_elim, ◌+◌, ◌<◌, ◌∙◌, ◌∷◌, ◌≡◌}
 use Rattle.transport.proofs.FlowLemmas.{between, cold_fall, cold_full, drained, exchanged, exchanged_is, exchanged_within, falls_around, hot_fall, hot_full}
-use Rattle.transport.proofs.FlowLemmas.{mosts, not_full, passed, reduced_flowing, reduced_left, spare, spare_within, term}
-use Rattle.transport.proofs.NetAround.{IsAround, IsFullRouting, between_is, ends, first_node, inner_at, int_sum_from-mul, no_link, potentials_within}
+use Rattle.transport.proofs.FlowLemmas.{not_full, passed, reduced_flowing, reduced_left, spare, spare_within, term}
+use Rattle.transport.proofs.NetAround.{IsAround, IsFullRouting, between_is, ends, first_node, inner_at, int_sum_from-mul, mosts, no_link, potentials_within}
 use Rattle.transport.proofs.NetAround.{small_cold, spare_is}
 
 -- a part that could have more heat would not pay less for it, and one that could have less would not either
@@ -78,10 +77,7 @@ IsLeastCost-certified reach hot cold ts y z supports flow prices =
 
 -- from a link with the room `high - low` and the reduced cost `-c` that carries what is missing at the most
 pub slack_from_link : (c low high x : ℤ) → (x <ℤ (high -ℤ low) → c ≤ℤ pos 0) → (pos 0 <ℤ x → pos 0 ≤ℤ c) → IsSlack c low high (high -ℤ x)
-slack_from_link c low high x left flowing = record {
-  left_to_add = λ less. flowing (omega (arith, ints));
-  to_spare = λ less. left (omega (arith, ints));
-}
+slack_from_link c low high x left flowing = record { left_to_add = λ less. flowing (omega (arith, ints)); to_spare = λ less. left (omega (arith, ints)) }
 
 -- The potentials as prices: no part could exchange its heat for less, and what the hot parts give is worth what the cold parts take.
 
@@ -145,10 +141,9 @@ module _ {hot cold : List Part} {inner : Net} {flow potentials : List ℤ} (r : 
     -- the potential does not rise along it
     pub falls : at (link_at inner.links k).to ≤ℤ at (link_at inner.links k).from
     falls =
-        let room = inner_link.room in let cost = inner_link.cost in
         let reduced = reduced_left (net_around hot cold inner) flow k (link_at inner.links k) (inner_at hot cold inner k within) potentials proof
-        (omega (arith, ints, left, room)) in
-        omega (arith, ints, reduced, cost)
+        (omega (arith, ints, left, inner_link.room)) in
+        omega (arith, ints, reduced, inner_link.cost)
 
     -- and stays where it carries some heat
     stays : term (at (link_at inner.links k).from) (at (link_at inner.links k).to) (flow_on flow k) ≡ pos 0
@@ -165,7 +160,7 @@ module _ {hot cold : List Part} {inner : Net} {flow potentials : List ℤ} (r : 
 
   module _ (small : most_of cold <ℤ MOST_ROOM) where
     between_left : between r 2 <ℤ MOST_ROOM
-    between_left = let upto = (exchanged_within r).upto in omega (arith, ints, upto, small)
+    between_left = omega (arith, ints, (exchanged_within r).upto, small)
 
     pub filler_falls : at spill ≤ℤ at filler
     filler_falls =
@@ -181,7 +176,7 @@ module _ {hot cold : List Part} {inner : Net} {flow potentials : List ℤ} (r : 
         (λ none. ap (λ x. term (at filler) (at spill) x) {x = between r 2} {y = pos 0} (omega (arith, ints, none, from)) ∙ *ℤ-zero (at filler -ℤ at spill))
 
     all_mosts : (c : ℤ) (parts : List Part) → int_sum_from (λ i (q : Part). c *ℤ q.most) 0 parts ≡ c *ℤ most_of parts
-    all_mosts c parts = int_sum_from-mul c (λ i (q : Part). q.most) 0 parts ∙ ap (λ z. c *ℤ z) (mosts r parts)
+    all_mosts c parts = int_sum_from-mul c (λ i (q : Part). q.most) 0 parts ∙ ap (λ z. c *ℤ z) (mosts parts)
 
     -- ---- what the hot parts give is worth what the cold parts take
 
@@ -230,17 +225,7 @@ module _ {hot cold : List Part} {inner : Net} {flow potentials : List ℤ} (r : 
 -- Transfers into which a flow of an inner net is taken apart are a heat flow, wherever the paths of the net are the pairs that
 -- reach, and the potentials give prices that certify it.
 
--- ---- numbers of a range of nodes
-
-number_there : (f : ℕ → ℤ) (first n i : ℕ) (d : ℤ) → i < n → get_or (map f (range_with_len first n)) i d ≡ f (first + i)
-number_there f first zero i d within = absurd (omega (arith, within))
-number_there f first (suc n) zero d within = ap f (sym (add-zero first))
-number_there f first (suc n) (suc i) d within =
-    number_there f (first + 1) n i d (omega (arith, within)) ∙ ap f {x = first + 1 + i} {y = first + suc i} (omega arith)
-
-length-numbers : (f : ℕ → ℤ) (first n : ℕ) → length (map f (range_with_len first n)) ≡ n
-length-numbers f first zero = refl
-length-numbers f first (suc n) = ap suc (length-numbers f (first + 1) n)
+-- ---- the prices of a range of nodes
 
 module _ (potentials : List ℤ) (each : All IsNodePotential potentials) (end : ℕ) where
   node_potential : (v : ℕ) → IsNodePotential (potential_at potentials v)
@@ -259,17 +244,17 @@ module _ (potentials : List ℤ) (each : All IsNodePotential potentials) (end : 
 
   prices_are : (parts : List Part) (first : ℕ) → ArePartPrices parts (prices_of potentials first (length parts) end)
   prices_are parts first =
-      let f = λ (v : ℕ). potential_at potentials v -ℤ potential_at potentials end in
+      let f = λ (v : ℕ). potential_at potentials v -ℤ potential_at potentials end in let long = length-map-range_with_len f first (length parts) in
       record {
-        one_each = length-numbers f first (length parts);
-        within = λ k d inside. subst IsPartPrice
-            (sym (number_there f first (length parts) k d (let long = length-numbers f first (length parts) in omega (arith, long, inside))))
+        one_each = long;
+        within = λ k d inside. subst IsPartPrice (sym (get_or-map-range_with_len f first (length parts) k (first + k) d (omega (arith, long, inside)) refl))
             (price_within (first + k));
       }
 
   pub price_is : (parts first i : ℕ) → i < parts
       → price_at (prices_of potentials first parts end) i ≡ potential_at potentials (first + i) -ℤ potential_at potentials end
-  price_is parts first i within = number_there (λ v. potential_at potentials v -ℤ potential_at potentials end) first parts i (pos 0) within
+  price_is parts first i within =
+      get_or-map-range_with_len (λ v. potential_at potentials v -ℤ potential_at potentials end) first parts i (first + i) (pos 0) within refl
 
 -- ---- the heat flow and the prices
 

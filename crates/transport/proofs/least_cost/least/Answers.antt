@@ -12,11 +12,8 @@ paths c = PathsAreReaches-pairs c.args.reach.now c.in_ok-net.net c.in_ok-net.ens
 around : (c : In_ok-net) → IsAround c.args.parts.now.hot c.args.parts.now.cold c.in_ok-net.net
 around c = IsAround-pairs c.args.reach.now c.in_ok-net.net c.in_ok-net.ensures c.args.parts.now c.requires.sizes c.requires.few
 
-pub route-requires-clause-inner : goal.route-requires-clause-inner
-route-requires-clause-inner c = (around (goal.at.route-requires-clause-inner c).In_ok-net).inner_net
-
-pub route-requires-clause-few_links : goal.route-requires-clause-few_links
-route-requires-clause-few_links c = (around (goal.at.route-requires-clause-few_links c).In_ok-net).few_links
+pub route-requires : goal.route-requires
+route-requires c = let g = around (goal.at.route-requires c).In_ok-net in record { inner = g.inner_net; few_nodes = g.few_nodes; few_links = g.few_links }
 
 pub blocked_members-requires-clause-inner : goal.blocked_members-requires-clause-inner
 blocked_members-requires-clause-inner c = (around (goal.at.blocked_members-requires-clause-inner c).In_ok-net).inner_net

@@ -6,7 +6,7 @@ use Rattle.transport.proofs.least_cost.least_case.Goals as goal
 -- ---- the heat flow
 
 pub routed-requires-clause-few_nodes : goal.routed-requires-clause-few_nodes
-routed-requires-clause-few_nodes c = let few = c.in_ok-chains.ensures.small.few_nodes in omega (arith, few)
+routed-requires-clause-few_nodes c = omega (arith, c.in_ok-chains.ensures.small.few_nodes)
 
 pub routed-requires-clause-paths : goal.routed-requires-clause-paths
 routed-requires-clause-paths c = (reach_between c.args.case.now c.args.parts.now.hot c.args.parts.now.cold, c.in_ok-chains.ensures.paths)
