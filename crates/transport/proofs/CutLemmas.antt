@@ -115,7 +115,7 @@ IsCutWithin-short side reach hot cold picked near bounded others most h =
     most_from : (parts : List Part) → All IsBounded parts → (i : ℕ) (p : Part) → slice_get parts i ≡ Some p → pos 0 ≤ℤ p.most
     most_from parts each i p at = let b = All-slice_get IsBounded parts i p each at in omega (arith, ints, b.least.from, b.most.from)
 
--- What a cut of the net says of the parts: those on one side of it need more than is on offer.
+-- ---- what a cut of the net says of the parts: those on one side of it need more than is on offer
 
 -- the room of a link that leaves a set
 abbrev leaving : List Bool → ℕ → Link → ℤ
@@ -290,8 +290,7 @@ module _ (hot cold : List Part) (inner : Net) (g : IsAround hot cold inner) (set
     within_demand members filler same = subst (IsCutWithin Cold reach hot cold) (sym same)
         (IsCutWithin-short Cold reach hot cold _ _ g.cold_bounded g.hot_bounded (most_within cold g.few_cold g.cold_bounded) (demand filler))
 
-    pub within_supply : (members : List ℕ) → inside (ends inner).filler ≡ false → members ≡ members_of Supply 0 set hot
-        → IsCutWithin Hot reach hot cold members
+    pub within_supply : (members : List ℕ) → inside (ends inner).filler ≡ false → members ≡ members_of Supply 0 set hot → IsCutWithin Hot reach hot cold members
     within_supply members filler same = subst (IsCutWithin Hot reach hot cold) (sym same)
         (IsCutWithin-short Hot reach hot cold _ _ g.hot_bounded g.cold_bounded (most_within hot g.few_hot g.hot_bounded) (supply filler))
 

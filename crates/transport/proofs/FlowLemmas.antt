@@ -116,10 +116,7 @@ module _ {hot cold : List Part} {inner : Net} {flow : List ℤ} (r : IsFullRouti
       (λ i q at. let here = each i (slice_get_within cold i q at) in none _ _ _ _ (whole Cold i) (spare Cold i) here refl refl here)
       ∙ int_sum_from-zero (λ i (q : Part). pos 0) 0 cold (λ i q le. refl)
 
--- What the parts exchange where the most of all is routed: the links of the mosts are full, and each part exchanges its most less
--- what passes it by.
-
--- ---- a link at an index
+-- ---- what the parts exchange: the links of the mosts are full, and each part exchanges its most less what passes it by
 
 module _ (net : Net) (flow : List ℤ) (k : ℕ) (l : Link) (at : IsLinkAt net k l) where
   pub carried : IsWithinRooms net.links flow → IsBetween (pos 0) l.room (flow_on flow k)
@@ -266,8 +263,8 @@ module _ {hot cold : List Part} {inner : Net} {flow : List ℤ} (r : IsFullRouti
   exchanged_is Hot a p at = ap (outflow inner.links flow) (zero-add a) ∙ hot_given a p at
   exchanged_is Cold b p at = cold_taken b p at
 
--- What an inner net carries where the most of all parts is routed: its chain nodes pass on what they take, and none of its links
--- is full, since all that leaves the hot parts is less than the room of a link.
+-- ---- what the inner net carries: its chain nodes pass on what they take, and none of its links is full, since all that leaves the hot
+-- parts is less than the room of a link
 
 -- what leaves a node, less what enters it
 term_both : (b c : Bool) (x : ℤ) → term (if b then pos 1 else pos 0) (if c then pos 1 else pos 0) x ≡ (if b then x else pos 0) -ℤ (if c then x else pos 0)
@@ -392,8 +389,7 @@ module _ {hot cold : List Part} {inner : Net} {flow : List ℤ} (r : IsFullRouti
       gives_most : (one most x y : ℤ) → one ≡ pos 1 → x ≤ℤ most → pos 0 ≤ℤ y → (pos 0 -ℤ most) ≤ℤ (term (pos 0) one x +ℤ term one (pos 0) y)
       gives_most one most x y is upto from = rw is (omega (arith, ints, upto, from))
 
--- The front of a routing's flow: what the inner net alone carries. It is a flow of heat, and transfers into which the front is taken
--- apart are those of the whole.
+-- ---- the front of the flow: what the inner net alone carries. It is a flow of heat, and its transfers are those of the whole
 
 module _ {hot cold : List Part} {inner : Net} {flow : List ℤ} (r : IsFullRouting hot cold inner flow) where
   abbrev front : List ℤ

@@ -1,4 +1,4 @@
--- One element more of the lists that loops make.
+-- One element more of the lists that loops make, and the offer of a cut part by part.
 use Rattle.transport.proofs.Words.{Case, Cold, Ends, Forbid, ForbidAlike, Hot, MOST_PARTS, Part, Parts, Side, Source, and-false, append-nil, blank, both_reach}
 use Rattle.transport.proofs.Words.{cons_if, cons_if-append, flat_map, flat_map_more, if◌then◌else◌, int_lt, int_lt-false, int_lt-from, joins, joins_part}
 use Rattle.transport.proofs.Words.{length-take-le, links_of_parts, list_any, list_any-append, list_any_more, map-append, meets, meets_part, names, needing_from}
@@ -76,9 +76,7 @@ price_push potentials first i end old grown x after before is =
     after ∙ ap₂ (λ xs y. xs ++ y ∷ []) before is
     ∙ sym (ap (map f) (sym (range_with_len-append first i 1)) ∙ map-append f (range_with_len first i) (range_with_len (first + i) 1))
 
--- The forbidden matches of a part's source, and the offer of a cut by them.
-
--- ---- one forbidden match more
+-- ---- the forbidden matches of a part's source, and the offer of a cut by them
 
 -- whether a forbidden match is the one of these two sources, of which the first is of this side
 abbrev is_match : Side → Source → Source → Forbid → Bool

@@ -58,9 +58,7 @@ module _ {X : Type 0} where
       let first = le 0 y refl in let fs = int_sum_from-next f 0 ys in let gs = int_sum_from-next g 0 ys in
       int_sum_from-equal (λ j z. f (suc j) z) (λ j z. g (suc j) z) ys (λ j z there. le (suc j) z there) (omega (arith, ints)) i x at
 
--- Sums over the links of a net around an inner net, as sums over the inner links and over the parts.
-
--- ---- a sum below the length of a list is a sum over the list
+-- ---- a sum over the links of a net, as sums over the inner links and over the parts
 
 sum_below-front : (n : ℕ) (f : ℕ → ℤ) → sum_below (suc n) f ≡ f 0 +ℤ sum_below n (λ k. f (suc k))
 sum_below-front zero f = omega (arith, ints)
@@ -147,13 +145,11 @@ module _ (hot cold : List Part) (inner : Net) where
       let three = ap (λ n. int_sum_from f n between) {x = 0 + length inner.links + length hot_links + length cold_links} {y = between_at} (omega arith) in
       omega (arith, ints)
 
--- Where the links of a net around an inner net stand.
+-- ---- where the links of a net around an inner net stand
 
 -- the link that `link_at` gives where there is none
 abbrev pub no_link : Link
 no_link = record { from = 0; to = 0; room = pos 0; cost = pos 0 }
-
--- ---- the links of parts
 
 parts_there : (side : Side) (e : Ends) (node : ℕ) (parts : List Part) (i : ℕ) (p : Part) (d : Link) → slice_get parts i ≡ Some p
     → (get_or (links_of_parts side e node parts) (2 * i) d ≡ whole_link side e (node + i) p)
@@ -255,6 +251,12 @@ module _ (hot cold : List Part) (inner : Net) where
     pub spare_is : IsLinkAt net (spare_at hot cold inner side i) (spare_link side (ends inner) (first_node hot cold inner side + i) p)
     spare_is = of_side side (2 * i + 1) _ _ (let early = slice_get_within (parts_of side hot cold) i p at in omega (arith, early)) (omega arith) links_there.1
 
+  -- what holds of the three links between the further nodes
+  All-between : (P : Link → Type 0) → P (link_at between 0) → P (link_at between 1) → P (link_at between 2) → All P between
+  All-between P one two three =
+      All-cons P (link_at between 0) (link_at between 1 ∷ link_at between 2 ∷ []) one
+      (All-cons P (link_at between 1) (link_at between 2 ∷ []) two (All-cons P (link_at between 2) [] three (All-nil P)))
+
   -- what holds of the two links of each part
   abbrev pub OfParts : (Link → Type 0) → Type 0
   OfParts P = (side : Side) (i : ℕ) (p : Part) → slice_get (parts_of side hot cold) i ≡ Some p
@@ -267,7 +269,7 @@ module _ (hot cold : List Part) (inner : Net) where
       (All-append P (links_of Hot) (links_of Cold ++ between) (All-links_of_parts P Hot (ends inner) 0 hot (parts Hot))
       (All-append P (links_of Cold) between (All-links_of_parts P Cold (ends inner) (length hot) cold (parts Cold)) last))
 
--- A net around an inner net is within the limits of nets, and so are what is routed and the initial potentials.
+-- ---- a net around an inner net is within the limits of nets, and so are what is routed and the initial potentials
 
 -- parts within the limits, and an inner net for them
 pub record IsAround (hot cold : List Part) (inner : Net) : Type 0 where
@@ -295,8 +297,7 @@ pub most_within : (parts : List Part) → length parts ≤ MOST_PARTS → All Is
 most_within parts few bounded =
     let upto = int_sum_by-at_most (λ (p : Part). p.most) (unsigned_abs MOST_HEAT) parts (λ k d within. (bounded k d within).most.upto) in
     let from = int_sum_by-not_negative (λ (p : Part). p.most) parts
-    (λ k d within. let b = bounded k d within in let least = b.least.from in let most = b.most.from in omega (arith, ints)) in
-    record { from = from; upto = omega (arith, ints) }
+    (λ k d within. let b = bounded k d within in omega (arith, ints, b.least.from, b.most.from)) in record { from = from; upto = omega (arith, ints) }
 
 -- the most of all parts, routed through the net around their inner net
 pub record IsFullRouting (hot cold : List Part) (inner : Net) (flow : List ℤ) : Type 0 where
@@ -313,12 +314,10 @@ no_cost : IsPrice (pos 0)
 no_cost = record { from = omega (arith, ints); upto = omega (arith, ints) }
 
 whole_room : (p : Part) → IsBounded p → IsRoom p.most
-whole_room p b =
-    let least = b.least.from in let from = b.most.from in let upto = b.most.upto in record { from = omega (arith, ints); upto = omega (arith, ints) }
+whole_room p b = record { from = omega (arith, ints, b.least.from, b.most.from); upto = omega (arith, ints, b.most.upto) }
 
 spare_room : (p : Part) → IsBounded p → IsRoom (p.most -ℤ p.least)
-spare_room p b =
-    let least = b.least.from in let from = b.most.from in let upto = b.most.upto in record { from = omega (arith, ints); upto = omega (arith, ints) }
+spare_room p b = record { from = omega (arith, ints, b.most.from); upto = omega (arith, ints, b.least.from, b.most.upto) }
 
 spare_cost : (p : Part) → IsBounded p → IsPrice (neg_ℤ p.price)
 spare_cost p b = let from = b.price.from in let upto = b.price.upto in record { from = omega (arith, ints); upto = omega (arith, ints) }
@@ -353,21 +352,16 @@ module _ (hot cold : List Part) (inner : Net) (g : IsAround hot cold inner) wher
   near_between : All (IsNear (inner.nodes + 4)) (links_between (ends inner) (most_of hot) (most_of cold))
   near_between =
       let given = most_within hot g.few_hot g.hot_bounded in let taken = most_within cold g.few_cold g.cold_bounded in
-      let P = IsNear (inner.nodes + 4) in let one : Link = record { from = inner.nodes; to = inner.nodes + 2; room = most_of cold; cost = pos 0 } in
-      let two : Link = record { from = inner.nodes + 3; to = inner.nodes + 1; room = most_of hot; cost = pos 0 } in
-      let three : Link = record { from = inner.nodes + 2; to = inner.nodes + 3; room = MOST_ROOM; cost = pos 0 } in
-      All-cons P one (two ∷ three ∷ [])
-      (near one (omega arith) (omega arith) (record { from = omega (arith, ints, taken.from); upto = omega (arith, ints, taken.upto) }) no_cost)
-      (All-cons P two (three ∷ [])
-      (near two (omega arith) (omega arith) (record { from = omega (arith, ints, given.from); upto = omega (arith, ints, given.upto) }) no_cost)
-      (All-cons P three [] (near three (omega arith) (omega arith) (record { from = omega (arith, ints); upto = omega (arith, ints) }) no_cost) (All-nil P)))
+      All-between hot cold inner (IsNear (inner.nodes + 4))
+      (near _ (omega arith) (omega arith) (record { from = omega (arith, ints, taken.from); upto = omega (arith, ints, taken.upto) }) no_cost)
+      (near _ (omega arith) (omega arith) (record { from = omega (arith, ints, given.from); upto = omega (arith, ints, given.upto) }) no_cost)
+      (near _ (omega arith) (omega arith) (record { from = omega (arith, ints); upto = omega (arith, ints) }) no_cost)
 
   near_all : All (IsNear (inner.nodes + 4)) (net_around hot cold inner).links
   near_all =
       All-net_around hot cold inner (IsNear (inner.nodes + 4))
       (All-weaker (IsInnerLink (length hot) (length cold) inner.nodes) (IsNear (inner.nodes + 4)) near_inner inner.links g.inner_net.links)
-      (λ side i p at. let node = first_node hot cold inner side + i in
-      let bounded = bounded_at side i p at in
+      (λ side i p at. let node = first_node hot cold inner side + i in let bounded = bounded_at side i p at in
       (near_whole side node p (node_within side i p at) bounded, near_spare side node p (node_within side i p at) bounded))
       near_between
 
@@ -388,7 +382,7 @@ module _ (hot cold : List Part) (inner : Net) (g : IsAround hot cold inner) wher
       record { from = omega (arith, ints, given.from, taken.from); upto = omega (arith, ints, given.upto, taken.upto) }
 
   pub small_cold : most_of cold <ℤ MOST_ROOM
-  small_cold = let taken = most_within cold g.few_cold g.cold_bounded in omega (arith, ints, taken.upto)
+  small_cold = omega (arith, ints, (most_within cold g.few_cold g.cold_bounded).upto)
 
   -- ---- the initial potentials
 
@@ -425,35 +419,22 @@ module _ (hot cold : List Part) (inner : Net) (g : IsAround hot cold inner) wher
       four (suc (suc (suc zero))) h = record { from = omega (arith, ints); upto = omega (arith, ints) }
       four (suc (suc (suc (suc j)))) h = absurd (omega (arith, h))
 
-  at_sink : potential_at (start_of inner.nodes) (inner.nodes + 1) ≡ neg_ℤ MOST_PRICE
-  at_sink = start_further 1
-
-  at_filler : potential_at (start_of inner.nodes) (inner.nodes + 2) ≡ MOST_PRICE
-  at_filler = start_further 2
-
-  at_spill : potential_at (start_of inner.nodes) (inner.nodes + 3) ≡ neg_ℤ MOST_PRICE
-  at_spill = start_further 3
-
   -- no link has a reduced cost below 0
   abbrev Fits : Link → Type 0
   Fits l = pos 0 ≤ℤ reduced_cost l (start_of inner.nodes)
 
   fits_whole : (side : Side) (node : ℕ) (p : Part) → node < inner.nodes → Fits (whole_link side (ends inner) node p)
   fits_whole Hot node p within = rw (at_source, start_inner node within) (omega (arith, ints))
-  fits_whole Cold node p within = rw (at_sink, start_inner node within) (omega (arith, ints))
+  fits_whole Cold node p within = rw (start_further 1, start_inner node within) (omega (arith, ints))
 
   fits_spare : (side : Side) (node : ℕ) (p : Part) → node < inner.nodes → IsBounded p → Fits (spare_link side (ends inner) node p)
-  fits_spare Hot node p within b = rw (at_spill, start_inner node within) (omega (arith, ints, b.price.upto))
-  fits_spare Cold node p within b = rw (at_filler, start_inner node within) (omega (arith, ints, b.price.upto))
+  fits_spare Hot node p within b = rw (start_further 3, start_inner node within) (omega (arith, ints, b.price.upto))
+  fits_spare Cold node p within b = rw (start_further 2, start_inner node within) (omega (arith, ints, b.price.upto))
 
   fits_between : All Fits (links_between (ends inner) (most_of hot) (most_of cold))
   fits_between =
-      let one : Link = record { from = inner.nodes; to = inner.nodes + 2; room = most_of cold; cost = pos 0 } in
-      let two : Link = record { from = inner.nodes + 3; to = inner.nodes + 1; room = most_of hot; cost = pos 0 } in
-      let three : Link = record { from = inner.nodes + 2; to = inner.nodes + 3; room = MOST_ROOM; cost = pos 0 } in
-      All-cons Fits one (two ∷ three ∷ []) (rw (at_source, at_filler) (omega (arith, ints)))
-      (All-cons Fits two (three ∷ []) (rw (at_spill, at_sink) (omega (arith, ints)))
-      (All-cons Fits three [] (rw (at_filler, at_spill) (omega (arith, ints))) (All-nil Fits)))
+      All-between hot cold inner Fits (rw (at_source, start_further 2) (omega (arith, ints))) (rw (start_further 3, start_further 1) (omega (arith, ints)))
+      (rw (start_further 2, start_further 3) (omega (arith, ints)))
 
   fits_inner : (l : Link) → IsInnerLink (length hot) (length cold) inner.nodes l → Fits l
   fits_inner l h = rw (start_inner l.from h.from_in, start_inner l.to h.to_in) (omega (arith, ints, h.cost))
@@ -479,8 +460,7 @@ module _ (hot cold : List Part) (inner : Net) (g : IsAround hot cold inner) wher
 
   pub potentials_within : (potentials : List ℤ) → AreBounded (net_around hot cold inner) (start_of inner.nodes) potentials → All IsNodePotential potentials
   potentials_within potentials bounded k d within =
-      let net = net_around hot cold inner in let node : k < net.nodes = (omega (arith, bounded.one_each, within)) in
-      let bound = bounded.bounded k node in
+      let net = net_around hot cold inner in let bound = bounded.bounded k (omega (arith, bounded.one_each, within)) in
       let starts = greatest-le (λ (s : ℤ). s) (start_of inner.nodes) most_price (pos 0)
       (λ j early. let h = start_within j (omega (arith, start_around.one_each, early)) in omega (arith, sizes, h.from, h.upto)) in
       let costs = greatest-le (λ (l : Link). l.cost) net.links most_price no_link
@@ -491,9 +471,7 @@ module _ (hot cold : List Part) (inner : Net) (g : IsAround hot cold inner) wher
       let small : unsigned_abs (get_or potentials k d) ≤ 3 * most_price + most_nodes * most_price = rw same (omega (arith, bound, starts, times)) in
       record { from = omega (arith, sizes, small); upto = omega (arith, sizes, small) }
 
--- The links of the net of the pairs that reach, and that it is an inner net whose paths are those pairs.
-
--- ---- the indexes of parts that reach
+-- ---- the links of the net of the pairs that reach, and that it is an inner net whose paths are those pairs
 
 both_within : (x y z : Bool) → IsTrue ((x && y) && z) → (x ≡ true) × (y ≡ true)
 both_within true true z h = (refl, refl)
@@ -544,9 +522,7 @@ module _ (r : Reach) where
 
   inner_links : All (IsInnerLink r.hots r.colds (r.hots + r.colds)) (pair_links r)
   inner_links = All-pair_links (IsInnerLink r.hots r.colds (r.hots + r.colds))
-      (λ a b joined. let row = hot_within r a b joined in
-      let column = cold_within r a b joined in
-      record {
+      (λ a b joined. let row = hot_within r a b joined in let column = cold_within r a b joined in record {
         from_in = omega (arith, row);
         to_in = omega (arith, column);
         leaves = inl row;
@@ -574,8 +550,7 @@ module _ (r : Reach) where
   path_reaches (l ∷ path) a b row is =
       let right = All-pair_links LeadsRight
       (λ x y joined z rest to. let end = stays_at rest (r.hots + y) (r.hots + z) (omega arith) to in
-      let same : y ≡ z = omega (arith, end) in
-      subst (λ w. IsTrue (reaches r x w)) same joined) in
+      let same : y ≡ z = omega (arith, end) in subst (λ w. IsTrue (reaches r x w)) same joined) in
       subst (λ x. IsTrue (reaches r x b)) is.1 (All-contains LeadsRight (pair_links r) l right is.0 b path is.2)
 
   pub paths_of_pairs : PathsAreReaches r.hots r.colds (pair_links r) (reaches r)

@@ -79,7 +79,7 @@ IsLeastCost-certified reach hot cold ts y z supports flow prices =
 pub slack_from_link : (c low high x : ℤ) → (x <ℤ (high -ℤ low) → c ≤ℤ pos 0) → (pos 0 <ℤ x → pos 0 ≤ℤ c) → IsSlack c low high (high -ℤ x)
 slack_from_link c low high x left flowing = record { left_to_add = λ less. flowing (omega (arith, ints)); to_spare = λ less. left (omega (arith, ints)) }
 
--- The potentials as prices: no part could exchange its heat for less, and what the hot parts give is worth what the cold parts take.
+-- ---- the potentials as prices: no part could exchange its heat for less, and what the hot parts give is worth what the cold parts take
 
 -- the terms of the two links of a hot part that gives s of its most, and of a cold part that takes s
 hot_terms : (source spill node most s x y : ℤ) → x ≡ most → s ≡ most -ℤ y
@@ -222,10 +222,8 @@ module _ {hot cold : List Part} {inner : Net} {flow potentials : List ℤ} (r : 
       omega (arith, ints, reduced, cost_is))
       (λ some. let reduced = reduced_flowing net flow _ _ link potentials proof some in omega (arith, ints, reduced, cost_is)))
 
--- Transfers into which a flow of an inner net is taken apart are a heat flow, wherever the paths of the net are the pairs that
--- reach, and the potentials give prices that certify it.
-
--- ---- the prices of a range of nodes
+-- ---- transfers into which a flow of an inner net is taken apart are a heat flow, wherever the paths of the net are the pairs that reach,
+-- and the potentials give prices that certify it
 
 module _ (potentials : List ℤ) (each : All IsNodePotential potentials) (end : ℕ) where
   node_potential : (v : ℕ) → IsNodePotential (potential_at potentials v)
