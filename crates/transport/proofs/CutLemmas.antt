@@ -158,12 +158,6 @@ module _ (hot cold : List Part) (inner : Net) (g : IsAround hot cold inner) (set
   abbrev inside : ℕ → Bool
   inside v = is_in set v
 
-  source_in : inside (ends inner).source ≡ true
-  source_in = cut.source_in
-
-  sink_out : inside (ends inner).sink ≡ false
-  sink_out = cut.sink_out
-
   -- the rooms of the links that leave add up to less than the amount
   all_short : int_sum_from (leaving set) 0 net.links <ℤ (most_of hot +ℤ most_of cold)
   all_short = subst (λ z. z <ℤ (most_of hot +ℤ most_of cold)) (sum_over_links (leaving set) net.links) cut.short
@@ -221,12 +215,12 @@ module _ (hot cold : List Part) (inner : Net) (g : IsAround hot cold inner) (set
   demand_short filler =
       let spill = spill_with_filler filler in
       let hots = int_sum_from-same_each hot_rooms (λ j p. if not (inside j) then p.most else pos 0) hot
-      (λ i p at. rw (source_in, zero-add i) (hot_leaving (inside i) (inside (ends inner).spill) p.least p.most spill)) in
+      (λ i p at. rw (cut.source_in, zero-add i) (hot_leaving (inside i) (inside (ends inner).spill) p.least p.most spill)) in
       let colds = int_sum_from-same_each cold_rooms (λ i p. p.most -ℤ (if not (inside (length hot + i)) then p.least else pos 0)) cold
-      (λ i p at. cold_leaving (inside (length hot + i)) (inside (ends inner).filler) (inside (ends inner).sink) p.least p.most filler sink_out)
+      (λ i p at. cold_leaving (inside (length hot + i)) (inside (ends inner).filler) (inside (ends inner).sink) p.least p.most filler cut.sink_out)
       ∙ int_sum_from-sub (λ i p. p.most) (λ i (p : Part). if not (inside (length hot + i)) then p.least else pos 0) 0 cold in
-      let passed : between_room 0 ≡ pos 0 = ap₂ (λ a b. if (a && not b) then most_of cold else pos 0) source_in filler in
-      let drained : between_room 1 ≡ most_of hot = ap₂ (λ a b. if (a && not b) then most_of hot else pos 0) spill sink_out in
+      let passed : between_room 0 ≡ pos 0 = ap₂ (λ a b. if (a && not b) then most_of cold else pos 0) cut.source_in filler in
+      let drained : between_room 1 ≡ most_of hot = ap₂ (λ a b. if (a && not b) then most_of hot else pos 0) spill cut.sink_out in
       let last : between_room 2 ≡ pos 0 = ap₂ (λ a b. if (a && not b) then MOST_ROOM else pos 0) filler spill in
       omega (arith, ints, around_short, hots, colds, passed, drained, last, mosts cold)
 
@@ -236,10 +230,10 @@ module _ (hot cold : List Part) (inner : Net) (g : IsAround hot cold inner) (set
       <ℤ int_sum_from (λ i (p : Part). if inside i then p.least else pos 0) 0 hot
   supply_short filler =
       let colds = int_sum_from-same_each cold_rooms (λ j p. if inside (length hot + j) then p.most else pos 0) cold
-      (λ i p at. cold_leaving_supply (inside (length hot + i)) (inside (ends inner).filler) (inside (ends inner).sink) p.least p.most filler sink_out) in
-      let passed : between_room 0 ≡ most_of cold = ap₂ (λ a b. if (a && not b) then most_of cold else pos 0) source_in filler in
+      (λ i p at. cold_leaving_supply (inside (length hot + i)) (inside (ends inner).filler) (inside (ends inner).sink) p.least p.most filler cut.sink_out) in
+      let passed : between_room 0 ≡ most_of cold = ap₂ (λ a b. if (a && not b) then most_of cold else pos 0) cut.source_in filler in
       let last : between_room 2 ≡ pos 0 = ap (λ a. if (a && not (inside (ends inner).spill)) then MOST_ROOM else pos 0) filler in
-      let drains = λ (b : Bool) (spill : inside (ends inner).spill ≡ b). ap₂ (λ x y. if (x && not y) then most_of hot else pos 0) spill sink_out in
+      let drains = λ (b : Bool) (spill : inside (ends inner).spill ≡ b). ap₂ (λ x y. if (x && not y) then most_of hot else pos 0) spill cut.sink_out in
       ⊎_elim
       (λ spill. let drained : between_room 1 ≡ most_of hot = drains true spill in
       let hot_some = int_sum_from-not_negative hot_rooms hot (λ i p at. two_rooms _ _ p (All-slice_get IsBounded hot i p g.hot_bounded at)) in
@@ -247,7 +241,7 @@ module _ (hot cold : List Part) (inner : Net) (g : IsAround hot cold inner) (set
       absurd (omega (arith, ints, around_short, passed, drained, last, hot_some, cold_some)))
       (λ spill. let drained : between_room 1 ≡ pos 0 = drains false spill in
       let hots = int_sum_from-same_each hot_rooms (λ i p. p.most -ℤ (if inside i then p.least else pos 0)) hot
-      (λ i p at. rw (source_in, zero-add i) (hot_leaving_supply (inside i) (inside (ends inner).spill) p.least p.most spill))
+      (λ i p at. rw (cut.source_in, zero-add i) (hot_leaving_supply (inside i) (inside (ends inner).spill) p.least p.most spill))
       ∙ int_sum_from-sub (λ i p. p.most) (λ i (p : Part). if inside i then p.least else pos 0) 0 hot in
       omega (arith, ints, around_short, colds, hots, passed, drained, last, mosts hot))
       (cases_Bool (inside (ends inner).spill))

@@ -452,14 +452,9 @@ module _ (hot cold : List Part) (inner : Net) (g : IsAround hot cold inner) wher
 
   -- ---- the size of the potentials
 
-  abbrev most_price : ℕ
-  most_price = unsigned_abs MOST_PRICE
-
-  abbrev most_nodes : ℕ
-  most_nodes = MOST_INNER_NODES + 4
-
   pub potentials_within : (potentials : List ℤ) → AreBounded (net_around hot cold inner) (start_of inner.nodes) potentials → All IsNodePotential potentials
   potentials_within potentials bounded k d within =
+      let most_price = unsigned_abs MOST_PRICE in let most_nodes = MOST_INNER_NODES + 4 in
       let net = net_around hot cold inner in let bound = bounded.bounded k (omega (arith, bounded.one_each, within)) in
       let starts = greatest-le (λ (s : ℤ). s) (start_of inner.nodes) most_price (pos 0)
       (λ j early. let h = start_within j (omega (arith, start_around.one_each, early)) in omega (arith, sizes, h.from, h.upto)) in

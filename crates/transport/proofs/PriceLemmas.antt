@@ -10,8 +10,8 @@ use Rattle.transport.proofs.Words.{value_of, weak_duality, zero_times, ℤ, ◌*
 use Rattle.std.proofs.Common.{Bool, List, [], ap, ap₂, arith, get_or, length, refl, subst, subst₂, suc, sym, zero, zero-add, ℕ, ⊎_elim, ◌+◌, ◌<◌, ◌∙◌, ◌∷◌, ◌≡◌}
 use Rattle.transport.proofs.FlowLemmas.{between, cold_fall, cold_full, drained, exchanged, exchanged_is, exchanged_within, falls_around, hot_fall, hot_full}
 use Rattle.transport.proofs.FlowLemmas.{not_full, passed, reduced_flowing, reduced_left, spare, spare_within, term}
-use Rattle.transport.proofs.NetAround.{IsAround, IsFullRouting, between_is, ends, first_node, inner_at, int_sum_from-mul, mosts, no_link, potentials_within}
-use Rattle.transport.proofs.NetAround.{small_cold, spare_is}
+use Rattle.transport.proofs.NetAround.{IsAround, IsFullRouting, IsLinkAt, between_is, ends, first_node, inner_at, int_sum_from-mul, mosts, no_link}
+use Rattle.transport.proofs.NetAround.{potentials_within, small_cold, spare_is}
 
 -- a part that could have more heat would not pay less for it, and one that could have less would not either
 pub record IsSlack (excess low high heat : ℤ) : Type 0 where
@@ -132,48 +132,46 @@ module _ {hot cold : List Part} {inner : Net} {flow potentials : List ℤ} (r : 
   abbrev pub worth : Side → ℕ → ℤ
   worth side i = price_of side i *ℤ exchanged r side i
 
-  -- ---- a link of the inner net that is not full
+  -- ---- links with room for all that are not full
 
+  module _ (k : ℕ) (l : Link) (place : IsLinkAt (net_around hot cold inner) k l) (wide : l.room ≡ MOST_ROOM) (free : l.cost ≡ pos 0)
+      (left : flow_on flow k <ℤ MOST_ROOM) where
+    -- the potential does not rise along one
+    falls_along : at l.to ≤ℤ at l.from
+    falls_along =
+        let reduced = reduced_left (net_around hot cold inner) flow k l place potentials proof (omega (arith, ints, left, wide)) in
+        omega (arith, ints, reduced, free)
+
+    -- and stays where it carries some heat
+    stays_along : term (at l.from) (at l.to) (flow_on flow k) ≡ pos 0
+    stays_along =
+        by_lt_z (pos 0) (flow_on flow k)
+        (λ some. let reduced = reduced_flowing (net_around hot cold inner) flow k l place potentials proof some in
+        zero_times (at l.from -ℤ at l.to) (flow_on flow k) (omega (arith, ints, reduced, free, falls_along)))
+        (λ none. let nothing : flow_on flow k ≡ pos 0 = omega (arith, ints, none, r.routing.rooms.not_negative k place.within) in
+        ap (λ x. term (at l.from) (at l.to) x) nothing ∙ *ℤ-zero (at l.from -ℤ at l.to))
+
+  -- so are those of the inner net
   module _ (k : ℕ) (within : k < length inner.links) (left : flow_on flow k <ℤ MOST_ROOM) where
     inner_link : IsInnerLink (length hot) (length cold) inner.nodes (link_at inner.links k)
     inner_link = r.around.inner_net.links k no_link within
 
-    -- the potential does not rise along it
     pub falls : at (link_at inner.links k).to ≤ℤ at (link_at inner.links k).from
-    falls =
-        let reduced = reduced_left (net_around hot cold inner) flow k (link_at inner.links k) (inner_at hot cold inner k within) potentials proof
-        (omega (arith, ints, left, inner_link.room)) in
-        omega (arith, ints, reduced, inner_link.cost)
+    falls = falls_along k (link_at inner.links k) (inner_at hot cold inner k within) inner_link.room inner_link.cost left
 
-    -- and stays where it carries some heat
     stays : term (at (link_at inner.links k).from) (at (link_at inner.links k).to) (flow_on flow k) ≡ pos 0
-    stays =
-        let cost = inner_link.cost in let from = r.routing.rooms.not_negative k (inner_at hot cold inner k within).within in let some_fall = falls in
-        by_lt_z (pos 0) (flow_on flow k)
-        (λ some. let reduced = reduced_flowing (net_around hot cold inner) flow k (link_at inner.links k) (inner_at hot cold inner k within) potentials proof
-        (omega (arith, ints, some)) in
-        zero_times (at (link_at inner.links k).from -ℤ at (link_at inner.links k).to) (flow_on flow k) (omega (arith, ints, reduced, cost, some_fall)))
-        (λ none. ap (λ x. term (at (link_at inner.links k).from) (at (link_at inner.links k).to) x) {x = flow_on flow k} {y = pos 0}
-        (omega (arith, ints, none, from)) ∙ *ℤ-zero (at (link_at inner.links k).from -ℤ at (link_at inner.links k).to))
+    stays = stays_along k (link_at inner.links k) (inner_at hot cold inner k within) inner_link.room inner_link.cost left
 
-  -- ---- the link from the filler to the spill
-
+  -- and the one from the filler to the spill
   module _ (small : most_of cold <ℤ MOST_ROOM) where
     between_left : between r 2 <ℤ MOST_ROOM
     between_left = omega (arith, ints, (exchanged_within r).upto, small)
 
     pub filler_falls : at spill ≤ℤ at filler
-    filler_falls =
-        let reduced = reduced_left (net_around hot cold inner) flow _ _ (between_is hot cold inner 2 (omega arith)) potentials proof between_left in
-        omega (arith, ints, reduced)
+    filler_falls = falls_along _ _ (between_is hot cold inner 2 (omega arith)) refl refl between_left
 
     filler_stays : term (at filler) (at spill) (between r 2) ≡ pos 0
-    filler_stays =
-        let from = (exchanged_within r).from in let some_fall = filler_falls in
-        by_lt_z (pos 0) (between r 2)
-        (λ some. let reduced = reduced_flowing (net_around hot cold inner) flow _ _ (between_is hot cold inner 2 (omega arith)) potentials proof some in
-        zero_times (at filler -ℤ at spill) (between r 2) (omega (arith, ints, reduced, some_fall)))
-        (λ none. ap (λ x. term (at filler) (at spill) x) {x = between r 2} {y = pos 0} (omega (arith, ints, none, from)) ∙ *ℤ-zero (at filler -ℤ at spill))
+    filler_stays = stays_along _ _ (between_is hot cold inner 2 (omega arith)) refl refl between_left
 
     all_mosts : (c : ℤ) (parts : List Part) → int_sum_from (λ i (q : Part). c *ℤ q.most) 0 parts ≡ c *ℤ most_of parts
     all_mosts c parts = int_sum_from-mul c (λ i (q : Part). q.most) 0 parts ∙ ap (λ z. c *ℤ z) (mosts parts)
@@ -269,11 +267,9 @@ module _ {hot cold : List Part} {inner : Net} {reach : ℕ → ℕ → Bool} {fl
   abbrev full : IsFullRouting hot cold inner flow
   full = record { around = r.around; routing = r.routes.routing }
 
-  abbrev hot_prices : List ℤ
-  hot_prices = prices_of potentials 0 (length hot) (ends inner).spill
-
-  abbrev cold_prices : List ℤ
-  cold_prices = prices_of potentials (length hot) (length cold) (ends inner).filler
+  abbrev prices : Side → List ℤ
+  prices Hot = prices_of potentials 0 (length hot) (ends inner).spill
+  prices Cold = prices_of potentials (length hot) (length cold) (ends inner).filler
 
   pub each_potential : All IsNodePotential potentials
   each_potential = potentials_within hot cold inner r.around potentials r.routes.bounded
@@ -302,10 +298,6 @@ module _ {hot cold : List Part} {inner : Net} {reach : ℕ → ℕ → Bool} {fl
 
   -- ---- the prices
 
-  abbrev prices : Side → List ℤ
-  prices Hot = hot_prices
-  prices Cold = cold_prices
-
   price : (side : Side) (i : ℕ) → i < length (parts_of side hot cold) → price_at (prices side) i ≡ price_of full r.routes.proof side i
   price Hot a within = price_is potentials each_potential (ends inner).spill (length hot) 0 a within
   price Cold b within = price_is potentials each_potential (ends inner).filler (length cold) (length hot) b within
@@ -321,7 +313,7 @@ module _ {hot cold : List Part} {inner : Net} {reach : ℕ → ℕ → Bool} {fl
       subst (λ n. potential_at potentials n.to ≤ℤ potential_at potentials n.from) here fall in
       let from = ap (potential_at potentials) h.1 in let rest = path_falls path l.to v h.2 in omega (arith, ints, down, from, rest)
 
-  supporting : IsSupporting reach hot_prices cold_prices
+  supporting : IsSupporting reach (prices Hot) (prices Cold)
   supporting a b joined =
       let (path, is) = r.paths.leads a b joined in let down = path_falls path a (length hot + b) is in
       let over = filler_falls full r.routes.proof (small_cold hot cold inner r.around) in let y = price Hot a (r.paths.hot_within a b joined) in
@@ -339,23 +331,23 @@ module _ {hot cold : List Part} {inner : Net} {reach : ℕ → ℕ → Bool} {fl
       int_sum_from-same_each (λ i p. price_at (prices side) i *ℤ heat_at side carried.transfers i) (λ i q. worth full r.routes.proof side i)
       (parts_of side hot cold) (λ i p at. ap₂ ◌*ℤ◌ (price side i (slice_get_within (parts_of side hot cold) i p at)) (heat_is side i p at))
 
-  certifies : Certifies hot cold carried.transfers hot_prices cold_prices
+  certifies : Certifies hot cold carried.transfers (prices Hot) (prices Cold)
   certifies =
       let worth = worth_is full r.routes.proof (small_cold hot cold inner r.around) (not_full full) in
       record { hot_slack = slack_of Hot; cold_slack = slack_of Cold; worth = worth_at Hot ∙ worth ∙ sym (worth_at Cold) }
 
-  pub certified : IsCertified reach hot cold carried.transfers hot_prices cold_prices (cost_of hot cold carried.transfers)
+  pub certified : IsCertified reach hot cold carried.transfers (prices Hot) (prices Cold) (cost_of hot cold carried.transfers)
   certified = record {
     flow = heat_flow;
     supporting = supporting;
     hot_prices = prices_are potentials each_potential (ends inner).spill hot 0;
     cold_prices = prices_are potentials each_potential (ends inner).filler cold (length hot);
     costs = refl;
-    value = value-is_cost reach hot cold carried.transfers hot_prices cold_prices heat_flow certifies;
+    value = value-is_cost reach hot cold carried.transfers (prices Hot) (prices Cold) heat_flow certifies;
   }
 
   pub least_cost : IsLeastCost reach hot cold (cost_of hot cold carried.transfers)
-  least_cost = IsLeastCost-certified reach hot cold carried.transfers hot_prices cold_prices supporting heat_flow certifies
+  least_cost = IsLeastCost-certified reach hot cold carried.transfers (prices Hot) (prices Cold) supporting heat_flow certifies
 
   pub has_cost : HasCost hot cold carried.transfers
   has_cost = HasCost-flow reach hot cold carried.transfers heat_flow
