@@ -1,15 +1,11 @@
--- One element more of the lists that loops make.
-use Rattle.transport.proofs.Words.{Ends, Part, Side, append-nil, blank, cons_if, cons_if-append, flat_map, flat_map_more, int_lt, int_lt-from, ints}
-use Rattle.transport.proofs.Words.{links_of_parts, map-append, needing_from, pos, potential_at, prices_of, range_with_len, range_with_len-append, spare_link}
-use Rattle.transport.proofs.Words.{take_more, whole_link, ℤ, ◌-ℤ◌, ◌<ℤ◌, ◌≤ℤ◌}
-use Rattle.std.proofs.Common.{Bool, List, [], add-zero, ap, append_assoc, ap₂, arith, false, get_or, length, length-take, map, refl, suc, sym, take, true}
-use Rattle.std.proofs.Common.{zero-add, ℕ, ◌&&◌, ◌++◌, ◌+◌, ◌<◌, ◌∙◌, ◌∷◌, ◌≡◌}
-
-not_above : (x : ℤ) → x ≤ℤ pos 0 → int_lt (pos 0) x ≡ false
-not_above x none = grind (arith, ints)
-
-length_taken : {X : Type 0} (i : ℕ) (xs : List X) → i < length xs → length (take i xs) ≡ i
-length_taken i xs within = simp length-take (omega (arith, within))
+-- One element more of the lists that loops make, and the offer of a cut part by part.
+use Rattle.transport.proofs.Words.{Case, Cold, Ends, Forbid, ForbidAlike, Hot, MOST_PARTS, Part, Parts, Side, Source, and-false, append-nil, blank, both_reach}
+use Rattle.transport.proofs.Words.{cons_if, cons_if-append, flat_map, flat_map_more, if◌then◌else◌, int_lt, int_lt-false, int_lt-from, joins, joins_part}
+use Rattle.transport.proofs.Words.{length-take-le, links_of_parts, list_any, list_any-append, list_any_more, map-append, meets, meets_part, names, needing_from}
+use Rattle.transport.proofs.Words.{opposite, or-false, parts_of, passes_heat, pos, potential_at, prices_of, range_with_len, range_with_len-append}
+use Rattle.transport.proofs.Words.{reach_between, refuses, same_source, slice_get, slice_get-get_or, spare_link, take_more, whole_link, ℤ, ◌-ℤ◌, ◌<ℤ◌, ◌≤ℤ◌}
+use Rattle.std.proofs.Common.{Bool, List, None, Option, Some, [], add-zero, ap, append_assoc, ap₂, arith, false, get_or, length, map, not, refl, suc, sym, take}
+use Rattle.std.proofs.Common.{true, zero-add, ℕ, ◌&&◌, ◌++◌, ◌+◌, ◌<◌, ◌||◌, ◌∙◌, ◌∷◌, ◌≡◌, ◌≤◌}
 
 -- ---- lists that are made element by element, each with its index
 
@@ -25,10 +21,9 @@ module _ {X Y : Type 0} (F : ℕ → List X → List Y) (g : ℕ → X → List 
   -- one element more
   from-more : (n : ℕ) (xs : List X) (i : ℕ) (d : X) → i < length xs → F n (take (i + 1) xs) ≡ F n (take i xs) ++ g (n + i) (get_or xs i d)
   from-more n xs i d within =
-      let x = get_or xs i d in
-      let alone = one (n + i) x [] ∙ ap (λ rest. g (n + i) x ++ rest) (none (suc (n + i))) ∙ append-nil (g (n + i) x) in
-      ap (F n) (take_more xs i d within) ∙ from-append n (take i xs) (x ∷ []) ∙ ap (λ k. F n (take i xs) ++ F (n + k) (x ∷ [])) (length_taken i xs within)
-      ∙ ap (λ made. F n (take i xs) ++ made) alone
+      let x = get_or xs i d in let alone = one (n + i) x [] ∙ ap (λ rest. g (n + i) x ++ rest) (none (suc (n + i))) ∙ append-nil (g (n + i) x) in
+      ap (F n) (take_more xs i d within) ∙ from-append n (take i xs) (x ∷ [])
+      ∙ ap (λ k. F n (take i xs) ++ F (n + k) (x ∷ [])) (length-take-le i xs (omega (arith, within))) ∙ ap (λ made. F n (take i xs) ++ made) alone
 
 -- one number more of those from 0 on
 pub range-step : {Y : Type 0} (f : ℕ → List Y) (n : ℕ) (before after now : List Y) → after ≡ before ++ flat_map f (range_with_len 0 n) → now ≡ after ++ f n
@@ -72,10 +67,7 @@ module _ (picked : ℕ → Bool) (parts : List Part) (i : ℕ) (within : i < len
   member_other after other = passed after (ap (λ b. b && int_lt (pos 0) (get_or parts i blank).least) other)
 
   pub member_none : grown ≡ old → picked i ≡ true → (get_or parts i blank).least ≤ℤ pos 0 → grown ≡ needing_from picked 0 (take (i + 1) parts)
-  member_none after here none =
-      let x = (get_or parts i blank).least in
-      let test : int_lt (pos 0) x ≡ false = not_above x none in
-      passed after (ap (λ b. b && int_lt (pos 0) x) here ∙ test)
+  member_none after here none = let x = (get_or parts i blank).least in passed after (ap (λ b. b && int_lt (pos 0) x) here ∙ int_lt-false (pos 0) x none)
 
 pub price_push : (potentials : List ℤ) (first i end : ℕ) (old grown : List ℤ) (x : ℤ) → grown ≡ old ++ x ∷ [] → old ≡ prices_of potentials first i end
     → x ≡ potential_at potentials (first + i) -ℤ potential_at potentials end → grown ≡ prices_of potentials first (i + 1) end
@@ -83,3 +75,86 @@ price_push potentials first i end old grown x after before is =
     let f = λ (v : ℕ). potential_at potentials v -ℤ potential_at potentials end in
     after ∙ ap₂ (λ xs y. xs ++ y ∷ []) before is
     ∙ sym (ap (map f) (sym (range_with_len-append first i 1)) ∙ map-append f (range_with_len first i) (range_with_len (first + i) 1))
+
+-- ---- the forbidden matches of a part's source, and the offer of a cut by them
+
+-- whether a forbidden match is the one of these two sources, of which the first is of this side
+abbrev is_match : Side → Source → Source → Forbid → Bool
+is_match Hot source other f = same_source f.hot source && same_source f.cold other
+is_match Cold source other f = same_source f.hot other && same_source f.cold source
+
+refuses-any : (side : Side) (forbids : List Forbid) (source other : Source) → refuses side forbids source other ≡ list_any (is_match side source other) forbids
+refuses-any Hot forbids source other = refl
+refuses-any Cold forbids source other = refl
+
+-- a match that is not one of the source is none of its matches
+none_named : (side : Side) (source other : Source) (f : Forbid) → names side source f ≡ false → is_match side source other f ≡ false
+none_named Hot source other f e = ap (λ b. b && same_source f.cold other) e
+none_named Cold source other f e = ap (λ b. same_source f.hot other && b) e ∙ and-false (same_source f.hot other)
+
+module _ (side : Side) (source : Source) (forbids : List Forbid) (i : ℕ) (d : Forbid) (within : i < length forbids) (old grown : List Forbid)
+    (before : ForbidAlike side source old (take i forbids)) where
+  -- the matches so far, and one more
+  more : (other : Source) → refuses side (take (i + 1) forbids) source other
+      ≡ (refuses side old source other || is_match side source other (get_or forbids i d))
+  more other =
+      refuses-any side (take (i + 1) forbids) source other ∙ list_any_more (is_match side source other) forbids i d within
+      ∙ ap (λ b. b || is_match side source other (get_or forbids i d)) (sym (refuses-any side (take i forbids) source other) ∙ sym (before other))
+
+  pub forbid_push : grown ≡ old ++ get_or forbids i d ∷ [] → ForbidAlike side source grown (take (i + 1) forbids)
+  forbid_push after other =
+      ap (λ fs. refuses side fs source other) after ∙ refuses-any side (old ++ get_or forbids i d ∷ []) source other
+      ∙ list_any-append (is_match side source other) old (get_or forbids i d ∷ [])
+      ∙ ap₂ (λ a b. a || b) (sym (refuses-any side old source other)) (or-false (is_match side source other (get_or forbids i d))) ∙ sym (more other)
+
+  pub forbid_pass : grown ≡ old → names side source (get_or forbids i d) ≡ false → ForbidAlike side source grown (take (i + 1) forbids)
+  forbid_pass after apart other =
+      ap (λ fs. refuses side fs source other) after
+      ∙ sym (more other ∙ ap (λ b. refuses side old source other || b) (none_named side source other (get_or forbids i d) apart)
+      ∙ or-false (refuses side old source other))
+
+-- ---- the parts that meet a member
+
+list_any-same : {X : Type 0} (p q : X → Bool) (xs : List X) → ((x : X) → p x ≡ q x) → list_any p xs ≡ list_any q xs
+list_any-same p q [] h = refl
+list_any-same p q (x ∷ xs) h = ap₂ (λ a b. a || b) (h x) (list_any-same p q xs h)
+
+module _ (c : Case) where
+  of_hot : (o : Option Part) (forbids : List Forbid) (q : Part) → ForbidAlike Cold q.source forbids c.forbids
+      → joins_part Hot forbids o q ≡ both_reach c o (Some q)
+  of_hot None forbids q alike = refl
+  of_hot (Some p) forbids q alike = ap (λ b. passes_heat p q && not b) (alike p.source)
+
+  of_cold : (o : Option Part) (forbids : List Forbid) (q : Part) → ForbidAlike Hot q.source forbids c.forbids
+      → joins_part Cold forbids o q ≡ both_reach c (Some q) o
+  of_cold None forbids q alike = refl
+  of_cold (Some p) forbids q alike = ap (λ b. passes_heat q p && not b) (alike p.source)
+
+  joins-by_part : (hot cold : List Part) (side : Side) (forbids : List Forbid) (i j : ℕ) (other : Part)
+      → slice_get (parts_of (opposite side) hot cold) j ≡ Some other → ForbidAlike (opposite side) other.source forbids c.forbids
+      → joins_part side forbids (slice_get (parts_of side hot cold) i) other ≡ joins side (reach_between c hot cold) i j
+  joins-by_part hot cold Hot forbids i j other at alike = of_hot (slice_get hot i) forbids other alike ∙ ap (both_reach c (slice_get hot i)) (sym at)
+  joins-by_part hot cold Cold forbids i j other at alike = of_cold (slice_get cold i) forbids other alike ∙ ap (λ o. both_reach c o (slice_get cold i)) (sym at)
+
+  -- with the forbidden matches of its source alone
+  pub meets-by_part : (hot cold : List Part) (side : Side) (forbids : List Forbid) (members : List ℕ) (j : ℕ) (other : Part)
+      → slice_get (parts_of (opposite side) hot cold) j ≡ Some other → ForbidAlike (opposite side) other.source forbids c.forbids
+      → meets_part side forbids (parts_of side hot cold) members other ≡ meets side (reach_between c hot cold) members j
+  meets-by_part hot cold side forbids members j other at alike =
+      list_any-same (λ i. joins_part side forbids (slice_get (parts_of side hot cold) i) other) (λ i. joins side (reach_between c hot cold) i j) members
+      (λ i. joins-by_part hot cold side forbids i j other at alike)
+
+  -- so is what such a part offers
+  pub offer-by_part : (hot cold : List Part) (side : Side) (forbids : List Forbid) (members : List ℕ) (j : ℕ) → j < length (parts_of (opposite side) hot cold)
+      → ForbidAlike (opposite side) (get_or (parts_of (opposite side) hot cold) j blank).source forbids c.forbids →
+      (if meets_part side forbids (parts_of side hot cold) members (get_or (parts_of (opposite side) hot cold) j blank) then
+      (get_or (parts_of (opposite side) hot cold) j blank).most else pos 0)
+      ≡ (if meets side (reach_between c hot cold) members j then (get_or (parts_of (opposite side) hot cold) j blank).most else pos 0)
+  offer-by_part hot cold side forbids members j within alike =
+      let others = parts_of (opposite side) hot cold in
+      ap (λ b. if b then (get_or others j blank).most else pos 0)
+      (meets-by_part hot cold side forbids members j (get_or others j blank) (slice_get-get_or others j blank within) alike)
+
+pub few_of_side : (parts : Parts) (side : Side) → length (parts_of side parts.hot parts.cold) ≤ MOST_PARTS
+few_of_side parts Hot = parts.few_hot
+few_of_side parts Cold = parts.few_cold

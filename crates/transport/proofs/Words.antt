@@ -32,6 +32,7 @@ pub use Rattle.heat_flow.specs.declared.cut.CutKind.TheVariants.{Demand, Supply}
 pub use Rattle.heat_flow.specs.declared.flow.Flow.{Flow}
 pub use Rattle.heat_flow.specs.declared.flow.Transfer.{Transfer}
 pub use Rattle.heat_flow.specs.declared.reach.Reach.{Reach}
+pub use Rattle.std.proofs.Math.Bool.{and-false, or-false}
 pub use Rattle.std.proofs.Math.IntN.{*ℤ-zero}
 pub use Rattle.std.proofs.lemmas.Bool.{cases_Bool, cases_lt, eq-eqb, false≢true, le-ltb, lt-ltb, ltb-true, ne_eqb}
 pub use Rattle.std.proofs.lemmas.Int.{by_lt_z, clamps, ints, to_z-of_z}
@@ -39,7 +40,7 @@ pub use Rattle.std.proofs.lemmas.List.{append-nil, flat_map_more, get_or-append-
 pub use Rattle.std.proofs.lemmas.List.{get_or_past, length-replicate, length-take-le, map-append, take_more}
 pub use Rattle.std.proofs.lemmas.List.Elements.{All-append, All-cons, All-contains, All-head, All-nil, All-tail, All-weaker}
 pub use Rattle.std.proofs.lemmas.List.Folds.{Any-from_list_any, list_any-append, list_any_more}
-pub use Rattle.std.proofs.lemmas.List.FromFn.{get_or-range_with_len, length-range_with_len}
+pub use Rattle.std.proofs.lemmas.List.FromFn.{get_or-map-range_with_len, get_or-range_with_len, length-map-range_with_len, length-range_with_len}
 pub use Rattle.std.proofs.lemmas.Nat.{mul-le}
 pub use Rattle.std.proofs.lemmas.Option.{get_or_from_slice_get, same_Some, slice_get-get_or, slice_get_within}
 pub use Rattle.std.proofs.lemmas.Result.{IfOk-weaker}
@@ -58,7 +59,7 @@ pub use Rattle.stream_case.specs.declared.source.Side.TheVariants.{Cold, Hot}
 pub use Rattle.stream_case.specs.declared.source.Source.{Source}
 pub use Rattle.sums.proofs.ConsLemmas.{All-cons_if, AllPairs-cons_if, cons_if-append}
 pub use Rattle.sums.proofs.EnumerationLemmas.{range_with_len-append}
-pub use Rattle.sums.proofs.IntegerLemmas.{if_between, int_lt-from, int_lt-true}
+pub use Rattle.sums.proofs.IntegerLemmas.{if_between, int_lt-false, int_lt-from, int_lt-true}
 pub use Rattle.sums.proofs.ListLemmas.{All-flat_map, All-slice_get, Contains-flat_map, slice_get-append}
 pub use Rattle.sums.proofs.OrderLemmas.{AllPairs-nil}
 pub use Rattle.sums.proofs.ProductLemmas.{*ℤ-+ℤ, *ℤ--ℤ, *ℤ-≤ℤ_left, -ℤ-*ℤ, zero_times}

@@ -1,9 +1,8 @@
 use Rattle.transport.proofs.Words.{IfOk-weaker, IsAnswer, IsCutWithin, IsSideHeat, PathsAreReaches, cut_side, offer_of, opposite, parts_of, to_z-of_z, w128}
 use Rattle.heat_flow.specs.Table.{reaches}
 use Rattle.std.proofs.Common.{Bool, FitsSigned, length, of_z, rules, subst, sym, to_z, ℕ, ◌∙◌, ◌≡◌}
-use Rattle.transport.proofs.Limits.{IsAround}
-use Rattle.transport.proofs.PairLemmas.{IsAround-pairs, PathsAreReaches-pairs}
-use Rattle.transport.proofs.StuckLemmas.{IsAnswer-cut, IsCutOf-members}
+use Rattle.transport.proofs.NetAround.{IsAround, IsAround-pairs, PathsAreReaches-pairs}
+use Rattle.transport.proofs.CutLemmas.{IsAnswer-cut, IsCutOf-members}
 use Rattle.transport.proofs.least_cost.least.Goals.{After-offer_of-offer, In_ok-net}
 use Rattle.transport.proofs.least_cost.least.Goals as goal
 
@@ -13,11 +12,8 @@ paths c = PathsAreReaches-pairs c.args.reach.now c.in_ok-net.net c.in_ok-net.ens
 around : (c : In_ok-net) → IsAround c.args.parts.now.hot c.args.parts.now.cold c.in_ok-net.net
 around c = IsAround-pairs c.args.reach.now c.in_ok-net.net c.in_ok-net.ensures c.args.parts.now c.requires.sizes c.requires.few
 
-pub route-requires-clause-inner : goal.route-requires-clause-inner
-route-requires-clause-inner c = (around (goal.at.route-requires-clause-inner c).In_ok-net).inner_net
-
-pub route-requires-clause-few_links : goal.route-requires-clause-few_links
-route-requires-clause-few_links c = (around (goal.at.route-requires-clause-few_links c).In_ok-net).few_links
+pub route-requires : goal.route-requires
+route-requires c = let g = around (goal.at.route-requires c).In_ok-net in record { inner = g.inner_net; few_nodes = g.few_nodes; few_links = g.few_links }
 
 pub blocked_members-requires-clause-inner : goal.blocked_members-requires-clause-inner
 blocked_members-requires-clause-inner c = (around (goal.at.blocked_members-requires-clause-inner c).In_ok-net).inner_net
@@ -29,8 +25,7 @@ blocked_members-requires-clause-few_links c = (around (goal.at.blocked_members-r
 
 pub routed-requires : goal.routed-requires
 routed-requires c =
-    let made = (goal.at.routed-requires c).In_ok-net in
-    let g = around made in
+    let made = (goal.at.routed-requires c).In_ok-net in let g = around made in
     record {
       inner = g.inner_net;
       few_nodes = g.few_nodes;
@@ -67,13 +62,11 @@ cut_of-requires-clause-needed c = (within (goal.at.cut_of-requires-clause-needed
 
 pub cut_of-requires-clause-offered : goal.cut_of-requires-clause-offered
 cut_of-requires-clause-offered c =
-    let p = (goal.at.cut_of-requires-clause-offered c).After-offer_of-offer in
-    subst IsSideHeat (sym (offer_is p)) (within p).offer
+    let p = (goal.at.cut_of-requires-clause-offered c).After-offer_of-offer in subst IsSideHeat (sym (offer_is p)) (within p).offer
 
 pub returns-in_ok-members-in-Blocked : goal.returns-in_ok-members-in-Blocked
 returns-in_ok-members-in-Blocked c =
-    let parts = c.args.parts.now in
-    let members = c.in_ok-members-in-Blocked.members in
+    let parts = c.args.parts.now in let members = c.in_ok-members-in-Blocked.members in
     let p = (goal.at.returns-in_ok-members-in-Blocked c).After-offer_of-offer in
     IsAnswer-cut (reaches c.args.reach.now) parts.hot parts.cold c.cut_of.result
     (IsCutOf-members (reaches c.args.reach.now) parts.hot parts.cold members.kind members.indexes c.cut_of.result

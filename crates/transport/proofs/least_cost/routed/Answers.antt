@@ -1,8 +1,8 @@
 use Rattle.transport.proofs.Words.{IfOk-weaker, IsAnswer, IsHeatOf, PathsAreReaches, priced}
 use Rattle.std.proofs.Common.{Bool, length, subst, sym, ℕ, ◌≡◌}
-use Rattle.transport.proofs.Certified.{IsRoutedHeat, answered, each_potential, has_cost}
-use Rattle.transport.proofs.FrontLemmas.{IsHeatOf-front, IsSpread-whole}
-use Rattle.transport.proofs.Limits.{IsAround-parts, IsFullRouting}
+use Rattle.transport.proofs.PriceLemmas.{IsRoutedHeat, answered, each_potential, has_cost}
+use Rattle.transport.proofs.FlowLemmas.{IsHeatOf-front, IsSpread-whole}
+use Rattle.transport.proofs.NetAround.{IsAround-parts, IsFullRouting}
 use Rattle.transport.proofs.least_cost.routed.Goals.{In_ok-front, In_ok-heat}
 use Rattle.transport.proofs.least_cost.routed.Goals as goal
 
@@ -32,17 +32,14 @@ spread-requires-clause-heat c =
     (IsHeatOf-front (full (goal.at.spread-requires-clause-heat c).In_ok-front))
 
 pub priced-requires-clause-bounded : goal.priced-requires-clause-bounded
-priced-requires-clause-bounded c =
-    each_potential (heat_of (goal.at.priced-requires-clause-bounded c).In_ok-heat c.requires.paths.0 c.requires.paths.1)
+priced-requires-clause-bounded c = each_potential (heat_of (goal.at.priced-requires-clause-bounded c).In_ok-heat c.requires.paths.0 c.requires.paths.1)
 
 pub priced-requires-clause-has_cost : goal.priced-requires-clause-has_cost
 priced-requires-clause-has_cost c = has_cost (heat_of (goal.at.priced-requires-clause-has_cost c).In_ok-heat c.requires.paths.0 c.requires.paths.1)
 
 pub returns : goal.returns
 returns c =
-    let hot = c.args.parts.now.hot in
-    let cold = c.args.parts.now.cold in
-    let links = c.args.chains.now.net.links in
+    let hot = c.args.parts.now.hot in let cold = c.args.parts.now.cold in let links = c.args.chains.now.net.links in
     IfOk-weaker c.priced.result (λ a. a ≡ priced hot cold c.args.chains.now.net.nodes c.args.potentials.now c.in_ok-heat.heat)
     (λ a. (reach : ℕ → ℕ → Bool) → PathsAreReaches (length hot) (length cold) links reach → IsAnswer reach hot cold a)
     (λ a is reach paths. subst (IsAnswer reach hot cold) (sym is) (answered (heat_of (goal.at.returns c).In_ok-heat reach paths))) c.priced.ensures
