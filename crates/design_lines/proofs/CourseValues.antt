@@ -5,8 +5,8 @@ use Rattle.design_lines.proofs.Words.{length-map, mixes, option_map, passes, plu
 use Rattle.design_lines.proofs.Words.{share_branches, side_of, splits, stage_end, stage_lines, stream_at, unwrap_or}
 use Rattle.std.proofs.Common.{All, List, Some, [], ap, append-nil, append_assoc, arith, length, length-append, refl, slice_get, subst, suc, sym, ℕ, ◌*◌, ◌++◌}
 use Rattle.std.proofs.Common.{◌+◌, ◌-◌, ◌<◌, ◌∙◌, ◌∷◌, ◌≡◌, ◌≤◌}
-use Rattle.design_lines.proofs.ValueSteps.{Carries, CarryFrom, CarryShares, MakeAndRun, StageRuns, carries_more, carries_new, first_positive, mixes_make}
-use Rattle.design_lines.proofs.ValueSteps.{others_positive, passes_make, run_append, run_line, run_none, share_value, splits_make}
+use Rattle.design_lines.proofs.ValueSteps.{Carries, MakeAndRun, StageRuns, carries_more, carries_new, first_positive, mixes_make, others_positive, passes_make}
+use Rattle.design_lines.proofs.ValueSteps.{run_append, run_line, run_none, share_value, splits_make}
 use Rattle.design_lines.proofs.Walks.{branches_hold}
 use Rattle.design_lines.specs.Values.{AreLed, AreOfStream, IsLedStage, LedStage, Make, Meet, course_values, courses_along, courses_values, mix_values}
 use Rattle.design_lines.specs.Values.{pass_values, shares_along, size_of, split_values, stage_values, state_behind}

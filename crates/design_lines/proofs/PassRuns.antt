@@ -3,9 +3,8 @@ use Rattle.design_lines.proofs.CourseValues.{HaveOwn, made_courses}
 pub use Rattle.design_lines.proofs.CourseValues.{EachRuns}
 use Rattle.design_lines.proofs.Words.{BranchValue, Case, Network, Rational, Side, Valuation, courses_lines, enters, leaves, run_between}
 use Rattle.design_lines.specs.Values.{AreLed, LedStage, courses_along, courses_values}
-use Rattle.std.proofs.Common.{All, List, length, refl, ℕ, ◌++◌, ◌≡◌}
+use Rattle.std.proofs.Common.{All, List, arith, length, ℕ, ◌++◌, ◌≡◌}
 pub use Rattle.design_lines.proofs.ValueSteps.{RunsAs, StageRuns}
-use Rattle.stream_case.specs.declared.source.Side.TheVariants as side
 
 pub courses_run : (case : Case) (network : Network) (R : ℕ → ℕ → Rational → Rational → Type 0) (courses : List (List LedStage)) (values more final : Valuation)
     (next stream : ℕ) → next ≡ length values → HaveOwn case values
@@ -17,9 +16,7 @@ courses_run case network R courses values more final next stream start own led r
 -- ---- the ends of a run
 
 pub enters-run : (of : Side) (from to : BranchValue) → enters of (run_between of from to) ≡ from.t
-enters-run side.Hot from to = refl
-enters-run side.Cold from to = refl
+enters-run of from to = grind arith
 
 pub leaves-run : (of : Side) (from to : BranchValue) → leaves of (run_between of from to) ≡ to.t
-leaves-run side.Hot from to = refl
-leaves-run side.Cold from to = refl
+leaves-run of from to = grind arith

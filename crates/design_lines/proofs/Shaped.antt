@@ -153,6 +153,14 @@ differ (x ∷ xs) once (suc i) (suc j) d before within = differ xs (λ b. omega 
 
 -- ---- courses
 
+-- shares that weigh nothing
+no_weight : (course : Course) → sum_by (λ shares. sum_by (λ (s : Share). 0) shares) course ≡ 0
+no_weight course = omega (
+  arith,
+  sum_by-le (λ shares. sum_by (λ (s : Share). 0) shares) 0 course
+      (λ k d inside. omega (arith, sum_by-le (λ (s : Share). 0) 0 (get_or course k d) (λ i e within. omega arith))),
+)
+
 -- a branch is used as often as it is open before the lines and made by them
 module _ (b : ℕ) where
   abbrev is_it : ℕ → ℕ
@@ -177,10 +185,7 @@ module _ (b : ℕ) where
 
   own-open : (stream : ℕ) (courses : List Course) → still_open stream courses ≡ times b (range_with_len stream (length courses))
   own-open stream [] = refl
-  own-open stream (course ∷ courses) =
-      let none = sum_by-le (λ shares. sum_by (λ (s : Share). 0) shares) 0 course
-      (λ k d inside. omega (arith, sum_by-le (λ (s : Share). 0) 0 (get_or course k d) (λ i e within. omega arith))) in
-      omega (arith, none, own-open (stream + 1) courses)
+  own-open stream (course ∷ courses) = omega (arith, no_weight course, own-open (stream + 1) courses)
 
   used-courses : (next stream : ℕ) (courses : List Course) → All AreStages courses
       → times b (flat_map uses (courses_lines next stream courses)) ≡ times b (range_with_len stream (length courses)) + times b
@@ -284,10 +289,7 @@ module _ (branches : List Branch) (exchangers : List Exchanger) where
 -- How many lines lead a branch of a stream through an exchanger: as many as shares of the stream's course do.
 
 one_of_both : (a b : Bool) → ◌≡◌ {A = ℕ} (cond (a && b) 1 0) (cond b (cond a 1 0) 0)
-one_of_both true true = refl
-one_of_both true false = refl
-one_of_both false true = refl
-one_of_both false false = refl
+one_of_both a b = grind arith
 
 module _ (branches : List Branch) (exchanger stream : ℕ) where
   -- a share of the stream counts where it passes the exchanger
@@ -325,10 +327,7 @@ module _ (branches : List Branch) (exchanger stream : ℕ) where
 
   none-other : (of : ℕ) (course : Course) → (stream == of) ≡ false → counted of course ≡ 0
   none-other of course other =
-      let zeros : (shares : List Share) → sum_by (λ (s : Share). 0) shares ≤ 0 =
-      λ shares. omega (arith, sum_by-le (λ (s : Share). 0) 0 shares (λ k d within. omega arith)) in
-      let all = sum_by-le (λ shares. sum_by (λ (s : Share). 0) shares) 0 course (λ k d within. zeros (get_or course k d)) in
-      ap (λ t. sum_by (λ shares. sum_by (λ (s : Share). cond t (cond (exchanger == s.exchanger) 1 0) 0) shares) course) other ∙ omega (arith, all)
+      ap (λ t. sum_by (λ shares. sum_by (λ (s : Share). cond t (cond (exchanger == s.exchanger) 1 0) 0) shares) course) other ∙ no_weight course
 
   turns-own : (of : ℕ) (course : Course) → (stream == of) ≡ true → counted of course ≡ turns exchanger course
   turns-own of course same = ap (λ t. sum_by (λ shares. sum_by (λ (s : Share). cond t (cond (exchanger == s.exchanger) 1 0) 0) shares) course) same
@@ -371,11 +370,7 @@ made-within n first stream (course ∷ courses) few =
 -- ---- a line makes two branches at most
 
 two_at_most : (l : Line) → length (makes l) ≤ 2
-two_at_most (line.Exchanger name hot cold duty) = omega arith
-two_at_most (line.Split from first cp second) = omega arith
-two_at_most (line.Pass from exchanger to) = omega arith
-two_at_most (line.Mix first second to) = omega arith
-two_at_most (line.End branch) = omega arith
+two_at_most l = grind arith
 
 few_made : (lines : List Line) → length (flat_map makes lines) ≤ 2 * length lines
 few_made [] = omega arith
@@ -424,7 +419,8 @@ module _ (case : Case) (exchangers : List Exchanger) (courses : List Course) (co
   made_first index l at =
       let n = length case.streams in
       let known = walk_courses (λ n w lines. AreKnown n lines) (λ stream n b. b < n) (λ stream s. Unit {0}) (λ b. 0) (λ stream s. 0)
-      (λ shares. 0 < length shares) known_keep n 0 courses used (λ i course at k d within j e inside. tt) (early_follow n 0 courses (omega (arith, led.all))) tt in
+      (λ shares. 0 < length shares) known_keep n 0 courses used (λ i course at k d within j e inside. tt)
+      (early_follow n 0 courses (omega (arith, led.all))) tt in
       known_at n (map declared_line exchangers ++ later) index l (known-declared n exchangers later known) at
 
   used_once : AreUsedOnce network
@@ -488,7 +484,8 @@ module _ (case : Case) (exchangers : List Exchanger) (courses : List Course) (co
       (counts branches number stream) (λ shares. 0 < length shares) (counted_keep branches number stream) (length case.streams) 0 courses used
       (λ i c here k d within j e inside. tt) of_streams refl in
       let both = sum_by-append (λ l. cond (is_pass_of branches number stream l) 1 0) (map declared_line exchangers) later in
-      omega (arith, both, counted-declared branches number stream exchangers, walked, turns-there branches number stream 0 stream courses course (omega arith) at)
+      let there = turns-there branches number stream 0 stream courses course (omega arith) at in
+      omega (arith, both, counted-declared branches number stream exchangers, walked, there)
 
   passed_once : ArePassedOnce network
   passed_once number stream e at joins =

@@ -211,7 +211,8 @@ module _ (case : Case) (network : Network) (R : ℕ → ℕ → Rational → Rat
       let from_is : before ≡ (value_at final branch).t = sym (ap (λ (v : BranchValue). v.t) early.is) in
       let to_is : after ≡ (value_at final to).t = sym (ap (λ (v : BranchValue). v.t) late.is) in
       subst (λ k. R k s.exchanger (value_at final branch).t (value_at final to).t) (sym here)
-      (subst (λ x. R stream s.exchanger x (value_at final to).t) from_is (subst (λ x. R stream s.exchanger before x) to_is (All-head Q s shares runs)))) later.0 in
+      (subst (λ x. R stream s.exchanger x (value_at final to).t) from_is (subst (λ x. R stream s.exchanger before x) to_is (All-head Q s shares runs))))
+      later.0 in
       let rests = subst (λ vs. CarryFrom vs after (to + 1) shares) (append_assoc values (behind ∷ []) (pass_values after shares)) later.1 in
       (made, (carries_new values (behind ∷ pass_values after shares) 0 to (omega (arith, start)) (omega arith), rests))
 

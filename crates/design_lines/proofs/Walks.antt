@@ -109,11 +109,14 @@ module _ (S : ℕ → ℕ → List Line → Type 0) (B : ℕ → ℕ → Type 0)
         (new to (omega (arith, low, before)) (to + 1) (omega arith) (omega (arith, high)))
         (omega (arith, sum, sum_by-cons u second (range_with_len (second + 1) n))) refl later
 
-    some_stage : (next from w all : ℕ) (shares : List Share) (lines : List Line) → 0 < length shares → All F shares → start ≤ next
-        → next + stage_branches shares ≤ last → Stays B last next from → all ≡ u from + (sum_by v shares + w)
-        → S (next + stage_branches shares) (u (stage_end next shares) + w) lines → S next all (stage_lines next from shares ++ lines)
+    walk_stage : (next from w all : ℕ) (shares : List Share) (lines : List Line) → E shares → All F shares → start ≤ next → next + stage_branches shares ≤ last
+        → Stays B last next from → all ≡ u from + (sum_by v shares + w) → S (next + stage_branches shares) (u (stage_end next shares) + w) lines
+        → S next all (stage_lines next from shares ++ lines)
     unfolding stage_lines
-    some_stage next from w all shares lines some each low high stays sum after =
+    walk_stage next from w all [] lines may each low high stays sum after = keeps.none may next (u (stage_end next []) + w) all lines after
+    walk_stage next from w all (first ∷ later) lines may each low high stays sum after =
+        let shares = first ∷ later in
+        let some : 0 < length shares = omega arith in
         let n = length shares in
         let more = n - 1 in
         let behind = behind_splits next shares in
@@ -138,14 +141,6 @@ module _ (S : ℕ → ℕ → List Line → Type 0) (B : ℕ → ℕ → Type 0)
         ∙ ap (λ ls. ss ++ ls) (append_assoc ps ms lines) in
         subst (S next all) (sym one) (walk_splits next from (sum_by v shares + w) all shares (ps ++ (ms ++ lines)) some each low
         (omega (arith, high, end)) stays sum passed)
-
-    walk_stage : (next from w all : ℕ) (shares : List Share) (lines : List Line) → E shares → All F shares → start ≤ next → next + stage_branches shares ≤ last
-        → Stays B last next from → all ≡ u from + (sum_by v shares + w) → S (next + stage_branches shares) (u (stage_end next shares) + w) lines
-        → S next all (stage_lines next from shares ++ lines)
-    unfolding stage_lines
-    walk_stage next from w all [] lines may each low high stays sum after = keeps.none may next (u (stage_end next []) + w) all lines after
-    walk_stage next from w all (s ∷ shares) lines may each low high stays sum after = some_stage next from w all (s ∷ shares) lines
-        (omega arith) each low high stays sum after
 
     -- the stages of a course, and its end
     pub walk_course : (next from w all : ℕ) (course : Course) (lines : List Line) → All E course → All (λ shares. All F shares) course → start ≤ next

@@ -29,11 +29,7 @@ declared_make case network values (e ∷ exchangers) = make_line case network va
 
 module _ (case : Case) (network : Network) (shape : HasShape case network) where
   can_leave : (values : Valuation) (l : Line) → CanFollow case network values l → LeavesRoom values l
-  can_leave values (line.Exchanger name hot cold duty) can = tt
-  can_leave values (line.Split from first cp second) can = can
-  can_leave values (line.Pass from exchanger to) can = tt
-  can_leave values (line.Mix first second to) can = tt
-  can_leave values (line.End branch) can = tt
+  can_leave values l can = grind arith
 
   -- later values stand behind the earlier ones
   stays : (lines : List Line) (values : Valuation) (branch : ℕ) → branch < length values

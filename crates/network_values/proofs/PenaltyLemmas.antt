@@ -92,8 +92,7 @@ given_by-sides : (on : Side) (heat : ℤ) → given_by on heat ≡ (if same_side
 given_by-sides side.Hot heat = omega (arith, ints)
 given_by-sides side.Cold heat = refl
 
-pub streams_given : (case : Case) (view : View) → AreStreams case.streams
-    → rational_sum_by (stream_loss (heights case view)) (enumerate_from 0 case.streams)
+pub streams_given : (case : Case) (view : View) → AreStreams case.streams → rational_sum_by (stream_loss (heights case view)) (enumerate_from 0 case.streams)
     ≡ whole (sum_side side.Hot (heat_over view.from_itself view.place) case.streams -ℤ sum_side side.Cold (heat_over view.from_itself view.place) case.streams)
 unfolding heights
 streams_given case view streams =

@@ -96,11 +96,7 @@ pub branch_positive : (case : Case) (network : Network) (n : ℕ) (values : Valu
 branch_positive case network n values is branch early = is.positive branch no_value (omega (arith, early, is.count))
 
 pub length-made_values : (case : Case) (network : Network) (values : Valuation) (l : Line) → length (made_values case network values l) ≡ length (makes l)
-length-made_values case network values (line.Exchanger name hot cold duty) = refl
-length-made_values case network values (line.Split from first cp second) = refl
-length-made_values case network values (line.Pass from exchanger to) = refl
-length-made_values case network values (line.Mix first second to) = refl
-length-made_values case network values (line.End branch) = refl
+length-made_values case network values l = grind arith
 
 -- what a line makes has sizes above 0
 made_positive : (case : Case) (network : Network) (n : ℕ) (values : Valuation) (l : Line) → IsValuation case network n values → HasNumbers case network n l

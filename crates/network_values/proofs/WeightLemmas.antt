@@ -39,8 +39,7 @@ module _ (weight : ℕ → Rational) where
   line_balance (line.Mix first second to) even = simp (plus-zero, zero-plus) (put_back (plus (weight first) (weight second)) (weight to))
   line_balance (line.End branch) even = simp (plus-zero, zero-plus) refl
 
-  lines_balance : (network : Network) → All IsEven network.lines
-      → rational_sum_by weight (used_by network.lines)
+  lines_balance : (network : Network) → All IsEven network.lines → rational_sum_by weight (used_by network.lines)
       ≡ plus (rational_sum_by weight (made_by network.lines))
       (plus (plus (rational_sum_by (pass_loss weight) network.lines) (rational_sum_by (mix_loss weight) network.lines))
       (rational_sum_by weight (ended_by network.lines)))

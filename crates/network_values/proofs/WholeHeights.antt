@@ -19,8 +19,7 @@ whole_height cp t base = ap (λ x. times (whole cp) (positive_part x)) (whole-mi
     ∙ whole-times cp (int_max (t -ℤ base) (pos 0))
 
 -- the height that is lost from t to u
-pub height_lost : (cp t u base : ℤ)
-    → minus (height (whole cp) (minus (whole t) (whole base))) (height (whole cp) (minus (whole u) (whole base)))
+pub height_lost : (cp t u base : ℤ) → minus (height (whole cp) (minus (whole t) (whole base))) (height (whole cp) (minus (whole u) (whole base)))
     ≡ whole (cp *ℤ (int_max (t -ℤ base) (pos 0) -ℤ int_max (u -ℤ base) (pos 0)))
 height_lost cp t u base =
     ap₂ minus (whole_height cp t base) (whole_height cp u base) ∙ whole-minus (cp *ℤ int_max (t -ℤ base) (pos 0)) (cp *ℤ int_max (u -ℤ base) (pos 0))
