@@ -96,7 +96,6 @@ module _ (case : Case) (network : Network) (n : ℕ) (values : Valuation) (shape
   -- the branches that the line at an index makes, where those before it have such states
   made_kept : (index : ℕ) (l : Line) → KeptBefore index → index < n → IsOfOneStream network.branches l → HasNumbers case network index l
       → Solves case network values l → PassKeepsLoad case network values l → All Kept (makes l)
-  made_kept index (line.Exchanger name hot cold duty) before early one_stream numbers solved passes = All-nil Kept
   made_kept index (line.Split from first cp second) before early one_stream numbers solved passes =
       let kept = before from (numbers.used 0 0 (omega arith)) in
       All-cons Kept first (second ∷ []) (kept_as first from one_stream.0 solved.first_state kept)
@@ -110,7 +109,7 @@ module _ (case : Case) (network : Network) (n : ℕ) (values : Valuation) (shape
       let of_first = sym (same_latent case network to first one_stream.1) ∙ latent in
       mixed_part (value_at values first) (value_at values second) (value_at values to) (above first one) (above second two) solved
       (before first one of_first) (before second two (same_latent case network second first one_stream.0 ∙ of_first))) (All-nil Kept)
-  made_kept index (line.End branch) before early one_stream numbers solved passes = All-nil Kept
+  made_kept index l before early one_stream numbers solved passes = All-nil Kept
 
   -- a branch made before a line or by it
   known_kept : (index : ℕ) (l : Line) → KeptBefore index → HasNumbers case network index l → All Kept (makes l) → (branch : ℕ)

@@ -113,18 +113,9 @@ are_ended = record {
 
 keep_approaches : KeepApproaches worked_case worked_network worked_values
 unfolding exchangers_of pass_of stream_at branch_side side_run plus ratio rational_cmp lowest_form gcd last_remainder
-keep_approaches zero e at = subst (KeepsApproach worked_case worked_network worked_values 0) (same_Some _ e at)
-    (record { hot_end = at_most_by_test _ _ refl; cold_end = at_most_by_test _ _ refl })
-keep_approaches (suc zero) e at =
-    subst (KeepsApproach worked_case worked_network worked_values 1) (same_Some _ e at)
-    (record { hot_end = at_most_by_test _ _ refl; cold_end = at_most_by_test _ _ refl })
-keep_approaches (suc (suc zero)) e at =
-    subst (KeepsApproach worked_case worked_network worked_values 2) (same_Some _ e at)
-    (record { hot_end = at_most_by_test _ _ refl; cold_end = at_most_by_test _ _ refl })
-keep_approaches (suc (suc (suc zero))) e at =
-    subst (KeepsApproach worked_case worked_network worked_values 3) (same_Some _ e at)
-    (record { hot_end = at_most_by_test _ _ refl; cold_end = at_most_by_test _ _ refl })
 keep_approaches (suc (suc (suc (suc number)))) e at = cc at
+keep_approaches number e at = subst (KeepsApproach worked_case worked_network worked_values number) (same_Some _ e at)
+    (record { hot_end = at_most_by_test _ _ refl; cold_end = at_most_by_test _ _ refl })
 
 -- ---- its heat and its penalties
 

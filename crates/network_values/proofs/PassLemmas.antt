@@ -48,12 +48,8 @@ module _ (weight : ℕ → Rational) (network : Network) where
 
 taken_once : (weight : ℕ → Rational) (o : Option Line)
     → option_map_or (pass_loss weight) o rational_zero ≡ minus (inlet_height weight o) (outlet_height weight o)
-taken_once weight None = sym (minus-self rational_zero)
-taken_once weight (Some (line.Exchanger name hot cold duty)) = sym (minus-self rational_zero)
-taken_once weight (Some (line.Split from first cp second)) = sym (minus-self rational_zero)
 taken_once weight (Some (line.Pass from exchanger to)) = refl
-taken_once weight (Some (line.Mix first second to)) = sym (minus-self rational_zero)
-taken_once weight (Some (line.End branch)) = sym (minus-self rational_zero)
+taken_once weight o = sym (minus-self rational_zero)
 
 module _ (weight : ℕ → Rational) (case : Case) (network : Network) (shape : HasShape case network) where
   -- all lines take as passes of a side what its one pass takes
@@ -136,8 +132,6 @@ module _ (weight : ℕ → Rational) (case : Case) (network : Network) (shape : 
 
   line_by_sides : (index : ℕ) (l : Line) → slice_get network.lines index ≡ Some l
       → pass_loss weight l ≡ rational_sum_by (line_sides weight network l) (enumerate_from 0 (exchangers_of network.lines))
-  line_by_sides index (line.Exchanger name hot cold duty) here = none_taken (line.Exchanger name hot cold duty) (λ number stream. refl)
-  line_by_sides index (line.Split from first cp second) here = none_taken (line.Split from first cp second) (λ number stream. refl)
   line_by_sides index (line.Pass from exchanger to) here =
       let l = line.Pass from exchanger to in
       let (e, declared, joins) = shape.declared_first index l here in
@@ -145,8 +139,7 @@ module _ (weight : ℕ → Rational) (case : Case) (network : Network) (shape : 
       let later = exchangers_of (l ∷ drop (suc index) network.lines) in
       let parts : exchangers_of network.lines ≡ earlier ++ later = declared_parts (stands_at network.lines index l here) in
       pass_taken from exchanger to e (ap (λ es. slice_get es exchanger) parts ∙ slice_get-append earlier later exchanger e declared) joins
-  line_by_sides index (line.Mix first second to) here = none_taken (line.Mix first second to) (λ number stream. refl)
-  line_by_sides index (line.End branch) here = none_taken (line.End branch) (λ number stream. refl)
+  line_by_sides index l here = none_taken l (λ number stream. refl)
 
   -- the passes take what the sides take
   pub passes_by_side : rational_sum_by (pass_loss weight) network.lines ≡ rational_sum_by (sides_taken weight network)

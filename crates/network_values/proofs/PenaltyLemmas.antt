@@ -64,8 +64,7 @@ load_lost on load counts =
 load_given : (on : Side) (counts : Bool) (load : ℤ) → load_lost on load counts ≡ whole (given_by on (if counts then load else pos 0))
 load_given side.Hot true load = ap₂ minus (whole-times load (pos 1)) (whole-times load (pos 0)) ∙ whole-minus _ _ ∙ ap whole (omega (arith, ints))
 load_given side.Cold true load = ap₂ minus (whole-times load (pos 0)) (whole-times load (pos 1)) ∙ whole-minus _ _ ∙ ap whole (omega (arith, ints))
-load_given side.Hot false load = minus-self rational_zero
-load_given side.Cold false load = minus-self rational_zero
+load_given on counts load = minus-self rational_zero
 
 latent_given : (view : View) (s : Stream) → IsLatent s
     → given_back view s true (whole s.load) ≡ whole (given_by s.side (load_over view.from_itself view.place s))

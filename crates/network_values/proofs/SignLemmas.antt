@@ -49,9 +49,6 @@ module _ (case : Case) (network : Network) (values : Valuation) (view : View) (s
 
   mix_sign : (l : Line) → All (λ b. b < length network.branches) (uses l) → IsOfOneStream network.branches l → Solves case network values l
       → IsAtMost rational_zero (mix_loss height l)
-  mix_sign (line.Exchanger name hot cold duty) within one solves = at_most_refl rational_zero
-  mix_sign (line.Split from first cp second) within one solves = at_most_refl rational_zero
-  mix_sign (line.Pass from exchanger to) within one solves = at_most_refl rational_zero
   mix_sign (line.Mix first second to) within one solves =
       let first_within = within 0 0 (omega arith) in let second_within = within 1 0 (omega arith) in
       let i = stream_at network.branches first in
@@ -60,7 +57,7 @@ module _ (case : Case) (network : Network) (values : Valuation) (view : View) (s
       (branch_above whole_values shape first first_within) (branch_above whole_values shape second second_within) solves in
       not_negative-minus (height to) (plus (height first) (height second)) (subst₂ IsAtMost (sym (branch_height shape whole_values view i s to at one.1))
       (sym (ap₂ plus (branch_height shape whole_values view i s first at refl) (branch_height shape whole_values view i s second at one.0))) mixed)
-  mix_sign (line.End branch) within one solves = at_most_refl rational_zero
+  mix_sign l within one solves = at_most_refl rational_zero
 
   pub no_negative : KeepApproaches case network values → HasNoNegativePenalty case view network values
   no_negative apart = record {

@@ -43,7 +43,6 @@ agree-append values more = record { same = λ branch early. sym (get_or_append_l
 
 pub solves_same : (case : Case) (network : Network) (values other : Valuation) (m : ℕ) (l : Line) → AgreeBelow values other m → AreBelow m l
     → Solves case network values l → Solves case network other l
-solves_same case network values other m (line.Exchanger name hot cold duty) agree below solved = tt
 solves_same case network values other m (line.Split from first cp second) agree below solved =
     let one = subst (λ v. IsSplit v (value_at values first) (value_at values second) cp) (agree.same from (below.used 0 0 (omega arith))) solved in
     let two = subst (λ v. IsSplit (value_at other from) v (value_at values second) cp) (agree.same first (below.made 0 0 (omega arith))) one in
@@ -56,7 +55,7 @@ solves_same case network values other m (line.Mix first second to) agree below s
     let one = subst (λ v. IsMix v (value_at values second) (value_at values to)) (agree.same first (below.used 0 0 (omega arith))) solved in
     let two = subst (λ v. IsMix (value_at other first) v (value_at values to)) (agree.same second (below.used 1 0 (omega arith))) one in
     subst (λ v. IsMix (value_at other first) (value_at other second) v) (agree.same to (below.made 0 0 (omega arith))) two
-solves_same case network values other m (line.End branch) agree below solved = tt
+solves_same case network values other m l agree below solved = tt
 
 -- a line's branches are made by it and the lines before it
 pub line_below : (case : Case) (network : Network) (n m : ℕ) (l : Line) → HasNumbers case network n l → made_before case network (suc n) ≤ m → AreBelow m l
@@ -101,7 +100,6 @@ length-made_values case network values l = grind arith
 -- what a line makes has sizes above 0
 made_positive : (case : Case) (network : Network) (n : ℕ) (values : Valuation) (l : Line) → IsValuation case network n values → HasNumbers case network n l
     → HasPositiveFlow l → LeavesRoom values l → All (λ v. IsBelow rational_zero v.cp) (made_values case network values l)
-made_positive case network n values (line.Exchanger name hot cold duty) is numbers flow room = All-nil (λ v. IsBelow rational_zero v.cp)
 made_positive case network n values (line.Split from first cp second) is numbers flow room =
     let P : BranchValue → Type 0 = λ v. IsBelow rational_zero v.cp in
     let v = value_at values from in
@@ -117,7 +115,7 @@ made_positive case network n values (line.Mix first second to) is numbers flow r
     let two = branch_positive case network n values is second (numbers.used 1 0 (omega arith)) in
     All-cons P (mixed_value (value_at values first) (value_at values second)) [] (mixed_positive (value_at values first) (value_at values second) one two)
     (All-nil P)
-made_positive case network n values (line.End branch) is numbers flow room = All-nil (λ v. IsBelow rational_zero v.cp)
+made_positive case network n values l is numbers flow room = All-nil (λ v. IsBelow rational_zero v.cp)
 
 -- it has the next numbers
 made_place : (case : Case) (network : Network) (n : ℕ) (values : Valuation) (l : Line) → IsValuation case network n values → HasNumbers case network n l
@@ -127,7 +125,6 @@ made_place case network n values l is numbers j inside = numbers.made j inside �
 -- and solves the line's equations, behind the values before it
 made_solves : (case : Case) (network : Network) (n : ℕ) (values : Valuation) (l : Line) → IsValuation case network n values → HasNumbers case network n l
     → Solves case network (values ++ made_values case network values l) l
-made_solves case network n values (line.Exchanger name hot cold duty) is numbers = tt
 made_solves case network n values (line.Split from first cp second) is numbers =
     let v = value_at values from in
     let all = values ++ first_part v cp ∷ second_part v cp ∷ [] in
@@ -161,7 +158,7 @@ made_solves case network n values (line.Mix first second to) is numbers =
     subst (λ v. IsMix v (value_at all second) (value_at all to)) (agree.same first (omega (arith, first_used, is.count)))
     (subst (λ v. IsMix a v (value_at all to)) (agree.same second (omega (arith, second_used, is.count)))
     (subst (λ v. IsMix a b v) (sym one) (mix_solved a b positive)))
-made_solves case network n values (line.End branch) is numbers = tt
+made_solves case network n values l is numbers = tt
 
 pub valuation_more : (case : Case) (network : Network) (n : ℕ) (values : Valuation) (l : Line) → HasShape case network → slice_get network.lines n ≡ Some l
     → IsValuation case network n values → LeavesRoom values l → IsValuation case network (suc n) (values ++ made_values case network values l)
@@ -209,8 +206,6 @@ two_made values a b v w one two (suc (suc j)) inside = absurd (omega (arith, ins
 line_determined : (case : Case) (network : Network) (values before : Valuation) (l : Line) → AgreeBelow values before (length before)
     → All (λ b. b < length before) (uses l) → AreBelow (length values) l → All (λ v. IsBelow rational_zero v.cp) before
     → All (λ v. IsBelow rational_zero v.cp) values → Solves case network values l → IsDetermined case network values before l
-line_determined case network values before (line.Exchanger name hot cold duty) agree used below early positive solved =
-    record { made = λ j inside. absurd (omega (arith, inside)); room = tt }
 line_determined case network values before (line.Split from first cp second) agree used below early positive solved =
     let v = value_at before from in
     let split = subst (λ a. IsSplit a (value_at values first) (value_at values second) cp) (agree.same from (used 0 0 (omega arith))) solved in
@@ -230,7 +225,7 @@ line_determined case network values before (line.Mix first second to) agree used
     let mix = subst (λ v. IsMix a v (value_at values to)) (agree.same second (used 1 0 (omega arith))) one in
     let some = mixed_positive a b (early first no_value (used 0 0 (omega arith))) (early second no_value (used 1 0 (omega arith))) in
     record { made = one_made values to (mixed_value a b) (mix_determined a b (value_at values to) some mix); room = tt }
-line_determined case network values before (line.End branch) agree used below early positive solved =
+line_determined case network values before l agree used below early positive solved =
     record { made = λ j inside. absurd (omega (arith, inside)); room = tt }
 
 pub valuation_ends : (case : Case) (network : Network) (n : ℕ) (values : Valuation) (l : Line) → HasShape case network → slice_get network.lines n ≡ Some l

@@ -18,11 +18,8 @@ use Rattle.networks.specs.declared.network.Line.TheVariants as line
 
 module _ (weight : ℕ → Rational) where
   abbrev pub IsEven : Line → Type 0
-  IsEven (line.Exchanger name hot cold duty) = Unit {0}
   IsEven (line.Split from first cp second) = weight from ≡ plus (weight first) (weight second)
-  IsEven (line.Pass from exchanger to) = Unit {0}
-  IsEven (line.Mix first second to) = Unit {0}
-  IsEven (line.End branch) = Unit {0}
+  IsEven l = Unit {0}
 
   -- what a line takes, beside what it makes
   abbrev taken : Line → Rational
@@ -33,11 +30,10 @@ module _ (weight : ℕ → Rational) where
   put_back a b = sym (plus_comm b (minus a b) ∙ plus-minus a b)
 
   line_balance : (l : Line) → IsEven l → rational_sum_by weight (uses l) ≡ plus (rational_sum_by weight (makes l)) (taken l)
-  line_balance (line.Exchanger name hot cold duty) even = simp plus-zero refl
   line_balance (line.Split from first cp second) even = simp plus-zero even
   line_balance (line.Pass from exchanger to) even = simp plus-zero (put_back (weight from) (weight to))
   line_balance (line.Mix first second to) even = simp (plus-zero, zero-plus) (put_back (plus (weight first) (weight second)) (weight to))
-  line_balance (line.End branch) even = simp (plus-zero, zero-plus) refl
+  line_balance l even = simp (plus-zero, zero-plus) refl
 
   lines_balance : (network : Network) → All IsEven network.lines → rational_sum_by weight (used_by network.lines)
       ≡ plus (rational_sum_by weight (made_by network.lines))
@@ -87,7 +83,6 @@ module _ (weight : ℕ → Rational) where
 
 pub even : (weight : Weight) → IsAdditive weight → (case : Case) (network : Network) (values : Valuation) (l : Line) → IsOfOneStream network.branches l
     → Solves case network values l → IsEven (weight_at weight network values) l
-even weight additive case network values (line.Exchanger name hot cold duty) one solves = tt
 even weight additive case network values (line.Split from first cp second) one solves =
     let i = stream_at network.branches from in let whole = value_at values from in
     let part : (b : ℕ) → stream_at network.branches b ≡ i → (value_at values b).t ≡ whole.t → weight i
@@ -95,9 +90,7 @@ even weight additive case network values (line.Split from first cp second) one s
     λ b of_stream state. ap₂ (λ n t. weight n (record { cp = (value_at values b).cp; t = t })) (sym of_stream) (sym state) in
     ap (λ f. weight i (record { cp = f; t = whole.t })) (sym solves.sizes) ∙ additive i (value_at values first).cp (value_at values second).cp whole.t
     ∙ ap₂ plus (part first one.0 solves.first_state) (part second one.1 solves.second_state)
-even weight additive case network values (line.Pass from exchanger to) one solves = tt
-even weight additive case network values (line.Mix first second to) one solves = tt
-even weight additive case network values (line.End branch) one solves = tt
+even weight additive case network values l one solves = tt
 
 module _ {case : Case} {network : Network} {values : Valuation} (shape : HasShape case network) (whole : IsWholeValuation case network values) where
   pub all_even : (weight : Weight) → IsAdditive weight → All (IsEven (weight_at weight network values)) network.lines
@@ -114,11 +107,8 @@ ended_within {case} {network} shape =
     (used_there shape.made_once shape.made_first))
   where
     of_line : (l : Line) → All (λ b. b < length network.branches) (uses l) → All (λ b. b < length network.branches) (ends l)
-    of_line (line.Exchanger name hot cold duty) within = within
-    of_line (line.Split from first cp second) within = All-nil (λ b. b < length network.branches)
-    of_line (line.Pass from exchanger to) within = All-nil (λ b. b < length network.branches)
-    of_line (line.Mix first second to) within = All-nil (λ b. b < length network.branches)
     of_line (line.End branch) within = within
+    of_line l within = All-nil (λ b. b < length network.branches)
 
 -- ---- sizes as weights
 
@@ -191,18 +181,12 @@ module _ {case : Case} {network : Network} {values : Valuation} (shape : HasShap
 
   -- passes and mixes take nothing of the sizes
   pass_loss-none : (i : ℕ) (l : Line) → IsOfOneStream network.branches l → Solves case network values l → pass_loss (of i) l ≡ rational_zero
-  pass_loss-none i (line.Exchanger name hot cold duty) one solves = refl
-  pass_loss-none i (line.Split from first cp second) one solves = refl
   pass_loss-none i (line.Pass from exchanger to) one solves =
       ap (minus (of i from)) (sizes-same i (stream_at network.branches to) (stream_at network.branches from) (value_at values to)
       (value_at values from) one solves.size) ∙ minus-self (of i from)
-  pass_loss-none i (line.Mix first second to) one solves = refl
-  pass_loss-none i (line.End branch) one solves = refl
+  pass_loss-none i l one solves = refl
 
   mix_loss-none : (i : ℕ) (l : Line) → IsOfOneStream network.branches l → Solves case network values l → mix_loss (of i) l ≡ rational_zero
-  mix_loss-none i (line.Exchanger name hot cold duty) one solves = refl
-  mix_loss-none i (line.Split from first cp second) one solves = refl
-  mix_loss-none i (line.Pass from exchanger to) one solves = refl
   mix_loss-none i (line.Mix first second to) one solves =
       let s = stream_at network.branches first in
       let both : BranchValue = record { cp = plus (value_at values first).cp (value_at values second).cp; t = rational_zero } in
@@ -211,7 +195,7 @@ module _ {case : Case} {network : Network} {values : Valuation} (shape : HasShap
       (record { cp = (value_at values second).cp; t = rational_zero }) one.0 refl in
       ap₂ minus (ap₂ plus one_first one_second ∙ sym (sizes-additive i s (value_at values first).cp (value_at values second).cp rational_zero))
       (sizes-same i (stream_at network.branches to) s (value_at values to) both one.1 solves.size) ∙ minus-self (sizes i s both)
-  mix_loss-none i (line.End branch) one solves = refl
+  mix_loss-none i l one solves = refl
 
   -- a stream's own branch is the only one of them that is of the stream
   own_size : (i : ℕ) → i < length case.streams → rational_sum_by (of i) (range_with_len 0 (length case.streams)) ≡ (value_at values i).cp

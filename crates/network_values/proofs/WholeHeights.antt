@@ -46,9 +46,7 @@ is_above-whole false place level =
 pub counts_above-unshifted : (from_itself : Bool) (on : Side) (place level c : ℤ)
     → counts_above from_itself (unshifted on place c) level ≡ counts_above from_itself place (shifted on level c)
 counts_above-unshifted true side.Hot place level c = grind (arith, ints)
-counts_above-unshifted true side.Cold place level c = grind (arith, ints)
-counts_above-unshifted false side.Hot place level c = grind (arith, ints)
-counts_above-unshifted false side.Cold place level c = grind (arith, ints)
+counts_above-unshifted from_itself on place level c = grind (arith, ints)
 
 high_end-latent : (s : Stream) → IsLatent s → shifted s.side s.supply s.contribution ≡ high_end s
 high_end-latent s h = by s.side
