@@ -27,8 +27,7 @@ mixed-distance base first second to mix =
 
 mix-loses : (base : Rational) (first second to : BranchValue) → IsBelow rational_zero first.cp → IsBelow rational_zero second.cp → IsMix first second to
     → IsAtMost (height_above base to) (plus (height_above base first) (height_above base second))
-mix-loses base first second to some other mix =
-    let two = at_most_from_below rational_zero second.cp other in
+mix-loses base first second to some other mix = let two = at_most_from_below rational_zero second.cp other in
     let both = at_most_from_below rational_zero to.cp (subst (IsBelow rational_zero) (sym mix.size) (positive-plus first.cp second.cp some two)) in
     subst (λ x. IsAtMost x (plus (height_above base first) (height_above base second)))
     (ap positive_part (sym (mixed-distance base first second to mix)) ∙ sym (times-positive_part to.cp (minus to.t base) both))

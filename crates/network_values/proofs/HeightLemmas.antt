@@ -46,8 +46,7 @@ pub times-positive_part : (f x : Rational) → IsAtMost rational_zero f → time
 times-positive_part f x some = by (below_or_at_most rational_zero x)
   where
     by : IsBelow rational_zero x ⊎ IsAtMost x rational_zero → times f (positive_part x) ≡ positive_part (times f x)
-    by (inl above) =
-        let at_least = at_most_from_below rational_zero x above in
+    by (inl above) = let at_least = at_most_from_below rational_zero x above in
         ap (times f) (positive_part-above x at_least) ∙ sym (positive_part-above (times f x) (not_negative-times f x some at_least))
     by (inr less) =
         ap (times f) (positive_part-below x less) ∙ times-zero f

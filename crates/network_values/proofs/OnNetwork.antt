@@ -82,8 +82,7 @@ values_positive = All-from_recursion (λ v. IsBelow rational_zero v.cp) worked_v
 
 values_solve : All (Solves worked_case worked_network worked_values) lines
 unfolding exchangers_of stream_at branch_side duty_at plus minus times ratio lowest_form gcd last_remainder
-values_solve =
-    let P : Line → Type 0 = Solves worked_case worked_network worked_values in
+values_solve = let P : Line → Type 0 = Solves worked_case worked_network worked_values in
     let one : P (line.Pass 0 0 2) = record { size = refl; heat = same_from_fields _ _ refl refl } in
     let two : P (line.Pass 2 3 3) = record { size = refl; heat = same_from_fields _ _ refl refl } in
     let divided : P (line.Split 1 4 (whole (pos 5)) 5) =

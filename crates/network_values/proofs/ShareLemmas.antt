@@ -98,8 +98,7 @@ is_above-at false at same = by (is_below rational_zero at) refl
 
 module _ (from_itself : Bool) (duty : Rational) (positive : IsBelow rational_zero duty) where
   pub is_part : (side : SideRun) → HasDuty duty side → IsPart from_itself duty side
-  is_part (Between size low high) (some, gives) =
-      let up = rises size low high some (subst (IsBelow rational_zero) (sym gives) positive) in
+  is_part (Between size low high) (some, gives) = let up = rises size low high some (subst (IsBelow rational_zero) (sym gives) positive) in
       let upward = at_most_from_below low high up in
       record {
         above = λ at other. flow-above size low high at (at_most_from_below rational_zero high other) ∙ gives;
@@ -167,8 +166,7 @@ module _ (from_itself : Bool) (duty : Rational) (positive : IsBelow rational_zer
       whole_or_nothing (Between f hot_low hot_high) (Between h cold_low cold_high) of_hot of_cold
       (inr (flow-below h cold_low cold_high (at_most_trans cold_low cold_high rational_zero up none) none))
   flows f hot_low hot_high h cold_low cold_high of_hot of_cold high low (inl below) (inl above) =
-      let hot_below = at_most_from_below hot_low rational_zero below in
-      let cold_above = at_most_from_below rational_zero cold_high above in
+      let hot_below = at_most_from_below hot_low rational_zero below in let cold_above = at_most_from_below rational_zero cold_high above in
       let hot_above = at_most_trans rational_zero cold_high hot_high cold_above high in
       subst₂ IsAtMost (sym (flow-across h cold_low cold_high (at_most_trans cold_low hot_low rational_zero low hot_below) cold_above))
       (sym (flow-across f hot_low hot_high hot_below hot_above))
@@ -183,8 +181,7 @@ module _ (from_itself : Bool) (duty : Rational) (positive : IsBelow rational_zer
   hot_share_at_least (Between f hot_low hot_high) (Level at) of_hot of_cold order = by (is_above from_itself at) refl
     where
       by : (b : Bool) → is_above from_itself at ≡ b → IsAtMost (share from_itself duty (Level at)) (share from_itself duty (Between f hot_low hot_high))
-      by true passes =
-          let from = is_above-true from_itself at passes in
+      by true passes = let from = is_above-true from_itself at passes in
           whole_or_nothing (Between f hot_low hot_high) (Level at) of_hot of_cold
           (inl (flow-above f hot_low hot_high (at_most_trans rational_zero at hot_low from order.low) (at_most_trans rational_zero at hot_high from order.high)
           ∙ of_hot.1))
@@ -193,8 +190,7 @@ module _ (from_itself : Bool) (duty : Rational) (positive : IsBelow rational_zer
     where
       by : (b : Bool) → is_above from_itself at ≡ b → IsAtMost (share from_itself duty (Between h cold_low cold_high)) (share from_itself duty (Level at))
       by true passes = whole_or_nothing (Level at) (Between h cold_low cold_high) of_hot of_cold (inl (ap (λ b. if b then duty else rational_zero) passes))
-      by false fails =
-          let upto = is_above-false from_itself at fails in
+      by false fails = let upto = is_above-false from_itself at fails in
           whole_or_nothing (Level at) (Between h cold_low cold_high) of_hot of_cold
           (inr (flow-below h cold_low cold_high (at_most_trans cold_low at rational_zero order.low upto)
           (at_most_trans cold_high at rational_zero order.high upto)))

@@ -20,8 +20,7 @@ pub first_each : (P : Line → Type 0) (lines : List Line) (n : ℕ) → All P (
 first_each P lines n all k l early here = all_at P (take n lines) k l all (slice_get-take n lines k early ∙ here)
 
 pub each_first : (P : Line → Type 0) (lines : List Line) (n : ℕ) → ((k : ℕ) (l : Line) → k < n → slice_get lines k ≡ Some l → P l) → All P (take n lines)
-each_first P lines n each k d inside =
-    let early : k < n = omega (arith, inside, length-take n lines) in
+each_first P lines n each k d inside = let early : k < n = omega (arith, inside, length-take n lines) in
     each k (get_or (take n lines) k d) early (sym (slice_get-take n lines k early) ∙ slice_get-get_or (take n lines) k d inside)
 
 -- ---- values that agree
@@ -73,8 +72,7 @@ line_below case network n m l numbers upto = record {
 
 pub valuation_less : (case : Case) (network : Network) (n : ℕ) (values : Valuation) → HasShape case network → IsValuation case network (suc n) values
     → IsValuation case network n (front case network n values)
-valuation_less case network n values shape is =
-    let m = made_before case network n in
+valuation_less case network n values shape is = let m = made_before case network n in
     let fewer : m ≤ length values = omega (arith, made_fewer case network n (suc n) (omega arith), is.count) in
     record {
       within = omega (arith, is.within);
@@ -100,17 +98,14 @@ length-made_values case network values l = grind arith
 -- what a line makes has sizes above 0
 made_positive : (case : Case) (network : Network) (n : ℕ) (values : Valuation) (l : Line) → IsValuation case network n values → HasNumbers case network n l
     → HasPositiveFlow l → LeavesRoom values l → All (λ v. IsBelow rational_zero v.cp) (made_values case network values l)
-made_positive case network n values (line.Split from first cp second) is numbers flow room =
-    let P : BranchValue → Type 0 = λ v. IsBelow rational_zero v.cp in
+made_positive case network n values (line.Split from first cp second) is numbers flow room = let P : BranchValue → Type 0 = λ v. IsBelow rational_zero v.cp in
     let v = value_at values from in
     All-cons P (first_part v cp) (second_part v cp ∷ []) (positive-is cp flow.above)
     (All-cons P (second_part v cp) [] (positive-minus cp v.cp room) (All-nil P))
-made_positive case network n values (line.Pass from exchanger to) is numbers flow room =
-    let P : BranchValue → Type 0 = λ v. IsBelow rational_zero v.cp in
+made_positive case network n values (line.Pass from exchanger to) is numbers flow room = let P : BranchValue → Type 0 = λ v. IsBelow rational_zero v.cp in
     All-cons P (passed_value (branch_side case network from) (value_at values from) (duty_at network exchanger)) []
     (branch_positive case network n values is from (numbers.used 0 0 (omega arith))) (All-nil P)
-made_positive case network n values (line.Mix first second to) is numbers flow room =
-    let P : BranchValue → Type 0 = λ v. IsBelow rational_zero v.cp in
+made_positive case network n values (line.Mix first second to) is numbers flow room = let P : BranchValue → Type 0 = λ v. IsBelow rational_zero v.cp in
     let one = branch_positive case network n values is first (numbers.used 0 0 (omega arith)) in
     let two = branch_positive case network n values is second (numbers.used 1 0 (omega arith)) in
     All-cons P (mixed_value (value_at values first) (value_at values second)) [] (mixed_positive (value_at values first) (value_at values second) one two)
@@ -125,8 +120,7 @@ made_place case network n values l is numbers j inside = numbers.made j inside �
 -- and solves the line's equations, behind the values before it
 made_solves : (case : Case) (network : Network) (n : ℕ) (values : Valuation) (l : Line) → IsValuation case network n values → HasNumbers case network n l
     → Solves case network (values ++ made_values case network values l) l
-made_solves case network n values (line.Split from first cp second) is numbers =
-    let v = value_at values from in
+made_solves case network n values (line.Split from first cp second) is numbers = let v = value_at values from in
     let all = values ++ first_part v cp ∷ second_part v cp ∷ [] in
     let before = (agree-append values (first_part v cp ∷ second_part v cp ∷ [])).same from (omega (arith, numbers.used 0 0 (omega arith), is.count)) in
     let one : value_at all first ≡ first_part v cp = ap (value_at all)
@@ -139,18 +133,15 @@ made_solves case network n values (line.Split from first cp second) is numbers =
     (subst (λ a. IsSplit v (first_part v cp) a cp) (sym two) (split_solved v cp)))
 made_solves case network n values (line.Pass from exchanger to) is numbers =
     let v = value_at values from in let of = branch_side case network from in let duty = duty_at network exchanger in
-    let behind = passed_value of v duty in let all = values ++ behind ∷ [] in
-    let used : from < made_before case network n = numbers.used 0 0 (omega arith) in
+    let behind = passed_value of v duty in let all = values ++ behind ∷ [] in let used : from < made_before case network n = numbers.used 0 0 (omega arith) in
     let one : value_at all to ≡ behind = ap (value_at all) (made_place case network n values (line.Pass from exchanger to) is numbers 0 (omega arith))
     ∙ get_or-append-add values (behind ∷ []) 0 no_value in
     subst (λ a. IsPass of duty a (value_at all to)) ((agree-append values (behind ∷ [])).same from (omega (arith, used, is.count)))
     (subst (λ a. IsPass of duty v a) (sym one) (pass_solved of v duty (branch_positive case network n values is from used)))
 made_solves case network n values (line.Mix first second to) is numbers =
-    let a = value_at values first in let b = value_at values second in let both = mixed_value a b in
-    let all = values ++ both ∷ [] in
+    let a = value_at values first in let b = value_at values second in let both = mixed_value a b in let all = values ++ both ∷ [] in
     let first_used : first < made_before case network n = numbers.used 0 0 (omega arith) in
-    let second_used : second < made_before case network n = numbers.used 1 0 (omega arith) in
-    let agree = agree-append values (both ∷ []) in
+    let second_used : second < made_before case network n = numbers.used 1 0 (omega arith) in let agree = agree-append values (both ∷ []) in
     let one : value_at all to ≡ both = ap (value_at all) (made_place case network n values (line.Mix first second to) is numbers 0 (omega arith))
     ∙ get_or-append-add values (both ∷ []) 0 no_value in
     let positive = mixed_positive a b (branch_positive case network n values is first first_used)
@@ -170,8 +161,7 @@ valuation_more case network n values l shape here is room =
       count = omega (arith, length-append values made, many, numbers.next, is.count);
       own = take-append-le (length case.streams) values made (omega (arith, is.count)) ∙ is.own;
       positive = All-append (λ v. IsBelow rational_zero v.cp) _ _ is.positive (made_positive case network n values l is numbers of.flow room);
-      solved = subst (All (Solves case network (values ++ made))) (sym of.at.more)
-          (All-push (Solves case network (values ++ made)) (take n network.lines) l
+      solved = subst (All (Solves case network (values ++ made))) (sym of.at.more) (All-push (Solves case network (values ++ made)) (take n network.lines) l
           (each_first (Solves case network (values ++ made)) network.lines n (λ k other early at.
           let numbers = (line_of shape k other at).numbers in
           let below = line_below case network k (length values) other numbers
@@ -206,8 +196,7 @@ two_made values a b v w one two (suc (suc j)) inside = absurd (omega (arith, ins
 line_determined : (case : Case) (network : Network) (values before : Valuation) (l : Line) → AgreeBelow values before (length before)
     → All (λ b. b < length before) (uses l) → AreBelow (length values) l → All (λ v. IsBelow rational_zero v.cp) before
     → All (λ v. IsBelow rational_zero v.cp) values → Solves case network values l → IsDetermined case network values before l
-line_determined case network values before (line.Split from first cp second) agree used below early positive solved =
-    let v = value_at before from in
+line_determined case network values before (line.Split from first cp second) agree used below early positive solved = let v = value_at before from in
     let split = subst (λ a. IsSplit a (value_at values first) (value_at values second) cp) (agree.same from (used 0 0 (omega arith))) solved in
     let parts = split_determined v (value_at values first) (value_at values second) cp split in
     record {
@@ -225,15 +214,12 @@ line_determined case network values before (line.Mix first second to) agree used
     let mix = subst (λ v. IsMix a v (value_at values to)) (agree.same second (used 1 0 (omega arith))) one in
     let some = mixed_positive a b (early first no_value (used 0 0 (omega arith))) (early second no_value (used 1 0 (omega arith))) in
     record { made = one_made values to (mixed_value a b) (mix_determined a b (value_at values to) some mix); room = tt }
-line_determined case network values before l agree used below early positive solved =
-    record { made = λ j inside. absurd (omega (arith, inside)); room = tt }
+line_determined case network values before l agree used below early positive solved = record { made = λ j inside. absurd (omega (arith, inside)); room = tt }
 
 pub valuation_ends : (case : Case) (network : Network) (n : ℕ) (values : Valuation) (l : Line) → HasShape case network → slice_get network.lines n ≡ Some l
     → IsValuation case network (suc n) values → EndsIn case network n l values
-valuation_ends case network n values l shape here is =
-    let m = made_before case network n in let before = take m values in
-    let numbers = (line_of shape n l here).numbers in
-    let less = valuation_less case network n values shape is in
+valuation_ends case network n values l shape here is = let m = made_before case network n in let before = take m values in
+    let numbers = (line_of shape n l here).numbers in let less = valuation_less case network n values shape is in
     let agree = subst (AgreeBelow values before) (sym less.count) (agree-take values m) in
     let used = subst (λ k. All (λ b. b < k) (uses l)) (sym less.count) numbers.used in
     let below = line_below case network n (length values) l numbers (omega (arith, is.count)) in
@@ -250,8 +236,7 @@ valuation_ends case network n values l shape here is =
 
 pub valuation_start : (case : Case) (network : Network) → IsComplete case → IsValuation case network 0 (map first_value case.streams)
 unfolding made_by
-valuation_start case network complete =
-    let many = length-map case.streams first_value in
+valuation_start case network complete = let many = length-map case.streams first_value in
     record {
       within = omega arith;
       count = omega (arith, many);
@@ -269,8 +254,7 @@ start_only case network values is = sym (take_all (length case.streams) values (
 pub one_valuation : (case : Case) (network : Network) (n : ℕ) (values other : Valuation) → HasShape case network → IsValuation case network n values
     → IsValuation case network n other → values ≡ other
 one_valuation case network zero values other shape is is_other = start_only case network values is ∙ sym (start_only case network other is_other)
-one_valuation case network (suc n) values other shape is is_other =
-    let l = get_or network.lines n (line.End 0) in
+one_valuation case network (suc n) values other shape is is_other = let l = get_or network.lines n (line.End 0) in
     let here = (line_at network.lines n (line.End 0) is.within).here in
     let before = one_valuation case network n (front case network n values) (front case network n other) shape (valuation_less case network n values shape is)
     (valuation_less case network n other shape is_other) in
@@ -282,12 +266,10 @@ one_valuation case network (suc n) values other shape is is_other =
 -- the front of a valuation of more lines
 pub valuation_front : (case : Case) (network : Network) (n more : ℕ) (values : Valuation) → HasShape case network → IsValuation case network (n + more) values
     → IsValuation case network n (front case network n values)
-valuation_front case network n zero values shape is =
-    let same : n + 0 ≡ n = omega arith in
+valuation_front case network n zero values shape is = let same : n + 0 ≡ n = omega arith in
     let own = subst (λ k. IsValuation case network k values) same is in
     subst (IsValuation case network n) (sym (take_all (made_before case network n) values (omega (arith, own.count)))) own
-valuation_front case network n (suc more) values shape is =
-    let next : n + suc more ≡ suc (n + more) = omega arith in
+valuation_front case network n (suc more) values shape is = let next : n + suc more ≡ suc (n + more) = omega arith in
     let less = valuation_less case network (n + more) values shape (subst (λ k. IsValuation case network k values) next is) in
     let first = valuation_front case network n more (front case network (n + more) values) shape less in
     subst (IsValuation case network n) (take-take (made_before case network n) (made_before case network (n + more)) values
@@ -295,8 +277,7 @@ valuation_front case network n (suc more) values shape is =
 
 pub room_left : (case : Case) (network : Network) (n : ℕ) (values : Valuation) → HasShape case network → IsValuation case network n values
     → LeaveRoom case network n
-room_left case network n values shape is index l other early here is_other =
-    let split : n ≡ suc index + (n - suc index) = omega (arith, early) in
+room_left case network n values shape is index l other early here is_other = let split : n ≡ suc index + (n - suc index) = omega (arith, early) in
     let more = valuation_front case network (suc index) (n - suc index) values shape (subst (λ k. IsValuation case network k values) split is) in
     let shorter = front case network (suc index) values in
     let same = one_valuation case network index (front case network index shorter) other shape
@@ -306,8 +287,7 @@ room_left case network n values shape is index l other early here is_other =
 pub valuation_from_room : (case : Case) (network : Network) (n : ℕ) → IsComplete case → HasShape case network → n ≤ length network.lines
     → LeaveRoom case network n → (values : Valuation) × IsValuation case network n values
 valuation_from_room case network zero complete shape within room = (map first_value case.streams, valuation_start case network complete)
-valuation_from_room case network (suc n) complete shape within room =
-    let l = get_or network.lines n (line.End 0) in
+valuation_from_room case network (suc n) complete shape within room = let l = get_or network.lines n (line.End 0) in
     let here = (line_at network.lines n (line.End 0) within).here in
     let (values, is) = valuation_from_room case network n complete shape (omega (arith, within))
     (λ index other vs early. room index other vs (omega (arith, early))) in

@@ -40,10 +40,8 @@ module _ (weight : ℕ → Rational) where
       (plus (plus (rational_sum_by (pass_loss weight) network.lines) (rational_sum_by (mix_loss weight) network.lines))
       (rational_sum_by weight (ended_by network.lines)))
   unfolding used_by made_by ended_by
-  lines_balance network even =
-      let lines = network.lines in
-      let make = λ (l : Line). rational_sum_by weight (makes l) in
-      let end = λ (l : Line). rational_sum_by weight (ends l) in
+  lines_balance network even = let lines = network.lines in
+      let make = λ (l : Line). rational_sum_by weight (makes l) in let end = λ (l : Line). rational_sum_by weight (ends l) in
       let between = λ (l : Line). plus (pass_loss weight l) (mix_loss weight l) in
       rational_sum_by-flat_map weight uses lines ∙ rational_sum_by-same (λ l. rational_sum_by weight (uses l)) (λ l. plus (make l) (taken l)) lines
       (All-weaker IsEven (λ l. rational_sum_by weight (uses l) ≡ plus (make l) (taken l)) line_balance lines even) ∙ rational_sum_by-plus make taken lines
@@ -55,10 +53,8 @@ module _ (weight : ℕ → Rational) where
   all_made_by : {case : Case} {network : Network} → AreMadeInOrder case network
       → rational_sum_by weight (range_with_len 0 (length network.branches)) ≡ plus (rational_sum_by weight (range_with_len 0 (length case.streams)))
       (rational_sum_by weight (made_by network.lines))
-  all_made_by {case} {network} made =
-      let m = length case.streams in let n = length network.branches - m in
-      let total : m + n ≡ length network.branches = omega (arith, streams_first made) in
-      let own = rational_sum_by weight (range_with_len 0 m) in
+  all_made_by {case} {network} made = let m = length case.streams in let n = length network.branches - m in
+      let total : m + n ≡ length network.branches = omega (arith, streams_first made) in let own = rational_sum_by weight (range_with_len 0 m) in
       ap (λ k. rational_sum_by weight (range_with_len 0 k)) (sym total) ∙ ap (rational_sum_by weight) (sym (range_with_len-append 0 m n))
       ∙ rational_sum_by-append weight (range_with_len 0 m) (range_with_len (0 + m) n)
       ∙ ap (λ k. plus own (rational_sum_by weight (range_with_len k n))) {x = 0 + m} {y = m} (omega arith)
@@ -69,8 +65,7 @@ module _ (weight : ℕ → Rational) where
       → rational_sum_by weight (range_with_len 0 (length case.streams))
       ≡ plus (plus (plus (rational_sum_by (pass_loss weight) network.lines) (rational_sum_by (mix_loss weight) network.lines))
       (rational_sum_by weight (ended_by network.lines))) (rational_sum_by (left_of weight (used_by network.lines)) (range_with_len 0 (length network.branches)))
-  flow_balance {case} {network} shape even =
-      let own = rational_sum_by weight (range_with_len 0 (length case.streams)) in
+  flow_balance {case} {network} shape even = let own = rational_sum_by weight (range_with_len 0 (length case.streams)) in
       let made = rational_sum_by weight (made_by network.lines) in
       let left = rational_sum_by (left_of weight (used_by network.lines)) (range_with_len 0 (length network.branches)) in
       let all = sum_over_used weight (used_by network.lines) (length network.branches) shape.used_once (used_within shape.made_once shape.made_first) in
@@ -150,8 +145,7 @@ no_two : (f : ℕ → Rational) (c : Rational) → IsBelow rational_zero c → (
     → IsAtMost (rational_sum_by f us) c → (i j d : ℕ) → i < j → j < length us → f (get_or us i d) ≡ c → f (get_or us j d) ≡ c → ⊥
 no_two f c some [] least few i j d before within one two = absurd (omega (arith, within))
 no_two f c some (u ∷ us) least few i zero d before within one two = absurd (omega (arith, before))
-no_two f c some (u ∷ us) least few zero (suc j) d before within one two =
-    let later = All-tail (λ v. IsAtMost rational_zero (f v)) u us least in
+no_two f c some (u ∷ us) least few zero (suc j) d before within one two = let later = All-tail (λ v. IsAtMost rational_zero (f v)) u us least in
     let none : IsAtMost (rational_sum_by f us) rational_zero =
     at_most_from_plus (rational_sum_by f us) rational_zero c
     (subst₂ IsAtMost (plus_comm (f u) (rational_sum_by f us) ∙ ap (plus (rational_sum_by f us)) one) (sym (zero-plus c)) few) in
@@ -187,8 +181,7 @@ module _ {case : Case} {network : Network} {values : Valuation} (shape : HasShap
   pass_loss-none i l one solves = refl
 
   mix_loss-none : (i : ℕ) (l : Line) → IsOfOneStream network.branches l → Solves case network values l → mix_loss (of i) l ≡ rational_zero
-  mix_loss-none i (line.Mix first second to) one solves =
-      let s = stream_at network.branches first in
+  mix_loss-none i (line.Mix first second to) one solves = let s = stream_at network.branches first in
       let both : BranchValue = record { cp = plus (value_at values first).cp (value_at values second).cp; t = rational_zero } in
       let one_first = sizes-same i s s (value_at values first) (record { cp = (value_at values first).cp; t = rational_zero }) refl refl in
       let one_second = sizes-same i (stream_at network.branches second) s (value_at values second)
@@ -245,22 +238,19 @@ module _ {case : Case} {network : Network} {values : Valuation} (shape : HasShap
   -- an end of a stream has all of its size
   end_size : (i : ℕ) → i < length case.streams → (k : ℕ) → k < length (ended_by network.lines)
       → stream_at network.branches (get_or (ended_by network.lines) k 0) ≡ i → of i (get_or (ended_by network.lines) k 0) ≡ (value_at values i).cp
-  end_size i within k inside same =
-      let (s, at) = item_at case.streams i within in
+  end_size i within k inside same = let (s, at) = item_at case.streams i within in
       let full = ended.full k 0 inside s (ap (slice_get case.streams) same ∙ at) in
       ap₂ (sizes i) same full ∙ sizes-own i (last_value s) ∙ ap (λ (v : BranchValue). v.cp) (sym (own_value whole i s at))
 
   some_end : (i : ℕ) → Contains (ended_streams network) i
       → (k : ℕ) × (k < length (ended_by network.lines)) × (stream_at network.branches (get_or (ended_by network.lines) k 0) ≡ i)
   unfolding ended_streams
-  some_end i (k, within, is) =
-      let all = ended_by network.lines in
+  some_end i (k, within, is) = let all = ended_by network.lines in
       let inside : k < length all = omega (arith, within, length-map all (stream_at network.branches)) in
       (k, inside, sym (get_or-map (stream_at network.branches) all k 0 i inside) ∙ is)
 
   nothing_left : (i : ℕ) → i < length case.streams → IsAtMost (left i) rational_zero
-  nothing_left i within =
-      let all = ended_by network.lines in
+  nothing_left i within = let all = ended_by network.lines in
       let (k, inside, same) = some_end i (ended.each i within) in
       let here = subst (λ x. IsAtMost x (all_ended i)) (end_size i within k inside same)
       (term-at_most (of i) all (get_or all k 0) (all_ended-least i) (Contains-get_or all k 0 inside)) in
@@ -271,11 +261,9 @@ module _ {case : Case} {network : Network} {values : Valuation} (shape : HasShap
   all_used branch within = by (list_any (λ u. branch == u) (used_by network.lines)) refl
     where
       by : (b : Bool) → list_any (λ u. branch == u) (used_by network.lines) ≡ b → Contains (used_by network.lines) branch
-      by true some =
-          let (k, u, it) = found (λ v. branch == v) (used_by network.lines) some in
+      by true some = let (k, u, it) = found (λ v. branch == v) (used_by network.lines) some in
           subst (Contains (used_by network.lines)) (grind (arith, nat_tests, it.passes)) (Contains-slice_get (used_by network.lines) k u it.at)
-      by false none =
-          let i = stream_at network.branches branch in
+      by false none = let i = stream_at network.branches branch in
           let apart = All-weaker (λ u. (branch == u) ≡ false) (λ u. branch ≢ u) (λ u differ same. false≢true (sym differ ∙ eq-eqb branch u same))
           (used_by network.lines) (none_any (λ u. branch == u) (used_by network.lines) none) in
           let here = left_of-unused (of i) (used_by network.lines) branch apart ∙ sizes-own i (value_at values branch) in
@@ -286,15 +274,12 @@ module _ {case : Case} {network : Network} {values : Valuation} (shape : HasShap
 
   ends_differ : AllPairs (λ a b. a ≢ b) (ended_streams network)
   unfolding ended_streams
-  ends_differ j k d before within same =
-      let all = ended_by network.lines in
+  ends_differ j k d before within same = let all = ended_by network.lines in
       let second : k < length all = omega (arith, within, length-map all (stream_at network.branches)) in
-      let first : j < length all = omega (arith, before, second) in
-      let i = stream_at network.branches (get_or all j 0) in
+      let first : j < length all = omega (arith, before, second) in let i = stream_at network.branches (get_or all j 0) in
       let other : stream_at network.branches (get_or all k 0) ≡ i = sym (get_or-map (stream_at network.branches) all k 0 d second) ∙ sym same
       ∙ get_or-map (stream_at network.branches) all j 0 d first in
-      let inside = stream_within shape (get_or all j 0) (ended_within shape j 0 first) in
-      let size = (value_at values i).cp in
+      let inside = stream_within shape (get_or all j 0) (ended_within shape j 0 first) in let size = (value_at values i).cp in
       let few = subst (IsAtMost (all_ended i)) (sym (sizes_balance i inside)) (at_most-plus_right (all_ended i) (left i)
       (not_negative-rational_sum_by (left_of (of i) (used_by network.lines)) (range_with_len 0 (length network.branches)) (all_left-least i))) in
       no_two (of i) size (branch_above whole shape i (omega (arith, inside, streams_first shape.made_once))) all (all_ended-least i) few j k 0 before second
@@ -333,24 +318,21 @@ module _ (case : Case) (network : Network) (values : Valuation) (weight : Weight
   streams = range_with_len 0 (length case.streams)
 
   own_weight : (i : ℕ) → i < length case.streams → begin_weight i ≡ branch_weight i
-  own_weight i within =
-      let (s, at) = item_at case.streams i within in
+  own_weight i within = let (s, at) = item_at case.streams i within in
       ap (λ o. option_map_or (λ t. weight i (first_value t)) o rational_zero) at
       ∙ sym (ap₂ weight (own_stream shape.made_once i within) (own_value whole i s at))
 
   ended_weight : (branch : ℕ) → branch < length network.branches
       → ((s : Stream) → slice_get case.streams (stream_at network.branches branch) ≡ Some s → value_at values branch ≡ last_value s)
       → branch_weight branch ≡ end_weight (stream_at network.branches branch)
-  ended_weight branch within full =
-      let i = stream_at network.branches branch in
+  ended_weight branch within full = let i = stream_at network.branches branch in
       let (s, at) = item_at case.streams i (stream_within shape branch within) in
       ap (weight i) (full s at) ∙ sym (ap (λ o. option_map_or (λ t. weight i (last_value t)) o rational_zero) at)
 
   -- the ended branches are the streams' ends, each once
   ends_weigh : rational_sum_by branch_weight (ended_by network.lines) ≡ rational_sum_by end_weight streams
   unfolding ended_streams streams
-  ends_weigh =
-      let all = ended_by network.lines in let once = end_once shape whole ended in let within = ended_within shape in
+  ends_weigh = let all = ended_by network.lines in let once = end_once shape whole ended in let within = ended_within shape in
       let streams_within : All (λ i. i < length case.streams) (ended_streams network) = All-map (λ i. i < length case.streams) (stream_at network.branches) all
       (λ k d inside. stream_within shape (get_or all k d) (within k d inside)) in
       rational_sum_by-same branch_weight (λ b. end_weight (stream_at network.branches b)) all
@@ -363,8 +345,7 @@ module _ (case : Case) (network : Network) (values : Valuation) (weight : Weight
   module _ (additive : IsAdditive weight) where
     begins_weigh : rational_sum_by begin_weight streams ≡ plus all_taken (rational_sum_by end_weight streams)
     unfolding streams
-    begins_weigh =
-        let once = end_once shape whole ended in
+    begins_weigh = let once = end_once shape whole ended in
         rational_sum_by-same begin_weight branch_weight streams (All-range (λ i. begin_weight i ≡ branch_weight i) (length case.streams) own_weight)
         ∙ flow_balance branch_weight shape (all_even shape whole weight additive)
         ∙ ap₂ plus (ap (plus all_taken) ends_weigh) (none_left-zero branch_weight (used_by network.lines) (length network.branches) once.none_left)

@@ -29,14 +29,12 @@ height_lost cp t u base =
 
 -- whole numbers compare as their distance does with 0
 pub is_above-whole : (from_itself : Bool) (place level : ℤ) → is_above from_itself (minus (whole level) (whole place)) ≡ counts_above from_itself place level
-is_above-whole true place level =
-    let d = minus (whole level) (whole place) in
+is_above-whole true place level = let d = minus (whole level) (whole place) in
     same_from_decides (is_le (rational_cmp rational_zero d)) (int_le place level) (Decides-is_le rational_zero d) (
       λ e. not_negative-minus (whole place) (whole level) (at_most-whole place level (int_le-true place level e)),
       λ h. let more = (at_most_from_not_negative (whole place) (whole level) h).cross in int_le-from place level (omega (arith, ints, more)),
     )
-is_above-whole false place level =
-    let d = minus (whole level) (whole place) in
+is_above-whole false place level = let d = minus (whole level) (whole place) in
     same_from_decides (is_below rational_zero d) (int_lt place level) (Decides-is_below rational_zero d) (
       λ e. positive-minus (whole place) (whole level) (below-whole place level (int_lt-true place level e)),
       λ h. let more = (below_from_positive (whole place) (whole level) h).cross in int_lt-from place level (omega (arith, ints, more)),

@@ -28,10 +28,8 @@ module _ {X : Type 0} where
   pub count_by-add-le : (p q r : X → Bool) (xs : List X) → ((x : X) → p x ≡ true → q x ≡ false) → ((x : X) → p x ≡ true → r x ≡ true)
       → ((x : X) → q x ≡ true → r x ≡ true) → count_by p xs + count_by q xs ≤ count_by r xs
   count_by-add-le p q r [] h k l = omega arith
-  count_by-add-le p q r (x ∷ xs) h k l =
-      let first = both_le (p x) (q x) (r x) (h x) (k x) (l x) in
-      let rest = count_by-add-le p q r xs h k l in
-      omega (arith, count_by-cons p x xs, count_by-cons q x xs, count_by-cons r x xs)
+  count_by-add-le p q r (x ∷ xs) h k l = let first = both_le (p x) (q x) (r x) (h x) (k x) (l x) in
+      let rest = count_by-add-le p q r xs h k l in omega (arith, count_by-cons p x xs, count_by-cons q x xs, count_by-cons r x xs)
 
   -- ---- whether some element passes
 

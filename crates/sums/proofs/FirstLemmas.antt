@@ -48,8 +48,7 @@ module _ {Y Z : Type 0} (first : List Y → Option Z) (append : (xs ys : List Y)
     -- it has one, which is the first of all members
     pub first-here : (xs : List X) (n : ℕ) (d : X) (found : Z) → n < length xs → first (items_of f xs n) ≡ None → first (f (n, get_or xs n d)) ≡ Some found
         → first (flat_map f (enumerate_from 0 xs)) ≡ Some found
-    first-here xs n d found within before here =
-        let later = enumerate_from (0 + length (take (n + 1) xs)) (drop (n + 1) xs) in
+    first-here xs n d found within before here = let later = enumerate_from (0 + length (take (n + 1) xs)) (drop (n + 1) xs) in
         let all : flat_map f (enumerate_from 0 xs) ≡ items_of f xs (n + 1) ++ flat_map f later =
         ap (λ ys. flat_map f (enumerate_from 0 ys)) (sym (take-append-drop (n + 1) xs))
         ∙ ap (flat_map f) (enumerate_from-append 0 (take (n + 1) xs) (drop (n + 1) xs)) ∙ flat_map-append f (enumerate_from 0 (take (n + 1) xs)) later in
