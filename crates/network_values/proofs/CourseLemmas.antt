@@ -10,19 +10,16 @@ use Rattle.network_values.proofs.ShareLemmas.{HasDuty-seen, high_of-seen, hot_sh
 
 parts-lose : (f g u v : Rational) → IsAtMost rational_zero f → IsAtMost rational_zero g
     → IsAtMost (positive_part (plus (times f u) (times g v))) (plus (height f u) (height g v))
-parts-lose f g u v some other =
-    positive_part-least (plus (times f u) (times g v)) (plus (height f u) (height g v))
-    (not_negative-plus (height f u) (height g v) (not_negative-times f (positive_part u) some (not_negative-positive_part u))
-    (not_negative-times g (positive_part v) other (not_negative-positive_part v)))
+parts-lose f g u v some other = positive_part-least (plus (times f u) (times g v)) (plus (height f u) (height g v)) (not_negative-plus (height f u) (height g v)
+    (not_negative-times f (positive_part u) some (not_negative-positive_part u)) (not_negative-times g (positive_part v) other (not_negative-positive_part v)))
     (at_most-plus_plus (times f u) (height f u) (times g v) (height g v) (at_most-times_left f u (positive_part u) some (at_most-positive_part u))
     (at_most-times_left g v (positive_part v) other (at_most-positive_part v)))
 
 -- sizes times distances add up
 mixed-distance : (base : Rational) (first second to : BranchValue) → IsMix first second to
     → times to.cp (minus to.t base) ≡ plus (times first.cp (minus first.t base)) (times second.cp (minus second.t base))
-mixed-distance base first second to mix =
-    times-minus to.cp to.t base ∙ ap₂ minus mix.heat (ap (λ x. times x base) mix.size ∙ plus-times first.cp second.cp base)
-    ∙ minus-interchange (times first.cp first.t) (times second.cp second.t) (times first.cp base) (times second.cp base)
+mixed-distance base first second to mix = times-minus to.cp to.t base ∙ ap₂ minus mix.heat (ap (λ x. times x base) mix.size
+    ∙ plus-times first.cp second.cp base) ∙ minus-interchange (times first.cp first.t) (times second.cp second.t) (times first.cp base) (times second.cp base)
     ∙ ap₂ plus (sym (times-minus first.cp first.t base)) (sym (times-minus second.cp second.t base))
 
 mix-loses : (base : Rational) (first second to : BranchValue) → IsBelow rational_zero first.cp → IsBelow rational_zero second.cp → IsMix first second to

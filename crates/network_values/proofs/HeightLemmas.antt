@@ -23,8 +23,7 @@ positive_part-below x below = by (is_below rational_zero x) (is_below-ranks rati
 -- what holds of a number above 0, and of 0 for one that is not, holds of its positive part
 pub positive_part-cases : (P : Rational → Type 0) (x : Rational) → (IsBelow rational_zero x → P x) → (IsAtMost x rational_zero → P rational_zero)
     → P (positive_part x)
-positive_part-cases P x above below =
-    ⊎_elim (λ more. subst P (sym (positive_part-above x (at_most_from_below rational_zero x more))) (above more))
+positive_part-cases P x above below = ⊎_elim (λ more. subst P (sym (positive_part-above x (at_most_from_below rational_zero x more))) (above more))
     (λ less. subst P (sym (positive_part-below x less)) (below less)) (below_or_at_most rational_zero x)
 
 pub not_negative-positive_part : (x : Rational) → IsAtMost rational_zero (positive_part x)
@@ -48,6 +47,5 @@ times-positive_part f x some = by (below_or_at_most rational_zero x)
     by : IsBelow rational_zero x ⊎ IsAtMost x rational_zero → times f (positive_part x) ≡ positive_part (times f x)
     by (inl above) = let at_least = at_most_from_below rational_zero x above in
         ap (times f) (positive_part-above x at_least) ∙ sym (positive_part-above (times f x) (not_negative-times f x some at_least))
-    by (inr less) =
-        ap (times f) (positive_part-below x less) ∙ times-zero f
-        ∙ sym (positive_part-below (times f x) (subst (IsAtMost (times f x)) (times-zero f) (at_most-times_left f x rational_zero some less)))
+    by (inr less) = ap (times f) (positive_part-below x less) ∙ times-zero f ∙ sym (positive_part-below (times f x)
+        (subst (IsAtMost (times f x)) (times-zero f) (at_most-times_left f x rational_zero some less)))

@@ -21,9 +21,8 @@ pub record IsDivided (from first second : BranchValue) (cp : Rational) : Type 0 
   pub room : IsBelow rational_zero second.cp → IsBelow cp from.cp
 
 pub split_determined : (from first second : BranchValue) (cp : Rational) → IsSplit from first second cp → IsDivided from first second cp
-split_determined from one two cp split =
-    let rest : two.cp ≡ minus from.cp cp = minus_from_plus from.cp cp two.cp
-    (plus_comm two.cp cp ∙ ap (λ a. plus a two.cp) (sym split.first_size) ∙ split.sizes) in
+split_determined from one two cp split = let rest : two.cp ≡ minus from.cp cp = minus_from_plus from.cp cp two.cp (plus_comm two.cp cp ∙ ap (λ a. plus a two.cp)
+    (sym split.first_size) ∙ split.sizes) in
     record {
       first_is = same_value one (first_part from cp) split.first_size split.first_state;
       second_is = same_value two (second_part from cp) rest split.second_state;
@@ -60,6 +59,5 @@ mix_solved first second positive =
 
 pub mix_determined : (first second to : BranchValue) → IsBelow rational_zero (plus first.cp second.cp) → IsMix first second to → to ≡ mixed_value first second
 mix_determined first second to positive mix = let size = plus first.cp second.cp in
-    let state = over_from_times to.t (heat_of_both first second) size (positive-nonzero size positive)
-    (times_comm to.t size ∙ ap (λ a. times a to.t) (sym mix.size) ∙ mix.heat) in
-    same_value to (mixed_value first second) mix.size state
+    let state = over_from_times to.t (heat_of_both first second) size (positive-nonzero size positive) (times_comm to.t size ∙ ap (λ a. times a to.t)
+    (sym mix.size) ∙ mix.heat) in same_value to (mixed_value first second) mix.size state

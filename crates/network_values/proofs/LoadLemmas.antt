@@ -44,14 +44,12 @@ module _ (first second to : BranchValue) (some : IsBelow rational_zero first.cp)
     other_size = at_most_from_below rational_zero second.cp other
 
     mixed_at_most : (x : Rational) → IsAtMost first.t x → IsAtMost second.t x → IsAtMost to.t x
-    mixed_at_most x one two =
-        let both = at_most-plus_plus (times first.cp first.t) (times first.cp x) (times second.cp second.t) (times second.cp x)
+    mixed_at_most x one two = let both = at_most-plus_plus (times first.cp first.t) (times first.cp x) (times second.cp second.t) (times second.cp x)
         (at_most-times_left first.cp first.t x one_size one) (at_most-times_left second.cp second.t x other_size two) in
         at_most_from_times to.cp to.t x size (subst₂ IsAtMost (sym mix.heat) (sym (parts x)) both)
 
     mixed_at_least : (x : Rational) → IsAtMost x first.t → IsAtMost x second.t → IsAtMost x to.t
-    mixed_at_least x one two =
-        let both = at_most-plus_plus (times first.cp x) (times first.cp first.t) (times second.cp x) (times second.cp second.t)
+    mixed_at_least x one two = let both = at_most-plus_plus (times first.cp x) (times first.cp first.t) (times second.cp x) (times second.cp second.t)
         (at_most-times_left first.cp x first.t one_size one) (at_most-times_left second.cp x second.t other_size two) in
         at_most_from_times to.cp x to.t size (subst₂ IsAtMost (sym (parts x)) (sym mix.heat) both)
 

@@ -64,8 +64,7 @@ module _ (weight : ℕ → Rational) (case : Case) (network : Network) (shape : 
   -- no pass: no side
   none_taken : (l : Line) → ((number stream : ℕ) → is_pass_of network.branches number stream l ≡ false)
       → rational_zero ≡ rational_sum_by (line_sides weight network l) (enumerate_from 0 (exchangers_of network.lines))
-  none_taken l none =
-      sym (sum-enumerate (line_sides weight network l) (λ i. rational_zero) (exchangers_of network.lines)
+  none_taken l none = sym (sum-enumerate (line_sides weight network l) (λ i. rational_zero) (exchangers_of network.lines)
       (λ number e at. ap₂ plus (of_side number e.hot) (of_side number e.cold) ∙ plus-zero rational_zero)
       ∙ rational_sum_by-zero (λ i. rational_zero) (range_with_len 0 (length (exchangers_of network.lines))) (λ k d within. refl))
     where
@@ -91,19 +90,16 @@ module _ (weight : ℕ → Rational) (case : Case) (network : Network) (shape : 
 
     other_side : (number : ℕ) (s : Source) → s ≢ source.Stream (stream_at network.branches from) → line_taken weight network the_pass number s ≡ rational_zero
     other_side number (source.Stream i) differ =
-        ap (λ b. if (number == exchanger) && b then pass_loss weight the_pass else rational_zero)
-        (ne_eqb i (stream_at network.branches from) (λ same. differ (ap source.Stream same)))
-        ∙ ap (λ b. if b then pass_loss weight the_pass else rational_zero) (and-false (number == exchanger))
+        ap (λ b. if (number == exchanger) && b then pass_loss weight the_pass else rational_zero) (ne_eqb i (stream_at network.branches from)
+        (λ same. differ (ap source.Stream same))) ∙ ap (λ b. if b then pass_loss weight the_pass else rational_zero) (and-false (number == exchanger))
     other_side number (source.Utility i) differ = refl
 
     own_sides : (number : ℕ) (e : Exchanger) → IsExchanger case e → number ≡ exchanger → Joins e (stream_at network.branches from)
         → line_sides weight network the_pass (number, e) ≡ pass_loss weight the_pass
-    own_sides number e is here (inl hot) =
-        ap₂ plus (own_side number e.hot here hot) (other_side number e.cold (λ cold. sides_differ case e is (stream_at network.branches from) hot cold))
-        ∙ plus-zero (pass_loss weight the_pass)
-    own_sides number e is here (inr cold) =
-        ap₂ plus (other_side number e.hot (λ hot. sides_differ case e is (stream_at network.branches from) hot cold)) (own_side number e.cold here cold)
-        ∙ zero-plus (pass_loss weight the_pass)
+    own_sides number e is here (inl hot) = ap₂ plus (own_side number e.hot here hot) (other_side number e.cold
+        (λ cold. sides_differ case e is (stream_at network.branches from) hot cold)) ∙ plus-zero (pass_loss weight the_pass)
+    own_sides number e is here (inr cold) = ap₂ plus (other_side number e.hot (λ hot. sides_differ case e is (stream_at network.branches from) hot cold))
+        (own_side number e.cold here cold) ∙ zero-plus (pass_loss weight the_pass)
 
     pass_taken : (e : Exchanger) → slice_get (exchangers_of network.lines) exchanger ≡ Some e → Joins e (stream_at network.branches from)
         → pass_loss weight the_pass ≡ rational_sum_by (line_sides weight network the_pass) (enumerate_from 0 (exchangers_of network.lines))
@@ -121,8 +117,7 @@ module _ (weight : ℕ → Rational) (case : Case) (network : Network) (shape : 
                 own_sides number other (all_at (IsExchanger case) (exchangers_of network.lines) number other shape.exchangers.each here) same
                 (subst (λ x. Joins x (stream_at network.branches from)) one joins)
                 ∙ sym (ap (λ b. if b then pass_loss weight the_pass else rational_zero) (eq-eqb number exchanger same))
-            by (inr differ) =
-                ap₂ plus (elsewhere number other.hot differ) (elsewhere number other.cold differ) ∙ plus-zero rational_zero
+            by (inr differ) = ap₂ plus (elsewhere number other.hot differ) (elsewhere number other.cold differ) ∙ plus-zero rational_zero
                 ∙ sym (ap (λ b. if b then pass_loss weight the_pass else rational_zero) (ne_eqb number exchanger differ))
 
   line_by_sides : (index : ℕ) (l : Line) → slice_get network.lines index ≡ Some l

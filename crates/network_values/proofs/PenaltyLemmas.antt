@@ -41,21 +41,18 @@ sensible_given : (view : View) (s : Stream) → given_back view s false (whole s
 sensible_given view s = by s.side
   where
     by : (on : Side) → given_back view (record s { side = on }) false (whole s.cp) ≡ whole (given_by on (sensible_above view.place (record s { side = on })))
-    by side.Hot = let base = view.place +ℤ s.contribution in
-        let high : s.supply -ℤ base ≡ (s.supply -ℤ s.contribution) -ℤ view.place = omega (arith, ints) in
+    by side.Hot = let base = view.place +ℤ s.contribution in let high : s.supply -ℤ base ≡ (s.supply -ℤ s.contribution) -ℤ view.place = omega (arith, ints) in
         let low : s.target -ℤ base ≡ (s.target -ℤ s.contribution) -ℤ view.place = omega (arith, ints) in
         height_lost s.cp s.supply s.target base ∙ ap whole (ap₂ (lost s.cp) high low)
-    by side.Cold = let base = view.place -ℤ s.contribution in
-        let low : s.supply -ℤ base ≡ (s.supply +ℤ s.contribution) -ℤ view.place = omega (arith, ints) in
+    by side.Cold = let base = view.place -ℤ s.contribution in let low : s.supply -ℤ base ≡ (s.supply +ℤ s.contribution) -ℤ view.place = omega (arith, ints) in
         let high : s.target -ℤ base ≡ (s.target +ℤ s.contribution) -ℤ view.place = omega (arith, ints) in
-        height_lost s.cp s.supply s.target base ∙ ap whole (ap₂ (lost s.cp) low high)
-        ∙ ap whole (lost_turned s.cp ((s.supply +ℤ s.contribution) -ℤ view.place) ((s.target +ℤ s.contribution) -ℤ view.place))
+        height_lost s.cp s.supply s.target base ∙ ap whole (ap₂ (lost s.cp) low high) ∙ ap whole (lost_turned s.cp ((s.supply +ℤ s.contribution) -ℤ view.place)
+        ((s.target +ℤ s.contribution) -ℤ view.place))
 
 -- a load is given away, or taken, where its level counts
 abbrev load_lost : Side → ℤ → Bool → Rational
-load_lost on load counts =
-    minus (if counts then times (whole load) (first_part_of_load on) else rational_zero)
-    (if counts then times (whole load) (last_part_of_load on) else rational_zero)
+load_lost on load counts = minus (if counts then times (whole load) (first_part_of_load on) else rational_zero) (if counts then times (whole load)
+    (last_part_of_load on) else rational_zero)
 
 load_given : (on : Side) (counts : Bool) (load : ℤ) → load_lost on load counts ≡ whole (given_by on (if counts then load else pos 0))
 load_given side.Hot true load = ap₂ minus (whole-times load (pos 1)) (whole-times load (pos 0)) ∙ whole-minus _ _ ∙ ap whole (omega (arith, ints))
@@ -64,9 +61,8 @@ load_given on counts load = minus-self rational_zero
 
 latent_given : (view : View) (s : Stream) → IsLatent s
     → given_back view s true (whole s.load) ≡ whole (given_by s.side (load_over view.from_itself view.place s))
-latent_given view s latent =
-    ap (load_lost s.side s.load) (level_counts view.from_itself view.place s latent)
-    ∙ load_given s.side (counts_above view.from_itself view.place (high_end s)) s.load
+latent_given view s latent = ap (load_lost s.side s.load) (level_counts view.from_itself view.place s latent) ∙ load_given s.side
+    (counts_above view.from_itself view.place (high_end s)) s.load
 
 pub stream_given : StreamsGiveTheirHeat
 stream_given view s valid = ⊎_elim sensible latent valid.heat
@@ -90,12 +86,11 @@ given_by-sides side.Cold heat = refl
 pub streams_given : (case : Case) (view : View) → AreStreams case.streams → rational_sum_by (stream_loss (heights case view)) (enumerate_from 0 case.streams)
     ≡ whole (sum_side side.Hot (heat_over view.from_itself view.place) case.streams -ℤ sum_side side.Cold (heat_over view.from_itself view.place) case.streams)
 unfolding heights
-streams_given case view streams = let hot = heat_beside side.Hot view in let cold = heat_beside side.Cold view in
-    let less = λ (s : Stream). hot s -ℤ cold s in
-    sum-items (stream_loss (heights case view)) (λ s. whole (less s)) case.streams
-    (λ i s at. ap₂ minus (ap (λ o. stream_height view o (first_value s)) at) (ap (λ o. stream_height view o (last_value s)) at)
-    ∙ stream_given view s (all_at IsValidStream case.streams i s streams.each at) ∙ ap whole (given_by-sides s.side (heat_over view.from_itself view.place s)))
-    ∙ rational_sum_by-whole less (int_sum_by less) refl (λ s ss. refl) case.streams ∙ ap whole (int_sum_by-sub hot cold case.streams)
+streams_given case view streams = let hot = heat_beside side.Hot view in let cold = heat_beside side.Cold view in let less = λ (s : Stream). hot s -ℤ cold s in
+    sum-items (stream_loss (heights case view)) (λ s. whole (less s)) case.streams (λ i s at. ap₂ minus (ap (λ o. stream_height view o (first_value s)) at)
+    (ap (λ o. stream_height view o (last_value s)) at) ∙ stream_given view s (all_at IsValidStream case.streams i s streams.each at) ∙ ap whole
+    (given_by-sides s.side (heat_over view.from_itself view.place s))) ∙ rational_sum_by-whole less (int_sum_by less) refl (λ s ss. refl) case.streams
+    ∙ ap whole (int_sum_by-sub hot cold case.streams)
 
 pub heights-additive : (case : Case) (view : View) → IsAdditive (heights case view)
 unfolding heights
@@ -125,9 +120,8 @@ module _ (weight : ℕ → Rational) (case : Case) (network : Network) (shape : 
       ∙ sym (zero-plus (plus taken (side_taken weight network number (source.Stream j))))
   by_parts number duty (source.Stream i) (source.Utility j) =
       let taken = side_taken weight network number (source.Stream i) in minus-zero taken ∙ sym (zero-plus (plus taken rational_zero) ∙ plus-zero taken)
-  by_parts number duty (source.Utility i) (source.Stream j) =
-      minus_turned duty (outlet_height weight (pass_of network number j)) (inlet_height weight (pass_of network number j))
-      ∙ ap (plus duty) (sym (zero-plus (side_taken weight network number (source.Stream j))))
+  by_parts number duty (source.Utility i) (source.Stream j) = minus_turned duty (outlet_height weight (pass_of network number j)) (inlet_height weight
+      (pass_of network number j)) ∙ ap (plus duty) (sym (zero-plus (side_taken weight network number (source.Stream j))))
   by_parts number duty (source.Utility i) (source.Utility j) = minus-zero duty ∙ sym (ap (plus duty) (plus-zero rational_zero) ∙ plus-zero duty)
 
   -- all exchangers: the hot utilities, and what the passes take
@@ -162,6 +156,5 @@ reference_tight streams view reference = by view.from_itself reference.from_itse
     by true counts (inr from) = from
 
 pub penalties_excess : PenaltiesAreTheExcess
-penalties_excess case network values view streams shape whole_values ended reference =
-    penalties_sum case network values view streams shape whole_values ended
+penalties_excess case network values view streams shape whole_values ended reference = penalties_sum case network values view streams shape whole_values ended
     ∙ ap (λ d. minus (hot_heat network) (whole d)) (reference_tight case.streams view reference)

@@ -108,13 +108,12 @@ module _ {case : Case} {network : Network} {values : Valuation} (shape : HasShap
   pub run_of : (number i : ℕ) (e : Exchanger) (on : Side) → slice_get (exchangers_of network.lines) number ≡ Some e → Joins e i
       → side_of case (source.Stream i) ≡ Some on → (s : Stream) × (from : ℕ) × (to : ℕ) × IsRun number i on e.duty s from to
   unfolding side_run branch_side duty_at
-  run_of number i e on at joins is = let (s, of_case, is_on) = stream_on case i on is in
-      let (from, to, index, pass) = the_pass_of shape number i e at joins in let l = line.Pass from number to in
-      let solves = all_at (Solves case network values) network.lines index l (all_solved whole_values) pass.here in
+  run_of number i e on at joins is = let (s, of_case, is_on) = stream_on case i on is in let (from, to, index, pass) = the_pass_of shape number i e at joins in
+      let l = line.Pass from number to in let solves = all_at (Solves case network values) network.lines index l (all_solved whole_values) pass.here in
       let used = all_at (λ x. All (λ b. b < length network.branches) (uses x)) network.lines index l (used_there shape.made_once shape.made_first) pass.here in
-      let of_side : branch_side case network from ≡ on =
-      ap (λ n. unwrap_or (side_of case (source.Stream n)) side.Hot) pass.of_stream ∙ ap (λ o. unwrap_or o side.Hot) is in
-      let duty : duty_at network number ≡ e.duty = ap duty_of at in let some = branch_above whole_values shape from (used 0 0 (omega arith)) in
+      let of_side : branch_side case network from ≡ on = ap (λ n. unwrap_or (side_of case (source.Stream n)) side.Hot) pass.of_stream
+      ∙ ap (λ o. unwrap_or o side.Hot) is in let duty : duty_at network number ≡ e.duty = ap duty_of at in
+      let some = branch_above whole_values shape from (used 0 0 (omega arith)) in
       let heat = ap (λ o. times (value_at values from).cp (change o (value_at values from).t (value_at values to).t)) (sym of_side) ∙ solves.heat ∙ duty in
       let passed = ap (pass_run case network values) pass.found ∙ ap (λ o. run_between o (value_at values from) (value_at values to)) of_side in (
         s,
@@ -147,8 +146,7 @@ module _ {case : Case} {network : Network} {values : Valuation} (shape : HasShap
     run-on_course : (place : ℤ)
         → seen_from (whole (unshifted on place (contribution_of case (source.Stream i)))) (side_run case network values number (source.Stream i))
         ≡ side_on (course_of place s) low high
-    run-on_course place =
-        ap₂ seen_from (ap₂ (λ o c. whole (unshifted o place c)) (sym r.is_on) (contribution-of i s r.at)) r.run
+    run-on_course place = ap₂ seen_from (ap₂ (λ o c. whole (unshifted o place c)) (sym r.is_on) (contribution-of i s r.at)) r.run
         ∙ level_or-seen (base_of place s) s.supply low high (is_latent s)
 
     run-has_duty : HasDuty duty (shifted_run on case network values number (source.Stream i))

@@ -23,8 +23,7 @@ module _ (size low high : Rational) where
       ∙ minus-self (times size rational_zero)
 
   pub flow-across : IsAtMost low rational_zero → IsAtMost rational_zero high → minus (height size high) (height size low) ≡ times size high
-  flow-across at other =
-      ap₂ (λ x y. minus (times size x) (times size y)) (positive_part-above high other) (positive_part-below low at)
+  flow-across at other = ap₂ (λ x y. minus (times size x) (times size y)) (positive_part-above high other) (positive_part-below low at)
       ∙ ap (minus (times size high)) (times-zero size) ∙ minus-zero (times size high)
 
 module _ (size low high : Rational) (some : IsBelow rational_zero size) where
@@ -44,10 +43,9 @@ module _ (size low high : Rational) (some : IsBelow rational_zero size) where
       by : IsBelow low rational_zero ⊎ IsAtMost rational_zero low → IsBelow rational_zero high ⊎ IsAtMost high rational_zero
           → IsAtMost (minus (height size high) (height size low)) (times size (minus high low))
       by (inr at) other = at_most_from_same _ _ (flow-above size low high at (at_most_trans rational_zero low high at upward))
-      by (inl at) (inr other) =
-          subst (λ x. IsAtMost x (times size (minus high low)))
-          (times-zero size ∙ sym (flow-below size low high (at_most_from_below low rational_zero at) other))
-          (at_most-times_left size rational_zero (minus high low) kept (not_negative-minus low high upward))
+      by (inl at) (inr other) = subst (λ x. IsAtMost x (times size (minus high low))) (times-zero size
+          ∙ sym (flow-below size low high (at_most_from_below low rational_zero at) other)) (at_most-times_left size rational_zero (minus high low) kept
+          (not_negative-minus low high upward))
       by (inl at) (inl other) =
           subst (λ x. IsAtMost x (times size (minus high low)))
           (sym (flow-across size low high (at_most_from_below low rational_zero at) (at_most_from_below rational_zero high other)))
@@ -141,8 +139,7 @@ module _ (from_itself : Bool) (duty : Rational) (positive : IsBelow rational_zer
       from_low g a b = ap (λ x. plus x (times g b)) (times-minus g a b) ∙ plus-minus (times g a) (times g b)
 
       by : IsBelow f h ⊎ IsAtMost h f → IsAtMost (times h cold_high) (times f hot_high)
-      by (inl less) =
-          let lows = at_most_trans (times h cold_low) (times h hot_low) (times f hot_low) (at_most-times_left h cold_low hot_low some low)
+      by (inl less) = let lows = at_most_trans (times h cold_low) (times h hot_low) (times f hot_low) (at_most-times_left h cold_low hot_low some low)
           (times-turned f h hot_low (at_most_from_below f h less) below) in
           let both = at_most-plus_plus (times h (minus cold_high cold_low)) (times h (minus cold_high cold_low)) (times h cold_low) (times f hot_low)
           (at_most_refl (times h (minus cold_high cold_low))) lows in
@@ -169,9 +166,8 @@ module _ (from_itself : Bool) (duty : Rational) (positive : IsBelow rational_zer
       let hot_below = at_most_from_below hot_low rational_zero below in let cold_above = at_most_from_below rational_zero cold_high above in
       let hot_above = at_most_trans rational_zero cold_high hot_high cold_above high in
       subst₂ IsAtMost (sym (flow-across h cold_low cold_high (at_most_trans cold_low hot_low rational_zero low hot_below) cold_above))
-      (sym (flow-across f hot_low hot_high hot_below hot_above))
-      (flows-across f h hot_low hot_high cold_low cold_high (at_most_from_below rational_zero h of_cold.0) hot_below hot_above high low
-      (of_hot.1 ∙ sym of_cold.1))
+      (sym (flow-across f hot_low hot_high hot_below hot_above)) (flows-across f h hot_low hot_high cold_low cold_high
+      (at_most_from_below rational_zero h of_cold.0) hot_below hot_above high low (of_hot.1 ∙ sym of_cold.1))
 
   pub hot_share_at_least : (hot cold : SideRun) → HasDuty duty hot → HasDuty duty cold → IsNowhereBelow hot cold
       → IsAtMost (share from_itself duty cold) (share from_itself duty hot)

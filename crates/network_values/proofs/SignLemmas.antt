@@ -27,15 +27,13 @@ module _ (case : Case) (network : Network) (values : Valuation) (view : View) (s
   released-least : (number : ℕ) (e : Exchanger) (s : Source) → RunsOnOneScale case network values number (record e { hot = s })
       → IsAtMost (share_in view e.duty (shifted_run side.Hot case network values number s)) (released_heat height network number e.duty s)
   released-least number e (source.Stream i) runs = at_most_from_same _ _ (sym (runs.released view i refl))
-  released-least number e (source.Utility i) runs =
-      (shares_parts view.from_itself (whole view.place) e.duty
+  released-least number e (source.Utility i) runs = (shares_parts view.from_itself (whole view.place) e.duty
       (shifted_run side.Hot case network values number (source.Utility i)) runs.positive runs.hot_duty).most
 
   absorbed-most : (number : ℕ) (e : Exchanger) (s : Source) → RunsOnOneScale case network values number (record e { cold = s })
       → IsAtMost (absorbed_heat height network number s) (share_in view e.duty (shifted_run side.Cold case network values number s))
   absorbed-most number e (source.Stream i) runs = at_most_from_same _ _ (runs.absorbed view i refl)
-  absorbed-most number e (source.Utility i) runs =
-      (shares_parts view.from_itself (whole view.place) e.duty
+  absorbed-most number e (source.Utility i) runs = (shares_parts view.from_itself (whole view.place) e.duty
       (shifted_run side.Cold case network values number (source.Utility i)) runs.positive runs.cold_duty).least
 
   exchanger_sign : (number : ℕ) (e : Exchanger) → slice_get (exchangers_of network.lines) number ≡ Some e → KeepsApproach case network values number e
@@ -74,15 +72,13 @@ penalties_sign case network values view shape whole_values apart = no_negative c
 
 pub deficits_met : DeficitsAreMet
 deficits_met case network values view streams shape whole_values ended apart =
-    at_most_from_not_negative (whole (deficit_over view.from_itself case.streams view.place)) (hot_heat network)
-    (subst (IsAtMost rational_zero) (penalties_sum case network values view streams shape whole_values ended)
-    (sum_sign case network values view shape whole_values apart))
+    at_most_from_not_negative (whole (deficit_over view.from_itself case.streams view.place)) (hot_heat network) (subst (IsAtMost rational_zero)
+    (penalties_sum case network values view streams shape whole_values ended) (sum_sign case network values view shape whole_values apart))
 
 -- ---- the targets
 
 hot_heat-least : (case : Case) (network : Network) → HasShape case network → IsAtMost rational_zero (hot_heat network)
-hot_heat-least case network shape =
-    not_negative-rational_sum_by hot_duty (exchangers_of network.lines)
+hot_heat-least case network shape = not_negative-rational_sum_by hot_duty (exchangers_of network.lines)
     (λ k d within. of_source (get_or (exchangers_of network.lines) k d) (shape.exchangers.each k d within))
   where
     by : (duty : Rational) → IsBelow rational_zero duty → (s : Source) → IsAtMost rational_zero (utility_part duty s)
@@ -94,12 +90,11 @@ hot_heat-least case network shape =
 
 -- the hot target is 0, or one of both deficits at some end
 pub targets_met : TargetsAreMet
-targets_met case network values valid shape whole_values ended apart = let streams = case.streams in let ends = stream_ends streams in
-    let IsMet = λ (d : ℤ). IsAtMost (whole d) (hot_heat network) in
-    let met : (from_itself : Bool) (t : ℤ) → IsMet (deficit_over from_itself streams t) =
-    λ from_itself t. deficits_met case network values (record { place = t; from_itself = from_itself }) valid shape whole_values ended apart in
+targets_met case network values valid shape whole_values ended apart =
+    let streams = case.streams in let ends = stream_ends streams in let IsMet = λ (d : ℤ). IsAtMost (whole d) (hot_heat network) in
+    let met : (from_itself : Bool) (t : ℤ) → IsMet (deficit_over from_itself streams t) = λ from_itself t. deficits_met case network values
+    (record { place = t; from_itself = from_itself }) valid shape whole_values ended apart in
     let all_met = λ (from_itself : Bool). All-map IsMet (deficit_over from_itself streams) ends (λ k d within. met from_itself (get_or ends k d)) in
     let each : All IsMet (end_deficits streams) = All-append IsMet _ _ (all_met false) (all_met true) in
-    not_negative-minus (whole (hot_target streams)) (hot_heat network)
-    (⊎_elim (λ none. subst IsMet (sym none) (hot_heat-least case network shape)) (λ (k, within, is). subst IsMet is (each k (hot_target streams) within))
-    (fold-int_max_reached (pos 0) (end_deficits streams) (hot_target streams) refl))
+    not_negative-minus (whole (hot_target streams)) (hot_heat network) (⊎_elim (λ none. subst IsMet (sym none) (hot_heat-least case network shape))
+    (λ (k, within, is). subst IsMet is (each k (hot_target streams) within)) (fold-int_max_reached (pos 0) (end_deficits streams) (hot_target streams) refl))

@@ -120,15 +120,13 @@ made_place case network n values l is numbers j inside = numbers.made j inside �
 -- and solves the line's equations, behind the values before it
 made_solves : (case : Case) (network : Network) (n : ℕ) (values : Valuation) (l : Line) → IsValuation case network n values → HasNumbers case network n l
     → Solves case network (values ++ made_values case network values l) l
-made_solves case network n values (line.Split from first cp second) is numbers = let v = value_at values from in
-    let all = values ++ first_part v cp ∷ second_part v cp ∷ [] in
+made_solves case network n values (line.Split from first cp second) is numbers =
+    let v = value_at values from in let all = values ++ first_part v cp ∷ second_part v cp ∷ [] in
     let before = (agree-append values (first_part v cp ∷ second_part v cp ∷ [])).same from (omega (arith, numbers.used 0 0 (omega arith), is.count)) in
-    let one : value_at all first ≡ first_part v cp = ap (value_at all)
-    (made_place case network n values (line.Split from first cp second) is numbers 0 (omega arith))
-    ∙ get_or-append-add values (first_part v cp ∷ second_part v cp ∷ []) 0 no_value in
-    let two : value_at all second ≡ second_part v cp = ap (value_at all)
-    (made_place case network n values (line.Split from first cp second) is numbers 1 (omega arith))
-    ∙ get_or-append-add values (first_part v cp ∷ second_part v cp ∷ []) 1 no_value in
+    let one : value_at all first ≡ first_part v cp = ap (value_at all) (made_place case network n values (line.Split from first cp second) is numbers 0
+    (omega arith)) ∙ get_or-append-add values (first_part v cp ∷ second_part v cp ∷ []) 0 no_value in
+    let two : value_at all second ≡ second_part v cp = ap (value_at all) (made_place case network n values (line.Split from first cp second) is numbers 1
+    (omega arith)) ∙ get_or-append-add values (first_part v cp ∷ second_part v cp ∷ []) 1 no_value in
     subst (λ a. IsSplit a (value_at all first) (value_at all second) cp) before (subst (λ a. IsSplit v a (value_at all second) cp) (sym one)
     (subst (λ a. IsSplit v (first_part v cp) a cp) (sym two) (split_solved v cp)))
 made_solves case network n values (line.Pass from exchanger to) is numbers =
@@ -138,9 +136,8 @@ made_solves case network n values (line.Pass from exchanger to) is numbers =
     ∙ get_or-append-add values (behind ∷ []) 0 no_value in
     subst (λ a. IsPass of duty a (value_at all to)) ((agree-append values (behind ∷ [])).same from (omega (arith, used, is.count)))
     (subst (λ a. IsPass of duty v a) (sym one) (pass_solved of v duty (branch_positive case network n values is from used)))
-made_solves case network n values (line.Mix first second to) is numbers =
-    let a = value_at values first in let b = value_at values second in let both = mixed_value a b in let all = values ++ both ∷ [] in
-    let first_used : first < made_before case network n = numbers.used 0 0 (omega arith) in
+made_solves case network n values (line.Mix first second to) is numbers = let a = value_at values first in let b = value_at values second in
+    let both = mixed_value a b in let all = values ++ both ∷ [] in let first_used : first < made_before case network n = numbers.used 0 0 (omega arith) in
     let second_used : second < made_before case network n = numbers.used 1 0 (omega arith) in let agree = agree-append values (both ∷ []) in
     let one : value_at all to ≡ both = ap (value_at all) (made_place case network n values (line.Mix first second to) is numbers 0 (omega arith))
     ∙ get_or-append-add values (both ∷ []) 0 no_value in
@@ -153,9 +150,8 @@ made_solves case network n values l is numbers = tt
 
 pub valuation_more : (case : Case) (network : Network) (n : ℕ) (values : Valuation) (l : Line) → HasShape case network → slice_get network.lines n ≡ Some l
     → IsValuation case network n values → LeavesRoom values l → IsValuation case network (suc n) (values ++ made_values case network values l)
-valuation_more case network n values l shape here is room =
-    let of = line_of shape n l here in let numbers = of.numbers in let made = made_values case network values l in
-    let many = length-made_values case network values l in let agree = agree-append values made in
+valuation_more case network n values l shape here is room = let of = line_of shape n l here in let numbers = of.numbers in
+    let made = made_values case network values l in let many = length-made_values case network values l in let agree = agree-append values made in
     record {
       within = of.at.within;
       count = omega (arith, length-append values made, many, numbers.next, is.count);
@@ -266,8 +262,7 @@ one_valuation case network (suc n) values other shape is is_other = let l = get_
 -- the front of a valuation of more lines
 pub valuation_front : (case : Case) (network : Network) (n more : ℕ) (values : Valuation) → HasShape case network → IsValuation case network (n + more) values
     → IsValuation case network n (front case network n values)
-valuation_front case network n zero values shape is = let same : n + 0 ≡ n = omega arith in
-    let own = subst (λ k. IsValuation case network k values) same is in
+valuation_front case network n zero values shape is = let same : n + 0 ≡ n = omega arith in let own = subst (λ k. IsValuation case network k values) same is in
     subst (IsValuation case network n) (sym (take_all (made_before case network n) values (omega (arith, own.count)))) own
 valuation_front case network n (suc more) values shape is = let next : n + suc more ≡ suc (n + more) = omega arith in
     let less = valuation_less case network (n + more) values shape (subst (λ k. IsValuation case network k values) next is) in

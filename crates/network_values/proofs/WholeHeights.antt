@@ -9,10 +9,8 @@ use Rattle.std.proofs.Common.{Bool, ap, ap₂, arith, false, if◌then◌else◌
 use Rattle.stream_case.specs.declared.source.Side.TheVariants as side
 
 whole_positive_part : (n : ℤ) → positive_part (whole n) ≡ whole (int_max n (pos 0))
-whole_positive_part n =
-    by_lt_z (pos 0) n (λ above. positive_part-above (whole n) (at_most-whole (pos 0) n (omega (arith, ints, above)))
-    ∙ ap whole (omega (arith, ints, clamps, above)))
-    (λ upto. positive_part-below (whole n) (at_most-whole n (pos 0) upto) ∙ ap whole (omega (arith, ints, clamps, upto)))
+whole_positive_part n = by_lt_z (pos 0) n (λ above. positive_part-above (whole n) (at_most-whole (pos 0) n (omega (arith, ints, above))) ∙ ap whole
+    (omega (arith, ints, clamps, above))) (λ upto. positive_part-below (whole n) (at_most-whole n (pos 0) upto) ∙ ap whole (omega (arith, ints, clamps, upto)))
 
 whole_height : (cp t base : ℤ) → height (whole cp) (minus (whole t) (whole base)) ≡ whole (cp *ℤ int_max (t -ℤ base) (pos 0))
 whole_height cp t base = ap (λ x. times (whole cp) (positive_part x)) (whole-minus t base) ∙ ap (times (whole cp)) (whole_positive_part (t -ℤ base))
@@ -56,6 +54,5 @@ high_end-latent s h = by s.side
 -- the level of a latent stream, by its distance and by its shifted temperature
 pub level_counts : (from_itself : Bool) (place : ℤ) (s : Stream) → IsLatent s
     → is_above from_itself (minus (whole s.supply) (base_of place s)) ≡ counts_above from_itself place (high_end s)
-level_counts from_itself place s latent =
-    is_above-whole from_itself (unshifted s.side place s.contribution) s.supply ∙ counts_above-unshifted from_itself s.side place s.supply s.contribution
-    ∙ ap (counts_above from_itself place) (high_end-latent s latent)
+level_counts from_itself place s latent = is_above-whole from_itself (unshifted s.side place s.contribution) s.supply
+    ∙ counts_above-unshifted from_itself s.side place s.supply s.contribution ∙ ap (counts_above from_itself place) (high_end-latent s latent)

@@ -54,19 +54,16 @@ module _ {X : Type 0} (R : X → X → Type 0) where
   -- in order, in order, and each of the first before each of the second
   pub AllPairs-append : (xs ys : List X) → AllPairs R xs → AllPairs R ys → All (λ x. All (R x) ys) xs → AllPairs R (xs ++ ys)
   AllPairs-append [] ys h k across = k
-  AllPairs-append (x ∷ xs) ys h k across =
-      AllPairs-cons R x (xs ++ ys) (All-append (R x) xs ys (AllPairs-head x xs h) (All-head (λ a. All (R a) ys) x xs across))
-      (AllPairs-append xs ys (AllPairs-tail x xs h) k (All-tail (λ a. All (R a) ys) x xs across))
+  AllPairs-append (x ∷ xs) ys h k across = AllPairs-cons R x (xs ++ ys) (All-append (R x) xs ys (AllPairs-head x xs h)
+      (All-head (λ a. All (R a) ys) x xs across)) (AllPairs-append xs ys (AllPairs-tail x xs h) k (All-tail (λ a. All (R a) ys) x xs across))
 
   -- each of the two lists, and an element of the first before those of the second
   pub AllPairs-front : (xs ys : List X) → AllPairs R (xs ++ ys) → AllPairs R xs
-  AllPairs-front xs ys pairs i j d before within =
-      subst₂ R (get_or_append_left xs ys d i (omega (arith, before, within))) (get_or_append_left xs ys d j within)
+  AllPairs-front xs ys pairs i j d before within = subst₂ R (get_or_append_left xs ys d i (omega (arith, before, within))) (get_or_append_left xs ys d j within)
       (pairs i j d before (omega (arith, within, length-append xs ys)))
 
   pub AllPairs-across : (xs ys : List X) (i : ℕ) (d : X) → AllPairs R (xs ++ ys) → i < length xs → All (R (get_or xs i d)) ys
-  AllPairs-across xs ys i d pairs early j e within =
-      subst₂ R (get_or_append_left xs ys e i early ∙ get_or_default xs i e d early) (get_or-append-add xs ys j e)
+  AllPairs-across xs ys i d pairs early j e within = subst₂ R (get_or_append_left xs ys e i early ∙ get_or_default xs i e d early) (get_or-append-add xs ys j e)
       (pairs i (length xs + j) e (omega (arith, early)) (omega (arith, within, length-append xs ys)))
 
   -- the elements before one
@@ -76,8 +73,7 @@ module _ {X : Type 0} (R : X → X → Type 0) where
 
 pub AllPairs-map : {X Y : Type 0} (R : Y → Y → Type 0) (f : X → Y) (xs : List X) → AllPairs (λ a b. R (f a) (f b)) xs → AllPairs R (map f xs)
 AllPairs-map R f [] pairs = AllPairs-nil R
-AllPairs-map R f (x ∷ xs) pairs =
-    AllPairs-cons R (f x) (map f xs) (All-map (R (f x)) f xs (AllPairs-head (λ a b. R (f a) (f b)) x xs pairs))
+AllPairs-map R f (x ∷ xs) pairs = AllPairs-cons R (f x) (map f xs) (All-map (R (f x)) f xs (AllPairs-head (λ a b. R (f a) (f b)) x xs pairs))
     (AllPairs-map R f xs (AllPairs-tail (λ a b. R (f a) (f b)) x xs pairs))
 
 -- ---- one list only

@@ -58,16 +58,14 @@ product_positive (negsuc a) b h k = absurd (omega (arith, ints))
 
 -- a factor that is not negative keeps an order
 pub *ℤ-≤ℤ_right : (c a b : ℤ) → pos 0 ≤ℤ c → a ≤ℤ b → (a *ℤ c) ≤ℤ (b *ℤ c)
-*ℤ-≤ℤ_right c a b h le = let more = product_not_negative (b -ℤ a) c (omega (arith, ints)) h in
-    let split = -ℤ-*ℤ b a c in omega (arith, ints)
+*ℤ-≤ℤ_right c a b h le = let more = product_not_negative (b -ℤ a) c (omega (arith, ints)) h in let split = -ℤ-*ℤ b a c in omega (arith, ints)
 
 pub *ℤ-≤ℤ_left : (c a b : ℤ) → pos 0 ≤ℤ c → a ≤ℤ b → (c *ℤ a) ≤ℤ (c *ℤ b)
 *ℤ-≤ℤ_left c a b h le = rw (*ℤ_comm c a, *ℤ_comm c b) (*ℤ-≤ℤ_right c a b h le)
 
 -- one that is above 0 keeps it strictly
 pub *ℤ-<ℤ_right : (c a b : ℤ) → pos 0 <ℤ c → a <ℤ b → (a *ℤ c) <ℤ (b *ℤ c)
-*ℤ-<ℤ_right c a b h less = let more = product_positive (b -ℤ a) c (omega (arith, ints)) h in
-    let split = -ℤ-*ℤ b a c in omega (arith, ints)
+*ℤ-<ℤ_right c a b h less = let more = product_positive (b -ℤ a) c (omega (arith, ints)) h in let split = -ℤ-*ℤ b a c in omega (arith, ints)
 
 -- and one that is at most 0 turns it
 pub *ℤ-≤ℤ_turned : (a b c : ℤ) → a ≤ℤ pos 0 → c ≤ℤ b → (a *ℤ b) ≤ℤ (a *ℤ c)

@@ -132,14 +132,11 @@ module _ {X : Type 0} where
       → int_sum_from f k xs ≡ f n (get_or xs (n - k) d)
   int_sum_from-single f n k [] d from within h = absurd (omega arith)
   int_sum_from-single f n k (x ∷ xs) d from within h =
-      ⊎_elim (λ e.
-      let rest = int_sum_from-zero f (suc k) xs (λ i y later. h i y (omega arith)) in
-      let first : f n (get_or (x ∷ xs) (n - k) d) ≡ f k x = ap₂ f (sym e) (ap (λ i. get_or (x ∷ xs) i d) {x = n - k} {y = 0} (omega arith)) in
-      omega (arith, ints)) (λ other.
-      let first = h k x other in let rest = int_sum_from-single f n (suc k) xs d (omega arith) (omega arith) h in
-      let here : get_or (x ∷ xs) (n - k) d ≡ get_or xs (n - suc k) d = ap (λ i. get_or (x ∷ xs) i d) {x = n - k} {y = suc (n - suc k)} (omega arith) in
-      let term = ap (f n) here in
-      omega (arith, ints)) (cases_eq k n)
+      ⊎_elim (λ e. let rest = int_sum_from-zero f (suc k) xs (λ i y later. h i y (omega arith)) in let first : f n (get_or (x ∷ xs) (n - k) d) ≡ f k x = ap₂ f
+      (sym e) (ap (λ i. get_or (x ∷ xs) i d) {x = n - k} {y = 0} (omega arith)) in omega (arith, ints))
+      (λ other. let first = h k x other in let rest = int_sum_from-single f n (suc k) xs d (omega arith) (omega arith) h in let here : get_or (x ∷ xs)
+      (n - k) d ≡ get_or xs (n - suc k) d = ap (λ i. get_or (x ∷ xs) i d) {x = n - k} {y = suc (n - suc k)}
+      (omega arith) in let term = ap (f n) here in omega (arith, ints)) (cases_eq k n)
 
   -- the same for terms that depend on the index alone
   int_sum_from-one_index : (f : ℕ → ℤ) (n : ℕ) (xs : List X) → n < length xs → ((i : ℕ) → i ≢ n → f i ≡ pos 0) → int_sum_from (λ i x. f i) 0 xs ≡ f n
