@@ -6,7 +6,7 @@ use Rattle.network_values.proofs.Words.{count-passages, declared_parts, enumerat
 use Rattle.network_values.proofs.Words.{option_map_or, outlet_height, pass_loss, pass_of, plus, plus-zero, range_with_len, rational_sum_by, rational_zero}
 use Rattle.network_values.proofs.Words.{same_Some, side_of, slice_get-append, slice_get-get_or, slice_get_within, stands_at, stream_at, zero-plus}
 use Rattle.network_values.proofs.WholeLemmas.{All-range}
-use Rattle.std.proofs.Common.{Bool, None, Option, Some, ap, ap₂, arith, count_by, drop, eq-eqb, false, find, get_or, if◌then◌else◌, inl, inr, length, ne_eqb}
+use Rattle.std.proofs.Common.{Bool, Option, Some, ap, ap₂, arith, count_by, drop, eq-eqb, false, find, get_or, if◌then◌else◌, inl, inr, length, ne_eqb}
 use Rattle.std.proofs.Common.{refl, slice_get, subst, suc, sym, take, true, ℕ, ◌&&◌, ◌++◌, ◌<◌, ◌==◌, ◌∙◌, ◌∷◌, ◌≡◌, ◌≢◌, ◌⊎◌}
 use Rattle.networks.specs.declared.network.Line.TheVariants as line
 use Rattle.stream_case.specs.declared.source.Side.TheVariants as side

@@ -120,8 +120,4 @@ ListsFalling-unique = Lists-unique (λ a b. b <ℤ a) (λ a b h k. omega (arith,
 -- the same list for members that are said in another way
 pub Lists-same : {X : Type 0} (before : X → X → Type 0) (P Q : X → Type 0) (xs : List X) → ((x : X) → P x → Q x) → ((x : X) → Q x → P x) → Lists before P xs
     → Lists before Q xs
-Lists-same before P Q xs there back h = record {
-  ordered = h.ordered;
-  each = All-weaker P Q there xs h.each;
-  every = λ x q. h.every x (back x q);
-}
+Lists-same before P Q xs there back h = record { ordered = h.ordered; each = All-weaker P Q there xs h.each; every = λ x q. h.every x (back x q) }
