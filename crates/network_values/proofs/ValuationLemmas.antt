@@ -1,13 +1,13 @@
 -- Valuations of the first lines: with one line less and with one more, and that there is at most one.
 use Rattle.network_values.proofs.Words.{All-append, All-cons, All-map, All-nil, All-push, All-take, All-weaker, AreStreams-IsComplete, BranchValue, Case}
-use Rattle.network_values.proofs.Words.{HasNumbers, HasPositiveFlow, HasShape, IsBelow, IsComplete, IsMix, IsPass, IsSplit, IsValidStream, IsValuation}
+use Rattle.network_values.proofs.Words.{HasNumbers, HasPositiveFlow, HasShape, IsBelow, IsComplete, IsValidStream, IsValuation}
 use Rattle.network_values.proofs.Words.{LeaveRoom, LeavesRoom, Line, Network, Solves, Valuation, all_at, branch_side, duty_at, first_part, first_value, front}
-use Rattle.network_values.proofs.Words.{full_size, length-map, line_at, line_of, made_before, made_by, made_fewer, made_values, makes, mixed_value, no_value}
+use Rattle.network_values.proofs.Words.{full_size, get_or-map, length-map, line_at, line_of, made_before, made_by, made_fewer, made_values, makes, mixed_value, no_value}
 use Rattle.network_values.proofs.Words.{passed_value, positive-is, positive-minus, rational_zero, second_part, slice_get-get_or, slice_get-take, uses}
 use Rattle.network_values.proofs.Words.{value_at}
 use Rattle.network_values.proofs.LineLemmas.{mix_determined, mix_solved, mixed_positive, pass_determined, pass_solved, split_determined, split_solved}
 use Rattle.network_values.proofs.StreamStates.{full_size-positive}
-use Rattle.std.proofs.Common.{All, List, Some, [], ap, arith, drop, get_or, length, length-append, map, refl, slice_get, subst, suc, sym, take, zero, ℕ, ◌++◌}
+use Rattle.std.proofs.Common.{All, List, Some, [], ap, ap₂, arith, drop, get_or, length, length-append, map, refl, slice_get, subst, suc, sym, take, zero, ℕ, ◌++◌}
 use Rattle.std.proofs.Common.{◌+◌, ◌-◌, ◌<◌, ◌∙◌, ◌∷◌, ◌≡◌, ◌≤◌}
 use Rattle.std.proofs.lemmas.List.{ext_get_or, get_or-append-add, get_or-drop, get_or-take, get_or_append_left, length-drop, length-take, take-append-drop}
 use Rattle.std.proofs.lemmas.List.{take-append-le, take-take, take_all}
@@ -43,17 +43,13 @@ agree-append values more = record { same = λ branch early. sym (get_or_append_l
 pub solves_same : (case : Case) (network : Network) (values other : Valuation) (m : ℕ) (l : Line) → AgreeBelow values other m → AreBelow m l
     → Solves case network values l → Solves case network other l
 solves_same case network values other m (line.Split from first cp second) agree below solved =
-    let one = subst (λ v. IsSplit v (value_at values first) (value_at values second) cp) (agree.same from (below.used 0 0 (omega arith))) solved in
-    let two = subst (λ v. IsSplit (value_at other from) v (value_at values second) cp) (agree.same first (below.made 0 0 (omega arith))) one in
-    subst (λ v. IsSplit (value_at other from) (value_at other first) v cp) (agree.same second (below.made 1 0 (omega arith))) two
+    rw (sym (agree.same from (below.used 0 0 (omega arith))), sym (agree.same first (below.made 0 0 (omega arith))),
+    sym (agree.same second (below.made 1 0 (omega arith)))) solved
 solves_same case network values other m (line.Pass from exchanger to) agree below solved =
-    let of = branch_side case network from in let duty = duty_at network exchanger in
-    let one = subst (λ v. IsPass of duty v (value_at values to)) (agree.same from (below.used 0 0 (omega arith))) solved in
-    subst (λ v. IsPass of duty (value_at other from) v) (agree.same to (below.made 0 0 (omega arith))) one
+    rw (sym (agree.same from (below.used 0 0 (omega arith))), sym (agree.same to (below.made 0 0 (omega arith)))) solved
 solves_same case network values other m (line.Mix first second to) agree below solved =
-    let one = subst (λ v. IsMix v (value_at values second) (value_at values to)) (agree.same first (below.used 0 0 (omega arith))) solved in
-    let two = subst (λ v. IsMix (value_at other first) v (value_at values to)) (agree.same second (below.used 1 0 (omega arith))) one in
-    subst (λ v. IsMix (value_at other first) (value_at other second) v) (agree.same to (below.made 0 0 (omega arith))) two
+    rw (sym (agree.same first (below.used 0 0 (omega arith))), sym (agree.same second (below.used 1 0 (omega arith))),
+    sym (agree.same to (below.made 0 0 (omega arith)))) solved
 solves_same case network values other m l agree below solved = tt
 
 -- a line's branches are made by it and the lines before it
@@ -112,40 +108,33 @@ made_positive case network n values (line.Mix first second to) is numbers flow r
     (All-nil P)
 made_positive case network n values l is numbers flow room = All-nil (λ v. IsBelow rational_zero v.cp)
 
--- it has the next numbers
-made_place : (case : Case) (network : Network) (n : ℕ) (values : Valuation) (l : Line) → IsValuation case network n values → HasNumbers case network n l
-    → (j : ℕ) → j < length (makes l) → get_or (makes l) j 0 ≡ length values + j
-made_place case network n values l is numbers j inside = numbers.made j inside ∙ ap (λ k. k + j) (sym is.count)
+-- it is found behind the values before it
+made_found : (case : Case) (network : Network) (n : ℕ) (values : Valuation) (l : Line) → IsValuation case network n values → HasNumbers case network n l → (j : ℕ)
+    → j < length (makes l) → value_at (values ++ made_values case network values l) (get_or (makes l) j 0) ≡ get_or (made_values case network values l) j no_value
+made_found case network n values l is numbers j inside =
+    let made = made_values case network values l in
+    ap (value_at (values ++ made)) (numbers.made j inside ∙ ap (λ k. k + j) (sym is.count)) ∙ get_or-append-add values made j no_value
 
--- and solves the line's equations, behind the values before it
+-- and solves the line's equations
 made_solves : (case : Case) (network : Network) (n : ℕ) (values : Valuation) (l : Line) → IsValuation case network n values → HasNumbers case network n l
     → Solves case network (values ++ made_values case network values l) l
 made_solves case network n values (line.Split from first cp second) is numbers =
-    let v = value_at values from in let all = values ++ first_part v cp ∷ second_part v cp ∷ [] in
-    let before = (agree-append values (first_part v cp ∷ second_part v cp ∷ [])).same from (omega (arith, numbers.used 0 0 (omega arith), is.count)) in
-    let one : value_at all first ≡ first_part v cp = ap (value_at all) (made_place case network n values (line.Split from first cp second) is numbers 0
-    (omega arith)) ∙ get_or-append-add values (first_part v cp ∷ second_part v cp ∷ []) 0 no_value in
-    let two : value_at all second ≡ second_part v cp = ap (value_at all) (made_place case network n values (line.Split from first cp second) is numbers 1
-    (omega arith)) ∙ get_or-append-add values (first_part v cp ∷ second_part v cp ∷ []) 1 no_value in
-    subst (λ a. IsSplit a (value_at all first) (value_at all second) cp) before (subst (λ a. IsSplit v a (value_at all second) cp) (sym one)
-    (subst (λ a. IsSplit v (first_part v cp) a cp) (sym two) (split_solved v cp)))
+    let l = line.Split from first cp second in let v = value_at values from in
+    let before = (agree-append values (made_values case network values l)).same from (omega (arith, numbers.used 0 0 (omega arith), is.count)) in
+    let found = made_found case network n values l is numbers in rw (sym before, found 0 (omega arith), found 1 (omega arith)) (split_solved v cp)
 made_solves case network n values (line.Pass from exchanger to) is numbers =
-    let v = value_at values from in let of = branch_side case network from in let duty = duty_at network exchanger in
-    let behind = passed_value of v duty in let all = values ++ behind ∷ [] in let used : from < made_before case network n = numbers.used 0 0 (omega arith) in
-    let one : value_at all to ≡ behind = ap (value_at all) (made_place case network n values (line.Pass from exchanger to) is numbers 0 (omega arith))
-    ∙ get_or-append-add values (behind ∷ []) 0 no_value in
-    subst (λ a. IsPass of duty a (value_at all to)) ((agree-append values (behind ∷ [])).same from (omega (arith, used, is.count)))
-    (subst (λ a. IsPass of duty v a) (sym one) (pass_solved of v duty (branch_positive case network n values is from used)))
-made_solves case network n values (line.Mix first second to) is numbers = let a = value_at values first in let b = value_at values second in
-    let both = mixed_value a b in let all = values ++ both ∷ [] in let first_used : first < made_before case network n = numbers.used 0 0 (omega arith) in
-    let second_used : second < made_before case network n = numbers.used 1 0 (omega arith) in let agree = agree-append values (both ∷ []) in
-    let one : value_at all to ≡ both = ap (value_at all) (made_place case network n values (line.Mix first second to) is numbers 0 (omega arith))
-    ∙ get_or-append-add values (both ∷ []) 0 no_value in
-    let positive = mixed_positive a b (branch_positive case network n values is first first_used)
-    (branch_positive case network n values is second second_used) in
-    subst (λ v. IsMix v (value_at all second) (value_at all to)) (agree.same first (omega (arith, first_used, is.count)))
-    (subst (λ v. IsMix a v (value_at all to)) (agree.same second (omega (arith, second_used, is.count)))
-    (subst (λ v. IsMix a b v) (sym one) (mix_solved a b positive)))
+    let l = line.Pass from exchanger to in let used : from < made_before case network n = numbers.used 0 0 (omega arith) in
+    let before = (agree-append values (made_values case network values l)).same from (omega (arith, used, is.count)) in
+    rw (sym before, made_found case network n values l is numbers 0 (omega arith))
+    (pass_solved (branch_side case network from) (value_at values from) (duty_at network exchanger) (branch_positive case network n values is from used))
+made_solves case network n values (line.Mix first second to) is numbers =
+    let l = line.Mix first second to in let agree = (agree-append values (made_values case network values l)).same in
+    let one : first < made_before case network n = numbers.used 0 0 (omega arith) in
+    let two : second < made_before case network n = numbers.used 1 0 (omega arith) in
+    let some = mixed_positive (value_at values first) (value_at values second) (branch_positive case network n values is first one)
+    (branch_positive case network n values is second two) in
+    rw (sym (agree first (omega (arith, one, is.count))), sym (agree second (omega (arith, two, is.count))),
+    made_found case network n values l is numbers 0 (omega arith)) (mix_solved (value_at values first) (value_at values second) some)
 made_solves case network n values l is numbers = tt
 
 pub valuation_more : (case : Case) (network : Network) (n : ℕ) (values : Valuation) (l : Line) → HasShape case network → slice_get network.lines n ≡ Some l
@@ -175,42 +164,25 @@ pub record EndsIn (case : Case) (network : Network) (n : ℕ) (l : Line) (values
 
 -- what a line makes is found where it made it, and its split left something
 record IsDetermined (case : Case) (network : Network) (values before : Valuation) (l : Line) : Type 0 where
-  made : (j : ℕ) → j < length (makes l) → value_at values (get_or (makes l) j 0) ≡ get_or (made_values case network before l) j no_value
+  made : map (value_at values) (makes l) ≡ made_values case network before l
   room : LeavesRoom before l
-
-one_made : (values : Valuation) (branch : ℕ) (v : BranchValue) → value_at values branch ≡ v → (j : ℕ) → j < 1
-    → value_at values (get_or (branch ∷ []) j 0) ≡ get_or (v ∷ []) j no_value
-one_made values branch v is zero inside = is
-one_made values branch v is (suc j) inside = absurd (omega (arith, inside))
-
-two_made : (values : Valuation) (a b : ℕ) (v w : BranchValue) → value_at values a ≡ v → value_at values b ≡ w → (j : ℕ) → j < 2
-    → value_at values (get_or (a ∷ b ∷ []) j 0) ≡ get_or (v ∷ w ∷ []) j no_value
-two_made values a b v w one two zero inside = one
-two_made values a b v w one two (suc zero) inside = two
-two_made values a b v w one two (suc (suc j)) inside = absurd (omega (arith, inside))
 
 line_determined : (case : Case) (network : Network) (values before : Valuation) (l : Line) → AgreeBelow values before (length before)
     → All (λ b. b < length before) (uses l) → AreBelow (length values) l → All (λ v. IsBelow rational_zero v.cp) before
     → All (λ v. IsBelow rational_zero v.cp) values → Solves case network values l → IsDetermined case network values before l
-line_determined case network values before (line.Split from first cp second) agree used below early positive solved = let v = value_at before from in
-    let split = subst (λ a. IsSplit a (value_at values first) (value_at values second) cp) (agree.same from (used 0 0 (omega arith))) solved in
-    let parts = split_determined v (value_at values first) (value_at values second) cp split in
-    record {
-      made = two_made values first second (first_part v cp) (second_part v cp) parts.first_is parts.second_is;
-      room = parts.room (positive second no_value (below.made 1 0 (omega arith)));
-    }
+line_determined case network values before (line.Split from first cp second) agree used below early positive solved =
+    let split = rw (agree.same from (used 0 0 (omega arith))) at solved in
+    let parts = split_determined (value_at before from) (value_at values first) (value_at values second) cp split in
+    record { made = ap₂ (λ a b. a ∷ b ∷ []) parts.first_is parts.second_is; room = parts.room (positive second no_value (below.made 1 0 (omega arith))) }
 line_determined case network values before (line.Pass from exchanger to) agree used below early positive solved =
-    let v = value_at before from in let of = branch_side case network from in let duty = duty_at network exchanger in
-    let pass = subst (λ a. IsPass of duty a (value_at values to)) (agree.same from (used 0 0 (omega arith))) solved in
-    let behind = pass_determined of v (value_at values to) duty (early from no_value (used 0 0 (omega arith))) pass in
-    record { made = one_made values to (passed_value of v duty) behind; room = tt }
+    let pass = rw (agree.same from (used 0 0 (omega arith))) at solved in let some = early from no_value (used 0 0 (omega arith)) in
+    record { made = ap (λ a. a ∷ []) (pass_determined _ (value_at before from) (value_at values to) (duty_at network exchanger) some pass); room = tt }
 line_determined case network values before (line.Mix first second to) agree used below early positive solved =
+    let mix = rw (agree.same first (used 0 0 (omega arith)), agree.same second (used 1 0 (omega arith))) at solved in
     let a = value_at before first in let b = value_at before second in
-    let one = subst (λ v. IsMix v (value_at values second) (value_at values to)) (agree.same first (used 0 0 (omega arith))) solved in
-    let mix = subst (λ v. IsMix a v (value_at values to)) (agree.same second (used 1 0 (omega arith))) one in
     let some = mixed_positive a b (early first no_value (used 0 0 (omega arith))) (early second no_value (used 1 0 (omega arith))) in
-    record { made = one_made values to (mixed_value a b) (mix_determined a b (value_at values to) some mix); room = tt }
-line_determined case network values before l agree used below early positive solved = record { made = λ j inside. absurd (omega (arith, inside)); room = tt }
+    record { made = ap (λ v. v ∷ []) (mix_determined a b (value_at values to) some mix); room = tt }
+line_determined case network values before l agree used below early positive solved = record { made = refl; room = tt }
 
 pub valuation_ends : (case : Case) (network : Network) (n : ℕ) (values : Valuation) (l : Line) → HasShape case network → slice_get network.lines n ≡ Some l
     → IsValuation case network (suc n) values → EndsIn case network n l values
@@ -225,7 +197,8 @@ valuation_ends case network n values l shape here is = let m = made_before case 
     let long : length (drop m values) ≡ length (made_values case network before l) = omega (arith, length-drop m values, is.count, numbers.next, many) in
     let last : drop m values ≡ made_values case network before l = ext_get_or no_value (drop m values) (made_values case network before l) long (λ j inside.
     let within : j < length (makes l) = omega (arith, inside, long, many) in
-    get_or-drop m values j no_value ∙ ap (value_at values) (sym (numbers.made j within)) ∙ determined.made j within) in
+    get_or-drop m values j no_value ∙ ap (value_at values) (sym (numbers.made j within)) ∙ sym (get_or-map (value_at values) (makes l) j 0 no_value within)
+    ∙ ap (λ vs. get_or vs j no_value) determined.made) in
     record { parts = sym (take-append-drop m values) ∙ ap (λ vs. before ++ vs) last; room = determined.room }
 
 -- ---- the start, and that there is at most one
