@@ -4,7 +4,7 @@ use Rattle.network_values.proofs.Words.{PassesTakeShares, Rational, Sensible, Sh
 use Rattle.network_values.proofs.Words.{at_most_from_below, at_most_from_same, at_most_refl, height, height_above, height_on, high_of, is_above, low_of, minus}
 use Rattle.network_values.proofs.Words.{minus-interchange, minus-minus_same, minus-self, not_negative-plus, not_negative-times, plus, plus-times, plus-zero}
 use Rattle.network_values.proofs.Words.{positive-plus, positive_part, rational_zero, seen_from, share, side_on, subst₂, times, times-minus}
-use Rattle.std.proofs.Common.{Bool, ap, ap₂, false, if◌then◌else◌, refl, subst, sym, true, ◌∙◌, ◌≡◌}
+use Rattle.std.proofs.Common.{Bool, ap, ap₂, arith, false, if◌then◌else◌, refl, subst, sym, true, ◌∙◌, ◌≡◌}
 use Rattle.network_values.proofs.HeightLemmas.{at_most-positive_part, not_negative-positive_part, positive_part-least, times-positive_part}
 use Rattle.network_values.proofs.ShareLemmas.{HasDuty-seen, high_of-seen, hot_share_at_least, is_above-itself, low_of-seen}
 
@@ -63,11 +63,7 @@ pub height_on-additive : (from_itself : Bool) (course : Course) (f g t : Rationa
     → height_on from_itself course (record { cp = plus f g; t = t }) ≡ plus (height_on from_itself course (record { cp = f; t = t }))
     (height_on from_itself course (record { cp = g; t = t }))
 height_on-additive from_itself (Sensible base) f g t = plus-times f g (positive_part (minus t base))
-height_on-additive from_itself (Latent distance) f g t = by (is_above from_itself distance)
-  where
-    by : (b : Bool) → (if b then times (plus f g) t else rational_zero) ≡ plus (if b then times f t else rational_zero) (if b then times g t else rational_zero)
-    by true = plus-times f g t
-    by false = sym (plus-zero rational_zero)
+height_on-additive from_itself (Latent distance) f g t = grind (arith, plus-times, plus-zero)
 
 pub passes_take : PassesTakeShares
 passes_take = record { has_duty = has_duty-on; takes = takes-on; mixes = height_on-mixed; additive = height_on-additive }

@@ -1,10 +1,10 @@
 -- The sum of all penalties.
 use Rattle.fractions.proofs.RationalSums.{rational_sum_by-plus, rational_sum_by-whole, sum-enumerated, sum-items}
-use Rattle.network_values.proofs.Words.{*ℤ--ℤ, Case, CountsFromItself, Exchanger, HasShape, HasTightDeficit, IsAdditive, IsLatent, IsSensible, IsTrue}
+use Rattle.network_values.proofs.Words.{*ℤ--ℤ, Case, CountsFromItself, Exchanger, HasShape, HasTightDeficit, IsAdditive, IsLatent, IsTrue}
 use Rattle.network_values.proofs.Words.{IsValidStream, Latent, Network, Rational, Sensible, Side, Source, Stream, View, all_at, by_lt_z, by_three}
-use Rattle.network_values.proofs.Words.{counts_above, deficit_above, deficit_over, enumerate_from, exchangers_of, first_part_of_load, first_value, full_size}
+use Rattle.network_values.proofs.Words.{counts_above, deficit_above, deficit_over, enumerate_from, exchangers_of, first_part_of_load, first_value}
 use Rattle.network_values.proofs.Words.{heat_over-latent, heat_over-sensible, height_on, high_end, hot_target, hot_target-bound, inlet_height, int_max}
-use Rattle.network_values.proofs.Words.{int_sum_by, int_sum_by-sub, ints, is_latent, is_latent-latent, is_latent-sensible, last_part_of_load, last_value}
+use Rattle.network_values.proofs.Words.{int_sum_by, int_sum_by-sub, ints, is_latent-latent, is_latent-sensible, last_part_of_load, last_value}
 use Rattle.network_values.proofs.Words.{minus, minus-self, minus-zero, one_denominator, outlet_height, pass_loss, pass_of, plus, plus-zero, plus_assoc, ratio}
 use Rattle.network_values.proofs.Words.{rational_sum_by, rational_zero, same_side, stream_loss, sum_side, times, whole, whole-minus, whole-times, zero-plus}
 use Rattle.network_values.proofs.CourseLemmas.{height_on-additive}
@@ -34,8 +34,7 @@ abbrev lost : ℤ → ℤ → ℤ → ℤ
 lost cp x y = cp *ℤ (int_max x (pos 0) -ℤ int_max y (pos 0))
 
 lost_turned : (cp x y : ℤ) → lost cp x y ≡ pos 0 -ℤ lost cp y x
-lost_turned cp x y = let a = int_max x (pos 0) in let b = int_max y (pos 0) in
-    let one = *ℤ--ℤ cp a b in let two = *ℤ--ℤ cp b a in omega (arith, ints, one, two)
+lost_turned cp x y = omega (arith, ints, *ℤ--ℤ cp (int_max x (pos 0)) (int_max y (pos 0)), *ℤ--ℤ cp (int_max y (pos 0)) (int_max x (pos 0)))
 
 sensible_given : (view : View) (s : Stream) → given_back view s false (whole s.cp) ≡ whole (given_by s.side (sensible_above view.place s))
 sensible_given view s = by s.side
@@ -65,15 +64,11 @@ latent_given view s latent = ap (load_lost s.side s.load) (level_counts view.fro
     (counts_above view.from_itself view.place (high_end s)) s.load
 
 pub stream_given : StreamsGiveTheirHeat
-stream_given view s valid = ⊎_elim sensible latent valid.heat
-  where
-    sensible : IsSensible s → given_back view s (is_latent s) (full_size s) ≡ whole (given_by s.side (heat_over view.from_itself view.place s))
-    sensible h = ap₂ (given_back view s) (is_latent-sensible s h) (full_size-sensible s h) ∙ sensible_given view s
-        ∙ ap (λ heat. whole (given_by s.side heat)) (sym (heat_over-sensible view.from_itself view.place s h))
-
-    latent : IsLatent s → given_back view s (is_latent s) (full_size s) ≡ whole (given_by s.side (heat_over view.from_itself view.place s))
-    latent h = ap₂ (given_back view s) (is_latent-latent s h) (full_size-latent s h) ∙ latent_given view s h
-        ∙ ap (λ heat. whole (given_by s.side heat)) (sym (heat_over-latent view.from_itself view.place s h))
+stream_given view s valid =
+    ⊎_elim (λ h. ap₂ (given_back view s) (is_latent-sensible s h) (full_size-sensible s h) ∙ sensible_given view s
+    ∙ ap (λ heat. whole (given_by s.side heat)) (sym (heat_over-sensible view.from_itself view.place s h)))
+    (λ h. ap₂ (given_back view s) (is_latent-latent s h) (full_size-latent s h) ∙ latent_given view s h
+    ∙ ap (λ heat. whole (given_by s.side heat)) (sym (heat_over-latent view.from_itself view.place s h))) valid.heat
 
 -- the heat of a stream in a view, where it is on a side
 abbrev heat_beside : Side → View → Stream → ℤ

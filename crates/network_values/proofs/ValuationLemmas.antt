@@ -1,14 +1,13 @@
 -- Valuations of the first lines: with one line less and with one more, and that there is at most one.
 use Rattle.network_values.proofs.Words.{All-append, All-cons, All-map, All-nil, All-push, All-take, All-weaker, AreStreams-IsComplete, BranchValue, Case}
-use Rattle.network_values.proofs.Words.{HasNumbers, HasPositiveFlow, HasShape, IsBelow, IsComplete, IsValidStream, IsValuation}
-use Rattle.network_values.proofs.Words.{LeaveRoom, LeavesRoom, Line, Network, Solves, Valuation, all_at, branch_side, duty_at, first_part, first_value, front}
-use Rattle.network_values.proofs.Words.{full_size, get_or-map, length-map, line_at, line_of, made_before, made_by, made_fewer, made_values, makes, mixed_value, no_value}
-use Rattle.network_values.proofs.Words.{passed_value, positive-is, positive-minus, rational_zero, second_part, slice_get-get_or, slice_get-take, uses}
-use Rattle.network_values.proofs.Words.{value_at}
+use Rattle.network_values.proofs.Words.{HasNumbers, HasPositiveFlow, HasShape, IsBelow, IsComplete, IsValidStream, IsValuation, LeaveRoom, LeavesRoom, Line}
+use Rattle.network_values.proofs.Words.{Network, Solves, Valuation, all_at, branch_side, duty_at, first_part, first_value, front, full_size, get_or-map}
+use Rattle.network_values.proofs.Words.{length-map, line_at, line_of, made_before, made_by, made_fewer, made_values, makes, mixed_value, no_value, passed_value}
+use Rattle.network_values.proofs.Words.{positive-is, positive-minus, rational_zero, second_part, slice_get-get_or, slice_get-take, uses, value_at}
 use Rattle.network_values.proofs.LineLemmas.{mix_determined, mix_solved, mixed_positive, pass_determined, pass_solved, split_determined, split_solved}
 use Rattle.network_values.proofs.StreamStates.{full_size-positive}
-use Rattle.std.proofs.Common.{All, List, Some, [], ap, ap₂, arith, drop, get_or, length, length-append, map, refl, slice_get, subst, suc, sym, take, zero, ℕ, ◌++◌}
-use Rattle.std.proofs.Common.{◌+◌, ◌-◌, ◌<◌, ◌∙◌, ◌∷◌, ◌≡◌, ◌≤◌}
+use Rattle.std.proofs.Common.{All, List, Some, [], ap, ap₂, arith, drop, get_or, length, length-append, map, refl, slice_get, subst, suc, sym, take, zero, ℕ}
+use Rattle.std.proofs.Common.{◌++◌, ◌+◌, ◌-◌, ◌<◌, ◌∙◌, ◌∷◌, ◌≡◌, ◌≤◌}
 use Rattle.std.proofs.lemmas.List.{ext_get_or, get_or-append-add, get_or-drop, get_or-take, get_or_append_left, length-drop, length-take, take-append-drop}
 use Rattle.std.proofs.lemmas.List.{take-append-le, take-take, take_all}
 use Rattle.networks.specs.declared.network.Line.TheVariants as line
@@ -109,8 +108,9 @@ made_positive case network n values (line.Mix first second to) is numbers flow r
 made_positive case network n values l is numbers flow room = All-nil (λ v. IsBelow rational_zero v.cp)
 
 -- it is found behind the values before it
-made_found : (case : Case) (network : Network) (n : ℕ) (values : Valuation) (l : Line) → IsValuation case network n values → HasNumbers case network n l → (j : ℕ)
-    → j < length (makes l) → value_at (values ++ made_values case network values l) (get_or (makes l) j 0) ≡ get_or (made_values case network values l) j no_value
+made_found : (case : Case) (network : Network) (n : ℕ) (values : Valuation) (l : Line) → IsValuation case network n values → HasNumbers case network n l
+    → (j : ℕ) → j < length (makes l)
+    → value_at (values ++ made_values case network values l) (get_or (makes l) j 0) ≡ get_or (made_values case network values l) j no_value
 made_found case network n values l is numbers j inside =
     let made = made_values case network values l in
     ap (value_at (values ++ made)) (numbers.made j inside ∙ ap (λ k. k + j) (sym is.count)) ∙ get_or-append-add values made j no_value

@@ -110,11 +110,7 @@ sizes i stream value = if i == stream then value.cp else rational_zero
 
 sizes-additive : (i : ℕ) → IsAdditive (sizes i)
 unfolding sizes
-sizes-additive i stream f g t = by (i == stream)
-  where
-    by : (b : Bool) → (if b then plus f g else rational_zero) ≡ plus (if b then f else rational_zero) (if b then g else rational_zero)
-    by true = refl
-    by false = sym (plus-zero rational_zero)
+sizes-additive i stream f g t = grind (arith, plus-zero)
 
 sizes-own : (i : ℕ) (value : BranchValue) → sizes i i value ≡ value.cp
 unfolding sizes
@@ -126,11 +122,7 @@ sizes-other i stream value other = ap (λ b. if b then value.cp else rational_ze
 
 sizes-above : (i stream : ℕ) (value : BranchValue) → IsBelow rational_zero value.cp → IsAtMost rational_zero (sizes i stream value)
 unfolding sizes
-sizes-above i stream value above = by (i == stream)
-  where
-    by : (b : Bool) → IsAtMost rational_zero (if b then value.cp else rational_zero)
-    by true = at_most_from_below rational_zero value.cp above
-    by false = at_most_refl rational_zero
+sizes-above i stream value above = grind (arith, at_most_from_below, at_most_refl)
 
 -- two branches of one size
 sizes-same : (i stream other : ℕ) (a b : BranchValue) → stream ≡ other → a.cp ≡ b.cp → sizes i stream a ≡ sizes i other b
@@ -213,11 +205,7 @@ module _ {case : Case} {network : Network} {values : Valuation} (shape : HasShap
           (λ k d inside. mix_loss-none i (get_or network.lines k d) (shape.one_stream k d inside) (all_solved whole k d inside))
 
   left_of-least : (i k : ℕ) → k < length network.branches → IsAtMost rational_zero (left_of (of i) (used_by network.lines) k)
-  left_of-least i k within = by (list_any (λ u. k == u) (used_by network.lines))
-    where
-      by : (b : Bool) → IsAtMost rational_zero (if b then rational_zero else of i k)
-      by true = at_most_refl rational_zero
-      by false = of-least i k within
+  left_of-least i k within = grind (arith, at_most_refl, of-least)
 
   all_left-least : (i : ℕ) → All (λ k. IsAtMost rational_zero (left_of (of i) (used_by network.lines) k)) (range_with_len 0 (length network.branches))
   all_left-least i = All-range (λ k. IsAtMost rational_zero (left_of (of i) (used_by network.lines) k)) (length network.branches) (left_of-least i)
