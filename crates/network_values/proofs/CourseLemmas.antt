@@ -4,31 +4,27 @@ use Rattle.network_values.proofs.Words.{PassesTakeShares, Rational, Sensible, Sh
 use Rattle.network_values.proofs.Words.{at_most_from_below, at_most_from_same, at_most_refl, height, height_above, height_on, high_of, is_above, low_of, minus}
 use Rattle.network_values.proofs.Words.{minus-interchange, minus-minus_same, minus-self, not_negative-plus, not_negative-times, plus, plus-times, plus-zero}
 use Rattle.network_values.proofs.Words.{positive-plus, positive_part, rational_zero, seen_from, share, side_on, subst₂, times, times-minus}
-use Rattle.std.proofs.Common.{Bool, ap, ap₂, false, if◌then◌else◌, refl, subst, sym, true, ◌∙◌, ◌≡◌}
+use Rattle.std.proofs.Common.{Bool, ap, ap₂, arith, false, if◌then◌else◌, refl, subst, sym, true, ◌∙◌, ◌≡◌}
 use Rattle.network_values.proofs.HeightLemmas.{at_most-positive_part, not_negative-positive_part, positive_part-least, times-positive_part}
 use Rattle.network_values.proofs.ShareLemmas.{HasDuty-seen, high_of-seen, hot_share_at_least, is_above-itself, low_of-seen}
 
 parts-lose : (f g u v : Rational) → IsAtMost rational_zero f → IsAtMost rational_zero g
     → IsAtMost (positive_part (plus (times f u) (times g v))) (plus (height f u) (height g v))
-parts-lose f g u v some other =
-    positive_part-least (plus (times f u) (times g v)) (plus (height f u) (height g v))
-    (not_negative-plus (height f u) (height g v) (not_negative-times f (positive_part u) some (not_negative-positive_part u))
-    (not_negative-times g (positive_part v) other (not_negative-positive_part v)))
+parts-lose f g u v some other = positive_part-least (plus (times f u) (times g v)) (plus (height f u) (height g v)) (not_negative-plus (height f u) (height g v)
+    (not_negative-times f (positive_part u) some (not_negative-positive_part u)) (not_negative-times g (positive_part v) other (not_negative-positive_part v)))
     (at_most-plus_plus (times f u) (height f u) (times g v) (height g v) (at_most-times_left f u (positive_part u) some (at_most-positive_part u))
     (at_most-times_left g v (positive_part v) other (at_most-positive_part v)))
 
 -- sizes times distances add up
 mixed-distance : (base : Rational) (first second to : BranchValue) → IsMix first second to
     → times to.cp (minus to.t base) ≡ plus (times first.cp (minus first.t base)) (times second.cp (minus second.t base))
-mixed-distance base first second to mix =
-    times-minus to.cp to.t base ∙ ap₂ minus mix.heat (ap (λ x. times x base) mix.size ∙ plus-times first.cp second.cp base)
-    ∙ minus-interchange (times first.cp first.t) (times second.cp second.t) (times first.cp base) (times second.cp base)
+mixed-distance base first second to mix = times-minus to.cp to.t base ∙ ap₂ minus mix.heat (ap (λ x. times x base) mix.size
+    ∙ plus-times first.cp second.cp base) ∙ minus-interchange (times first.cp first.t) (times second.cp second.t) (times first.cp base) (times second.cp base)
     ∙ ap₂ plus (sym (times-minus first.cp first.t base)) (sym (times-minus second.cp second.t base))
 
 mix-loses : (base : Rational) (first second to : BranchValue) → IsBelow rational_zero first.cp → IsBelow rational_zero second.cp → IsMix first second to
     → IsAtMost (height_above base to) (plus (height_above base first) (height_above base second))
-mix-loses base first second to some other mix =
-    let two = at_most_from_below rational_zero second.cp other in
+mix-loses base first second to some other mix = let two = at_most_from_below rational_zero second.cp other in
     let both = at_most_from_below rational_zero to.cp (subst (IsBelow rational_zero) (sym mix.size) (positive-plus first.cp second.cp some two)) in
     subst (λ x. IsAtMost x (plus (height_above base first) (height_above base second)))
     (ap positive_part (sym (mixed-distance base first second to mix)) ∙ sym (times-positive_part to.cp (minus to.t base) both))
@@ -67,11 +63,7 @@ pub height_on-additive : (from_itself : Bool) (course : Course) (f g t : Rationa
     → height_on from_itself course (record { cp = plus f g; t = t }) ≡ plus (height_on from_itself course (record { cp = f; t = t }))
     (height_on from_itself course (record { cp = g; t = t }))
 height_on-additive from_itself (Sensible base) f g t = plus-times f g (positive_part (minus t base))
-height_on-additive from_itself (Latent distance) f g t = by (is_above from_itself distance)
-  where
-    by : (b : Bool) → (if b then times (plus f g) t else rational_zero) ≡ plus (if b then times f t else rational_zero) (if b then times g t else rational_zero)
-    by true = plus-times f g t
-    by false = sym (plus-zero rational_zero)
+height_on-additive from_itself (Latent distance) f g t = grind (arith, plus-times, plus-zero)
 
 pub passes_take : PassesTakeShares
 passes_take = record { has_duty = has_duty-on; takes = takes-on; mixes = height_on-mixed; additive = height_on-additive }

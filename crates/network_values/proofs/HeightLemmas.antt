@@ -1,30 +1,21 @@
 -- The positive part of a number.
 use Rattle.network_values.proofs.Words.{IsAtMost, IsBelow, Rational, at_most-times_left, at_most_antisymm, at_most_from_below, at_most_refl, at_most_trans}
-use Rattle.network_values.proofs.Words.{below_or_at_most, is_below, is_below-ranks, not_negative-times, positive_part, rational_zero, times, times-zero}
-use Rattle.std.proofs.Common.{Bool, MatchBool, ap, false, if◌then◌else◌, inl, inr, refl, subst, sym, true, ⊎_elim, ◌∙◌, ◌≡◌, ◌⊎◌}
+use Rattle.network_values.proofs.Words.{below_or_at_most, is_below-ranks, not_negative-times, positive_part, rational_zero, times, times-zero}
+use Rattle.std.proofs.Common.{ap, arith, inl, inr, subst, sym, ⊎_elim, ◌∙◌, ◌≡◌, ◌⊎◌}
 
 -- of what is above 0 it is all, and of what is below 0 nothing
 pub positive_part-above : (x : Rational) → IsAtMost rational_zero x → positive_part x ≡ x
 unfolding positive_part
-positive_part-above x above = by (is_below rational_zero x) (is_below-ranks rational_zero x)
-  where
-    by : (b : Bool) → MatchBool b (IsBelow rational_zero x) (IsAtMost x rational_zero) → (if b then x else rational_zero) ≡ x
-    by true ranks = refl
-    by false ranks = at_most_antisymm rational_zero x above ranks
+positive_part-above x above = grind (arith, is_below-ranks rational_zero x, at_most_antisymm rational_zero x above)
 
 pub positive_part-below : (x : Rational) → IsAtMost x rational_zero → positive_part x ≡ rational_zero
 unfolding positive_part
-positive_part-below x below = by (is_below rational_zero x) (is_below-ranks rational_zero x)
-  where
-    by : (b : Bool) → MatchBool b (IsBelow rational_zero x) (IsAtMost x rational_zero) → (if b then x else rational_zero) ≡ rational_zero
-    by true ranks = at_most_antisymm x rational_zero below (at_most_from_below rational_zero x ranks)
-    by false ranks = refl
+positive_part-below x below = grind (arith, is_below-ranks rational_zero x, at_most_antisymm x rational_zero below, at_most_from_below rational_zero x)
 
 -- what holds of a number above 0, and of 0 for one that is not, holds of its positive part
 pub positive_part-cases : (P : Rational → Type 0) (x : Rational) → (IsBelow rational_zero x → P x) → (IsAtMost x rational_zero → P rational_zero)
     → P (positive_part x)
-positive_part-cases P x above below =
-    ⊎_elim (λ more. subst P (sym (positive_part-above x (at_most_from_below rational_zero x more))) (above more))
+positive_part-cases P x above below = ⊎_elim (λ more. subst P (sym (positive_part-above x (at_most_from_below rational_zero x more))) (above more))
     (λ less. subst P (sym (positive_part-below x less)) (below less)) (below_or_at_most rational_zero x)
 
 pub not_negative-positive_part : (x : Rational) → IsAtMost rational_zero (positive_part x)
@@ -46,9 +37,7 @@ pub times-positive_part : (f x : Rational) → IsAtMost rational_zero f → time
 times-positive_part f x some = by (below_or_at_most rational_zero x)
   where
     by : IsBelow rational_zero x ⊎ IsAtMost x rational_zero → times f (positive_part x) ≡ positive_part (times f x)
-    by (inl above) =
-        let at_least = at_most_from_below rational_zero x above in
+    by (inl above) = let at_least = at_most_from_below rational_zero x above in
         ap (times f) (positive_part-above x at_least) ∙ sym (positive_part-above (times f x) (not_negative-times f x some at_least))
-    by (inr less) =
-        ap (times f) (positive_part-below x less) ∙ times-zero f
-        ∙ sym (positive_part-below (times f x) (subst (IsAtMost (times f x)) (times-zero f) (at_most-times_left f x rational_zero some less)))
+    by (inr less) = ap (times f) (positive_part-below x less) ∙ times-zero f ∙ sym (positive_part-below (times f x)
+        (subst (IsAtMost (times f x)) (times-zero f) (at_most-times_left f x rational_zero some less)))

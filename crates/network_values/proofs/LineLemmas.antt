@@ -21,9 +21,8 @@ pub record IsDivided (from first second : BranchValue) (cp : Rational) : Type 0 
   pub room : IsBelow rational_zero second.cp → IsBelow cp from.cp
 
 pub split_determined : (from first second : BranchValue) (cp : Rational) → IsSplit from first second cp → IsDivided from first second cp
-split_determined from one two cp split =
-    let rest : two.cp ≡ minus from.cp cp = minus_from_plus from.cp cp two.cp
-    (plus_comm two.cp cp ∙ ap (λ a. plus a two.cp) (sym split.first_size) ∙ split.sizes) in
+split_determined from one two cp split = let rest : two.cp ≡ minus from.cp cp = minus_from_plus from.cp cp two.cp (plus_comm two.cp cp ∙ ap (λ a. plus a two.cp)
+    (sym split.first_size) ∙ split.sizes) in
     record {
       first_is = same_value one (first_part from cp) split.first_size split.first_state;
       second_is = same_value two (second_part from cp) rest split.second_state;
@@ -46,8 +45,7 @@ pass_solved of from duty positive = record {
 
 pub pass_determined : (of : Side) (from to : BranchValue) (duty : Rational) → IsBelow rational_zero from.cp → IsPass of duty from to
     → to ≡ passed_value of from duty
-pass_determined of from to duty positive pass =
-    let by = change of from.t to.t in
+pass_determined of from to duty positive pass = let by = change of from.t to.t in
     let over_size : by ≡ over duty from.cp = over_from_times by duty from.cp (positive-nonzero from.cp positive) (times_comm by from.cp ∙ pass.heat) in
     same_value to (passed_value of from duty) pass.size (moved-change of from.t to.t ∙ ap (moved of from.t) over_size)
 
@@ -60,8 +58,6 @@ mix_solved first second positive =
     record { size = refl; heat = times-over (heat_of_both first second) (plus first.cp second.cp) (positive-nonzero (plus first.cp second.cp) positive) }
 
 pub mix_determined : (first second to : BranchValue) → IsBelow rational_zero (plus first.cp second.cp) → IsMix first second to → to ≡ mixed_value first second
-mix_determined first second to positive mix =
-    let size = plus first.cp second.cp in
-    let state = over_from_times to.t (heat_of_both first second) size (positive-nonzero size positive)
-    (times_comm to.t size ∙ ap (λ a. times a to.t) (sym mix.size) ∙ mix.heat) in
-    same_value to (mixed_value first second) mix.size state
+mix_determined first second to positive mix = let size = plus first.cp second.cp in
+    let state = over_from_times to.t (heat_of_both first second) size (positive-nonzero size positive) (times_comm to.t size ∙ ap (λ a. times a to.t)
+    (sym mix.size) ∙ mix.heat) in same_value to (mixed_value first second) mix.size state

@@ -29,8 +29,7 @@ at_most_from_times c a b some h = at_most_from_not_negative a b
     (not_negative_factor c (minus b a) some (subst (IsAtMost rational_zero) (sym (times-minus c b a)) (not_negative-minus (times c a) (times c b) h)))
 
 -- the state of a mix is at most, and at least, what both states are
-module _
-    (first second to : BranchValue) (some : IsBelow rational_zero first.cp) (other : IsBelow rational_zero second.cp) (mix : IsMix first second to)
+module _ (first second to : BranchValue) (some : IsBelow rational_zero first.cp) (other : IsBelow rational_zero second.cp) (mix : IsMix first second to)
   where
     size : IsBelow rational_zero to.cp
     size = subst (IsBelow rational_zero) (sym mix.size) (mixed_positive first second some other)
@@ -45,14 +44,12 @@ module _
     other_size = at_most_from_below rational_zero second.cp other
 
     mixed_at_most : (x : Rational) → IsAtMost first.t x → IsAtMost second.t x → IsAtMost to.t x
-    mixed_at_most x one two =
-        let both = at_most-plus_plus (times first.cp first.t) (times first.cp x) (times second.cp second.t) (times second.cp x)
+    mixed_at_most x one two = let both = at_most-plus_plus (times first.cp first.t) (times first.cp x) (times second.cp second.t) (times second.cp x)
         (at_most-times_left first.cp first.t x one_size one) (at_most-times_left second.cp second.t x other_size two) in
         at_most_from_times to.cp to.t x size (subst₂ IsAtMost (sym mix.heat) (sym (parts x)) both)
 
     mixed_at_least : (x : Rational) → IsAtMost x first.t → IsAtMost x second.t → IsAtMost x to.t
-    mixed_at_least x one two =
-        let both = at_most-plus_plus (times first.cp x) (times first.cp first.t) (times second.cp x) (times second.cp second.t)
+    mixed_at_least x one two = let both = at_most-plus_plus (times first.cp x) (times first.cp first.t) (times second.cp x) (times second.cp second.t)
         (at_most-times_left first.cp x first.t one_size one) (at_most-times_left second.cp x second.t other_size two) in
         at_most_from_times to.cp x to.t size (subst₂ IsAtMost (sym (parts x)) (sym mix.heat) both)
 
@@ -88,17 +85,14 @@ module _ (case : Case) (network : Network) (n : ℕ) (values : Valuation) (shape
   kept_as a b stream state kept latent = subst IsPartOfLoad (sym state) (kept (sym (same_latent case network a b stream) ∙ latent))
 
   own_kept : (branch : ℕ) → branch < length case.streams → Kept branch
-  own_kept branch early latent =
-      let (s, at) = item_at case.streams branch early in
+  own_kept branch early latent = let (s, at) = item_at case.streams branch early in
       let stream = ap (slice_get case.streams) (own_stream shape.made_once branch early) ∙ at in
       subst IsPartOfLoad (sym (ap (λ v. v.t) (own_value is branch s at))) (first_kept s (sym (is_latent_branch-is case network branch s stream) ∙ latent))
 
   -- the branches that the line at an index makes, where those before it have such states
   made_kept : (index : ℕ) (l : Line) → KeptBefore index → index < n → IsOfOneStream network.branches l → HasNumbers case network index l
       → Solves case network values l → PassKeepsLoad case network values l → All Kept (makes l)
-  made_kept index (line.Exchanger name hot cold duty) before early one_stream numbers solved passes = All-nil Kept
-  made_kept index (line.Split from first cp second) before early one_stream numbers solved passes =
-      let kept = before from (numbers.used 0 0 (omega arith)) in
+  made_kept index (line.Split from first cp second) before early one_stream numbers solved passes = let kept = before from (numbers.used 0 0 (omega arith)) in
       All-cons Kept first (second ∷ []) (kept_as first from one_stream.0 solved.first_state kept)
       (All-cons Kept second [] (kept_as second from one_stream.1 solved.second_state kept) (All-nil Kept))
   made_kept index (line.Pass from exchanger to) before early one_stream numbers solved passes = All-cons Kept to [] passes (All-nil Kept)
@@ -110,22 +104,20 @@ module _ (case : Case) (network : Network) (n : ℕ) (values : Valuation) (shape
       let of_first = sym (same_latent case network to first one_stream.1) ∙ latent in
       mixed_part (value_at values first) (value_at values second) (value_at values to) (above first one) (above second two) solved
       (before first one of_first) (before second two (same_latent case network second first one_stream.0 ∙ of_first))) (All-nil Kept)
-  made_kept index (line.End branch) before early one_stream numbers solved passes = All-nil Kept
+  made_kept index l before early one_stream numbers solved passes = All-nil Kept
 
   -- a branch made before a line or by it
   known_kept : (index : ℕ) (l : Line) → KeptBefore index → HasNumbers case network index l → All Kept (makes l) → (branch : ℕ)
       → branch < made_before case network (suc index) → (branch < made_before case network index) ⊎ (made_before case network index ≤ branch) → Kept branch
   known_kept index l before numbers made branch known (inl earlier) = before branch earlier
-  known_kept index l before numbers made branch known (inr later) =
-      let j = branch - made_before case network index in
+  known_kept index l before numbers made branch known (inr later) = let j = branch - made_before case network index in
       let inside : j < length (makes l) = omega (arith, known, numbers.next, later) in
       subst Kept (numbers.made j inside ∙ omega (arith, later)) (made j 0 inside)
 
   kept_before : All (PassKeepsLoad case network values) (take n network.lines) → (index : ℕ) → index ≤ n → KeptBefore index
   unfolding made_by
   kept_before passes zero upto branch known = own_kept branch (omega (arith, known))
-  kept_before passes (suc index) upto branch known =
-      let l = get_or network.lines index (line.End 0) in
+  kept_before passes (suc index) upto branch known = let l = get_or network.lines index (line.End 0) in
       let of = line_of shape index l (line_at network.lines index (line.End 0) (omega (arith, upto, is.within))).here in
       let before = kept_before passes index (omega (arith, upto)) in
       let solved = first_each (Solves case network values) network.lines n is.solved index l (omega (arith, upto)) of.at.here in

@@ -82,8 +82,7 @@ values_positive = All-from_recursion (λ v. IsBelow rational_zero v.cp) worked_v
 
 values_solve : All (Solves worked_case worked_network worked_values) lines
 unfolding exchangers_of stream_at branch_side duty_at plus minus times ratio lowest_form gcd last_remainder
-values_solve =
-    let P : Line → Type 0 = Solves worked_case worked_network worked_values in
+values_solve = let P : Line → Type 0 = Solves worked_case worked_network worked_values in
     let one : P (line.Pass 0 0 2) = record { size = refl; heat = same_from_fields _ _ refl refl } in
     let two : P (line.Pass 2 3 3) = record { size = refl; heat = same_from_fields _ _ refl refl } in
     let divided : P (line.Split 1 4 (whole (pos 5)) 5) =
@@ -113,18 +112,9 @@ are_ended = record {
 
 keep_approaches : KeepApproaches worked_case worked_network worked_values
 unfolding exchangers_of pass_of stream_at branch_side side_run plus ratio rational_cmp lowest_form gcd last_remainder
-keep_approaches zero e at = subst (KeepsApproach worked_case worked_network worked_values 0) (same_Some _ e at)
-    (record { hot_end = at_most_by_test _ _ refl; cold_end = at_most_by_test _ _ refl })
-keep_approaches (suc zero) e at =
-    subst (KeepsApproach worked_case worked_network worked_values 1) (same_Some _ e at)
-    (record { hot_end = at_most_by_test _ _ refl; cold_end = at_most_by_test _ _ refl })
-keep_approaches (suc (suc zero)) e at =
-    subst (KeepsApproach worked_case worked_network worked_values 2) (same_Some _ e at)
-    (record { hot_end = at_most_by_test _ _ refl; cold_end = at_most_by_test _ _ refl })
-keep_approaches (suc (suc (suc zero))) e at =
-    subst (KeepsApproach worked_case worked_network worked_values 3) (same_Some _ e at)
-    (record { hot_end = at_most_by_test _ _ refl; cold_end = at_most_by_test _ _ refl })
 keep_approaches (suc (suc (suc (suc number)))) e at = cc at
+keep_approaches number e at = subst (KeepsApproach worked_case worked_network worked_values number) (same_Some _ e at)
+    (record { hot_end = at_most_by_test _ _ refl; cold_end = at_most_by_test _ _ refl })
 
 -- ---- its heat and its penalties
 

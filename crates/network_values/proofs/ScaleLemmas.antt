@@ -19,8 +19,7 @@ use Rattle.stream_case.specs.declared.source.Source.TheVariants as source
 -- ---- ends with the approach between them, as distances from a place
 
 approach_seen : (h c : Rational) (place a b : ℤ) → IsAtMost (plus c (whole (a +ℤ b))) h → IsAtMost (minus c (whole (place -ℤ b))) (minus h (whole (place +ℤ a)))
-approach_seen h c place a b apart =
-    let between : (place +ℤ a) -ℤ (place -ℤ b) ≡ a +ℤ b = omega (arith, ints) in
+approach_seen h c place a b apart = let between : (place +ℤ a) -ℤ (place -ℤ b) ≡ a +ℤ b = omega (arith, ints) in
     at_most-minus_swap h c (whole (place -ℤ b)) (whole (place +ℤ a))
     (subst (λ x. IsAtMost x (minus h c)) (sym (whole-minus (place +ℤ a) (place -ℤ b) ∙ ap whole between))
     (at_most-minus_right (whole (a +ℤ b)) h c (subst (λ x. IsAtMost x h) (plus_comm c (whole (a +ℤ b))) apart)))
@@ -109,15 +108,11 @@ module _ {case : Case} {network : Network} {values : Valuation} (shape : HasShap
   pub run_of : (number i : ℕ) (e : Exchanger) (on : Side) → slice_get (exchangers_of network.lines) number ≡ Some e → Joins e i
       → side_of case (source.Stream i) ≡ Some on → (s : Stream) × (from : ℕ) × (to : ℕ) × IsRun number i on e.duty s from to
   unfolding side_run branch_side duty_at
-  run_of number i e on at joins is =
-      let (s, of_case, is_on) = stream_on case i on is in
-      let (from, to, index, pass) = the_pass_of shape number i e at joins in
-      let l = line.Pass from number to in
-      let solves = all_at (Solves case network values) network.lines index l (all_solved whole_values) pass.here in
+  run_of number i e on at joins is = let (s, of_case, is_on) = stream_on case i on is in let (from, to, index, pass) = the_pass_of shape number i e at joins in
+      let l = line.Pass from number to in let solves = all_at (Solves case network values) network.lines index l (all_solved whole_values) pass.here in
       let used = all_at (λ x. All (λ b. b < length network.branches) (uses x)) network.lines index l (used_there shape.made_once shape.made_first) pass.here in
-      let of_side : branch_side case network from ≡ on =
-      ap (λ n. unwrap_or (side_of case (source.Stream n)) side.Hot) pass.of_stream ∙ ap (λ o. unwrap_or o side.Hot) is in
-      let duty : duty_at network number ≡ e.duty = ap duty_of at in
+      let of_side : branch_side case network from ≡ on = ap (λ n. unwrap_or (side_of case (source.Stream n)) side.Hot) pass.of_stream
+      ∙ ap (λ o. unwrap_or o side.Hot) is in let duty : duty_at network number ≡ e.duty = ap duty_of at in
       let some = branch_above whole_values shape from (used 0 0 (omega arith)) in
       let heat = ap (λ o. times (value_at values from).cp (change o (value_at values from).t (value_at values to).t)) (sym of_side) ∙ solves.heat ∙ duty in
       let passed = ap (pass_run case network values) pass.found ∙ ap (λ o. run_between o (value_at values from) (value_at values to)) of_side in (
@@ -151,8 +146,7 @@ module _ {case : Case} {network : Network} {values : Valuation} (shape : HasShap
     run-on_course : (place : ℤ)
         → seen_from (whole (unshifted on place (contribution_of case (source.Stream i)))) (side_run case network values number (source.Stream i))
         ≡ side_on (course_of place s) low high
-    run-on_course place =
-        ap₂ seen_from (ap₂ (λ o c. whole (unshifted o place c)) (sym r.is_on) (contribution-of i s r.at)) r.run
+    run-on_course place = ap₂ seen_from (ap₂ (λ o c. whole (unshifted o place c)) (sym r.is_on) (contribution-of i s r.at)) r.run
         ∙ level_or-seen (base_of place s) s.supply low high (is_latent s)
 
     run-has_duty : HasDuty duty (shifted_run on case network values number (source.Stream i))
@@ -161,8 +155,7 @@ module _ {case : Case} {network : Network} {values : Valuation} (shape : HasShap
     -- and the height that the pass takes is its share
     run-takes : (view : View)
         → minus (height_in view s high) (height_in view s low) ≡ share_in view duty (shifted_run on case network values number (source.Stream i))
-    run-takes view =
-        let c = contribution_of case (source.Stream i) in let run = side_run case network values number (source.Stream i) in
+    run-takes view = let c = contribution_of case (source.Stream i) in let run = side_run case network values number (source.Stream i) in
         passes_take.takes view.from_itself (course_of view.place s) duty low high r.between
         ∙ ap (share view.from_itself duty) (sym (seen-again on view.place c run ∙ run-on_course view.place))
 
@@ -200,10 +193,8 @@ module _ {case : Case} {network : Network} {values : Valuation} (shape : HasShap
   cold_side number e at (source.Utility i) is joins = record { has_duty = tt; is_share = λ view j same. cc same }
 
   pub run_on_scale : (number : ℕ) (e : Exchanger) → slice_get (exchangers_of network.lines) number ≡ Some e → RunsOnOneScale case network values number e
-  run_on_scale number e at =
-      let valid = all_at (IsExchanger case) (exchangers_of network.lines) number e shape.exchangers.each at in
-      let hot = hot_side number e at e.hot valid.hot (λ i same. inl same) in
-      let cold = cold_side number e at e.cold valid.cold (λ i same. inr same) in
+  run_on_scale number e at = let valid = all_at (IsExchanger case) (exchangers_of network.lines) number e shape.exchangers.each at in
+      let hot = hot_side number e at e.hot valid.hot (λ i same. inl same) in let cold = cold_side number e at e.cold valid.cold (λ i same. inr same) in
       let high = λ (on : Side) (s : Source). high_of-seen (whole (unshifted on (pos 0) (contribution_of case s))) (side_run case network values number s) in
       let low = λ (on : Side) (s : Source). low_of-seen (whole (unshifted on (pos 0) (contribution_of case s))) (side_run case network values number s) in
       record {

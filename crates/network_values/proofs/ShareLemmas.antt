@@ -23,8 +23,7 @@ module _ (size low high : Rational) where
       ∙ minus-self (times size rational_zero)
 
   pub flow-across : IsAtMost low rational_zero → IsAtMost rational_zero high → minus (height size high) (height size low) ≡ times size high
-  flow-across at other =
-      ap₂ (λ x y. minus (times size x) (times size y)) (positive_part-above high other) (positive_part-below low at)
+  flow-across at other = ap₂ (λ x y. minus (times size x) (times size y)) (positive_part-above high other) (positive_part-below low at)
       ∙ ap (minus (times size high)) (times-zero size) ∙ minus-zero (times size high)
 
 module _ (size low high : Rational) (some : IsBelow rational_zero size) where
@@ -44,10 +43,9 @@ module _ (size low high : Rational) (some : IsBelow rational_zero size) where
       by : IsBelow low rational_zero ⊎ IsAtMost rational_zero low → IsBelow rational_zero high ⊎ IsAtMost high rational_zero
           → IsAtMost (minus (height size high) (height size low)) (times size (minus high low))
       by (inr at) other = at_most_from_same _ _ (flow-above size low high at (at_most_trans rational_zero low high at upward))
-      by (inl at) (inr other) =
-          subst (λ x. IsAtMost x (times size (minus high low)))
-          (times-zero size ∙ sym (flow-below size low high (at_most_from_below low rational_zero at) other))
-          (at_most-times_left size rational_zero (minus high low) kept (not_negative-minus low high upward))
+      by (inl at) (inr other) = subst (λ x. IsAtMost x (times size (minus high low))) (times-zero size
+          ∙ sym (flow-below size low high (at_most_from_below low rational_zero at) other)) (at_most-times_left size rational_zero (minus high low) kept
+          (not_negative-minus low high upward))
       by (inl at) (inl other) =
           subst (λ x. IsAtMost x (times size (minus high low)))
           (sym (flow-across size low high (at_most_from_below low rational_zero at) (at_most_from_below rational_zero high other)))
@@ -98,8 +96,7 @@ is_above-at false at same = by (is_below rational_zero at) refl
 
 module _ (from_itself : Bool) (duty : Rational) (positive : IsBelow rational_zero duty) where
   pub is_part : (side : SideRun) → HasDuty duty side → IsPart from_itself duty side
-  is_part (Between size low high) (some, gives) =
-      let up = rises size low high some (subst (IsBelow rational_zero) (sym gives) positive) in
+  is_part (Between size low high) (some, gives) = let up = rises size low high some (subst (IsBelow rational_zero) (sym gives) positive) in
       let upward = at_most_from_below low high up in
       record {
         above = λ at other. flow-above size low high at (at_most_from_below rational_zero high other) ∙ gives;
@@ -142,8 +139,7 @@ module _ (from_itself : Bool) (duty : Rational) (positive : IsBelow rational_zer
       from_low g a b = ap (λ x. plus x (times g b)) (times-minus g a b) ∙ plus-minus (times g a) (times g b)
 
       by : IsBelow f h ⊎ IsAtMost h f → IsAtMost (times h cold_high) (times f hot_high)
-      by (inl less) =
-          let lows = at_most_trans (times h cold_low) (times h hot_low) (times f hot_low) (at_most-times_left h cold_low hot_low some low)
+      by (inl less) = let lows = at_most_trans (times h cold_low) (times h hot_low) (times f hot_low) (at_most-times_left h cold_low hot_low some low)
           (times-turned f h hot_low (at_most_from_below f h less) below) in
           let both = at_most-plus_plus (times h (minus cold_high cold_low)) (times h (minus cold_high cold_low)) (times h cold_low) (times f hot_low)
           (at_most_refl (times h (minus cold_high cold_low))) lows in
@@ -167,13 +163,11 @@ module _ (from_itself : Bool) (duty : Rational) (positive : IsBelow rational_zer
       whole_or_nothing (Between f hot_low hot_high) (Between h cold_low cold_high) of_hot of_cold
       (inr (flow-below h cold_low cold_high (at_most_trans cold_low cold_high rational_zero up none) none))
   flows f hot_low hot_high h cold_low cold_high of_hot of_cold high low (inl below) (inl above) =
-      let hot_below = at_most_from_below hot_low rational_zero below in
-      let cold_above = at_most_from_below rational_zero cold_high above in
+      let hot_below = at_most_from_below hot_low rational_zero below in let cold_above = at_most_from_below rational_zero cold_high above in
       let hot_above = at_most_trans rational_zero cold_high hot_high cold_above high in
       subst₂ IsAtMost (sym (flow-across h cold_low cold_high (at_most_trans cold_low hot_low rational_zero low hot_below) cold_above))
-      (sym (flow-across f hot_low hot_high hot_below hot_above))
-      (flows-across f h hot_low hot_high cold_low cold_high (at_most_from_below rational_zero h of_cold.0) hot_below hot_above high low
-      (of_hot.1 ∙ sym of_cold.1))
+      (sym (flow-across f hot_low hot_high hot_below hot_above)) (flows-across f h hot_low hot_high cold_low cold_high
+      (at_most_from_below rational_zero h of_cold.0) hot_below hot_above high low (of_hot.1 ∙ sym of_cold.1))
 
   pub hot_share_at_least : (hot cold : SideRun) → HasDuty duty hot → HasDuty duty cold → IsNowhereBelow hot cold
       → IsAtMost (share from_itself duty cold) (share from_itself duty hot)
@@ -183,8 +177,7 @@ module _ (from_itself : Bool) (duty : Rational) (positive : IsBelow rational_zer
   hot_share_at_least (Between f hot_low hot_high) (Level at) of_hot of_cold order = by (is_above from_itself at) refl
     where
       by : (b : Bool) → is_above from_itself at ≡ b → IsAtMost (share from_itself duty (Level at)) (share from_itself duty (Between f hot_low hot_high))
-      by true passes =
-          let from = is_above-true from_itself at passes in
+      by true passes = let from = is_above-true from_itself at passes in
           whole_or_nothing (Between f hot_low hot_high) (Level at) of_hot of_cold
           (inl (flow-above f hot_low hot_high (at_most_trans rational_zero at hot_low from order.low) (at_most_trans rational_zero at hot_high from order.high)
           ∙ of_hot.1))
@@ -193,8 +186,7 @@ module _ (from_itself : Bool) (duty : Rational) (positive : IsBelow rational_zer
     where
       by : (b : Bool) → is_above from_itself at ≡ b → IsAtMost (share from_itself duty (Between h cold_low cold_high)) (share from_itself duty (Level at))
       by true passes = whole_or_nothing (Level at) (Between h cold_low cold_high) of_hot of_cold (inl (ap (λ b. if b then duty else rational_zero) passes))
-      by false fails =
-          let upto = is_above-false from_itself at fails in
+      by false fails = let upto = is_above-false from_itself at fails in
           whole_or_nothing (Level at) (Between h cold_low cold_high) of_hot of_cold
           (inr (flow-below h cold_low cold_high (at_most_trans cold_low at rational_zero order.low upto)
           (at_most_trans cold_high at rational_zero order.high upto)))

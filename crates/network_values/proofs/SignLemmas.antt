@@ -25,42 +25,32 @@ module _ (case : Case) (network : Network) (values : Valuation) (view : View) (s
 
   -- what is released is at least the hot share, and what is absorbed at most the cold one
   released-least : (number : ℕ) (e : Exchanger) (s : Source) → RunsOnOneScale case network values number (record e { hot = s })
-      → IsAtMost (share_in view e.duty (shifted_run side.Hot case network values number s))
-      (released_heat height network number e.duty s)
+      → IsAtMost (share_in view e.duty (shifted_run side.Hot case network values number s)) (released_heat height network number e.duty s)
   released-least number e (source.Stream i) runs = at_most_from_same _ _ (sym (runs.released view i refl))
-  released-least number e (source.Utility i) runs =
-      (shares_parts view.from_itself (whole view.place) e.duty
+  released-least number e (source.Utility i) runs = (shares_parts view.from_itself (whole view.place) e.duty
       (shifted_run side.Hot case network values number (source.Utility i)) runs.positive runs.hot_duty).most
 
   absorbed-most : (number : ℕ) (e : Exchanger) (s : Source) → RunsOnOneScale case network values number (record e { cold = s })
-      → IsAtMost (absorbed_heat height network number s)
-      (share_in view e.duty (shifted_run side.Cold case network values number s))
+      → IsAtMost (absorbed_heat height network number s) (share_in view e.duty (shifted_run side.Cold case network values number s))
   absorbed-most number e (source.Stream i) runs = at_most_from_same _ _ (runs.absorbed view i refl)
-  absorbed-most number e (source.Utility i) runs =
-      (shares_parts view.from_itself (whole view.place) e.duty
+  absorbed-most number e (source.Utility i) runs = (shares_parts view.from_itself (whole view.place) e.duty
       (shifted_run side.Cold case network values number (source.Utility i)) runs.positive runs.cold_duty).least
 
   exchanger_sign : (number : ℕ) (e : Exchanger) → slice_get (exchangers_of network.lines) number ≡ Some e → KeepsApproach case network values number e
       → IsAtMost rational_zero (penalty height network (number, e))
-  exchanger_sign number e at apart =
-      let runs = run_on_scale shape whole_values number e at in
+  exchanger_sign number e at apart = let runs = run_on_scale shape whole_values number e at in
       let shares = hot_shares_lead view.from_itself (whole view.place) e.duty _ _ runs.positive runs.hot_duty runs.cold_duty (runs.apart apart) in
       not_negative-minus _ _ (at_most_trans _ _ _ (absorbed-most number e e.cold runs) (at_most_trans _ _ _ shares (released-least number e e.hot runs)))
 
   mix_sign : (l : Line) → All (λ b. b < length network.branches) (uses l) → IsOfOneStream network.branches l → Solves case network values l
       → IsAtMost rational_zero (mix_loss height l)
-  mix_sign (line.Exchanger name hot cold duty) within one solves = at_most_refl rational_zero
-  mix_sign (line.Split from first cp second) within one solves = at_most_refl rational_zero
-  mix_sign (line.Pass from exchanger to) within one solves = at_most_refl rational_zero
-  mix_sign (line.Mix first second to) within one solves =
-      let first_within = within 0 0 (omega arith) in let second_within = within 1 0 (omega arith) in
-      let i = stream_at network.branches first in
-      let (s, at) = item_at case.streams i (stream_within shape first first_within) in
+  mix_sign (line.Mix first second to) within one solves = let first_within = within 0 0 (omega arith) in let second_within = within 1 0 (omega arith) in
+      let i = stream_at network.branches first in let (s, at) = item_at case.streams i (stream_within shape first first_within) in
       let mixed = height_on-mixed view.from_itself (course_of view.place s) (value_at values first) (value_at values second) (value_at values to)
       (branch_above whole_values shape first first_within) (branch_above whole_values shape second second_within) solves in
       not_negative-minus (height to) (plus (height first) (height second)) (subst₂ IsAtMost (sym (branch_height shape whole_values view i s to at one.1))
       (sym (ap₂ plus (branch_height shape whole_values view i s first at refl) (branch_height shape whole_values view i s second at one.0))) mixed)
-  mix_sign (line.End branch) within one solves = at_most_refl rational_zero
+  mix_sign l within one solves = at_most_refl rational_zero
 
   pub no_negative : KeepApproaches case network values → HasNoNegativePenalty case view network values
   no_negative apart = record {
@@ -72,8 +62,7 @@ module _ (case : Case) (network : Network) (values : Valuation) (view : View) (s
   -- so the sum of all penalties is not negative
   pub sum_sign : KeepApproaches case network values
       → IsAtMost rational_zero (plus (exchanger_penalties case view network values) (mix_penalties case view network values))
-  sum_sign apart =
-      let none = no_negative apart in
+  sum_sign apart = let none = no_negative apart in
       not_negative-plus (exchanger_penalties case view network values) (mix_penalties case view network values)
       (not_negative-enumerated (penalty height network) (exchangers_of network.lines) none.exchangers)
       (not_negative-rational_sum_by (mix_loss height) network.lines none.mixes)
@@ -83,15 +72,13 @@ penalties_sign case network values view shape whole_values apart = no_negative c
 
 pub deficits_met : DeficitsAreMet
 deficits_met case network values view streams shape whole_values ended apart =
-    at_most_from_not_negative (whole (deficit_over view.from_itself case.streams view.place)) (hot_heat network)
-    (subst (IsAtMost rational_zero) (penalties_sum case network values view streams shape whole_values ended)
-    (sum_sign case network values view shape whole_values apart))
+    at_most_from_not_negative (whole (deficit_over view.from_itself case.streams view.place)) (hot_heat network) (subst (IsAtMost rational_zero)
+    (penalties_sum case network values view streams shape whole_values ended) (sum_sign case network values view shape whole_values apart))
 
 -- ---- the targets
 
 hot_heat-least : (case : Case) (network : Network) → HasShape case network → IsAtMost rational_zero (hot_heat network)
-hot_heat-least case network shape =
-    not_negative-rational_sum_by hot_duty (exchangers_of network.lines)
+hot_heat-least case network shape = not_negative-rational_sum_by hot_duty (exchangers_of network.lines)
     (λ k d within. of_source (get_or (exchangers_of network.lines) k d) (shape.exchangers.each k d within))
   where
     by : (duty : Rational) → IsBelow rational_zero duty → (s : Source) → IsAtMost rational_zero (utility_part duty s)
@@ -104,12 +91,10 @@ hot_heat-least case network shape =
 -- the hot target is 0, or one of both deficits at some end
 pub targets_met : TargetsAreMet
 targets_met case network values valid shape whole_values ended apart =
-    let streams = case.streams in let ends = stream_ends streams in
-    let IsMet = λ (d : ℤ). IsAtMost (whole d) (hot_heat network) in
-    let met : (from_itself : Bool) (t : ℤ) → IsMet (deficit_over from_itself streams t) =
-    λ from_itself t. deficits_met case network values (record { place = t; from_itself = from_itself }) valid shape whole_values ended apart in
+    let streams = case.streams in let ends = stream_ends streams in let IsMet = λ (d : ℤ). IsAtMost (whole d) (hot_heat network) in
+    let met : (from_itself : Bool) (t : ℤ) → IsMet (deficit_over from_itself streams t) = λ from_itself t. deficits_met case network values
+    (record { place = t; from_itself = from_itself }) valid shape whole_values ended apart in
     let all_met = λ (from_itself : Bool). All-map IsMet (deficit_over from_itself streams) ends (λ k d within. met from_itself (get_or ends k d)) in
     let each : All IsMet (end_deficits streams) = All-append IsMet _ _ (all_met false) (all_met true) in
-    not_negative-minus (whole (hot_target streams)) (hot_heat network)
-    (⊎_elim (λ none. subst IsMet (sym none) (hot_heat-least case network shape)) (λ (k, within, is). subst IsMet is (each k (hot_target streams) within))
-    (fold-int_max_reached (pos 0) (end_deficits streams) (hot_target streams) refl))
+    not_negative-minus (whole (hot_target streams)) (hot_heat network) (⊎_elim (λ none. subst IsMet (sym none) (hot_heat-least case network shape))
+    (λ (k, within, is). subst IsMet is (each k (hot_target streams) within)) (fold-int_max_reached (pos 0) (end_deficits streams) (hot_target streams) refl))

@@ -4,7 +4,7 @@ use Rattle.network_values.proofs.Words.{first_state, fixed_level, full_size, hig
 use Rattle.network_values.proofs.Words.{is_latent_branch, last_part_of_load, last_state, low_end, option_map_or, rational_zero, shifted, stream_at}
 use Rattle.network_values.proofs.Words.{stream_level, whole}
 use Rattle.network_values.specs.Penalties.{unshifted}
-use Rattle.std.proofs.Common.{None, Some, ap, arith, false, if◌then◌else◌, inl, inr, pos, slice_get, sym, ℕ, ℤ, ◌+ℤ◌, ◌∙◌, ◌≡◌, ◌⊎◌}
+use Rattle.std.proofs.Common.{None, Some, ap, arith, false, if◌then◌else◌, pos, slice_get, sym, ℕ, ℤ, ◌+ℤ◌, ◌∙◌, ◌≡◌, ⊎_elim}
 use Rattle.stream_case.specs.declared.source.Side.TheVariants as side
 use Rattle.stream_case.specs.declared.source.Source.TheVariants as source
 
@@ -40,11 +40,8 @@ fixed_level-latent case i s at h = ap stream_level at ∙ ap (λ b. if b then So
 -- ---- all streams
 
 pub full_size-positive : (s : Stream) → IsValidStream s → IsBelow rational_zero (full_size s)
-full_size-positive s h = by_heat h.heat
-  where
-    by_heat : IsSensible s ⊎ IsLatent s → IsBelow rational_zero (full_size s)
-    by_heat (inl sensible) = let flow = sensible.cp in let none = sensible.load in below-whole (pos 0) (s.cp +ℤ s.load) (omega (arith, ints, flow.from))
-    by_heat (inr latent) = let load = latent.load in let none = latent.cp in below-whole (pos 0) (s.cp +ℤ s.load) (omega (arith, ints, load.from))
+full_size-positive s h = below-whole (pos 0) (s.cp +ℤ s.load) (⊎_elim (λ sensible. omega (arith, ints, sensible.load, sensible.cp.from))
+    (λ latent. omega (arith, ints, latent.cp, latent.load.from)) h.heat)
 
 pub is_latent_branch-is : (case : Case) (network : Network) (branch : ℕ) (s : Stream)
     → slice_get case.streams (stream_at network.branches branch) ≡ Some s → is_latent_branch case network branch ≡ is_latent s

@@ -6,10 +6,9 @@ use Rattle.std.proofs.lemmas.Map.Made.{IsDistinct-from_AllPairs, is_member-Decid
 
 -- few members: a falling list whose members all stand in another list is no longer than that one
 pub length-le_falling : (xs ys : List ℤ) → AllPairs (λ a b. b <ℤ a) xs → All (Contains ys) xs → length xs ≤ length ys
-length-le_falling xs ys falls within =
-    length-le_from_is_member int_eq_equiv xs ys
-    (IsDistinct-from_AllPairs Decides-int_eq xs (λ i j d before inside e. let h = falls i j d before inside in omega (arith, ints)))
-    (λ q member. (is_member-Decides Decides-int_eq ys q).1 (All-contains (Contains ys) xs q within ((is_member-Decides Decides-int_eq xs q).0 member)))
+length-le_falling xs ys falls within = length-le_from_is_member int_eq_equiv xs ys (IsDistinct-from_AllPairs Decides-int_eq xs
+    (λ i j d before inside e. let h = falls i j d before inside in omega (arith, ints))) (λ q member. (is_member-Decides Decides-int_eq ys q).1
+    (All-contains (Contains ys) xs q within ((is_member-Decides Decides-int_eq xs q).0 member)))
 
 -- one for a test that holds
 one_le : (a b : Bool) → (a ≡ true → b ≡ true) → cond a 1 0 ≤ cond b 1 0
@@ -28,10 +27,8 @@ module _ {X : Type 0} where
   pub count_by-add-le : (p q r : X → Bool) (xs : List X) → ((x : X) → p x ≡ true → q x ≡ false) → ((x : X) → p x ≡ true → r x ≡ true)
       → ((x : X) → q x ≡ true → r x ≡ true) → count_by p xs + count_by q xs ≤ count_by r xs
   count_by-add-le p q r [] h k l = omega arith
-  count_by-add-le p q r (x ∷ xs) h k l =
-      let first = both_le (p x) (q x) (r x) (h x) (k x) (l x) in
-      let rest = count_by-add-le p q r xs h k l in
-      omega (arith, count_by-cons p x xs, count_by-cons q x xs, count_by-cons r x xs)
+  count_by-add-le p q r (x ∷ xs) h k l = let first = both_le (p x) (q x) (r x) (h x) (k x) (l x) in
+      let rest = count_by-add-le p q r xs h k l in omega (arith, count_by-cons p x xs, count_by-cons q x xs, count_by-cons r x xs)
 
   -- ---- whether some element passes
 

@@ -54,6 +54,5 @@ module _ {X Y : Type 0} where
 
   pub Contains-flat_map : (f : X → List Y) (xs : List X) (x : X) (y : Y) → Contains xs x → Contains (f x) y → Contains (flat_map f xs) y
   Contains-flat_map f [] x y (i, within, is) there = absurd (omega (arith, within))
-  Contains-flat_map f (z ∷ xs) x y found there =
-      ⊎_elim (λ same. Contains-append_left (f z) (flat_map f xs) y (subst (λ w. Contains (f w) y) (sym same) there))
+  Contains-flat_map f (z ∷ xs) x y found there = ⊎_elim (λ same. Contains-append_left (f z) (flat_map f xs) y (subst (λ w. Contains (f w) y) (sym same) there))
       (λ later. Contains-append_right (f z) (flat_map f xs) y (Contains-flat_map f xs x y later there)) (Contains-cons z xs x found)

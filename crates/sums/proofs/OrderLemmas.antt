@@ -9,10 +9,8 @@ use Rattle.std.proofs.lemmas.List.Sorted.{All-permutation, Contains-permutation,
 
 -- a list reversed has its pairs the other way round
 pub AllPairs-reverse : {X : Type 0} (R : X → X → Type 0) (xs : List X) → AllPairs R xs → AllPairs (λ a b. R b a) (reverse xs)
-AllPairs-reverse R xs h i j d before within =
-    let same = length-reverse xs in
-    let late : j < length xs = omega (arith, within, same) in
-    let early : i < length xs = omega arith in
+AllPairs-reverse R xs h i j d before within = let same = length-reverse xs in
+    let late : j < length xs = omega (arith, within, same) in let early : i < length xs = omega arith in
     subst₂ R (sym (get_or-reverse xs j d late)) (sym (get_or-reverse xs i d early)) (h (length xs - 1 - j) (length xs - 1 - i) d (omega arith) (omega arith))
 
 pub All-reverse : {X : Type 0} (P : X → Type 0) (xs : List X) → All P xs → All P (reverse xs)
@@ -23,8 +21,7 @@ AllPairs-strictly xs h i j d before within = int_ranked _ _ Less (sym (Less-from
 
 -- a list reversed stands in the order turned round
 pub Lists-reverse : {X : Type 0} (before : X → X → Type 0) (P : X → Type 0) (xs : List X) → Lists before P xs → Lists (λ a b. before b a) P (reverse xs)
-Lists-reverse before P xs h =
-    let turned = IsPermutation-reverse xs in
+Lists-reverse before P xs h = let turned = IsPermutation-reverse xs in
     record {
       ordered = AllPairs-reverse before xs h.ordered;
       each = All-reverse P xs h.each;
@@ -33,8 +30,7 @@ Lists-reverse before P xs h =
 
 -- what sorting and dropping repeats leaves
 pub ListsRising-sorted : (values sorted : List ℤ) → IsPermutation values sorted → IsSorted int_cmp sorted → ListsRising (Contains values) (dedup int_eq sorted)
-ListsRising-sorted values sorted moved order =
-    let kept = dedup int_eq sorted in
+ListsRising-sorted values sorted moved order = let kept = dedup int_eq sorted in
     record {
       ordered = AllPairs-strictly kept (IsStrictlySortedBy-dedup int_cmp_total (λ x y. refl) sorted order);
       each =
@@ -58,31 +54,26 @@ module _ {X : Type 0} (R : X → X → Type 0) where
   -- in order, in order, and each of the first before each of the second
   pub AllPairs-append : (xs ys : List X) → AllPairs R xs → AllPairs R ys → All (λ x. All (R x) ys) xs → AllPairs R (xs ++ ys)
   AllPairs-append [] ys h k across = k
-  AllPairs-append (x ∷ xs) ys h k across =
-      AllPairs-cons R x (xs ++ ys) (All-append (R x) xs ys (AllPairs-head x xs h) (All-head (λ a. All (R a) ys) x xs across))
-      (AllPairs-append xs ys (AllPairs-tail x xs h) k (All-tail (λ a. All (R a) ys) x xs across))
+  AllPairs-append (x ∷ xs) ys h k across = AllPairs-cons R x (xs ++ ys) (All-append (R x) xs ys (AllPairs-head x xs h)
+      (All-head (λ a. All (R a) ys) x xs across)) (AllPairs-append xs ys (AllPairs-tail x xs h) k (All-tail (λ a. All (R a) ys) x xs across))
 
   -- each of the two lists, and an element of the first before those of the second
   pub AllPairs-front : (xs ys : List X) → AllPairs R (xs ++ ys) → AllPairs R xs
-  AllPairs-front xs ys pairs i j d before within =
-      subst₂ R (get_or_append_left xs ys d i (omega (arith, before, within))) (get_or_append_left xs ys d j within)
+  AllPairs-front xs ys pairs i j d before within = subst₂ R (get_or_append_left xs ys d i (omega (arith, before, within))) (get_or_append_left xs ys d j within)
       (pairs i j d before (omega (arith, within, length-append xs ys)))
 
   pub AllPairs-across : (xs ys : List X) (i : ℕ) (d : X) → AllPairs R (xs ++ ys) → i < length xs → All (R (get_or xs i d)) ys
-  AllPairs-across xs ys i d pairs early j e within =
-      subst₂ R (get_or_append_left xs ys e i early ∙ get_or_default xs i e d early) (get_or-append-add xs ys j e)
+  AllPairs-across xs ys i d pairs early j e within = subst₂ R (get_or_append_left xs ys e i early ∙ get_or_default xs i e d early) (get_or-append-add xs ys j e)
       (pairs i (length xs + j) e (omega (arith, early)) (omega (arith, within, length-append xs ys)))
 
   -- the elements before one
   pub AllPairs-before : (xs : List X) (i : ℕ) (d : X) → AllPairs R xs → i < length xs → All (λ x. R x (get_or xs i d)) (take i xs)
-  AllPairs-before xs i d pairs within k e early =
-      let inside : k < i = omega (arith, early, length-take-le i xs (omega (arith, within))) in
+  AllPairs-before xs i d pairs within k e early = let inside : k < i = omega (arith, early, length-take-le i xs (omega (arith, within))) in
       subst₂ R (sym (get_or-take i xs k e inside)) (get_or_default xs i e d within) (pairs k i e inside within)
 
 pub AllPairs-map : {X Y : Type 0} (R : Y → Y → Type 0) (f : X → Y) (xs : List X) → AllPairs (λ a b. R (f a) (f b)) xs → AllPairs R (map f xs)
 AllPairs-map R f [] pairs = AllPairs-nil R
-AllPairs-map R f (x ∷ xs) pairs =
-    AllPairs-cons R (f x) (map f xs) (All-map (R (f x)) f xs (AllPairs-head (λ a b. R (f a) (f b)) x xs pairs))
+AllPairs-map R f (x ∷ xs) pairs = AllPairs-cons R (f x) (map f xs) (All-map (R (f x)) f xs (AllPairs-head (λ a b. R (f a) (f b)) x xs pairs))
     (AllPairs-map R f xs (AllPairs-tail (λ a b. R (f a) (f b)) x xs pairs))
 
 -- ---- one list only
@@ -107,10 +98,7 @@ module _ {X : Type 0} (before : X → X → Type 0) (one_way : (a b : X) → bef
 
   Lists-head : (P : X → Type 0) (x y : X) (xs ys : List X) → Lists before P (x ∷ xs) → Lists before P (y ∷ ys) → x ≡ y
   Lists-head P x y xs ys h k =
-      ⊎_elim (λ e. e)
-      (λ in_xs. ⊎_elim (λ e. sym e)
-      (λ in_ys. absurd
-      (one_way x y (All-contains (before x) xs y (AllPairs-head before x xs h.ordered) in_xs)
+      ⊎_elim (λ e. e) (λ in_xs. ⊎_elim (λ e. sym e) (λ in_ys. absurd (one_way x y (All-contains (before x) xs y (AllPairs-head before x xs h.ordered) in_xs)
       (All-contains (before y) ys x (AllPairs-head before y ys k.ordered) in_ys))) (Contains-cons y ys x (k.every x (All-head P x xs h.each))))
       (Contains-cons x xs y (h.every y (All-head P y ys k.each)))
 
@@ -123,8 +111,7 @@ module _ {X : Type 0} (before : X → X → Type 0) (one_way : (a b : X) → bef
   Lists-unique P [] [] h k = refl
   Lists-unique P [] (y ∷ ys) h k = absurd (none_in_nil y (h.every y (All-head P y ys k.each)))
   Lists-unique P (x ∷ xs) [] h k = absurd (none_in_nil x (k.every x (All-head P x xs h.each)))
-  Lists-unique P (x ∷ xs) (y ∷ ys) h k =
-      let e = Lists-head P x y xs ys h k in
+  Lists-unique P (x ∷ xs) (y ∷ ys) h k = let e = Lists-head P x y xs ys h k in
       ap₂ ◌∷◌ e (Lists-unique (Later P x) xs ys (Lists-tail P x xs h) (subst (λ z. Lists before (Later P z) ys) (sym e) (Lists-tail P y ys k)))
 
 pub ListsFalling-unique : (P : ℤ → Type 0) (xs ys : List ℤ) → ListsFalling P xs → ListsFalling P ys → xs ≡ ys
@@ -133,8 +120,4 @@ ListsFalling-unique = Lists-unique (λ a b. b <ℤ a) (λ a b h k. omega (arith,
 -- the same list for members that are said in another way
 pub Lists-same : {X : Type 0} (before : X → X → Type 0) (P Q : X → Type 0) (xs : List X) → ((x : X) → P x → Q x) → ((x : X) → Q x → P x) → Lists before P xs
     → Lists before Q xs
-Lists-same before P Q xs there back h = record {
-  ordered = h.ordered;
-  each = All-weaker P Q there xs h.each;
-  every = λ x q. h.every x (back x q);
-}
+Lists-same before P Q xs there back h = record { ordered = h.ordered; each = All-weaker P Q there xs h.each; every = λ x q. h.every x (back x q) }

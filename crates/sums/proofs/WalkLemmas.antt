@@ -52,8 +52,7 @@ module _ (xs : List ℤ) (h : NotNegative xs) where
           let here = ap (begin_of xs) same in let end = ap (λ c. begin_of xs (suc c)) same in rw (eq-eqb i a same) (omega (arith, ints, clamps))
       by (inr differ) (inl before) =
           let rises = begin_of-rises (suc a) i (omega (arith, before)) in let own = begin_of-next xs h a in rw (ne_eqb i a differ) (omega (arith, ints, clamps))
-      by (inr differ) (inr behind) =
-          let rises = begin_of-rises (suc i) a (omega (arith, behind, differ)) in let own = begin_of-next xs h a in
+      by (inr differ) (inr behind) = let rises = begin_of-rises (suc i) a (omega (arith, behind, differ)) in let own = begin_of-next xs h a in
           rw (ne_eqb i a differ) (omega (arith, ints, clamps))
 
 -- a walk stands at a point of the span at its index
@@ -79,18 +78,14 @@ goes_on xs p at next more h stands some upto gives = by (int_eq given amount) (D
 
     by : (b : Bool) → Decides b (given ≡ amount)
         → GoesOn xs p (if b then record { index = p.index + 1; given = pos 0 } else record { index = p.index; given = given }) next
-    by true d =
-        let whole = d.0 refl in let is = stands.given in let end = begin_of-suc xs p.index in
-        let count : p.index + 1 ≡ suc p.index = omega arith in
-        let begin = ap (begin_of xs) count in let step = begin_of-next xs h (p.index + 1) in
-        let span = begin_of-suc xs (p.index + 1) in
+    by true d = let whole = d.0 refl in let is = stands.given in let end = begin_of-suc xs p.index in let count : p.index + 1 ≡ suc p.index = omega arith in
+        let begin = ap (begin_of xs) count in let step = begin_of-next xs h (p.index + 1) in let span = begin_of-suc xs (p.index + 1) in
         record {
           stands = record { within = record { from = omega (arith, ints); upto = omega (arith, ints) }; given = omega (arith, ints) };
           behind = omega arith;
           ends = λ e. count;
         }
-    by false d =
-        let is = stands.given in let within = stands.within in let end = begin_of-suc xs p.index in
+    by false d = let is = stands.given in let within = stands.within in let end = begin_of-suc xs p.index in
         record {
           stands = record { within = record { from = omega (arith, ints); upto = omega (arith, ints) }; given = omega (arith, ints) };
           behind = omega arith;
@@ -119,11 +114,9 @@ pub record EndsBy (us vs : List ℤ) (at : ℤ) (r : Pair) : Type 0 where
 abbrev pub sum_at : (Pair → ℕ) → ℕ → List Pair → ℤ
 sum_at index a ps = int_sum_by (λ r. if index r == a then r.amount else pos 0) ps
 
-sum_at-push : (index : Pair → ℕ) (a : ℕ) (ps : List Pair) (i j : ℕ) (amount : ℤ) → pos 0 ≤ℤ amount
-    → sum_at index a (ps ++ cons_positive i j amount [])
+sum_at-push : (index : Pair → ℕ) (a : ℕ) (ps : List Pair) (i j : ℕ) (amount : ℤ) → pos 0 ≤ℤ amount → sum_at index a (ps ++ cons_positive i j amount [])
     ≡ sum_at index a ps +ℤ (if index (record { first = i; second = j; amount = amount }) == a then amount else pos 0)
-sum_at-push index a ps i j amount some =
-    int_sum_by-append (λ r. if index r == a then r.amount else pos 0) ps (cons_positive i j amount [])
+sum_at-push index a ps i j amount some = int_sum_by-append (λ r. if index r == a then r.amount else pos 0) ps (cons_positive i j amount [])
     ∙ ap (λ z. sum_at index a ps +ℤ z) (either (int_lt (pos 0) amount) refl)
   where
     r : Pair
@@ -167,9 +160,7 @@ pub record IsNearer (us vs : List ℤ) (left : ℕ) (p q : Progress) (ps : List 
 
 module _ (us vs : List ℤ) (h : NotNegative us) (k : NotNegative vs) where
   pub IsWalk-none : IsWalk us vs (record { index = 0; given = pos 0 }) (record { index = 0; given = pos 0 }) []
-  IsWalk-none =
-      let us_from = λ (a : ℕ). begin_of-rises us h 0 a (omega arith) in
-      let vs_from = λ (b : ℕ). begin_of-rises vs k 0 b (omega arith) in
+  IsWalk-none = let us_from = λ (a : ℕ). begin_of-rises us h 0 a (omega arith) in let vs_from = λ (b : ℕ). begin_of-rises vs k 0 b (omega arith) in
       record {
         at = pos 0;
         first = record {
@@ -212,10 +203,8 @@ module _ (us vs : List ℤ) (h : NotNegative us) (k : NotNegative vs) where
       overlaps : overlap us vs p.index q.index ≡ more
 
     knows : Knows
-    knows =
-        let us_end = begin_of-suc us p.index in let vs_end = begin_of-suc vs q.index in
-        let us_given = walk.first.given in let vs_given = walk.second.given in let us_within = walk.first.within in
-        let vs_within = walk.second.within in let begins = walk.begins in
+    knows = let us_end = begin_of-suc us p.index in let vs_end = begin_of-suc vs q.index in let us_given = walk.first.given in
+        let vs_given = walk.second.given in let us_within = walk.first.within in let vs_within = walk.second.within in let begins = walk.begins in
         record {
           us_from = omega (arith, ints);
           vs_from = omega (arith, ints);
@@ -248,33 +237,24 @@ module _ (us vs : List ℤ) (h : NotNegative us) (k : NotNegative vs) where
         by : (r.first < p.index) ⊎ (p.index ≤ r.first) → (r.second < q.index) ⊎ (q.index ≤ r.second) → pair_before r here
         by (inl before) other = inl before
         by (inr from) (inl before) = inr (omega (arith, firsts, from), before)
-        by (inr from) (inr behind) =
-            let us_end = ap (λ a. begin_of us (suc a)) {x = r.first} {y = p.index} (omega (arith, firsts, from)) in
-            let vs_end = ap (λ b. begin_of vs (suc b)) {x = r.second} {y = q.index} (omega (arith, seconds, behind)) in
-            let ends = e.ends in let now = knows in
+        by (inr from) (inr behind) = let us_end = ap (λ a. begin_of us (suc a)) {x = r.first} {y = p.index} (omega (arith, firsts, from)) in
+            let vs_end = ap (λ b. begin_of vs (suc b)) {x = r.second} {y = q.index} (omega (arith, seconds, behind)) in let ends = e.ends in let now = knows in
             absurd (omega (arith, ints, clamps))
 
     -- an overlap that begins between the two points is that of the two amounts
     found : (a b : ℕ) → pos 0 <ℤ overlap us vs a b → walk.at ≤ℤ int_max (begin_of us a) (begin_of vs b) → int_max (begin_of us a) (begin_of vs b) <ℤ next
         → Contains pushed (record { first = a; second = b; amount = overlap us vs a b })
-    found a b positive from upto =
-        let now = knows in
-        let us_upto = index_upto us h a p.index (omega (arith, ints, clamps)) in
-        let us_from = index_upto us h p.index a (omega (arith, ints, clamps)) in
-        let vs_upto = index_upto vs k b q.index (omega (arith, ints, clamps)) in
-        let vs_from = index_upto vs k q.index b (omega (arith, ints, clamps)) in
-        let one : p.index ≡ a = omega (arith, us_upto, us_from) in
-        let two : q.index ≡ b = omega (arith, vs_upto, vs_from) in
-        let amount : more ≡ overlap us vs a b = sym knows.overlaps ∙ ap₂ (overlap us vs) one two in
-        subst (Contains pushed) (same_pair p.index q.index a b more (overlap us vs a b) one two amount)
-        (Contains-cons_if_here (int_lt (pos 0) more) here [] (int_lt-from (pos 0) more (omega (arith, ints))))
+    found a b positive from upto = let now = knows in let us_upto = index_upto us h a p.index (omega (arith, ints, clamps)) in
+        let us_from = index_upto us h p.index a (omega (arith, ints, clamps)) in let vs_upto = index_upto vs k b q.index (omega (arith, ints, clamps)) in
+        let vs_from = index_upto vs k q.index b (omega (arith, ints, clamps)) in let one : p.index ≡ a = omega (arith, us_upto, us_from) in
+        let two : q.index ≡ b = omega (arith, vs_upto, vs_from) in let amount : more ≡ overlap us vs a b = sym knows.overlaps ∙ ap₂ (overlap us vs) one two in
+        subst (Contains pushed) (same_pair p.index q.index a b more (overlap us vs a b) one two amount) (Contains-cons_if_here (int_lt (pos 0) more) here []
+        (int_lt-from (pos 0) more (omega (arith, ints))))
 
     pub IsWalk-more : IsNearer us vs (still_left us vs p q) (progress_after us p more) (progress_after vs q more) (ps ++ cons_positive p.index q.index more [])
-    IsWalk-more =
-        let now = knows in
+    IsWalk-more = let now = knows in
         let one = goes_on us p walk.at next more h walk.first now.goes now.us_upto now.gives in
-        let other = goes_on vs q walk.at next more k walk.second now.goes now.vs_upto now.gives in
-        let test = int_lt (pos 0) more in
+        let other = goes_on vs q walk.at next more k walk.second now.goes now.vs_upto now.gives in let test = int_lt (pos 0) more in
         let some : pos 0 ≤ℤ more = omega (arith, ints) in
         let begins : (int_max (begin_of us (progress_after us p more).index) (begin_of vs (progress_after vs q more).index) ≡ next)
         × (still_left us vs (progress_after us p more) (progress_after vs q more) < still_left us vs p q) =
@@ -289,8 +269,7 @@ module _ (us vs : List ℤ) (h : NotNegative us) (k : NotNegative vs) where
             first = one.stands;
             second = other.stands;
             begins = begins.0;
-            each = All-append (EndsBy us vs next) ps pushed
-                (All-weaker (EndsBy us vs walk.at) (EndsBy us vs next)
+            each = All-append (EndsBy us vs next) ps pushed (All-weaker (EndsBy us vs walk.at) (EndsBy us vs next)
                 (λ r e. record { overlaps = e.overlaps; ends = let ends = e.ends in omega (arith, ints) }) ps walk.each)
                 (All-cons_if (EndsBy us vs next) test here [] (λ e. ends_here (int_lt-true (pos 0) more e)) (All-nil (EndsBy us vs next)));
             every = λ a b positive upto. by_lt_z (int_max (begin_of us a) (begin_of vs b)) walk.at
@@ -335,20 +314,17 @@ module _ (us vs : List ℤ) (h : NotNegative us) (k : NotNegative vs) where
     ordered = walk.ordered;
     each = All-weaker (EndsBy us vs walk.at) (IsOverlap us vs) (λ r e. e.overlaps) ps walk.each;
     every = λ r e.
-        let amount = e.amount in let positive = e.positive in
-        let ends = past end r.first r.second e.first_within e.second_within in
+        let amount = e.amount in let positive = e.positive in let ends = past end r.first r.second e.first_within e.second_within in
         subst (Contains ps) (same_pair r.first r.second r.first r.second (overlap us vs r.first r.second) r.amount refl refl (sym amount))
         (walk.every r.first r.second (omega (arith, ints)) (omega (arith, ints, clamps)));
   }
     where
       past : (length us ≤ p.index) ⊎ (length vs ≤ q.index) → (a b : ℕ) → a < length us → b < length vs
           → int_min (begin_of us (suc a)) (begin_of vs (suc b)) ≤ℤ walk.at
-      past (inl end) a b first second =
-          let within = walk.first.within in let given = walk.first.given in let rises = begin_of-rises us h (suc a) p.index (omega (arith, first, end)) in
-          omega (arith, ints, clamps)
-      past (inr end) a b first second =
-          let within = walk.second.within in let given = walk.second.given in let rises = begin_of-rises vs k (suc b) q.index (omega (arith, second, end)) in
-          omega (arith, ints, clamps)
+      past (inl end) a b first second = let within = walk.first.within in let given = walk.first.given in
+          let rises = begin_of-rises us h (suc a) p.index (omega (arith, first, end)) in omega (arith, ints, clamps)
+      past (inr end) a b first second = let within = walk.second.within in let given = walk.second.given in
+          let rises = begin_of-rises vs k (suc b) q.index (omega (arith, second, end)) in omega (arith, ints, clamps)
 
   -- there is a list of the overlaps
   pub some_overlaps : (ps : List Pair) × ListsOverlaps us vs ps
@@ -363,15 +339,11 @@ all_before xs ys h k total p q at stands other end a within =
     let before = past end in let own = begin_of-next xs h a in let span = begin_of-suc xs a in omega (arith, ints, clamps)
   where
     past : (length xs ≤ p.index) ⊎ (length ys ≤ q.index) → begin_of xs (suc a) ≤ℤ at
-    past (inl end) =
-        let inside = stands.within in let given = stands.given in let rises = begin_of-rises xs h (suc a) p.index (omega (arith, within, end)) in
+    past (inl end) = let inside = stands.within in let given = stands.given in let rises = begin_of-rises xs h (suc a) p.index (omega (arith, within, end)) in
         omega (arith, ints)
-    past (inr end) =
-        let inside = other.within in let given = other.given in
-        let all = ap (int_sum_by (λ x. x)) (take_all (length xs) xs (omega arith)) in
+    past (inr end) = let inside = other.within in let given = other.given in let all = ap (int_sum_by (λ x. x)) (take_all (length xs) xs (omega arith)) in
         let other_all = ap (int_sum_by (λ x. x)) (take_all (length ys) ys (omega arith)) in
-        let rises = begin_of-rises xs h (suc a) (length xs) (omega (arith, within)) in
-        let other_rises = begin_of-rises ys k (length ys) q.index end in
+        let rises = begin_of-rises xs h (suc a) (length xs) (omega (arith, within)) in let other_rises = begin_of-rises ys k (length ys) q.index end in
         omega (arith, ints)
 
 module _ (us vs : List ℤ) (ps : List Pair) (h : NotNegative us) (k : NotNegative vs) (total : int_sum_by (λ x. x) us ≡ int_sum_by (λ x. x) vs)
@@ -381,16 +353,13 @@ module _ (us vs : List ℤ) (ps : List Pair) (h : NotNegative us) (k : NotNegati
 
   -- the overlaps are one list, that of the walk
   same : walked.ps ≡ ps
-  same =
-      Lists-unique pair_before pair_one_way (IsOverlap us vs) walked.ps ps
+  same = Lists-unique pair_before pair_one_way (IsOverlap us vs) walked.ps ps
       (ListsOverlaps-walk us vs h k walked.p walked.q walked.ps walked.end walked.walk) lists
 
   pub overlaps_first : (a : ℕ) → a < length us → int_sum_by (λ p. if p.first == a then p.amount else pos 0) ps ≡ get_or us a (pos 0)
-  overlaps_first a within =
-      sym (ap (sum_at (λ r. r.first) a) same) ∙ walked.walk.firsts a
+  overlaps_first a within = sym (ap (sum_at (λ r. r.first) a) same) ∙ walked.walk.firsts a
       ∙ all_before us vs h k total walked.p walked.q walked.walk.at walked.walk.first walked.walk.second walked.end a within
 
   pub overlaps_second : (b : ℕ) → b < length vs → int_sum_by (λ p. if p.second == b then p.amount else pos 0) ps ≡ get_or vs b (pos 0)
-  overlaps_second b within =
-      sym (ap (sum_at (λ r. r.second) b) same) ∙ walked.walk.seconds b
-      ∙ all_before vs us k h (sym total) walked.q walked.p walked.walk.at walked.walk.second walked.walk.first (⊎_elim inr inl walked.end) b within
+  overlaps_second b within = sym (ap (sum_at (λ r. r.second) b) same) ∙ walked.walk.seconds b ∙ all_before vs us k h
+      (sym total) walked.q walked.p walked.walk.at walked.walk.second walked.walk.first (⊎_elim inr inl walked.end) b within

@@ -10,8 +10,7 @@ lesser : (x y l r m : ℤ) → FitsSigned w64 l → FitsSigned w64 r → FitsSig
 lesser x y l r m fits_l fits_r fits_m one two min = to_z-of_z w64 m fits_m ∙ min ∙ ap₂ int_min (to_z-of_z w64 l fits_l ∙ one) (to_z-of_z w64 r fits_r ∙ two)
 
 pub loop-first-init : goal.loop-first-init
-loop-first-init c =
-    subst (IsWalk c.args.firsts.now c.args.seconds.now _ _) (sym c.new-pairs.ensures.items)
+loop-first-init c = subst (IsWalk c.args.firsts.now c.args.seconds.now _ _) (sym c.new-pairs.ensures.items)
     (IsWalk-none c.args.firsts.now c.args.seconds.now c.requires.firsts c.requires.seconds)
 
 pub after-first-requires-clause-more : goal.after-first-requires-clause-more
