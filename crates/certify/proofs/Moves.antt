@@ -12,8 +12,7 @@ one_more_given h xs i x given next y within at so_far is more =
 
 pub one_more_known : {X Y : Type 0} (h : X → Option Y) (xs : List X) (i : ℕ) (x : X) (y : Y) → i < length xs → x ≡ get_or xs i x
     → All (λ z. IsTrue (is_some (h z))) (take i xs) → h x ≡ Some y → All (λ z. IsTrue (is_some (h z))) (take (i + 1) xs)
-one_more_known h xs i x y within at so_far is =
-    let here : h (get_or xs i x) ≡ Some y = ap h (sym at) ∙ is in
+one_more_known h xs i x y within at so_far is = let here : h (get_or xs i x) ≡ Some y = ap h (sym at) ∙ is in
     rw (take_more xs i x within) (All-push (λ z. IsTrue (is_some (h z))) (take i xs) (get_or xs i x) so_far (rw here refl))
 
 pub none_some : {X : Type 0} (o : Option X) → ((x : X) → o ≡ Some x → ⊥) → IsTrue (is_some o) → ⊥

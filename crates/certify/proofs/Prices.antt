@@ -20,9 +20,7 @@ passes_behind (check ∷ group) others h = passes_behind group others h.1
 
 -- the price of a statement that is not at fault
 price_within : (s : Statement) → Passes (priced_checks s) → IsPartPrice (number (field s 4))
-price_within s h =
-    let both = and_parts _ _ (passes_behind (span_checks s 1) _ h).1.0 in
-    record { from = int_le-true _ _ both.0; upto = int_le-true _ _ both.1 }
+price_within s h = let both = and_parts _ _ (passes_behind (span_checks s 1) _ h).1.0 in record { from = int_le-true _ _ both.0; upto = int_le-true _ _ both.1 }
 
 -- what a statement that is not at fault adds
 abbrev IsPriced : Entry → Type 0

@@ -117,8 +117,7 @@ part_follows : (kind : CutKind) (need offer : ℤ) (before : List Span) (s : Spa
 unfolding entry_in field_checks span_checks span_at
 part_follows of need offer before s is =
     let p = read_span s is in record {
-      passes = passes_of _ (part_statement s) kind.Part refl
-          (refl, (refl, (p.name, (p.high.some, (p.high.within, (p.low.some, (p.low.within, tt)))))));
+      passes = passes_of _ (part_statement s) kind.Part refl (refl, (refl, (p.name, (p.high.some, (p.high.within, (p.low.some, (p.low.within, tt)))))));
       next_is = λ i. draft.Whole (report.Cut of need offer (before ++ record { name = s.name; high = sym p.high.value i; low = sym p.low.value i } ∷ []));
     }
 
@@ -154,8 +153,7 @@ given_in (report.Cut of need offer parts) is =
 -- ---- their fields are plain
 
 use_plain : (u : Used) → IsUse u → IsPlainStatement (use_statement u)
-use_plain u is =
-    plain_statement _ _ (word_plain (codes "use") (omega arith) refl) refl (name_plain u.name is.name, ((amount_number u.heat is.heat).plain, tt))
+use_plain u is = plain_statement _ _ (word_plain (codes "use") (omega arith) refl) refl (name_plain u.name is.name, ((amount_number u.heat is.heat).plain, tt))
 
 move_plain : (m : Moved) → IsMove m → IsPlainStatement (move_statement m)
 move_plain m is =
@@ -164,13 +162,11 @@ move_plain m is =
     (name_plain m.hot.name is.hot.name, (h.high.plain, (h.low.plain, (name_plain m.cold.name is.cold.name, (k.high.plain, (k.low.plain, (n.plain, tt)))))))
 
 priced_plain : (word : List ℕ) → IsPlainField word → (get_or word 0 0 == 35) ≡ false → (g : Priced) → IsPrice g → IsPlainStatement (priced_statement word g)
-priced_plain word first counts g is =
-    let p = read_span g.part is.part in
+priced_plain word first counts g is = let p = read_span g.part is.part in
     plain_statement _ _ first counts (name_plain g.part.name is.part.name, (p.high.plain, (p.low.plain, ((amount_number g.price is.price).plain, tt))))
 
 part_plain : (s : Span) → IsSpan s → IsPlainStatement (part_statement s)
-part_plain s is =
-    let p = read_span s is in
+part_plain s is = let p = read_span s is in
     plain_statement _ _ (word_plain (codes "part") (omega arith) refl) refl (name_plain s.name is.name, (p.high.plain, (p.low.plain, tt)))
 
 kind_plain : (kind : CutKind) → IsPlainField (kind_word kind)
@@ -178,15 +174,13 @@ kind_plain cut.Demand = word_plain (codes "demand") (omega arith) refl
 kind_plain cut.Supply = word_plain (codes "supply") (omega arith) refl
 
 cut_plain : (kind : CutKind) (need offer : ℤ) → IsWithin MOST_AMOUNT need → IsWithin MOST_AMOUNT offer → IsPlainStatement (cut_statement kind need offer)
-cut_plain kind need offer is_need is_offer =
-    plain_statement _ _ (word_plain (codes "cut") (omega arith) refl) refl
+cut_plain kind need offer is_need is_offer = plain_statement _ _ (word_plain (codes "cut") (omega arith) refl) refl
     (kind_plain kind, ((amount_number need is_need).plain, ((amount_number offer is_offer).plain, tt)))
 
 -- statements that are made of a list behind others
 with_more : {X : Type 0} (item_of : X → Statement) (P : X → Type 0) (base : List Statement) (xs : List X) → ((x : X) → P x → IsPlainStatement (item_of x))
     → All P xs → All IsPlainStatement base → All IsPlainStatement (base ++ map item_of xs)
-with_more item_of P base xs plain all before =
-    All-append IsPlainStatement base (map item_of xs) before
+with_more item_of P base xs plain all before = All-append IsPlainStatement base (map item_of xs) before
     (All-map IsPlainStatement item_of xs (All-weaker P (λ x. IsPlainStatement (item_of x)) plain xs all))
 
 plain : (r : Report) → IsReadable r → All IsPlainStatement (statements_in r)
@@ -212,8 +206,7 @@ plain (report.Cut of need offer parts) is =
 
 value_of_statements : (r : Report) → IsReadable r → IsReport (statements_in r) r
 value_of_statements r is =
-    let give = given_in r is in
-    record { sound = give.sound; complete = rw (sym give.given_is) refl; value_is = rw (sym give.given_is) refl }
+    let give = given_in r is in record { sound = give.sound; complete = rw (sym give.given_is) refl; value_is = rw (sym give.given_is) refl }
 
 pub printed-again : PrintedReportsAreReadAgain
 printed-again r is = subst (λ (ss : List Statement). IsReport ss r) (sym (statements-back (statements_in r) (plain r is))) (value_of_statements r is)

@@ -1,17 +1,16 @@
 -- The reports of a certified heat flow and of a cut pass every check.
 use Rattle.certify.proofs.Firsts.{flow_first}
 use Rattle.certify.proofs.PartSums.{needing-within}
-use Rattle.certify.proofs.Words.{All-head, All-map, All-tail, AreCaseParts, AreParts, ArePricesOf, AreUsesOf, Case, Cold, Cut, CutKind, Decides-int_eq, Demand}
-use Rattle.certify.proofs.Words.{HoldsOfParts-some, Hot, IsAnswerOver, IsCertified, IsComplete, IsCutOf, IsSourceOf, IsTrue, Part, Priced, Side, Source}
-use Rattle.certify.proofs.Words.{StaysValid-IsComplete, Supply, Transfer, Yes, and_from, and_parts, blank, bytes_decides, comes_before, comes_before_source}
-use Rattle.certify.proofs.Words.{false_from_ne_true, filter_map, index_of, int_eq, ints, is_span_of, nat_tests, none-some, own_parts, position_or_len_is}
-use Rattle.certify.proofs.Words.{price_at, prices_of, reach_between, same_Some, slice_get-get_or, source_name, source_named, source_named-source_name}
-use Rattle.certify.proofs.Words.{sources_of_parts, span_of, transfer_of, use_of}
+use Rattle.certify.proofs.Table.{named_as, names_itself}
+use Rattle.certify.proofs.Words.{All-head, All-map, All-tail, AreCaseParts, AreParts, ArePricesOf, AreUsesOf, Case, Cold, Cut, CutKind, Demand}
+use Rattle.certify.proofs.Words.{HoldsOfParts-some, Hot, IsAnswerOver, IsCertified, IsComplete, IsCutOf, IsSourceOf, IsTrue, Part, Priced, Side, Source, Span}
+use Rattle.certify.proofs.Words.{StaysValid-IsComplete, Supply, Transfer, Yes, blank, comes_before, comes_before_source, false_from_ne_true, filter_map}
+use Rattle.certify.proofs.Words.{index_of, ints, is_span_of, nat_tests, none-some, own_parts, position_or_len_is, price_at, prices_of, reach_between, same_Some}
+use Rattle.certify.proofs.Words.{slice_get-get_or, source_name, source_named, source_named-source_name, sources_of_parts, span_of, transfer_of, use_of}
 use Rattle.certify.specs.Said.{CertifiedFlowsPass, CutsPass, cut_report, flow_report, made_from, move_of, named_at, priced_by}
 use Rattle.std.proofs.Common.{All, Bool, List, None, Option, Some, [], add-zero, ap, ap₂, arith, cond, false, get_or, is_some, length, map, nat_lt, pos}
 use Rattle.std.proofs.Common.{position, refl, slice_get, subst, suc, sym, true, zero, zero-add, ℕ, ℤ, ⊎_elim, ◌+◌, ◌<◌, ◌∙◌, ◌∷◌, ◌≡◌}
-use Rattle.stream_case.specs.declared.source.Source.TheVariants.{Stream as of_stream}
-use Rattle.stream_case.specs.declared.source.Source.TheVariants.{Utility as of_utility}
+use Rattle.stream_case.specs.declared.source.Source.TheVariants.{Stream as of_stream, Utility as of_utility}
 
 -- ---- lists that are made of others
 
@@ -30,24 +29,17 @@ made_from-at f n (z ∷ zs) (suc i) y x made at =
 pub found_again : {X Y : Type 0} (h : Y → Option X) (f : X → Y) (xs : List X) → All (λ x. h (f x) ≡ Some x) xs → filter_map h (map f xs) ≡ xs
 found_again h f [] all = refl
 found_again h f (x ∷ xs) all =
-    let here = All-head (λ z. h (f z) ≡ Some z) x xs all in
-    rw here (ap (λ ys. x ∷ ys) (found_again h f xs (All-tail (λ z. h (f z) ≡ Some z) x xs all)))
+    let here = All-head (λ z. h (f z) ≡ Some z) x xs all in rw here (ap (λ ys. x ∷ ys) (found_again h f xs (All-tail (λ z. h (f z) ≡ Some z) x xs all)))
 
-all_found : {X Y : Type 0} (h : Y → Option X) (f : X → Y) (xs : List X) → All (λ x. h (f x) ≡ Some x) xs
-    → All (λ y. IsTrue (is_some (h y))) (map f xs)
+all_found : {X Y : Type 0} (h : Y → Option X) (f : X → Y) (xs : List X) → All (λ x. h (f x) ≡ Some x) xs → All (λ y. IsTrue (is_some (h y))) (map f xs)
 all_found h f xs all = All-map (λ y. IsTrue (is_some (h y))) f xs (λ k d within. ap is_some (all k d within))
 
 -- ---- a part is found by its name and its ends
 
 position-first : {X : Type 0} (p : X → Bool) (xs : List X) (i : ℕ) (d : X) → i < length xs → p (get_or xs i d) ≡ true
     → ((k : ℕ) → k < i → p (get_or xs k d) ≡ false) → position p xs ≡ Some i
-position-first p xs i d within here earlier =
-    let first = position_or_len_is p xs i d (omega (arith, within)) earlier (λ w. here) in
-    let inside : nat_lt i (length xs) ≡ true = grind (arith, nat_tests, within) in
-    ap (λ n. cond (nat_lt n (length xs)) (Some n) None) first ∙ rw inside refl
-
-int_same : (a : ℤ) → int_eq a a ≡ true
-int_same a = (Decides-int_eq a a).1 refl
+position-first p xs i d within here earlier = let first = position_or_len_is p xs i d (omega (arith, within)) earlier (λ w. here) in
+    let inside : nat_lt i (length xs) ≡ true = grind (arith, nat_tests, within) in ap (λ n. cond (nat_lt n (length xs)) (Some n) None) first ∙ rw inside refl
 
 not_before_itself : (s : Source) → comes_before_source s s → ⊥
 not_before_itself (of_stream i) before = omega (arith, before)
@@ -55,32 +47,26 @@ not_before_itself (of_utility i) before = omega (arith, before)
 
 -- sources of one name are one
 one_source : (c : Case) → IsComplete c → (s t : Source) → IsSourceOf c s → IsSourceOf c t → source_name c s ≡ source_name c t → s ≡ t
-one_source c complete s t is_s is_t same =
-    let distinct = (StaysValid-IsComplete c complete).distinct_names in
+one_source c complete s t is_s is_t same = let distinct = (StaysValid-IsComplete c complete).distinct_names in
     same_Some s t (sym (source_named-source_name c distinct s is_s) ∙ ap (source_named c) same ∙ source_named-source_name c distinct t is_t)
 
 -- a part before another has another name, or other ends
 other_span : (c : Case) → IsComplete c → (q p : Part) → IsSourceOf c q.source → IsSourceOf c p.source → comes_before q p
     → is_span_of c (span_of c p) q ≡ true → ⊥
 other_span c complete q p is_q is_p before same =
-    let outer = and_parts _ _ same in let inner = and_parts _ _ outer.0 in
-    let high = (Decides-int_eq p.high q.high).0 inner.0 in let low = (Decides-int_eq p.low q.low).0 inner.1 in
-    let name = (bytes_decides (source_name c p.source) (source_name c q.source)).0 outer.1 in
-    let source = one_source c complete p.source q.source is_p is_q name in
-    ⊎_elim (λ above. omega (arith, ints, above, high))
-    (λ further. ⊎_elim (λ lower. omega (arith, ints, low))
+    let is = named_as c (span_of c p) q same in let high = ap (λ (s : Span). s.high) is in let low = ap (λ (s : Span). s.low) is in
+    let source = one_source c complete p.source q.source is_p is_q (ap (λ (s : Span). s.name) is) in
+    ⊎_elim (λ above. omega (arith, ints, above, high)) (λ further. ⊎_elim (λ lower. omega (arith, ints, low))
     (λ level. not_before_itself p.source (subst (λ s. comes_before_source s p.source) (sym source) level.2)) further) before
 
 module _ (c : Case) (complete : IsComplete c) (grid : List ℤ) (side : Side) (parts : List Part) (are : AreParts c.streams c.utilities grid side parts) where
   own_index : (i : ℕ) → i < length parts → index_of c parts (named_at c parts i) ≡ Some i
   own_index i within =
       let p = get_or parts i blank in let sources = sources_of_parts c grid side parts are in
-      let own : is_span_of c (span_of c p) p ≡ true =
-      and_from _ _ (and_from _ _ (int_same p.high) (int_same p.low)) ((bytes_decides (source_name c p.source) (source_name c p.source)).1 refl) in
       let others : (k : ℕ) → k < i → is_span_of c (span_of c p) (get_or parts k blank) ≡ false =
       λ k early. false_from_ne_true _ (other_span c complete (get_or parts k blank) p (sources k blank (omega (arith, early, within))) (sources i blank within)
       (are.ordered k i blank early within)) in
-      rw (slice_get-get_or parts i blank within) (position-first (is_span_of c (span_of c p)) parts i blank within own others)
+      rw (slice_get-get_or parts i blank within) (position-first (is_span_of c (span_of c p)) parts i blank within (names_itself c p) others)
 
   -- ---- the prices
 
@@ -102,24 +88,20 @@ prices_from c g n (p ∷ ps) (y ∷ ys) same each =
     ap₂ ◌∷◌ first (prices_from c g (suc n) ps ys (omega (arith, same))
     (λ i within. let index : suc n + i ≡ n + suc i = omega arith in ap g index ∙ each (suc i) (omega (arith, within))))
 
-own_amounts : (c : Case) (parts : List Part) (prices : List ℤ) → length prices ≡ length parts
-    → prices_of (made_from (priced_by c prices) 0 parts) ≡ prices
+own_amounts : (c : Case) (parts : List Part) (prices : List ℤ) → length prices ≡ length parts → prices_of (made_from (priced_by c prices) 0 parts) ≡ prices
 own_amounts c parts prices same = prices_from c (price_at prices) 0 parts prices same (λ i within. ap (price_at prices) (zero-add i))
 
 -- ---- the report of a heat flow
 
 module _ (c : Case) (complete : IsComplete c) (hot cold : List Part) (are : AreCaseParts c hot cold) where
   own_transfer : (t : Transfer) → t.hot < length hot → t.cold < length cold → transfer_of c hot cold (move_of c hot cold t) ≡ Some t
-  own_transfer t is_hot is_cold =
-      let h = own_index c complete are.grid Hot hot are.hot_parts t.hot is_hot in
-      let k = own_index c complete are.grid Cold cold are.cold_parts t.cold is_cold in
-      rw (h, k) refl
+  own_transfer t is_hot is_cold = let h = own_index c complete are.grid Hot hot are.hot_parts t.hot is_hot in
+      let k = own_index c complete are.grid Cold cold are.cold_parts t.cold is_cold in rw (h, k) refl
 
   flow_passes : (ts : List Transfer) (y z : List ℤ) (cost : ℤ) → IsCertified (reach_between c hot cold) hot cold ts y z cost
       → IsAnswerOver c hot cold (flow_report c hot cold ts y z cost) Yes
   flow_passes ts y z cost h =
-      let uses = made_from (use_of hot cold ts) 0 c.utilities in
-      let gives = made_from (priced_by c y) 0 hot in let takes = made_from (priced_by c z) 0 cold in
+      let uses = made_from (use_of hot cold ts) 0 c.utilities in let gives = made_from (priced_by c y) 0 hot in let takes = made_from (priced_by c z) 0 cold in
       let moves = map (move_of c hot cold) ts in
       let found : All (λ t. transfer_of c hot cold (move_of c hot cold t) ≡ Some t) ts =
       λ k d within. own_transfer (get_or ts k d) (h.flow.hot_indexes k d within) (h.flow.cold_indexes k d within) in
@@ -127,12 +109,10 @@ module _ (c : Case) (complete : IsComplete c) (hot cold : List Part) (are : AreC
         one_each = length-made_from (use_of hot cold ts) 0 c.utilities;
         is = λ i used u made at. made_from-at (use_of hot cold ts) 0 c.utilities i used u made at ∙ ap (λ n. use_of hot cold ts n u) (zero-add i);
       } in
-      flow_first c hot cold cost uses moves gives takes ts y z Yes
-      (sym (found_again (transfer_of c hot cold) (move_of c hot cold) ts found))
+      flow_first c hot cold cost uses moves gives takes ts y z Yes (sym (found_again (transfer_of c hot cold) (move_of c hot cold) ts found))
       (sym (own_amounts c hot y h.hot_prices.one_each)) (sym (own_amounts c cold z h.cold_prices.one_each))
       (own_prices c complete are.grid Hot hot are.hot_parts y, own_prices c complete are.grid Cold cold are.cold_parts z)
-      (all_found (transfer_of c hot cold) (move_of c hot cold) ts found)
-      (h.flow, (h.costs, (are_uses, (h.supporting, (h.value, tt)))))
+      (all_found (transfer_of c hot cold) (move_of c hot cold) ts found) (h.flow, (h.costs, (are_uses, (h.supporting, (h.value, tt)))))
 
   -- ---- the report of a cut
 

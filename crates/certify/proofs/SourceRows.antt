@@ -1,20 +1,16 @@
 -- The rows of the table of sources, one after the other.
 use Rattle.certify.proofs.Words.{ArePermissions, Bool, Case, HavePermits, IsSourceOf, Source, cases_lt, get_or-append, get_or-append_seam, source_index}
 use Rattle.std.proofs.Common.{List, [], ap, arith, length, length-append, ℕ, ⊎_elim, ◌++◌, ◌+◌, ◌<◌, ◌∙◌, ◌∷◌, ◌≡◌}
-use Rattle.stream_case.specs.declared.source.Source.TheVariants.{Stream as of_stream}
-use Rattle.stream_case.specs.declared.source.Source.TheVariants.{Utility as of_utility}
+use Rattle.stream_case.specs.declared.source.Source.TheVariants.{Stream as of_stream, Utility as of_utility}
 
 -- a row more, of the one source with the next index
 push : (c : Case) (rows : List (List Bool)) (row : List Bool) (source : Source)
     → ((hot : Source) → IsSourceOf c hot → source_index c hot ≡ length rows → hot ≡ source)
     → ArePermissions c c.forbids source row → HavePermits c rows → HavePermits c (rows ++ row ∷ [])
 push c rows row source only is have hot of room =
-    ⊎_elim
-    (λ before. rw (get_or-append rows (row ∷ []) [] (source_index c hot) before) (have hot of before))
-    (λ past.
+    ⊎_elim (λ before. rw (get_or-append rows (row ∷ []) [] (source_index c hot) before) (have hot of before)) (λ past.
     let here : source_index c hot ≡ length rows = omega (arith, past, room, length-append rows (row ∷ [])) in
-    rw (here, get_or-append_seam rows row [] []) (rw (only hot of here) is))
-    (cases_lt (source_index c hot) (length rows))
+    rw (here, get_or-append_seam rows row [] []) (rw (only hot of here) is)) (cases_lt (source_index c hot) (length rows))
 
 pub push_stream : (c : Case) (rows : List (List Bool)) (row : List Bool) (i : ℕ) → i < length c.streams → length rows ≡ i
     → ArePermissions c c.forbids (of_stream i) row → HavePermits c rows → HavePermits c (rows ++ row ∷ [])

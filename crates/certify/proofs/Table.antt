@@ -9,26 +9,21 @@ use Rattle.std.proofs.Common.{refl, sym, take, true, ℕ, ◌++◌, ◌+◌, ◌
 
 same_as : (s t : Span) → same_span s t ≡ true → s ≡ t
 same_as s t same =
-    let outer = and_parts _ _ same in let inner = and_parts _ _ outer.1 in
-    let name = (bytes_decides s.name t.name).0 outer.0 in
+    let outer = and_parts _ _ same in let inner = and_parts _ _ outer.1 in let name = (bytes_decides s.name t.name).0 outer.0 in
     let high = (Decides-int_eq s.high t.high).0 inner.0 in let low = (Decides-int_eq s.low t.low).0 inner.1 in
     λ i. record { name = name i; high = high i; low = low i }
 
 same_itself : (s : Span) → same_span s s ≡ true
-same_itself s =
-    and_from _ _ ((bytes_decides s.name s.name).1 refl)
-    (and_from _ _ ((Decides-int_eq s.high s.high).1 refl) ((Decides-int_eq s.low s.low).1 refl))
+same_itself s = and_from _ _ ((bytes_decides s.name s.name).1 refl) (and_from _ _ ((Decides-int_eq s.high s.high).1 refl) ((Decides-int_eq s.low s.low).1 refl))
 
-named_as : (c : Case) (s : Span) (p : Part) → is_span_of c s p ≡ true → s ≡ span_of c p
+pub named_as : (c : Case) (s : Span) (p : Part) → is_span_of c s p ≡ true → s ≡ span_of c p
 named_as c s p same =
-    let outer = and_parts _ _ same in let inner = and_parts _ _ outer.0 in
-    let name = (bytes_decides s.name (source_name c p.source)).0 outer.1 in
+    let outer = and_parts _ _ same in let inner = and_parts _ _ outer.0 in let name = (bytes_decides s.name (source_name c p.source)).0 outer.1 in
     let high = (Decides-int_eq s.high p.high).0 inner.0 in let low = (Decides-int_eq s.low p.low).0 inner.1 in
     λ i. record { name = name i; high = high i; low = low i }
 
-names_itself : (c : Case) (p : Part) → is_span_of c (span_of c p) p ≡ true
-names_itself c p =
-    and_from _ _ (and_from _ _ ((Decides-int_eq p.high p.high).1 refl) ((Decides-int_eq p.low p.low).1 refl))
+pub names_itself : (c : Case) (p : Part) → is_span_of c (span_of c p) p ≡ true
+names_itself c p = and_from _ _ (and_from _ _ ((Decides-int_eq p.high p.high).1 refl) ((Decides-int_eq p.low p.low).1 refl))
     ((bytes_decides (source_name c p.source) (source_name c p.source)).1 refl)
 
 -- a span names a part exactly where it is the part's span
@@ -61,8 +56,7 @@ module _ {S : Type 0} (own : Span) (index : ℕ) where
 
 -- the first place that passes in a list with one item more
 position-push : {X : Type 0} (p : X → Bool) (xs : List X) (y : X) → position p (xs ++ y ∷ []) ≡ option_or (position p xs) (cond (p y) (Some (length xs)) None)
-position-push p xs y =
-    ap₂ (λ n m. cond (nat_lt n m) (Some n) None) (position_or_len_push p xs y) (length-append xs (y ∷ []))
+position-push p xs y = ap₂ (λ n m. cond (nat_lt n m) (Some n) None) (position_or_len_push p xs y) (length-append xs (y ∷ []))
     ∙ by (position_or_len p xs) (length xs) (p y) (nat_lt (position_or_len p xs) (length xs)) (prefix_len-le-length _ xs) refl
   where
     by : (n l : ℕ) (b less : Bool) → n ≤ l → nat_lt n l ≡ less
@@ -73,8 +67,7 @@ position-push p xs y =
 pub one_more_part : {S : Type 0} (c : Case) (parts : List Part) (i : ℕ) (own : Span) (old new : IndexMap Span ℕ S) → i < length parts
     → own ≡ span_of c (get_or parts i blank) → IsTableOf c (take i parts) old → IsWithSpan own i old new → IsTableOf c (take (i + 1) parts) new
 one_more_part c parts i own old new within is before new_is s =
-    let p = get_or parts i blank in
-    let count : length (take i parts) ≡ i = length-take-le i parts (omega (arith, within)) in
+    let p = get_or parts i blank in let count : length (take i parts) ≡ i = length-take-le i parts (omega (arith, within)) in
     let same = ap (λ t. same_span t s) is ∙ named_where_same c s p in
     let here = ap (λ b. cond b (Some i) None) same ∙ ap (λ n. cond (is_span_of c s p) (Some n) None) (sym count) in
     let more = ap (λ ps. index_of c ps s) (take_more parts i blank within) in

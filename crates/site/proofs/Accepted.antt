@@ -100,8 +100,7 @@ stream_kept : (given : Given) (row : Row) (of : Side) → Fits given → Passes 
     → Fits (with_entry given (entry.Stream (stream_in of row)))
 unfolding stream_checks
 stream_kept given row of fits (_, (few, (plant, (name, (unreserved, (new, numbers)))))) =
-    let s = stream_in of row in let streams = streams_of given.plants in
-    let some = some_plant given.plants plant in
+    let s = stream_in of row in let streams = streams_of given.plants in let some = some_plant given.plants plant in
     let more : StreamsFit (streams ++ s ∷ []) = record {
       each = All-push StreamFits streams s fits.streams.each (stream_fits of row name unreserved numbers);
       distinct = distinct_push (λ (t : Stream). t.name) streams s fits.streams.distinct new;
@@ -140,13 +139,12 @@ nothing_fits : Fits nothing
 nothing_fits = record {
   contribution = tt;
   plants = record { names = All-nil (λ (p : Plant). IsName p.name); distinct = none_differ; few = omega arith };
-  mains =
-      record {
-        names = All-nil (λ (m : Main). IsName m.name);
-        levels = All-nil (λ (m : Main). IsTemperature m.level);
-        distinct = none_differ;
-        few = omega arith;
-      };
+  mains = record {
+    names = All-nil (λ (m : Main). IsName m.name);
+    levels = All-nil (λ (m : Main). IsTemperature m.level);
+    distinct = none_differ;
+    few = omega arith;
+  };
   streams = record { each = All-nil StreamFits; distinct = none_differ; few = λ of. omega arith };
 }
 
@@ -189,8 +187,7 @@ unfolding end_checks
 whole_end rows given complete = record { mains = grind (arith, nat_tests); streams = grind (arith, nat_tests) }
 
 pub site-is_valid : (rows : List Row) (site : Site) → IsSite rows site → IsValidSite site
-site-is_valid rows site is =
-    let given = given_by grammar rows in
+site-is_valid rows site is = let given = given_by grammar rows in
     rw is.value_is (site_valid given (given_has grammar Fits nothing_fits each_row_keeps rows is.sound) (whole_end (length rows) given is.complete))
 
 pub outcome_is_valid : (rows : List Row) (result : Result Site (RowFault SiteWhy)) → IsOutcome rows result → IfOk result IsValidSite

@@ -11,8 +11,7 @@ use Rattle.std.proofs.Common.{◌+◌, ◌<◌, ◌==◌, ◌||◌, ◌∙◌, �
 pub streams_of-with_stream : (s : Stream) (plants : List Plant) → 0 < length plants → streams_of (with_stream s plants) ≡ streams_of plants ++ s ∷ []
 streams_of-with_stream s [] some = absurd (omega (arith, some))
 streams_of-with_stream s (plant ∷ []) some = append-nil (plant.streams ++ s ∷ []) ∙ ap (λ ss. ss ++ s ∷ []) (sym (append-nil plant.streams))
-streams_of-with_stream s (plant ∷ next ∷ plants) some =
-    ap (λ ss. plant.streams ++ ss) (streams_of-with_stream s (next ∷ plants) (omega arith))
+streams_of-with_stream s (plant ∷ next ∷ plants) some = ap (λ ss. plant.streams ++ ss) (streams_of-with_stream s (next ∷ plants) (omega arith))
     ∙ sym (append_assoc plant.streams (streams_of (next ∷ plants)) (s ∷ []))
 
 pub names-with_stream : (s : Stream) (plants : List Plant) → map (λ p. p.name) (with_stream s plants) ≡ map (λ p. p.name) plants
@@ -47,8 +46,7 @@ streams_of-plant plants plant = flat_map-append (λ (p : Plant). p.streams) plan
 
 pub streams_of-plant_with : (c : ℤ) (plants : List Plant) → streams_of (map (plant_with c) plants) ≡ map (with_contribution c) (streams_of plants)
 streams_of-plant_with c [] = refl
-streams_of-plant_with c (plant ∷ plants) =
-    ap (λ ss. map (with_contribution c) plant.streams ++ ss) (streams_of-plant_with c plants)
+streams_of-plant_with c (plant ∷ plants) = ap (λ ss. map (with_contribution c) plant.streams ++ ss) (streams_of-plant_with c plants)
     ∙ sym (map-append (with_contribution c) plant.streams (streams_of plants))
 
 pub plant_names-with : (c : ℤ) (plants : List Plant) → map (λ p. p.name) (map (plant_with c) plants) ≡ map (λ p. p.name) plants
@@ -67,16 +65,14 @@ pub is_among-plants : (name : List ℕ) (plants : List Plant)
     → list_any (λ p. is_among (λ s. s.name) p.streams name) plants ≡ is_among (λ s. s.name) (streams_of plants) name
 unfolding is_among
 is_among-plants name [] = refl
-is_among-plants name (plant ∷ plants) =
-    let named = λ (s : Stream). bytes_eq name s.name in
+is_among-plants name (plant ∷ plants) = let named = λ (s : Stream). bytes_eq name s.name in
     ap (λ b. list_any named plant.streams || b) (is_among-plants name plants) ∙ sym (list_any-append named plant.streams (streams_of plants))
 
 -- some plant has a stream
 pub some_stream-plants : (plants : List Plant) → list_any (λ p. not (length p.streams == 0)) plants ≡ not (length (streams_of plants) == 0)
 some_stream-plants [] = refl
 some_stream-plants (plant ∷ plants) =
-    let rest = some_stream-plants plants in let total = length-append plant.streams (streams_of plants) in
-    grind (arith, nat_tests, rest, total)
+    let rest = some_stream-plants plants in let total = length-append plant.streams (streams_of plants) in grind (arith, nat_tests, rest, total)
 
 -- ---- counts
 

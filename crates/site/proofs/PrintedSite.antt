@@ -64,16 +64,14 @@ module _ (site : Site) (valid : IsValidSite site) where
       → Follows grammar (given_with site site.mains (map bare before ++ bare_with plant done ∷ [])) (stream_row [] [] s)
       (given_with site site.mains (map bare before ++ bare_with plant (done ++ s ∷ []) ∷ []))
   stream_step before plant after is done s left own =
-      let given = given_with site site.mains (map bare before ++ bare_with plant done ∷ []) in
-      let so_far = streams_of before ++ done in
+      let given = given_with site site.mains (map bare before ++ bare_with plant done ∷ []) in let so_far = streams_of before ++ done in
       let all : streams_of site.plants ≡ so_far ++ s ∷ (left ++ streams_of after) =
       ap streams_of is ∙ flat_map-append (λ (p : Plant). p.streams) before (plant ∷ after) ∙ ap (λ ss. streams_of before ++ (ss ++ streams_of after)) own
       ∙ ap (λ ss. streams_of before ++ ss) (append_assoc done (s ∷ left) (streams_of after))
       ∙ sym (append_assoc (streams_of before) done (s ∷ (left ++ streams_of after))) in
       let one : Stream → ℕ = λ t. cond (same_side t.side s.side) 1 0 in
       let own_one : ◌≡◌ {A = ℕ} (cond (same_side s.side s.side) 1 0) 1 = ap (λ (b : Bool). cond b 1 0) (own_side s.side) in
-      let few : count_on s.side so_far < MOST_SIDE_STREAMS =
-      omega (
+      let few : count_on s.side so_far < MOST_SIDE_STREAMS = omega (
         arith,
         valid.streams.few s.side,
         ap (count_on s.side) all,
@@ -121,8 +119,7 @@ module _ (site : Site) (valid : IsValidSite site) where
       ∙ ap (λ rs. (contribution_row site.contribution ∷ map main_row site.mains) ++ rs)
       (ap (λ rs. flat_map plant_rows before ++ rs) (sym (append-nil (plant_rows plant))) ∙ sym (flat_map-append plant_rows before (plant ∷ []))) in
       let plants : map bare before ++ bare_with plant plant.streams ∷ [] ≡ map bare (before ++ plant ∷ []) = sym (map-append bare before (plant ∷ [])) in
-      plants_give (before ++ plant ∷ []) after (is ∙ sym (append_snoc before plant after))
-      (subst
+      plants_give (before ++ plant ∷ []) after (is ∙ sym (append_snoc before plant after)) (subst
       (λ ps. Give grammar ((contribution_row site.contribution ∷ map main_row site.mains) ++ flat_map plant_rows (before ++ plant ∷ []))
       (given_with site site.mains ps)) plants
       (subst (λ rs. Give grammar rs (given_with site site.mains (map bare before ++ bare_with plant plant.streams ∷ []))) rows whole))
@@ -136,10 +133,8 @@ module _ (site : Site) (valid : IsValidSite site) where
 -- the contribution comes back
 streams_back : (c : ℤ) (ss : List Stream) → All (λ s. s.contribution ≡ c) ss → map (with_contribution c) (map (with_contribution (pos 0)) ss) ≡ ss
 streams_back c [] same = refl
-streams_back c (s ∷ ss) same =
-    let here = sym (All-head (λ (t : Stream). t.contribution ≡ c) s ss same) in
-    let rest = streams_back c ss (All-tail (λ (t : Stream). t.contribution ≡ c) s ss same) in
-    λ i. record s { contribution = here i } ∷ rest i
+streams_back c (s ∷ ss) same = let here = sym (All-head (λ (t : Stream). t.contribution ≡ c) s ss same) in
+    let rest = streams_back c ss (All-tail (λ (t : Stream). t.contribution ≡ c) s ss same) in λ i. record s { contribution = here i } ∷ rest i
 
 plants_back : (c : ℤ) (plants : List Plant) → All (λ s. s.contribution ≡ c) (streams_of plants) → map (plant_with c) (map bare plants) ≡ plants
 plants_back c [] same = refl
@@ -150,8 +145,7 @@ plants_back c (plant ∷ plants) same =
     λ i. record { name = plant.name; streams = own i } ∷ rest i
 
 site_back : (site : Site) → IsValidSite site → site_of (given_with site site.mains (map bare site.plants)) ≡ site
-site_back site valid =
-    let plants = plants_back site.contribution site.plants valid.streams.contributions in
+site_back site valid = let plants = plants_back site.contribution site.plants valid.streams.contributions in
     λ i. record { contribution = site.contribution; plants = plants i; mains = site.mains }
 
 -- the end is not at fault where there are a contribution, a main and a stream
@@ -162,8 +156,7 @@ lacks_nothing rows given first mains streams = grind (arith, nat_tests)
 
 pub rows_back : (site : Site) → IsValidSite site → IsSite (printed_rows site) site
 rows_back site valid =
-    let gives = rows_give site valid in let rows = length (printed_rows site) in
-    let given = given_with site site.mains (map bare site.plants) in
+    let gives = rows_give site valid in let rows = length (printed_rows site) in let given = given_with site site.mains (map bare site.plants) in
     let some : 0 < length (streams_of (map bare site.plants)) =
     rw (streams_of-plant_with (pos 0) site.plants, length-map (streams_of site.plants) (with_contribution (pos 0))) valid.streams.some in
     let complete : end_fault rows given ≡ None = lacks_nothing rows given refl valid.mains.some some in

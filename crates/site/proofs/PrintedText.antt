@@ -29,8 +29,7 @@ plants_printed : (plants : List Plant) → All (λ p. IsName p.name) plants → 
     → All IsPrintedRow (flat_map plant_rows plants)
 plants_printed [] names valid = All-nil IsPrintedRow
 plants_printed (p ∷ ps) names valid =
-    let Named : Plant → Type 0 = λ p. IsName p.name in
-    let Valid : Plant → Type 0 = λ p. All IsValidStream p.streams in
+    let Named : Plant → Type 0 = λ p. IsName p.name in let Valid : Plant → Type 0 = λ p. All IsValidStream p.streams in
     let own = plant_printed p (All-head Named p ps names) (All-head Valid p ps valid) in
     let rest = plants_printed ps (All-tail Named p ps names) (All-tail Valid p ps valid) in
     All-append IsPrintedRow (plant_rows p) (flat_map plant_rows ps) own rest
@@ -51,6 +50,5 @@ begins site = (_, refl)
 
 -- the printed text is read as the site
 pub text_back : (site : Site) → IsValidSite site → IsSite (rows_of (rows_text (printed_rows site))) site
-text_back site valid =
-    let (text, starts) = begins site in
+text_back site valid = let (text, starts) = begins site in
     subst (λ rows. IsSite rows site) (sym (printed.rows_back (printed_rows site) text (rows_printed site valid) starts)) (rows_back site valid)

@@ -6,15 +6,14 @@ pub use Rattle.first_fault.proofs.Steps.{Follows, Give, IsKept, all_give, given_
 pub use Rattle.first_fault.specs.Outcome.{given_by}
 pub use Rattle.grid.proofs.MakingLemmas.{AreParts-made}
 pub use Rattle.grid.proofs.SizeLemmas.{length-made}
-pub use Rattle.grid.specs.Making.{made_parts}
-pub use Rattle.grid.specs.Part.{AreParts}
+pub use Rattle.grid.proofs.Words.{AreParts, ListsFalling-unique, made_parts, mul-le-mul, own_side}
 pub use Rattle.grid.specs.declared.part.Part.{Part}
 pub use Rattle.heat_flow.specs.Table.{reaches}
 pub use Rattle.plants.proofs.SiteLemmas.{All-plants, streams_of-more}
-pub use Rattle.plants.specs.Reach.{reach_between}
-pub use Rattle.plants.specs.Site.{AreDistinct, ArePlants, IsUnreserved, IsValidSite, streams_of}
+pub use Rattle.plants.proofs.Words.{Contains, IsSiteGrid, IsValidSite, count_on-append, flat_map, flat_map-append, length-le_falling, list_any, reach_between}
+pub use Rattle.plants.proofs.Words.{site_places, site_utilities, streams_of}
+pub use Rattle.plants.specs.Site.{AreDistinct, ArePlants, IsUnreserved}
 pub use Rattle.plants.specs.SiteTable.{IsSiteTable}
-pub use Rattle.plants.specs.Table.{IsSiteGrid, site_places, site_utilities}
 pub use Rattle.plants.specs.declared.limits.TheConstants.{MOST_PLANTS, MOST_SIDE_STREAMS}
 pub use Rattle.plants.specs.declared.site.Main.{Main}
 pub use Rattle.plants.specs.declared.site.Plant.{Plant}
@@ -23,10 +22,9 @@ pub use Rattle.plants.specs.declared.table.SiteTable.{SiteTable}
 pub use Rattle.rows.proofs.PrintedNumbers.{contribution, flow_rate, number_read, temperature}
 pub use Rattle.rows.proofs.Seams.{All-seam, AllPairs-seam, length-seam}
 pub use Rattle.rows.proofs.Tests.{Decides-neither, Decides-none, passed-room, passed-within, room-passes, within-passes}
-unfoldable pub use Rattle.rows.specs.Numbers.{is_within}
-pub use Rattle.rows.specs.Printed.{contribution_row, stream_kind, stream_row}
+pub use Rattle.rows.proofs.Words.{All-back, Decides-is_right_way, contribution_row, passed-name, stream_kind, stream_row}
+unfoldable pub use Rattle.rows.proofs.Words.{rows_of}
 pub use Rattle.rows.specs.Rows.{Row}
-unfoldable pub use Rattle.rows.specs.Rows.{rows_of}
 pub use Rattle.rows.specs.Text.{rows_text}
 pub use Rattle.rows.specs.declared.fault.RowFault.{RowFault}
 pub use Rattle.site.specs.Answers.{HaveFewStreams}
@@ -39,36 +37,25 @@ pub use Rattle.site.specs.Target.{AreSiteParts, IsSiteTarget}
 pub use Rattle.site.specs.declared.fault.SiteWhy.{SiteWhy}
 pub use Rattle.site.specs.declared.kind.Kind.{Kind}
 pub use Rattle.std.proofs.Math.ListN.{set}
-pub use Rattle.std.proofs.Math.Nat.{mul-le-mul}
 pub use Rattle.std.proofs.Math.Seq.{append_snoc}
-pub use Rattle.std.proofs.lemmas.Bool.{false≢true}
-pub use Rattle.std.proofs.lemmas.Bool.Decides.{Decides-like, nat_tests}
-pub use Rattle.std.proofs.lemmas.List.{append-nil, length-map, map-append, take-append-drop}
-pub use Rattle.std.proofs.lemmas.List.Concat.{flat_map-append}
-pub use Rattle.std.proofs.lemmas.List.Elements.{All-append, All-cons, All-head, All-map, All-nil, All-push, All-tail, All-weaker}
+pub use Rattle.std.proofs.lemmas.List.{take-append-drop}
+pub use Rattle.std.proofs.lemmas.List.Elements.{All-push}
 pub use Rattle.std.proofs.lemmas.List.Folds.{list_any-append}
-pub use Rattle.std.proofs.lemmas.List.Quantifiers.{all_pairs_push}
-pub use Rattle.std.proofs.lemmas.List.Sums.{sum_by-append, sum_by-cons, sum_by_push}
+pub use Rattle.std.proofs.lemmas.List.Sums.{sum_by_push}
 pub use Rattle.std.proofs.lemmas.Simd.{map-map}
-pub use Rattle.std.specs.List.{flat_map, list_any}
-pub use Rattle.std.specs.Prelude.{All, Contains, codes, vec_len, ℤ}
-pub use Rattle.std.specs.Str.{bytes_eq}
-pub use Rattle.stream_case.proofs.CaseLemmas.{count_on-add, count_on-append}
-pub use Rattle.stream_case.proofs.ListLemmas.{All-back}
-pub use Rattle.stream_case.proofs.NameTests.{name-passes, passed-name}
-pub use Rattle.stream_case.proofs.SourceLemmas.{Decides-is_right_way, own_side}
-pub use Rattle.stream_case.specs.Limits.{IsBetween, IsContribution, IsTemperature}
-pub use Rattle.stream_case.specs.Name.{IsName}
-unfoldable pub use Rattle.stream_case.specs.Name.{is_name}
-pub use Rattle.stream_case.specs.Source.{same_side}
-pub use Rattle.stream_case.specs.Stream.{IsSensible, IsValidStream, count_on}
+pub use Rattle.std.specs.Prelude.{vec_len}
+pub use Rattle.stream_case.proofs.CaseLemmas.{count_on-add}
+pub use Rattle.stream_case.proofs.NameTests.{name-passes}
+pub use Rattle.stream_case.proofs.Words.{All, All-append, All-cons, All-head, All-map, All-nil, All-tail, All-weaker, Decides-like, IsContribution, IsName}
+pub use Rattle.stream_case.proofs.Words.{IsSensible, IsTemperature, IsValidStream, all_pairs_push, append-nil, bytes_eq, codes, count_on, false≢true}
+pub use Rattle.stream_case.proofs.Words.{length-map, map-append, nat_tests, same_side, sum_by-append, sum_by-cons, ℤ}
+unfoldable pub use Rattle.stream_case.proofs.Words.{is_name}
 pub use Rattle.stream_case.specs.declared.limits.TheConstants.{MOST_MAINS}
 pub use Rattle.stream_case.specs.declared.source.Side.{Side}
 pub use Rattle.stream_case.specs.declared.source.Side.TheVariants.{Cold, Hot}
 pub use Rattle.stream_case.specs.declared.stream.Stream.{Stream}
-pub use Rattle.sums.proofs.CountLemmas.{count_by-map, length-le_falling}
+pub use Rattle.sums.proofs.CountLemmas.{count_by-map}
 pub use Rattle.sums.proofs.ListLemmas.{All-from_map}
-pub use Rattle.sums.proofs.OrderLemmas.{ListsFalling-unique}
 pub use Rattle.transport.specs.Answer.{IsAnswer}
 pub use Rattle.transport.specs.declared.answer.Answer.{Answer}
 pub use Rattle.transport.specs.declared.least_cost.TheConstants.{MOST_PAIRS}

@@ -1,17 +1,89 @@
--- The study of a file that is accepted may be asked of the case.
+-- What the rows of a study file say with one more.
 use Rattle.study.proofs.Words.{All-cons, All-head, All-nil, All-push, All-set, All-tail, AreCasePrices, Case, Decides-int_le, Entry, IsComplete, IsItem, IsKept}
-use Rattle.study.proofs.Words.{IsKnown, IsPrice, IsSpan, IsStudy, IsStudyOf, IsStudyOutcome, Kind, MOST_ITEMS, Passes, Row, RowFault, SoundBefore, Study}
-use Rattle.study.proofs.Words.{StudyWhy, Utility, append_snoc, bytes_eq, case_prices, cons_option, count_by-cons, count_items, entries_in, entry_by, entry_in}
-use Rattle.study.proofs.Words.{fold, given_by, given_has, grammar, ints, is_item, items_of, kind_of, length-map, length-set, next, passed-room, passed-within}
+use Rattle.study.proofs.Words.{IsKnown, IsOwn, IsPrice, IsSpan, IsStudy, IsStudyOf, IsStudyOutcome, Kind, MOST_ITEMS, Passes, Row, RowFault, SoundBefore, Study}
+use Rattle.study.proofs.Words.{StudyWhy, Utility, append_snoc, bytes_eq, case_prices, cons_option, count_by-cons, count_items, drop-append-le, drop-length}
+use Rattle.study.proofs.Words.{entries_in, entry_by, entry_in, fold, given_by, given_has, grammar, has_scenario, ints, is_item, is_price_of, is_priced}
+use Rattle.study.proofs.Words.{is_scenario, items_of, kind_of, length-map, length-set, list_any, list_any-append, next, passed-room, passed-within}
 use Rattle.study.proofs.Words.{position-Some, prices_by, slice_set, study_of, sum_by_push, utility_in, utility_named}
-use Rattle.rows.specs.Fields.{field, number}
-use Rattle.std.proofs.Common.{All, Err, IfOk, List, None, Ok, Option, Result, Some, [], ap, append-nil, arith, cond, is_some, length, option_to_list, position}
-use Rattle.std.proofs.Common.{refl, sym, true, unwrap_or, ℕ, ℤ, ◌++◌, ◌+◌, ◌<◌, ◌∙◌, ◌∷◌, ◌≡◌, ◌≤◌}
+use Rattle.std.proofs.Common.{All, Bool, Err, IfOk, List, None, Ok, Option, Result, Some, [], ap, append-nil, arith, cond, drop, false, is_some, length}
+use Rattle.std.proofs.Common.{length-append, not, option_to_list, position, refl, sym, true, unwrap_or, ℕ, ℤ, ◌&&◌, ◌++◌, ◌+◌, ◌<◌, ◌||◌, ◌∙◌, ◌∷◌, ◌≡◌, ◌≤◌}
 use Rattle.study.proofs.PartBounds.{case_prices-within}
+use Rattle.rows.specs.Fields.{field, number}
 use Rattle.study.specs.StudyChecks.{checks, kind_checks, price_checks, scenario_checks, span_checks, span_number_checks}
 use Rattle.study.specs.declared.study_entry.Entry.TheVariants as entry
 use Rattle.study.specs.declared.study_item.StudyItem.TheVariants as item
 use Rattle.study.specs.declared.study_kind.Kind.TheVariants as kind
+
+or-false : (b : Bool) → (b || false) ≡ b
+or-false true = refl
+or-false false = refl
+
+and-true : (b : Bool) → (b && true) ≡ b
+and-true true = refl
+and-true false = refl
+
+none_behind : (b : Bool) → (b && not true) ≡ false
+none_behind true = refl
+none_behind false = refl
+
+or_of_three : (x y z : Bool) → (x || (y || z)) ≡ ((x || y) || z)
+or_of_three true y z = refl
+or_of_three false y z = refl
+
+or-true : (b : Bool) → (b || true) ≡ true
+or-true true = refl
+or-true false = refl
+
+-- a scenario is no price
+no_price : (i : ℕ) (e : Entry) → is_scenario e ≡ true → is_price_of i e ≡ false
+no_price i (entry.Scenario name) is = refl
+no_price i (entry.Price utility price) is = cc is
+no_price i (entry.Span utility from to) is = refl
+
+has_scenario-more : (entries : List Entry) (e : Entry) → has_scenario (entries ++ e ∷ []) ≡ (has_scenario entries || is_scenario e)
+has_scenario-more entries e = list_any-append is_scenario entries (e ∷ []) ∙ ap (λ b. has_scenario entries || b) (or-false (is_scenario e))
+
+-- a scenario has no price yet
+is_priced-scenario : (i : ℕ) (entries : List Entry) (e : Entry) → is_scenario e ≡ true → is_priced i (entries ++ e ∷ []) ≡ false
+is_priced-scenario i [] e is = rw (no_price i e is) refl
+is_priced-scenario i (x ∷ entries) e is =
+    let behind : has_scenario (entries ++ e ∷ []) ≡ true = has_scenario-more entries e ∙ ap (λ b. has_scenario entries || b) is
+    ∙ or-true (has_scenario entries) in
+    rw (behind, none_behind (is_price_of i x)) (is_priced-scenario i entries e is)
+
+-- what is no scenario belongs to the last one
+is_priced-more : (i : ℕ) (entries : List Entry) (e : Entry) → is_scenario e ≡ false → is_priced i (entries ++ e ∷ []) ≡ (is_priced i entries || is_price_of i e)
+is_priced-more i [] e not_one = or-false (is_price_of i e && true) ∙ and-true (is_price_of i e)
+is_priced-more i (x ∷ entries) e not_one =
+    let behind : has_scenario (entries ++ e ∷ []) ≡ has_scenario entries = has_scenario-more entries e ∙ ap (λ b. has_scenario entries || b) not_one
+    ∙ or-false (has_scenario entries) in
+    rw (behind, is_priced-more i entries e not_one) (or_of_three (is_price_of i x && not (has_scenario entries)) (is_priced i entries) (is_price_of i e))
+
+-- ---- where the entries of the last scenario begin
+
+pub own-scenario : (own : ℕ) (entries : List Entry) (e : Entry) → own ≡ length (entries ++ e ∷ []) → is_scenario e ≡ true → IsOwn own (entries ++ e ∷ [])
+own-scenario own entries e at is = record {
+  within = omega (arith, at);
+  priced = λ i. is_priced-scenario i entries e is
+      ∙ sym (ap (list_any (is_price_of i)) (ap (λ n. drop n (entries ++ e ∷ [])) at ∙ drop-length (entries ++ e ∷ [])));
+}
+
+pub own-more : (own : ℕ) (entries : List Entry) (e : Entry) → IsOwn own entries → is_scenario e ≡ false → IsOwn own (entries ++ e ∷ [])
+own-more own entries e is not_one = record {
+  within = omega (arith, is.within, length-append entries (e ∷ []));
+  priced = λ i.
+      is_priced-more i entries e not_one ∙ ap (λ b. b || is_price_of i e) (is.priced i)
+      ∙ ap (λ b. list_any (is_price_of i) (drop own entries) || b) (sym (or-false (is_price_of i e)))
+      ∙ sym (ap (list_any (is_price_of i)) (drop-append-le own entries (e ∷ []) is.within) ∙ list_any-append (is_price_of i) (drop own entries) (e ∷ []));
+}
+
+-- ---- the items
+
+-- one item more
+pub item-more : {X : Type 0} (items new rest all : List X) (x : X) → new ≡ items ++ x ∷ [] → items ++ x ∷ rest ≡ all → new ++ rest ≡ all
+item-more items new rest all x new_is is = ap (λ xs. xs ++ rest) new_is ∙ append_snoc items x rest ∙ is
+
+-- The study of a file that is accepted may be asked of the case.
 
 -- what rows say, as far as it goes, is that of an accepted file
 pub record Fits (c : Case) (entries : List Entry) : Type 0 where
@@ -66,10 +138,7 @@ span_kept c given row fits (room, (named, (_, (_, (first, (last, (order, (few, _
       order = (Decides-int_le (number row 2) (number row 3)).0 order;
       few = grind (arith, ints, few);
     } in
-    record {
-      known = All-push (IsKnown c) given e fits.known span;
-      few = omega (arith, passed-room (count_items given) MOST_ITEMS room, one_more_item given e);
-    }
+    record { known = All-push (IsKnown c) given e fits.known span; few = omega (arith, passed-room (count_items given) MOST_ITEMS room, one_more_item given e) }
 
 row_kept : (c : Case) (given : List Entry) (row : Row) (k : Option Kind) → Fits c given → Passes (kind_checks c k given row)
     → Fits c (given ++ option_to_list (entry_by c k row))
@@ -95,10 +164,8 @@ prices_kept c prices [] are known = are
 prices_kept c prices (entry.Scenario name ∷ entries) are known = are
 prices_kept c prices (entry.Price i price ∷ entries) are known =
     let own = All-head (IsKnown c) (entry.Price i price) entries known in
-    let changed : AreCasePrices c (slice_set prices i price) = record {
-      one_each = length-set prices i price ∙ are.one_each;
-      within = All-set IsPrice prices i price own.1 are.within;
-    } in
+    let changed : AreCasePrices c (slice_set prices i price) =
+    record { one_each = length-set prices i price ∙ are.one_each; within = All-set IsPrice prices i price own.1 are.within } in
     prices_kept c (slice_set prices i price) entries changed (All-tail (IsKnown c) (entry.Price i price) entries known)
 prices_kept c prices (entry.Span i from to ∷ entries) are known = prices_kept c prices entries are (All-tail (IsKnown c) (entry.Span i from to) entries known)
 

@@ -16,8 +16,7 @@ module _ (c : goal.After-is_short) where
   own = rw c.side-side.ensures at c.parts_of-own.ensures
 
   need : to_z w128 (of_z w128 c.need_of-need.result) ≡ need_of (parts_of side hots colds) c.args.cut.now.parts
-  need =
-      let fits : FitsSigned w128 c.need_of-need.result = search rules in
+  need = let fits : FitsSigned w128 c.need_of-need.result = search rules in
       to_z-of_z w128 c.need_of-need.result fits ∙ rw (own, c.as_slice-members.ensures) at c.need_of-need.ensures
 
   offer : to_z w128 (of_z w128 c.offer_of-offer.result)

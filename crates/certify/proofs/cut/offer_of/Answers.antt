@@ -9,5 +9,4 @@ loop-index-preserved c =
     (λ j p. if meets c.args.side (reach_of c.args.setting.now) c.args.members.now j then p.most else pos 0) MOST_HEAT c.args.others.now c.loop-index.index blank
     (to_z w128 c.loop-index.offer-bits) c.from-offer.result
     c.loop-index-test.true (omega (arith, ints)) c.loop-index.invariant
-    (c.from-offer.ensures ∙ to_z-of_z w64 c.part_offer-most.result fits ∙ c.part_offer-most.ensures.value)
-    (record { from = omega (arith, ints); upto = omega (arith, ints) })
+    (c.from-offer.ensures ∙ to_z-of_z w64 c.part_offer-most.result fits ∙ c.part_offer-most.ensures.value) (omega (arith, ints))

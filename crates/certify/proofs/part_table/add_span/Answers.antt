@@ -6,6 +6,5 @@ pub returns-then-contains_key : goal.returns-then-contains_key
 returns-then-contains_key c = kept c.args.span c.args.index c.args.table.now (sym c.contains_key.ensures ∙ c.if-contains_key.true)
 
 pub returns : goal.returns
-returns c =
-    added c.args.span c.args.index c.args.table.now c.insert.new.self (sym c.contains_key.ensures ∙ c.if-contains_key.false)
+returns c = added c.args.span c.args.index c.args.table.now c.insert.new.self (sym c.contains_key.ensures ∙ c.if-contains_key.false)
     c.in_ok-insert.ensures.updates

@@ -41,6 +41,5 @@ pub returns-in-Whole-clause-prices : goal.returns-in-Whole-clause-prices
 returns-in-Whole-clause-prices c = report_prices (statements_of c.args.bytes.now) c.in-Whole.report (returns-in-Whole-clause-outcome c)
 
 pub returns-in_default : goal.returns-in_default
-returns-in_default c =
-    let early = early-end c.loop-rest.number c.loop-rest.draft c.in_default.not-Whole in
+returns-in_default c = let early = early-end c.loop-rest.number c.loop-rest.draft c.in_default.not-Whole in
     record { outcome = end_here c.loop-rest.invariant.reads (nothing_left c.loop-rest.rest.now c.loop-rest-test.ensures) early; prices = tt }

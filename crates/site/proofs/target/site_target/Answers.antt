@@ -6,8 +6,7 @@ use Rattle.site.proofs.target.site_target.Goals as goal
 
 pub table_target-requires-clause-table : goal.table_target-requires-clause-table
 table_target-requires-clause-table c =
-    let is = c.in_ok-table.ensures in
-    record { grid = is.places; hot_parts = is.hot; cold_parts = is.cold; sizes = is.sizes; reach = is.reach }
+    let is = c.in_ok-table.ensures in record { grid = is.places; hot_parts = is.hot; cold_parts = is.cold; sizes = is.sizes; reach = is.reach }
 
 -- what is answered of all parts of a site
 abbrev OfAll : Site → Answer → Type 0

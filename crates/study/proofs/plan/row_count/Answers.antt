@@ -1,6 +1,6 @@
 use Rattle.std.proofs.Common.{arith}
 use Rattle.study.proofs.Words.{ints}
-use Rattle.study.proofs.PlanLemmas.{few_rows, rows_counted}
+use Rattle.study.proofs.SweepLemmas.{few_rows, rows_counted}
 use Rattle.study.proofs.plan.row_count.Goals as goal
 
 pub returns-clause-rows : goal.returns-clause-rows

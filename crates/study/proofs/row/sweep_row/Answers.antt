@@ -1,6 +1,6 @@
 use Rattle.std.proofs.Common.{ap, subst, sym, w32, ◌∙◌}
 use Rattle.study.proofs.Words.{AreStreams-IsComplete, IsValid, to_z-of_z, with_contribution}
-use Rattle.study.proofs.ContributionLemmas.{IsComplete-with, IsValid-with}
+use Rattle.study.proofs.SweepLemmas.{IsComplete-with, IsValid-with}
 use Rattle.study.proofs.row.sweep_row.Goals as goal
 
 pub complete-requires : goal.complete-requires

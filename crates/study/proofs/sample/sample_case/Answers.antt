@@ -1,13 +1,11 @@
 use Rattle.std.proofs.Common.{ap, ap₂, arith, subst, sym, ◌*◌, ◌++◌, ◌+◌, ◌∙◌, ◌≡◌}
 use Rattle.study.proofs.Words.{Cold, Hot, IsValid, SAMPLE_CONTRIBUTION, drawn_forbids, drawn_streams, state_after}
-use Rattle.study.proofs.DrawLemmas.{state_after-add}
-use Rattle.study.proofs.SampleLemmas.{IsValid-sample}
+use Rattle.study.proofs.SampleLemmas.{IsValid-sample, state_after-add}
 use Rattle.study.proofs.sample.sample_case.Goals as goal
 
 pub returns-clause-case : goal.returns-clause-case
 returns-clause-case c =
-    let number = c.args.number in let count = c.args.count in let hots = c.in_ok-push_streams.ensures in
-    let colds = c.in_ok-push_streams-2.ensures in
+    let number = c.args.number in let count = c.args.count in let hots = c.in_ok-push_streams.ensures in let colds = c.in_ok-push_streams-2.ensures in
     let draws : 3 * count + 3 * count ≡ 6 * count = omega arith in
     let first = hots.streams ∙ ap₂ (λ ss x. ss ++ drawn_streams Hot x count) c.new-streams.ensures.items c.new-generator.ensures in
     let state = hots.state ∙ ap (λ x. state_after x (3 * count)) c.new-generator.ensures in

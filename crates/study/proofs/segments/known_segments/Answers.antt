@@ -7,8 +7,7 @@ pub loop-next-smaller : goal.loop-next-smaller
 loop-next-smaller c =
     let segment = c.in_ok-segment.segment in let is = c.in_ok-segment.ensures.segment in let at = c.in_ok-segment.ensures.from in
     let d = c.requires.span.last.from in let e = c.requires.span.last.upto in
-    let f = c.requires.span.first.from in let g = c.loop-next.invariant.from in let h = c.loop-next.invariant.upto in
-    omega (arith, ints)
+    let f = c.requires.span.first.from in let g = c.loop-next.invariant.from in let h = c.loop-next.invariant.upto in omega (arith, ints)
 
 pub loop-next-preserved : goal.loop-next-preserved
 loop-next-preserved c =
@@ -32,6 +31,5 @@ returns c =
     let to_is = to_z-of_z w64 c.args.to c.ranges.to in let from_is = to_z-of_z w64 c.args.from c.ranges.from in
     let end : to_z w64 c.loop-next.next-bits ≡ c.args.to +ℤ pos 1 = grind (arith, ints) in
     span-segments case i c.args.to c.args.from c.loop-next.segments
-    (subst₂ (λ to from. AreCostSegments case i to from (c.args.to +ℤ pos 1) c.loop-next.segments) to_is from_is
-    (subst
+    (subst₂ (λ to from. AreCostSegments case i to from (c.args.to +ℤ pos 1) c.loop-next.segments) to_is from_is (subst
     (λ n. AreCostSegments case i (to_z w64 (of_z w64 c.args.to)) (to_z w64 (of_z w64 c.args.from)) n c.loop-next.segments) end c.loop-next.invariant.segments))

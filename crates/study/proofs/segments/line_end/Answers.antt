@@ -1,6 +1,6 @@
 use Rattle.std.proofs.Common.{arith, of_z, subst, sym, to_z, w64, ◌≡◌}
 use Rattle.study.proofs.Words.{CostsWith, ints, line_at, pos, ◌+ℤ◌, ◌-ℤ◌, ◌<ℤ◌, ◌≤ℤ◌}
-use Rattle.study.proofs.LineLemmas.{line-second, middle-between}
+use Rattle.study.proofs.SpanLemmas.{line-second, middle-between}
 use Rattle.study.proofs.segments.line_end.Goals as goal
 
 pub loop-off-init : goal.loop-off-init
@@ -24,9 +24,7 @@ loop-off-smaller-then-branch c =
     let a = c.requires.line.small.from.from in let ahead = c.loop-off.invariant.ahead in
     let order = c.loop-off.invariant.order in let last = c.loop-off.invariant.last in let e = c.requires.last.upto in
     let apart : pos 1 <ℤ (off -ℤ on) = omega (arith, ints, c.loop-off-test.true) in
-    let middle = middle-between on off (record { from = omega (arith, ints); upto = omega (arith, ints) })
-    (record { from = omega (arith, ints); upto = omega (arith, ints) }) apart in
-    omega (arith, ints)
+    let middle = middle-between on off (omega (arith, ints)) (omega (arith, ints)) apart in omega (arith, ints)
 
 pub loop-off-preserved-then-branch : goal.loop-off-preserved-then-branch
 loop-off-preserved-then-branch c =
@@ -34,9 +32,7 @@ loop-off-preserved-then-branch c =
     let a = c.requires.line.small.from.from in let ahead = c.loop-off.invariant.ahead in
     let order = c.loop-off.invariant.order in let last = c.loop-off.invariant.last in let e = c.requires.last.upto in
     let apart : pos 1 <ℤ (off -ℤ on) = omega (arith, ints, c.loop-off-test.true) in
-    let middle = middle-between on off (record { from = omega (arith, ints); upto = omega (arith, ints) })
-    (record { from = omega (arith, ints); upto = omega (arith, ints) }) apart in
-    let high = middle.1 in
+    let middle = middle-between on off (omega (arith, ints)) (omega (arith, ints)) apart in let high = middle.1 in
     record {
       ahead = omega (arith, ints);
       order = high;
@@ -51,9 +47,7 @@ loop-off-preserved c =
     let a = c.requires.line.small.from.from in let ahead = c.loop-off.invariant.ahead in
     let order = c.loop-off.invariant.order in let last = c.loop-off.invariant.last in let e = c.requires.last.upto in
     let apart : pos 1 <ℤ (off -ℤ on) = omega (arith, ints, c.loop-off-test.true) in
-    let middle = middle-between on off (record { from = omega (arith, ints); upto = omega (arith, ints) })
-    (record { from = omega (arith, ints); upto = omega (arith, ints) }) apart in
-    let low = middle.0 in
+    let middle = middle-between on off (omega (arith, ints)) (omega (arith, ints)) apart in let low = middle.0 in
     record {
       ahead = ahead;
       order = low;
@@ -67,10 +61,8 @@ returns c =
     let case = c.args.case.now in let i = c.args.utility in let line = c.args.line in
     let on = to_z w64 c.loop-off.on-bits in let off = to_z w64 c.loop-off.off-bits in
     let a = c.requires.line.small.from.from in let ahead = c.loop-off.invariant.ahead in
-    let order = c.loop-off.invariant.order in let last = c.loop-off.invariant.last in
-    let d = c.requires.last.from in let e = c.requires.last.upto in
-    let close : (off -ℤ on) ≤ℤ pos 1 = omega (arith, ints, c.loop-off-test.false) in
-    let next : on +ℤ pos 1 ≡ off = omega (arith, ints) in
+    let order = c.loop-off.invariant.order in let last = c.loop-off.invariant.last in let d = c.requires.last.from in let e = c.requires.last.upto in
+    let close : (off -ℤ on) ≤ℤ pos 1 = omega (arith, ints, c.loop-off-test.false) in let next : on +ℤ pos 1 ≡ off = omega (arith, ints) in
     record {
       range = record { from = ahead; upto = omega (arith, ints) };
       on = c.loop-off.invariant.inside;

@@ -1,5 +1,4 @@
-use Rattle.study.proofs.RowLemmas.{one_row}
-use Rattle.study.proofs.SweepLemmas.{one_sweep}
+use Rattle.study.proofs.SweepLemmas.{one_row, one_sweep}
 use Rattle.study.proofs.sweeps.rows_are_one.Goals as goal
 
 pub returns-clause-row : goal.returns-clause-row

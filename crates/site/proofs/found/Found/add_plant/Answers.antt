@@ -8,6 +8,5 @@ pub invariant_of-self : goal.invariant_of-self
 invariant_of-self c = subst HaveFewStreams (sym c.in_err-push.ensures.items) c.self.invariant
 
 pub invariant_of-self-2 : goal.invariant_of-self-2
-invariant_of-self-2 c =
-    subst HaveFewStreams (sym c.in_ok-push.ensures.items)
+invariant_of-self-2 c = subst HaveFewStreams (sym c.in_ok-push.ensures.items)
     (few_plant c.self.inside.plants.items (record { name = c.args.name; streams = c.new-streams.result }) c.new-streams.ensures c.self.invariant)

@@ -7,8 +7,7 @@ use Rattle.site.proofs.found.Found.add_stream.Goals as goal
 
 pub invariant_of-self : goal.invariant_of-self
 invariant_of-self c =
-    let plants = c.self.inside.plants.items in let last = vec_len c.self.inside.plants - 1 in
-    let plant = c.in-Some.plant.now in
+    let plants = c.self.inside.plants.items in let last = vec_len c.self.inside.plants - 1 in let plant = c.in-Some.plant.now in
     let same : record { name = plant.name; streams = c.push.new.self } ≡ plant = λ i. record { name = plant.name; streams = c.in_err-push.ensures.err i } in
     subst HaveFewStreams (sym (ap (set plants last) same ∙ set_same plants last plant c.in-Some.ensures.value)) c.self.invariant
 
@@ -20,8 +19,7 @@ plants_are c =
       | in-Some+in_ok-push w ↦
           let plant = w.in-Some.plant.now in let some = w.in-Some.ensures.variant.0 refl in
           let is_last : suc last ≡ length plants = omega (arith, some, c.self.inside.plants.ok.0) in
-          ap (λ f. f.plants.items) w.self-inside-is
-          ∙ ap (set plants last) (λ i. record { name = plant.name; streams = w.in_ok-push.ensures.ok i })
+          ap (λ f. f.plants.items) w.self-inside-is ∙ ap (set plants last) (λ i. record { name = plant.name; streams = w.in_ok-push.ensures.ok i })
           ∙ set_last c.args.stream plants last plant is_last w.in-Some.ensures.value
       | in_default w ↦
           let none : 0 < length plants → ⊥ = λ some. false≢true (w.in_default.ensures.variant.1 (omega (arith, some, c.self.inside.plants.ok.0))) in
@@ -29,8 +27,7 @@ plants_are c =
     ]
 
 pub invariant_of-self-2 : goal.invariant_of-self-2
-invariant_of-self-2 c =
-    let room = rw (← c.self.view_is) at c.requires in
+invariant_of-self-2 c = let room = rw (← c.self.view_is) at c.requires in
     subst HaveFewStreams (sym (plants_are c)) (few_with c.self.inside.plants.items c.args.stream c.self.invariant room)
 
 pub returns : goal.returns

@@ -4,7 +4,6 @@ use Rattle.std.proofs.Common.{List, ap, length, not, ◌==◌, ◌∙◌}
 use Rattle.site.proofs.found.Found.has_streams.Goals as goal
 
 pub returns : goal.returns
-returns c =
-    rw (← c.self.view_is)
+returns c = rw (← c.self.view_is)
     (c.have_streams.ensures ∙ ap (λ (plants : List Plant). list_any (λ plant. not (length plant.streams == 0)) plants) c.as_slice.ensures.value
     ∙ some_stream-plants c.self.inside.plants.items)
