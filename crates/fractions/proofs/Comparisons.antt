@@ -17,7 +17,7 @@ pub at_most_from_same : (a b : Rational) → a ≡ b → IsAtMost a b
 at_most_from_same a b same = subst (IsAtMost a) same (at_most_refl a)
 
 pub at_most_from_below : (a b : Rational) → IsBelow a b → IsAtMost a b
-at_most_from_below a b h = let less = h.cross in record { cross = omega (arith, ints, less) }
+at_most_from_below a b h = record { cross = omega (arith, ints) }
 
 pub below_not_at_most : (a b : Rational) → IsBelow a b → IsAtMost b a → ⊥
 below_not_at_most a b less more = clash_ℤ less.cross more.cross

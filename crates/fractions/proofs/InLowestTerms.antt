@@ -84,9 +84,9 @@ sign-above false (suc a) some = grind (arith, nat_tests)
 sign-above true (suc a) some = refl
 
 above_zero : (negative : Bool) (a b : ℕ) → ratio (signed negative a) b ≢ rational_zero → 0 < a
-above_zero false zero b some = absurd (some (ratio-zero b))
-above_zero true zero b some = absurd (some (ratio-zero b))
 above_zero negative (suc a) b some = omega arith
+above_zero true zero b some = absurd (some (ratio-zero b))
+above_zero false zero b some = absurd (some (ratio-zero b))
 
 pub turned_over : (negative : Bool) (a b : ℕ) → IsInLowestTerms a b → ratio (signed negative a) b ≢ rational_zero → IsTurned negative a b
 unfolding reciprocal

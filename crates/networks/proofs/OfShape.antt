@@ -293,11 +293,8 @@ line_read {case} {network} shape index l within read = line_of shape index l (sl
 passage-counts : (branches : List Branch) (exchanger stream : ℕ) (l : Line) (rest : List Passage)
     → count_by (same_passage (record { exchanger = exchanger; stream = stream })) (cons_option (passage_of branches l) rest)
     ≡ cond (is_pass_of branches exchanger stream l) 1 0 + count_by (same_passage (record { exchanger = exchanger; stream = stream })) rest
-passage-counts branches exchanger stream (line.Exchanger name hot cold duty) rest = omega arith
-passage-counts branches exchanger stream (line.Split from first cp second) rest = omega arith
 passage-counts branches exchanger stream (line.Pass from through to) rest = count_by-cons _ _ rest
-passage-counts branches exchanger stream (line.Mix first second to) rest = omega arith
-passage-counts branches exchanger stream (line.End branch) rest = omega arith
+passage-counts branches exchanger stream other rest = omega arith
 
 pub count-passages : (branches : List Branch) (exchanger stream : ℕ) (lines : List Line)
     → count_by (same_passage (record { exchanger = exchanger; stream = stream })) (passages_of branches lines)
@@ -319,8 +316,6 @@ pub record IsPassOf (network : Network) (exchanger stream from to index : ℕ) :
 the_pass : (network : Network) (exchanger stream index : ℕ) (l : Line) → IsOnly (is_pass_of network.branches exchanger stream) network.lines index l
     → (from : ℕ) × (to : ℕ) × IsPassOf network exchanger stream from to index
 unfolding pass_of
-the_pass network exchanger stream index (line.Exchanger name hot cold duty) it = cc it.passes
-the_pass network exchanger stream index (line.Split from first cp second) it = cc it.passes
 the_pass network exchanger stream index (line.Pass from through to) it =
     let parts = and_parts (exchanger == through) (stream == stream_at network.branches from) it.passes in
     let same : through ≡ exchanger = grind (arith, nat_tests, parts.0) in
@@ -334,8 +329,7 @@ the_pass network exchanger stream index (line.Pass from through to) it =
         only = it.only;
       },
     )
-the_pass network exchanger stream index (line.Mix first second to) it = cc it.passes
-the_pass network exchanger stream index (line.End branch) it = cc it.passes
+the_pass network exchanger stream index other it = cc it.passes
 
 pub the_pass_of : {case : Case} {network : Network} → HasShape case network → (number stream : ℕ) (e : Exchanger)
     → slice_get (exchangers_of network.lines) number ≡ Some e → Joins e stream → (from : ℕ) × (to : ℕ) × (index : ℕ)

@@ -10,13 +10,14 @@ use Rattle.price_floor.proofs.Words.{heat_over-sensible, heat_with, height_at, h
 use Rattle.price_floor.proofs.Words.{hot_worth, inlet_height, int_le-from, int_sum_by, int_sum_by-same, ints, is_above, is_above-whole, is_latent}
 use Rattle.price_floor.proofs.Words.{is_latent-latent, is_latent-sensible, item_at, last_part_of_load, last_value, length_above, level-latent, load_over}
 use Rattle.price_floor.proofs.Words.{low_end, made_parts, minus, minus-zero, mix_loss, not_negative-rational_sum_by, option_map_or, order-sensible}
-use Rattle.price_floor.proofs.Words.{other_source, outlet_height, own_side, pass_loss, passes_by_side, plus, plus-times, plus-zero, plus_swap_right, pos}
-use Rattle.price_floor.proofs.Words.{rational_sum_by, rational_sum_by-plus, rational_sum_by-same, rational_sum_by-whole, rational_sum_by-zero, rational_zero}
-use Rattle.price_floor.proofs.Words.{released_heat, run_of, run_on_scale, same_side, same_side-true, same_source, same_source-same, same_source-true, seen_from}
-use Rattle.price_floor.proofs.Words.{sensible_above, share, share_in, shares_parts, shares_rise, shifted, shifted_level, shifted_run, side_of, side_run}
-use Rattle.price_floor.proofs.Words.{side_taken, sides_taken, source_on, step_worth, stream_at, stream_loss, stream_within, subst₂, sum-filter_map, sum-items}
-use Rattle.price_floor.proofs.Words.{there_and_back, times, times-minus, unshifted, used_by, used_there, uses, utility_part, utility_worth, value_at}
-use Rattle.price_floor.proofs.Words.{value_worth, views_of, weight_at, weight_balance, whole, whole-minus, whole-times, zero-plus, ◌*ℤ◌, ◌+ℤ◌, ◌-ℤ◌, ◌≤ℤ◌}
+use Rattle.price_floor.proofs.Words.{other_source, outlet_height, own_side, part-own, pass_loss, passes_by_side, plus, plus-times, plus-zero, plus_swap_right}
+use Rattle.price_floor.proofs.Words.{pos, rational_sum_by, rational_sum_by-plus, rational_sum_by-same, rational_sum_by-whole, rational_sum_by-zero}
+use Rattle.price_floor.proofs.Words.{rational_zero, released_heat, run_of, run_on_scale, same_side, same_side-true, same_source, same_source-same}
+use Rattle.price_floor.proofs.Words.{same_source-true, seen_from, sensible_above, share, share_in, shares_parts, shares_rise, shifted, shifted_level}
+use Rattle.price_floor.proofs.Words.{shifted_run, side_of, side_run, side_taken, sides_taken, source_on, step_worth, stream_at, stream_loss, stream_within}
+use Rattle.price_floor.proofs.Words.{subst₂, sum-filter_map, sum-items, there_and_back, times, times-minus, unshifted, used_by, used_there, uses, utility_part}
+use Rattle.price_floor.proofs.Words.{utility_worth, value_at, value_worth, views_of, weight_at, weight_balance, whole, whole-minus, whole-times, zero-plus}
+use Rattle.price_floor.proofs.Words.{◌*ℤ◌, ◌+ℤ◌, ◌-ℤ◌, ◌≤ℤ◌}
 use Rattle.std.proofs.Common.{All, AllPairs, Bool, Contains, List, None, Option, Some, ap, ap₂, arith, false, get_or, if◌then◌else◌, inl, inr, is_some, length}
 use Rattle.std.proofs.Common.{refl, slice_get, subst, sym, true, unwrap_or, ℕ, ℤ, ⊎_elim, ◌<ℤ◌, ◌<◌, ◌==◌, ◌||◌, ◌∙◌, ◌≡◌}
 use Rattle.price_floor.proofs.PartSums.{before-not, of_source, own_over, own_worth, part_worth, stream_parts-are, sum-by_source, sum-single}
@@ -302,18 +303,9 @@ own_duty on k e = if same_source (source_on on e) (source.Utility k) then e.duty
 
 duty-own : (case : Case) (on : Side) (k : ℕ) (u : Utility) (e : Exchanger) → IsExchanger case e → slice_get case.utilities k ≡ Some u → u.side ≡ on
     → unwrap_or (duty_with k e) rational_zero ≡ own_duty on k e
-duty-own case side.Hot k u e is at side_is = ap (λ b. unwrap_or (if same_source e.hot (source.Utility k) || b then Some e.duty else None) rational_zero)
-    (other_source case e.cold side.Cold k u is.cold at (λ wrong. cc)) ∙ one (same_source e.hot (source.Utility k))
-  where
-    one : (b : Bool) → unwrap_or (if b || false then Some e.duty else None) rational_zero ≡ (if b then e.duty else rational_zero)
-    one true = refl
-    one false = refl
-duty-own case side.Cold k u e is at side_is = ap (λ b. unwrap_or (if b || same_source e.cold (source.Utility k) then Some e.duty else None) rational_zero)
-    (other_source case e.hot side.Hot k u is.hot at (λ wrong. cc)) ∙ one (same_source e.cold (source.Utility k))
-  where
-    one : (b : Bool) → unwrap_or (if b then Some e.duty else None) rational_zero ≡ (if b then e.duty else rational_zero)
-    one true = refl
-    one false = refl
+duty-own case on k u e is at side_is =
+    let same : same_side u.side on ≡ true = ap (λ s. same_side s on) side_is ∙ own_side on in
+    sym (ap (λ b. if b then unwrap_or (duty_with k e) rational_zero else rational_zero) same) ∙ part-own case e on k u is at
 
 heat-own : (case : Case) (network : Network) (on : Side) (k : ℕ) (u : Utility) → HasShape case network → slice_get case.utilities k ≡ Some u → u.side ≡ on
     → rational_sum_by (own_duty on k) (exchangers_of network.lines) ≡ heat_with network k
@@ -321,6 +313,10 @@ unfolding duties_with
 heat-own case network on k u shape at side_is =
     let es = exchangers_of network.lines in rational_sum_by-same (own_duty on k) (λ e. unwrap_or (duty_with k e) rational_zero) es
     (λ n d within. sym (duty-own case on k u (get_or es n d) (shape.exchangers.each n d within) at side_is)) ∙ sym (sum-filter_map (duty_with k) es)
+
+if_either : {A : Type 0} (b : Bool) (x : A) → (if b then x else x) ≡ x
+if_either true x = refl
+if_either false x = refl
 
 -- ---- the run of a utility is the level of its part
 
@@ -339,11 +335,7 @@ module _ (case : Case) (network : Network) (values : Valuation) (on : Side) (num
 
   share-stood : (v : View) (duty : Rational) → share_in v duty (shifted_run on case network values number (source.Utility k)) ≡ stood (utility_part k u) duty v
   share-stood v duty = ap (share_in v duty) run-is ∙ ap (λ b. if b then duty else rational_zero)
-      (is_above-whole v.from_itself v.place (shifted_level u) ∙ ap (counts_above v.from_itself v.place) (sym (either v.from_itself)))
-    where
-      either : (b : Bool) → (if b then shifted_level u else shifted_level u) ≡ shifted_level u
-      either true = refl
-      either false = refl
+      (is_above-whole v.from_itself v.place (shifted_level u) ∙ ap (counts_above v.from_itself v.place) (sym (if_either v.from_itself (shifted_level u))))
 
 -- ---- duties at step prices
 
@@ -367,10 +359,6 @@ module _ (case : Case) (network : Network) (values : Valuation) (least : ℤ) (v
     duty-stood : u.side ≡ on → (e : ℕ × Exchanger) → of_source side_source duty_worth (source.Utility k) e ≡ stood_worth (own_duty on k e.1)
     duty-stood side_is e = by (same_source (source_on on e.1) (source.Utility k)) (same_source-true (source_on on e.1) (source.Utility k))
       where
-        nothing : (b : Bool) → rational_zero ≡ (if b then rational_zero else rational_zero)
-        nothing true = refl
-        nothing false = refl
-
         by : (b : Bool) → (b ≡ true → source_on on e.1 ≡ source.Utility k)
             → (if b then duty_worth e else rational_zero) ≡ stood_worth (if b then e.1.duty else rational_zero)
         by true same = ap (utility_worth case network values least views prices on e.0 e.1.duty) (same refl)
@@ -379,7 +367,7 @@ module _ (case : Case) (network : Network) (values : Valuation) (least : ℤ) (v
             (λ n d within. share-stood case network values on e.0 k u at side_is (get_or views n d) e.1.duty)
         by false same = sym (step-none least views (prices on (source.Utility k)))
             ∙ step-same least views (prices on (source.Utility k)) rational_zero rational_zero (λ v. rational_zero) (stood (utility_part k u) rational_zero)
-            refl (λ n d within. nothing (stands (utility_part k u) (get_or views n d)))
+            refl (λ n d within. sym (if_either (stands (utility_part k u) (get_or views n d)) rational_zero))
 
     -- the duties of a utility of the side are worth what its part is worth
     duties-worth : HasShape case network → u.side ≡ on → duties_of k ≡ part_worth least views prices network on (utility_part k u)
@@ -462,14 +450,10 @@ module _ (case : Case) (network : Network) (values : Valuation) (least : ℤ) (v
       nothing : (i : ℕ) (e : ℕ × Exchanger) → of_source side_source duty_worth (source.Stream i) e ≡ rational_zero
       nothing i e = by (source_on on e.1)
         where
-          if_same : (b : Bool) → (if b then rational_zero else rational_zero) ≡ rational_zero
-          if_same true = refl
-          if_same false = refl
-
           by : (s : Source)
               → (if same_source s (source.Stream i) then utility_worth case network values least views prices on e.0 e.1.duty s else rational_zero)
               ≡ rational_zero
-          by (source.Stream j) = if_same (j == i)
+          by (source.Stream j) = if_either (j == i) rational_zero
           by (source.Utility j) = refl
 
 -- The worths of a network are ordered.

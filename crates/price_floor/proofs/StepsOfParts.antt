@@ -198,10 +198,16 @@ own_not places p falls (inr interval) = int_le-false p.high p.low (interval_fall
 
 -- ---- sums and differences of heat
 
-rise_worth-same : (above : ℤ) (below : View → ℤ) (x y : View → Rational) (views : List View) → ((v : View) → x v ≡ y v)
-    → rise_worth above below x views ≡ rise_worth above below y views
-rise_worth-same above below x y [] same = refl
-rise_worth-same above below x y (v ∷ views) same = ap₂ plus (ap (times (whole (above -ℤ below v))) (same v)) (rise_worth-same (below v) below x y views same)
+module _ (below : View → ℤ) where
+  rise-same : (above : ℤ) (f g : View → Rational) (views : List View) → All (λ v. f v ≡ g v) views
+      → rise_worth above below f views ≡ rise_worth above below g views
+  rise-same above f g [] same = refl
+  rise-same above f g (v ∷ views) same = ap₂ plus (ap (times (whole (above -ℤ below v))) (All-head (λ w. f w ≡ g w) v views same))
+      (rise-same (below v) f g views (All-tail (λ w. f w ≡ g w) v views same))
+
+  rise-none : (above : ℤ) (views : List View) → rise_worth above below (λ v. rational_zero) views ≡ rational_zero
+  rise-none above [] = refl
+  rise-none above (v ∷ views) = ap₂ plus (times-zero (whole (above -ℤ below v))) (rise-none (below v) views) ∙ plus-zero rational_zero
 
 rise_worth-plus : (above : ℤ) (below : View → ℤ) (x y : View → Rational) (views : List View)
     → rise_worth above below (λ v. plus (x v) (y v)) views ≡ plus (rise_worth above below x views) (rise_worth above below y views)
@@ -220,7 +226,7 @@ rise_worth-minus above below x y (v ∷ views) =
 module _ (least : ℤ) (views : List View) (p : StepPrices) where
   pub step_worth-same : (a b : Rational) (x y : View → Rational) → a ≡ b → ((v : View) → x v ≡ y v)
       → step_worth least views p a x ≡ step_worth least views p b y
-  step_worth-same a b x y all same = ap₂ plus (ap (times (whole least)) all) (rise_worth-same p.top p.below x y views same)
+  step_worth-same a b x y all same = ap₂ plus (ap (times (whole least)) all) (rise-same p.below p.top x y views (λ k d within. same (get_or views k d)))
 
   pub step_worth-plus : (a b : Rational) (x y : View → Rational)
       → step_worth least views p (plus a b) (λ v. plus (x v) (y v)) ≡ plus (step_worth least views p a x) (step_worth least views p b y)
@@ -298,19 +304,6 @@ step_worth-ordered least views p q p_falls q_falls more pairs a x rising some =
     (λ k d within. some (get_or views k d))))
 
 -- Sums of what heats are worth at step prices; and the one price at which the heat of a part is worth it.
-
--- ---- heats that are the same in these views, and none
-
-module _ (below : View → ℤ) where
-  rise-same : (above : ℤ) (f g : View → Rational) (views : List View) → All (λ v. f v ≡ g v) views
-      → rise_worth above below f views ≡ rise_worth above below g views
-  rise-same above f g [] same = refl
-  rise-same above f g (v ∷ views) same = ap₂ plus (ap (times (whole (above -ℤ below v))) (All-head (λ w. f w ≡ g w) v views same))
-      (rise-same (below v) f g views (All-tail (λ w. f w ≡ g w) v views same))
-
-  rise-none : (above : ℤ) (views : List View) → rise_worth above below (λ v. rational_zero) views ≡ rational_zero
-  rise-none above [] = refl
-  rise-none above (v ∷ views) = ap₂ plus (times-zero (whole (above -ℤ below v))) (rise-none (below v) views) ∙ plus-zero rational_zero
 
 -- ---- heat at step prices
 
