@@ -37,8 +37,7 @@ pub record HasFractions (balance : Balance) : Type 0 where
 
 pub balance-within : (case : Case) (network : Network) → HasShape case network → HasNoFinding case network → HasFractions (balance_of case network)
 unfolding balance_items cost_of
-balance-within case network shape none =
-    let hot = heats_on side.Hot case network in let cold = heats_on side.Cold case network in
+balance-within case network shape none = let hot = heats_on side.Hot case network in let cold = heats_on side.Cold case network in
     let prices = map (heat_price network) (enumerate_from 0 case.utilities) in let before = length hot + length cold + 1 in
     let hots = sum_steps place.Balance 0 rational_zero hot in let colds = sum_steps place.Balance (length hot) rational_zero cold in
     let last : List Item = Step place.Balance before (excess_of case network) ∷ cost_steps place.Balance before rational_zero prices in

@@ -132,8 +132,7 @@ module _ (case : Case) (network : Network) where
     where
       each : (k : ℕ) (l : Line) → slice_get (take n network.lines) k ≡ Some l
           → statement_items case network values (k, l) ≡ statement_items case network other (k, l)
-      each k l at =
-          let inside = slice_get_within (take n network.lines) k l at in let early : k < n = omega (arith, inside, length-take n network.lines) in
+      each k l at = let inside = slice_get_within (take n network.lines) k l at in let early : k < n = omega (arith, inside, length-take n network.lines) in
           line_items-same values other m (place.Line (k + 1)) l agree (used k l early (sym (slice_get-take n network.lines k early) ∙ at))
 
   -- what the first lines use was made before line n
@@ -203,8 +202,7 @@ module _ (case : Case) (network : Network) where
   pub walked-found : (n made : ℕ) (values : Valuation) (l : Line) (found : Finding) → slice_get network.lines n ≡ Some l → IsWalked n made values
       → first_finding (line_items case network (take made values) (place.Line (n + 1)) l) ≡ Some found → IsFinding case network found
   unfolding items
-  walked-found n made values l found at walked some =
-      let old = take made values in record {
+  walked-found n made values l found at walked some = let old = take made values in record {
         n = n;
         values = old;
         valuation = walked.valuation;
@@ -245,8 +243,7 @@ module _ (case : Case) (network : Network) where
   items_before-front : (values : Valuation) (n k : ℕ)
       → (more : List Item) × (items_before case network values (n + k) ≡ items_before case network values n ++ more)
   unfolding items_before
-  items_before-front values n k =
-      let f = statement_items case network values in let some = take (n + k) network.lines in
+  items_before-front values n k = let f = statement_items case network values in let some = take (n + k) network.lines in
       let rest = enumerate_from (0 + length (take n some)) (drop n some) in (
         flat_map f rest,
         ap (λ ls. flat_map f (enumerate_from 0 ls)) (sym (take-append-drop n some))
@@ -265,8 +262,7 @@ module _ (case : Case) (network : Network) where
       → IsValuation case network n values → IsValuation case network (n + k) other
       → first_finding (items case network values n) ≡ Some found → first_finding (items case network other (n + k)) ≡ Some found
   unfolding items
-  found-later n zero values other found shape one two some =
-      let at : n + 0 ≡ n = omega arith in
+  found-later n zero values other found shape one two some = let at : n + 0 ≡ n = omega arith in
       let same : values ≡ other = one_valuation case network n values other shape one (subst (λ m. IsValuation case network m other) at two) in
       ap (λ m. first_finding (items case network other m)) at ∙ ap (λ vs. first_finding (items case network vs n)) (sym same) ∙ some
   found-later n (suc j) values other found shape one two some =

@@ -39,8 +39,7 @@ not_of case (source.Utility k) index u on is at other = ne_eqb k index (λ same.
     own side.Cold = refl
 
     clash : k ≡ index → ⊥
-    clash same =
-        let here : Some u.side ≡ Some on = sym (ap (option_map (λ v. v.side)) (ap (slice_get case.utilities) same ∙ at)) ∙ is in
+    clash same = let here : Some u.side ≡ Some on = sym (ap (option_map (λ v. v.side)) (ap (slice_get case.utilities) same ∙ at)) ∙ is in
         let side_is : u.side ≡ on = cc here in cc (sym other, ap (λ s. same_side s on) side_is, own on)
 
 part-own : (case : Case) (e : Exchanger) (on : Side) (index : ℕ) (u : Utility) → IsExchanger case e → slice_get case.utilities index ≡ Some u
@@ -48,8 +47,7 @@ part-own : (case : Case) (e : Exchanger) (on : Side) (index : ℕ) (u : Utility)
 part-own case e side.Hot index u is at = by u.side refl
   where
     by : (s : Side) → u.side ≡ s → (if same_side s side.Hot then unwrap_or (duty_with index e) rational_zero else rational_zero) ≡ own_part side.Hot e index
-    by side.Hot is_hot =
-        let cold : same_source e.cold (source.Utility index) ≡ false = not_of case e.cold index u side.Cold is.cold at
+    by side.Hot is_hot = let cold : same_source e.cold (source.Utility index) ≡ false = not_of case e.cold index u side.Cold is.cold at
         (ap (λ s. same_side s side.Cold) is_hot) in
         ap (λ b. unwrap_or (if same_source e.hot (source.Utility index) || b then Some e.duty else None) rational_zero) cold
         ∙ one (same_source e.hot (source.Utility index))
@@ -94,8 +92,7 @@ module _ (case : Case) (network : Network) where
   side_heat-is : (on : Side) → HasShape case network → ((e : Exchanger) → IsExchanger case e → side_of case (source_on on e) ≡ Some on)
       → rational_sum (heats_on on case network) ≡ rational_sum_by (λ e. utility_part e.duty (source_on on e)) (exchangers_of network.lines)
   unfolding heats_on duties_with
-  side_heat-is on shape sides =
-      let es = exchangers_of network.lines in let us = enumerate_from 0 case.utilities in sum-filter_map (heat_on on network) us
+  side_heat-is on shape sides = let es = exchangers_of network.lines in let us = enumerate_from 0 case.utilities in sum-filter_map (heat_on on network) us
       ∙ rational_sum_by-same (λ p. unwrap_or (heat_on on network p) rational_zero) (λ p. rational_sum_by (part_on on p) es) us
       (λ k d inside. heat (get_or us k d)) ∙ rational_sum_by-swap (part_on on) us es
       ∙ rational_sum_by-same (λ e. rational_sum_by (λ p. part_on on p e) us) (λ e. utility_part e.duty (source_on on e)) es
@@ -168,8 +165,7 @@ module _ (case : Case) (network : Network) where
   pub balance-is : (heats : List Rational) → HasShape case network → AreHeats case network heats
       → balance_in (whole (hot_target case.streams)) case.utilities heats ≡ balance_of case network
   unfolding cost_of
-  balance-is heats shape are =
-      let hot = ap rational_sum (heats_on-are side.Hot case network heats are) ∙ hot_heat-is case network shape in
+  balance-is heats shape are = let hot = ap rational_sum (heats_on-are side.Hot case network heats are) ∙ hot_heat-is case network shape in
       let cold = ap rational_sum (heats_on-are side.Cold case network heats are) ∙ cold_heat-is case network shape in
       let cost = ap rational_sum (prices-are heats are) ∙ rational_sum_by-map (λ a. a) (heat_price network) (enumerate_from 0 case.utilities) in
       λ i. record { hot = hot i; cold = cold i; excess = minus (hot i) (whole (hot_target case.streams)); cost = cost i }
@@ -181,8 +177,7 @@ steps_from case hot cold prices excess = sum_steps place.Balance 0 rational_zero
 pub balance_items-are : (case : Case) (network : Network) (heats : List Rational) → HasShape case network → AreHeats case network heats
     → balance_steps_in place.Balance (whole (hot_target case.streams)) case.utilities heats ≡ balance_items case network
 unfolding balance_items
-balance_items-are case network heats shape are =
-    let hot = heats_on-are side.Hot case network heats are in
+balance_items-are case network heats shape are = let hot = heats_on-are side.Hot case network heats are in
     let excess = ap (λ h. minus h (whole (hot_target case.streams))) (ap rational_sum hot ∙ hot_heat-is case network shape) in
     λ i. steps_from case (hot i) ((heats_on-are side.Cold case network heats are) i) ((prices-are case network heats are) i) (excess i)
 

@@ -69,8 +69,7 @@ ended-contains branches stream (line.End branch ∷ lines) some = by (stream_at 
         → (list_any (ends_stream branches stream) lines ≡ true → Contains (map (stream_at branches) (flat_map ends lines)) stream)
         → (b || list_any (ends_stream branches stream) lines) ≡ true
         → Contains (stream_at branches branch ∷ map (stream_at branches) (flat_map ends lines)) stream
-    by true is later any =
-        let same : stream_at branches branch ≡ stream = grind (arith, nat_tests, is) in
+    by true is later any = let same : stream_at branches branch ≡ stream = grind (arith, nat_tests, is) in
         subst (λ s. Contains (stream_at branches branch ∷ map (stream_at branches) (flat_map ends lines)) s) same
         (contains-here (stream_at branches branch) (map (stream_at branches) (flat_map ends lines)))
     by false is later any = contains-later (stream_at branches branch) stream (map (stream_at branches) (flat_map ends lines)) (later any)
@@ -105,8 +104,7 @@ module _ {X : Type 0} (f : ℕ × X → List Item) where
   passed-from m (y ∷ ys) none zero x at =
       let n : m ≡ m + 0 = omega arith in let here : first_finding (f (m, y)) ≡ None = passed-front (f (m, y)) (flat_map f (enumerate_from (m + 1) ys)) none in
       ap (λ k. first_finding (f (k, x))) (sym n) ∙ ap (λ z. first_finding (f (m, z))) (sym (same_Some y x at)) ∙ here
-  passed-from m (y ∷ ys) none (suc i) x at =
-      let n : m + suc i ≡ m + 1 + i = omega arith in
+  passed-from m (y ∷ ys) none (suc i) x at = let n : m + suc i ≡ m + 1 + i = omega arith in
       ap (λ k. first_finding (f (k, x))) n ∙ passed-from (m + 1) ys (passed-back (f (m, y)) (flat_map f (enumerate_from (m + 1) ys)) none) i x at
 
   pub passed-member : (xs : List X) → first_finding (flat_map f (enumerate_from 0 xs)) ≡ None → (i : ℕ) (x : X) → slice_get xs i ≡ Some x
@@ -120,8 +118,7 @@ module _ (case : Case) (network : Network) where
   all_lines values = ap (λ ls. flat_map (statement_items case network values) (enumerate_from 0 ls))
       (take_all (length network.lines + 1) network.lines (omega arith))
 
-  pub items-whole : (values : Valuation)
-      → items case network values (length network.lines) ≡ flat_map (statement_items case network values)
+  pub items-whole : (values : Valuation) → items case network values (length network.lines) ≡ flat_map (statement_items case network values)
       (enumerate_from 0 network.lines) ++ items_behind case network values
   unfolding items
   items-whole values = ap (λ b. items_before case network values (length network.lines + 1) ++ (if b then items_behind case network values else []))
@@ -152,8 +149,7 @@ each-part P case network values each =
 pub passed-each : (case : Case) (network : Network) (values : Valuation) → first_finding (items case network values (length network.lines)) ≡ None
     → HoldOfParts ArePassed case network values
 unfolding items_behind stream_items exchanger_items utility_items
-passed-each case network values none =
-    let statements = flat_map (statement_items case network values) (enumerate_from 0 network.lines) in
+passed-each case network values none = let statements = flat_map (statement_items case network values) (enumerate_from 0 network.lines) in
     let all : first_finding (statements ++ items_behind case network values) ≡ None = ap first_finding (sym (items-whole case network values)) ∙ none in
     let last_items = utility_items case network ++ balance_items case network in let later_items = exchanger_items case network values ++ last_items in
     let behind : first_finding (stream_items case network ++ later_items) ≡ None = passed-back statements (items_behind case network values) all in
@@ -209,8 +205,7 @@ module _ (case : Case) (network : Network) where
 
   side_passed : (values : Valuation) (number : ℕ) (e : Exchanger)
       → first_finding (exchanger_items_at case network values (number, e)) ≡ None → SidePassed values number e
-  side_passed values number e none =
-      let after_first = passed-rest _ _ (passed-rest _ _ none) in record {
+  side_passed values number e none = let after_first = passed-rest _ _ (passed-rest _ _ none) in record {
         permitted = false_from_not (is_forbidden case.forbids e.hot e.cold) (passed-item _ _ none);
         approach = record {
           hot_end = (Decides-not_below _ _).0 (passed-item _ _ after_first);
@@ -219,8 +214,7 @@ module _ (case : Case) (network : Network) where
       }
 
 in_range : (network : Network) (index : ℕ) (u : Utility) → first_finding (utility_items_at network (index, u)) ≡ None → IsInRange u (heat_with network index)
-in_range network index u none =
-    let tests = passed-back (sum_steps (place.Utility index) 0 rational_zero (duties_with network index))
+in_range network index u none = let tests = passed-back (sum_steps (place.Utility index) 0 rational_zero (duties_with network index))
     (range_items (place.Utility index) u (heat_with network index)) none in record {
       least = (Decides-not_below (heat_with network index) (whole u.least)).0 (passed-item _ _ tests);
       most = (Decides-not_below (whole u.most) (heat_with network index)).0 (passed-item _ _ (passed-rest _ _ tests));
@@ -230,8 +224,7 @@ module _ (case : Case) (network : Network) where
   pub valid_from_none : (values : Valuation) → HasShape case network → IsWholeValuation case network values
       → first_finding (items case network values (length network.lines)) ≡ None → IsValidNetwork case network
   unfolding ended_by ended_streams is_ended
-  valid_from_none values shape valuation none =
-      let all = passed-each case network values none in record {
+  valid_from_none values shape valuation none = let all = passed-each case network values none in record {
         values = values;
         valuation = valuation;
         ended = record {
@@ -307,14 +300,12 @@ room-whole case network values k from first second cp shape valuation at =
 
 sound-end : (at : Place) (value : BranchValue) (o : Option Stream) → ((s : Stream) → o ≡ Some s → value ≡ last_value s) → AreSound (end_items at value o)
 sound-end at value None full = sound-none
-sound-end at value (Some s) full =
-    let is = full s refl in All-from_recursion IsSound (end_items at value (Some s))
+sound-end at value (Some s) full = let is = full s refl in All-from_recursion IsSound (end_items at value (Some s))
     ((Decides-rational_eq value.cp (full_size s)).1 (ap (λ v. v.cp) is), ((Decides-rational_eq value.t (last_state s)).1 (ap (λ v. v.t) is), tt))
 
 sound-load : (at : Place) (latent : Bool) (state : Rational) → (latent ≡ true → IsPartOfLoad state) → AreSound (load_items at latent state)
 sound-load at false state keeps = sound-none
-sound-load at true state keeps =
-    let part = keeps refl in All-from_recursion IsSound (load_items at true state)
+sound-load at true state keeps = let part = keeps refl in All-from_recursion IsSound (load_items at true state)
     ((Decides-not_below state rational_zero).1 part.least, ((Decides-not_below (whole (pos 1)) state).1 part.most, tt))
 
 module _ (case : Case) (network : Network) where
@@ -359,15 +350,13 @@ utility_sound network index u range =
 module _ (case : Case) (network : Network) where
   balance_sound : AreSound (balance_items case network)
   unfolding balance_items
-  balance_sound =
-      let hot = heats_on side.Hot case network in let cold = heats_on side.Cold case network in
+  balance_sound = let hot = heats_on side.Hot case network in let cold = heats_on side.Cold case network in
       All-append IsSound _ _ (sound-sums place.Balance 0 rational_zero hot) (All-append IsSound _ _
       (sound-sums place.Balance (length hot) rational_zero cold) (sound-step _ _ _ _
       (sound-costs place.Balance (length hot + length cold + 1) rational_zero (map (heat_price network) (enumerate_from 0 case.utilities)))))
 
   all_sound : HasShape case network → (valid : IsValidNetwork case network) → AreSound (items case network valid.values (length network.lines))
-  all_sound shape valid =
-      let es = exchangers_of network.lines in each-part IsSound case network valid.values (record {
+  all_sound shape valid = let es = exchangers_of network.lines in each-part IsSound case network valid.values (record {
         lines = λ k l at. line_sound case network valid.values k l shape valid.valuation valid.ended valid.loads at;
         streams = λ index s at. stream_sound case network valid.values index s valid.ended at;
         exchangers = λ number e at.
@@ -386,8 +375,7 @@ module _ (case : Case) (network : Network) where
 -- the valuation that is left is the only one
 pub one_valuation_left : (old new : Audit) (given : Verdict) → HasShape old.case old.network → Leaves old given new
     → IfAccepted given (λ balance. (values : Valuation) → IsWholeValuation old.case old.network values → new.values ≡ Some values)
-one_valuation_left old new (verdict.Accepted balance) shape (kept, faultless, left) =
-    λ values other. ap (λ a. a.values) left
+one_valuation_left old new (verdict.Accepted balance) shape (kept, faultless, left) = λ values other. ap (λ a. a.values) left
     ∙ ap Some (one_valuation old.case old.network (length old.network.lines) kept values shape faultless.valuation other)
 one_valuation_left old new other shape left = tt
 

@@ -47,10 +47,8 @@ passage_of-front bs more other made = refl
 pub passages_of-front : (bs more : List Branch) (ls : List Line) → All (λ k. k < length bs) (used_by ls) → passages_of (bs ++ more) ls ≡ passages_of bs ls
 unfolding passages_of used_by
 passages_of-front bs more [] made = refl
-passages_of-front bs more (l ∷ ls) made =
-    let here = passage_of-front bs more l (All-front (λ k. k < length bs) (uses l) (flat_map uses ls) made) in
-    let rest = passages_of-front bs more ls (All-back (λ k. k < length bs) (uses l) (flat_map uses ls) made) in
-    λ i. cons_option (here i) (rest i)
+passages_of-front bs more (l ∷ ls) made = let here = passage_of-front bs more l (All-front (λ k. k < length bs) (uses l) (flat_map uses ls) made) in
+    let rest = passages_of-front bs more ls (All-back (λ k. k < length bs) (uses l) (flat_map uses ls) made) in λ i. cons_option (here i) (rest i)
 
 pub names_of-append : (bs more : List Branch) → names_of (bs ++ more) ≡ names_of bs ++ names_of more
 unfolding names_of

@@ -39,8 +39,7 @@ pub used-within : (case : Case) (network : Network) (places : List ℤ) (on : Si
     → IsPartOf case.streams case.utilities places on p → IsUsedWithin network p
 used-within case network places on p valid (inl (i, s, is)) =
     subst (IsUsedWithin network) (sym is.is) (record { least = at_most_refl _; most = at_most_refl _ })
-used-within case network places on p valid (inr (i, u, is)) =
-    let range : IsInRange u (heat_with network i) = valid.ranges i u is.utility in
+used-within case network places on p valid (inr (i, u, is)) = let range : IsInRange u (heat_with network i) = valid.ranges i u is.utility in
     subst (IsUsedWithin network) (sym is.is) (record { least = range.least; most = range.most })
 
 pub uses-within : (case : Case) (network : Network) (places : List ℤ) (on : Side) (parts : List Part) → IsValidNetwork case network
@@ -53,8 +52,7 @@ uses-within case network places on parts valid are a p at =
 pub whole-int_sum_from : {X : Type 0} (f : ℕ → X → ℤ) (n : ℕ) (xs : List X)
     → whole (int_sum_from f n xs) ≡ rational_sum_by (λ (p : ℕ × X). whole (f p.0 p.1)) (enumerate_from n xs)
 whole-int_sum_from f n [] = refl
-whole-int_sum_from f n (x ∷ xs) =
-    let next : suc n ≡ n + 1 = omega arith in sym (whole-plus (f n x) (int_sum_from f (suc n) xs))
+whole-int_sum_from f n (x ∷ xs) = let next : suc n ≡ n + 1 = omega arith in sym (whole-plus (f n x) (int_sum_from f (suc n) xs))
     ∙ ap (plus (whole (f n x))) (whole-int_sum_from f (suc n) xs ∙ ap (λ k. rational_sum_by (λ p. whole (f p.0 p.1)) (enumerate_from k xs)) next)
 
 -- what a part is used for costs
@@ -117,8 +115,7 @@ module _ {X : Type 0} (f : ℕ × X → Rational) (i : ℕ) where
 
   numbered-one : (n k : ℕ) (xs : List X) (x : X) → n + k ≡ i → slice_get xs k ≡ Some x → rational_sum_by numbered (enumerate_from n xs) ≡ f (i, x)
   numbered-one n k [] x is at = cc at
-  numbered-one n zero (y ∷ xs) x is at =
-      let here : i ≡ n = omega (arith, is) in let same : y ≡ x = cc at in
+  numbered-one n zero (y ∷ xs) x is at = let here : i ≡ n = omega (arith, is) in let same : y ≡ x = cc at in
       ap₂ plus (ap (λ b. if b then f (n, y) else rational_zero) (eq-eqb i n here)) (numbered-behind (n + 1) xs (omega (arith, is))) ∙ plus-zero (f (n, y))
       ∙ (λ j. f (sym here j, same j))
   numbered-one n (suc k) (y ∷ xs) x is at = ap₂ plus (ap (λ b. if b then f (n, y) else rational_zero) (ne_eqb i n (λ same. absurd (omega (arith, is, same)))))
@@ -225,8 +222,7 @@ both_sides network e = by e.1.side
 cost-is : (case : Case) (network : Network) (hot cold : List Part) → AreCaseParts case hot cold
     → plus (rational_sum_by (part_cost network) hot) (rational_sum_by (part_cost network) cold) ≡ cost_of case network
 unfolding cost_of
-cost-is case network hot cold parts =
-    let us = enumerate_from 0 case.utilities in
+cost-is case network hot cold parts = let us = enumerate_from 0 case.utilities in
     ap₂ plus (side_cost-is case network parts.grid side.Hot hot parts.hot_parts) (side_cost-is case network parts.grid side.Cold cold parts.cold_parts)
     ∙ sym (rational_sum_by-plus (side_price network side.Hot) (side_price network side.Cold) us)
     ∙ rational_sum_by-same (λ e. plus (side_price network side.Hot e) (side_price network side.Cold e)) (heat_price network) us

@@ -38,8 +38,7 @@ module _ (case : Case) (least : ℤ) (views : List View) (prices : Side → Sour
       by : (o : Option Stream) → value_worth least views prices i o (record { cp = plus f g; t = t })
           ≡ plus (value_worth least views prices i o (record { cp = f; t = t })) (value_worth least views prices i o (record { cp = g; t = t }))
       by None = sym (plus-zero rational_zero)
-      by (Some s) =
-          let p = prices s.side (source.Stream i) in let height = λ (size : Rational) (v : View). height_in v s (record { cp = size; t = t }) in
+      by (Some s) = let p = prices s.side (source.Stream i) in let height = λ (size : Rational) (v : View). height_in v s (record { cp = size; t = t }) in
           step_worth-same least views p _ (plus (times f t) (times g t)) _ (λ v. plus (height f v) (height g v)) (plus-times f g t)
           (λ v. height_on-additive v.from_itself (course_of v.place s) f g t) ∙ step_worth-plus least views p (times f t) (times g t) (height f) (height g)
 
@@ -172,8 +171,7 @@ change_given s x valid under = ⊎_elim sensible latent valid.heat
         ∙ ap (λ heat. whole (given_by s.side heat)) (sym (heat_over-sensible true x s h))
 
     latent : IsLatent s → change_of s (is_latent s) (full_size s) ≡ whole (given_by s.side (heat_over true x s))
-    latent h =
-        let level = level-latent s h in ap₂ (change_of s) (is_latent-latent s h) (full_size-latent s h) ∙ latent_change s x (omega (arith, ints))
+    latent h = let level = level-latent s h in ap₂ (change_of s) (is_latent-latent s h) (full_size-latent s h) ∙ latent_change s x (omega (arith, ints))
         ∙ ap (λ heat. whole (given_by s.side heat)) (sym (heat_over-latent true x s h))
 
 -- ---- heats on a side
@@ -223,11 +221,9 @@ module _ (network : Network) (least : ℤ) (views : List View) (prices : Side �
           (λ v. whole (if stands p v then p.least else pos 0)) refl (λ k d within. if_whole (stands p (get_or views k d)))
       by false same = sym (step-none least views (prices on (source.Stream i)))
 
-  own-sum : (parts : List Part)
-      → rational_sum_by (own_worth least views prices network on (source.Stream i)) parts
+  own-sum : (parts : List Part) → rational_sum_by (own_worth least views prices network on (source.Stream i)) parts
       ≡ priced_heat (int_sum_by (own_least i) parts) (λ v. int_sum_by (over v) parts)
-  own-sum parts =
-      let q = prices on (source.Stream i) in
+  own-sum parts = let q = prices on (source.Stream i) in
       rational_sum_by-same (own_worth least views prices network on (source.Stream i)) (λ p. priced_heat (own_least i p) (λ v. over v p)) parts
       (λ k d within. own-heat (get_or parts k d)) ∙ step-sum least views q (λ p. whole (own_least i p)) (λ p v. whole (over v p)) parts
       ∙ step-same least views q (rational_sum_by (λ p. whole (own_least i p)) parts) (whole (int_sum_by (own_least i) parts))
@@ -269,16 +265,14 @@ module _ (case : Case) (network : Network) (least : ℤ) (grid : List ℤ) (pric
       ≡ step_worth least (views_of grid) (prices s.side (source.Stream i)) (whole (given_by s.side (seen (from_place lowest))))
       (λ v. whole (given_by s.side (seen v)))
   unfolding branch_worth
-  loss_given under =
-      let views = views_of grid in let q = prices s.side (source.Stream i) in let first = first_value s in let last = last_value s in
+  loss_given under = let views = views_of grid in let q = prices s.side (source.Stream i) in let first = first_value s in let last = last_value s in
       ap (λ o. minus (value_worth least views prices i o first) (value_worth least views prices i o last)) at
       ∙ sym (step_worth-minus least views q (times first.cp first.t) (times last.cp last.t) (λ v. height_in v s first) (λ v. height_in v s last))
       ∙ step-same least views q (minus (times first.cp first.t) (times last.cp last.t)) (whole (given_by s.side (seen (from_place lowest))))
       (λ v. minus (height_in v s first) (height_in v s last)) (λ v. whole (given_by s.side (seen v))) (change_given s lowest valid under)
       (λ k d within. stream_given (get_or views k d) s valid)
 
-  pub stream_worth-is : lowest ≤ℤ low_end s → (hot cold : List Part)
-      → hot ≡ made_parts case.streams case.utilities side.Hot grid → All (HasEnds grid) hot
+  pub stream_worth-is : lowest ≤ℤ low_end s → (hot cold : List Part) → hot ≡ made_parts case.streams case.utilities side.Hot grid → All (HasEnds grid) hot
       → cold ≡ made_parts case.streams case.utilities side.Cold grid → All (HasEnds grid) cold
       → stream_loss (branch_worth case least (views_of grid) prices) (i, s)
       ≡ minus (rational_sum_by (own_worth least (views_of grid) prices network side.Hot (source.Stream i)) hot)
@@ -303,8 +297,7 @@ own_duty on k e = if same_source (source_on on e) (source.Utility k) then e.duty
 
 duty-own : (case : Case) (on : Side) (k : ℕ) (u : Utility) (e : Exchanger) → IsExchanger case e → slice_get case.utilities k ≡ Some u → u.side ≡ on
     → unwrap_or (duty_with k e) rational_zero ≡ own_duty on k e
-duty-own case on k u e is at side_is =
-    let same : same_side u.side on ≡ true = ap (λ s. same_side s on) side_is ∙ own_side on in
+duty-own case on k u e is at side_is = let same : same_side u.side on ≡ true = ap (λ s. same_side s on) side_is ∙ own_side on in
     sym (ap (λ b. if b then unwrap_or (duty_with k e) rational_zero else rational_zero) same) ∙ part-own case e on k u is at
 
 heat-own : (case : Case) (network : Network) (on : Side) (k : ℕ) (u : Utility) → HasShape case network → slice_get case.utilities k ≡ Some u → u.side ≡ on
@@ -371,8 +364,7 @@ module _ (case : Case) (network : Network) (values : Valuation) (least : ℤ) (v
 
     -- the duties of a utility of the side are worth what its part is worth
     duties-worth : HasShape case network → u.side ≡ on → duties_of k ≡ part_worth least views prices network on (utility_part k u)
-    duties-worth shape side_is =
-        let es = exchangers_of network.lines in let numbered = enumerate_from 0 es in let q = prices on (source.Utility k) in
+    duties-worth shape side_is = let es = exchangers_of network.lines in let numbered = enumerate_from 0 es in let q = prices on (source.Utility k) in
         let duty = λ (e : ℕ × Exchanger). own_duty on k e.1 in let heat = heat_with network k in let total : rational_sum_by duty numbered ≡ heat =
         sum-items duty (own_duty on k) es (λ n e here. refl) ∙ heat-own case network on k u shape at side_is in
         rational_sum_by-same (of_source side_source duty_worth (source.Utility k))
@@ -397,8 +389,7 @@ module _ (case : Case) (network : Network) (values : Valuation) (least : ℤ) (v
     part-is : (places : List ℤ) (p : Part) → IsPartOf case.streams case.utilities places on p → p.source ≡ source.Utility k
         → (p ≡ utility_part k u) × (u.side ≡ on)
     part-is places p (inl (i, s, h)) of = let from : p.source ≡ source.Stream i = ap (λ (r : Part). r.source) h.is in absurd (cc)
-    part-is places p (inr (j, w, h)) of =
-        let from : p.source ≡ source.Utility j = ap (λ (r : Part). r.source) h.is in let number : j ≡ k = cc in
+    part-is places p (inr (j, w, h)) of = let from : p.source ≡ source.Utility j = ap (λ (r : Part). r.source) h.is in let number : j ≡ k = cc in
         let found : Some w ≡ Some u = sym h.utility ∙ ap (slice_get case.utilities) number ∙ at in let utility : w ≡ u = cc in
         (h.is ∙ ap₂ utility_part number utility, sym (ap (λ (r : Utility). r.side) utility) ∙ h.side_is)
 
@@ -409,8 +400,7 @@ module _ (case : Case) (network : Network) (values : Valuation) (least : ℤ) (v
     -- its part among the parts of the side
     part-once : (places : List ℤ) (parts : List Part) → AreParts case.streams case.utilities places on parts → u.side ≡ on
         → rational_sum_by (own_worth least views prices network on (source.Utility k)) parts ≡ part_worth least views prices network on (utility_part k u)
-    part-once places parts are side_is =
-        let own = utility_part k u in sum-single (own_worth least views prices network on (source.Utility k)) parts own
+    part-once places parts are side_is = let own = utility_part k u in sum-single (own_worth least views prices network on (source.Utility k)) parts own
         (λ i j d less within. before-not (get_or parts i d) (get_or parts j d) (are.ordered i j d less within))
         (are.every own (inr (k, u, record { utility = at; side_is = side_is; is = refl })))
         (λ n d within differ. own-none (get_or parts n d) (λ of. differ (part-is places (get_or parts n d) (are.each n d within) of).0))
@@ -436,8 +426,7 @@ module _ (case : Case) (network : Network) (values : Valuation) (least : ℤ) (v
   -- what the exchangers have with streams of the side is no utility's
   pub duty_worth-by : HasShape case network
       → rational_sum_by duty_worth (enumerate_from 0 (exchangers_of network.lines)) ≡ rational_sum_by (λ e. duties_of e.0) (enumerate_from 0 case.utilities)
-  duty_worth-by shape =
-      let es = enumerate_from 0 (exchangers_of network.lines) in
+  duty_worth-by shape = let es = enumerate_from 0 (exchangers_of network.lines) in
       let utilities = rational_sum_by (λ (e : ℕ × Utility). duties_of e.0) (enumerate_from 0 case.utilities) in sum-by_source case side_source duty_worth es
       (All-enumerated (λ (e : ℕ × Exchanger). IsSourceOf case (source_on on e.1)) (exchangers_of network.lines)
       (λ n e here. IsSourceOf-side case (source_on on e)
@@ -473,8 +462,7 @@ share-strictly_lower v w duty (Between size low high) positive has lower =
 share-strictly_lower v w duty (Level at) positive has lower = by (is_above true (minus at (whole v))) refl
   where
     by : (b : Bool) → is_above true (minus at (whole v)) ≡ b → IsAtMost (if b then duty else rational_zero) (share false duty (Level (minus at (whole w))))
-    by true above =
-        let more = higher_distance at v w lower ((Decides-is_le rational_zero (minus at (whole v))).0 above) in
+    by true above = let more = higher_distance at v w lower ((Decides-is_le rational_zero (minus at (whole v))).0 above) in
         at_most_from_same _ _ (ap (λ b. if b then duty else rational_zero) (sym ((Decides-is_below rational_zero (minus at (whole w))).1 more)))
     by false other = (shares_parts false (whole w) duty (Level at) positive tt).least
 
@@ -527,8 +515,7 @@ module _ (case : Case) (network : Network) (values : Valuation) (least : ℤ) (v
     -- the cold side is worth no more than the hot one
     sides_ordered : (number : ℕ) (e : Exchanger) → slice_get (exchangers_of network.lines) number ≡ Some e
         → IsAtMost (sold side.Cold number e.duty e.cold) (sold side.Hot number e.duty e.hot)
-    sides_ordered number e at =
-        let runs = run_on_scale shape whole_values number e at in let hot = shifted_run side.Hot case network values number e.hot in
+    sides_ordered number e at = let runs = run_on_scale shape whole_values number e at in let hot = shifted_run side.Hot case network values number e.hot in
         let cold = shifted_run side.Cold case network values number e.cold in
         let open_match = all_at (IsPermitted case) (exchangers_of network.lines) number e permitted at in
         let dearer = step_worth-ordered least views (prices side.Cold e.cold) (prices side.Hot e.hot) (ordered.falls side.Cold e.cold)
@@ -551,8 +538,7 @@ module _ (case : Case) (network : Network) (values : Valuation) (least : ℤ) (v
 
     exchanger_ordered : (number : ℕ) (e : Exchanger) → slice_get (exchangers_of network.lines) number ≡ Some e
         → IsAtMost (cold_bought (number, e)) (plus (taken (number, e)) (hot_bought (number, e)))
-    exchanger_ordered number e at =
-        let valid = all_at (IsExchanger case) (exchangers_of network.lines) number e shape.exchangers.each at in
+    exchanger_ordered number e at = let valid = all_at (IsExchanger case) (exchangers_of network.lines) number e shape.exchangers.each at in
         let all_hot = hot_given number e at e.hot refl valid.hot in let all_cold = cold_given number e at e.cold refl valid.cold in
         let sides = plus_swap_right (lost number e.hot) (lost number e.cold) (hot_bought (number, e)) ∙ ap (λ x. plus x (lost number e.cold)) all_hot in
         subst₂ IsAtMost (sym all_cold) (sym sides) (at_most-plus_plus _ _ _ _ (sides_ordered number e at) (at_most_refl (lost number e.cold)))
@@ -567,12 +553,10 @@ module _ (case : Case) (network : Network) (values : Valuation) (least : ℤ) (v
         (λ k d within. mix_worth case least views prices shape whole_values ordered.falls (get_or network.lines k d)
         (used_there shape.made_once shape.made_first k d within) (shape.one_stream k d within) (all_solved whole_values k d within))
 
-    worths-ordered : AreEnded case network values
-        → IsAtMost (rational_sum_by cold_bought (enumerate_from 0 (exchangers_of network.lines)))
+    worths-ordered : AreEnded case network values → IsAtMost (rational_sum_by cold_bought (enumerate_from 0 (exchangers_of network.lines)))
         (plus (rational_sum_by (stream_loss (branch_worth case least views prices)) (enumerate_from 0 case.streams))
         (rational_sum_by hot_bought (enumerate_from 0 (exchangers_of network.lines))))
-    worths-ordered ended =
-        let es = enumerate_from 0 (exchangers_of network.lines) in let passes = rational_sum_by (pass_loss weigh) network.lines in
+    worths-ordered ended = let es = enumerate_from 0 (exchangers_of network.lines) in let passes = rational_sum_by (pass_loss weigh) network.lines in
         let mixes = rational_sum_by (mix_loss weigh) network.lines in let hot = rational_sum_by hot_bought es in
         let balance = weight_balance case network values (branch_worth case least views prices) shape whole_values ended
         (branch_worth-additive case least views prices) in let each = at_most-rational_sum_by cold_bought (λ p. plus (taken p) (hot_bought p)) es

@@ -76,12 +76,10 @@ module _ (case : Case) where
       sym (zero-plus a) ∙ ap₂ plus (sym (rational_sum_by-zero (λ e. rational_zero) (enumerate_from 0 case.streams) (λ k d inside. refl)))
       (sym (sum-picked i a case.utilities within))
 
-  pub sum-by_source : {X : Type 0} (of : X → Source) (f : X → Rational) (xs : List X) → All (λ x. IsSourceOf case (of x)) xs
-      → rational_sum_by f xs
+  pub sum-by_source : {X : Type 0} (of : X → Source) (f : X → Rational) (xs : List X) → All (λ x. IsSourceOf case (of x)) xs → rational_sum_by f xs
       ≡ plus (rational_sum_by (λ e. rational_sum_by (of_source of f (source.Stream e.0)) xs) (enumerate_from 0 case.streams))
       (rational_sum_by (λ e. rational_sum_by (of_source of f (source.Utility e.0)) xs) (enumerate_from 0 case.utilities))
-  sum-by_source {X} of f xs each =
-      let streams = enumerate_from 0 case.streams in let utilities = enumerate_from 0 case.utilities in
+  sum-by_source {X} of f xs each = let streams = enumerate_from 0 case.streams in let utilities = enumerate_from 0 case.utilities in
       let by_streams = λ (x : X). rational_sum_by (λ e. of_source of f (source.Stream e.0) x) streams in
       let by_utilities = λ (x : X). rational_sum_by (λ e. of_source of f (source.Utility e.0) x) utilities in
       rational_sum_by-same f (λ x. plus (by_streams x) (by_utilities x)) xs
@@ -122,8 +120,7 @@ module _ (i : ℕ) (from : Bool) (place : ℤ) where
   own-later : (test : Stream → Bool) (high low : ℤ) (n : ℕ) (streams : List Stream) → i < n
       → int_sum_by (own_over i from place) (picked test (stream_part high low) n streams) ≡ pos 0
   own-later test high low n [] later = refl
-  own-later test high low n (s ∷ streams) later =
-      let first = own-other high low n s (λ same. absurd (omega (arith, same))) in
+  own-later test high low n (s ∷ streams) later = let first = own-other high low n s (λ same. absurd (omega (arith, same))) in
       let here : (if test s then own_over i from place (stream_part high low n s) else pos 0) ≡ pos 0 =
       if_zero (test s) (own_over i from place (stream_part high low n s)) first in let rest = own-later test high low (suc n) streams (omega arith) in
       let sum = int_sum_by-cons_if (own_over i from place) (test s) (stream_part high low n s) (picked test (stream_part high low) (suc n) streams) in
@@ -142,8 +139,7 @@ module _ (i : ℕ) (from : Bool) (place : ℤ) where
       ≡ (if test s then part_over from place (pos 0) (stream_part high low 0 s) else pos 0) =
       ap (λ x. if test t then x else pos 0) (own-here high low n t number)
       ∙ ap (λ r. if test r then part_over from place (pos 0) (stream_part high low 0 r) else pos 0) same in omega (arith, ints)
-  own-picked test high low n (t ∷ streams) (suc k) s at is =
-      let first = own-other high low n t (λ same. absurd (omega (arith, same, is))) in
+  own-picked test high low n (t ∷ streams) (suc k) s at is = let first = own-other high low n t (λ same. absurd (omega (arith, same, is))) in
       let rest = own-picked test high low (suc n) streams k s at (omega (arith, is)) in
       let sum = int_sum_by-cons_if (own_over i from place) (test t) (stream_part high low n t) (picked test (stream_part high low) (suc n) streams) in
       let here : (if test t then own_over i from place (stream_part high low n t) else pos 0) ≡ pos 0 =
@@ -151,8 +147,7 @@ module _ (i : ℕ) (from : Bool) (place : ℤ) where
 
   own-utilities : (test : Utility → Bool) (n : ℕ) (utilities : List Utility) → int_sum_by (own_over i from place) (picked test utility_part n utilities) ≡ pos 0
   own-utilities test n [] = refl
-  own-utilities test n (u ∷ utilities) =
-      let rest = own-utilities test (suc n) utilities in
+  own-utilities test n (u ∷ utilities) = let rest = own-utilities test (suc n) utilities in
       let sum = int_sum_by-cons_if (own_over i from place) (test u) (utility_part n u) (picked test utility_part (suc n) utilities) in
       let here : (if test u then pos 0 else pos 0) ≡ pos 0 = if_zero (test u) (pos 0) refl in omega (arith, ints)
 
@@ -160,15 +155,13 @@ module _ (i : ℕ) (from : Bool) (place : ℤ) where
     number : i ≡ 0 + i
     number = omega arith
 
-    own-interval : (g : ℤ) (places : List ℤ)
-        → int_sum_by (own_over i from place) (interval_parts streams utilities side g places)
+    own-interval : (g : ℤ) (places : List ℤ) → int_sum_by (own_over i from place) (interval_parts streams utilities side g places)
         ≡ int_sum_by (part_over from place (pos 0)) (interval_parts (s ∷ []) [] side g places)
     own-interval g [] = refl
     own-interval g (low ∷ places) = own-picked (covers side g low) g low 0 streams i s at number
 
     -- the stream's own parts are those that would be made of it alone
-    own-made : (places : List ℤ)
-        → int_sum_by (own_over i from place) (made_parts streams utilities side places)
+    own-made : (places : List ℤ) → int_sum_by (own_over i from place) (made_parts streams utilities side places)
         ≡ int_sum_by (part_over from place (pos 0)) (made_parts (s ∷ []) [] side places)
     own-made [] = refl
     own-made (g ∷ places) =
@@ -186,8 +179,7 @@ module _ (i : ℕ) (from : Bool) (place : ℤ) where
 pub stream_parts-are : (i : ℕ) (from : Bool) (place : ℤ) (streams : List Stream) (utilities : List Utility) (side : Side) (s : Stream) (places : List ℤ)
     → slice_get streams i ≡ Some s → IsValidStream s → HoldsPlaces streams utilities places → Contains places place
     → int_sum_by (own_over i from place) (made_parts streams utilities side places) ≡ (if same_side s.side side then heat_over from place s else pos 0)
-stream_parts-are i from place streams utilities side s places at valid holds found =
-    let ends =
+stream_parts-are i from place streams utilities side s places at valid holds found = let ends =
     All-slice_get (λ (r : Stream). Contains places (high_end r) × Contains places (low_end r)) streams i s (holds_ends streams utilities places holds) at in
     let alone : HoldsPlaces (s ∷ []) [] places = record {
       falls = holds.falls;

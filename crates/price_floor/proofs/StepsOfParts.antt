@@ -44,8 +44,7 @@ views-places places = All-views (λ v. Contains places v.place) places
 
 pub views-fall : (places : List ℤ) → AllPairs (λ a b. b <ℤ a) places → AllPairs comes_below (views_of places)
 views-fall [] falls = AllPairs-nil comes_below
-views-fall (g ∷ places) falls =
-    let less = AllPairs-head (λ a b. b <ℤ a) g places falls in let below = λ (v : View) (at : v.place ≡ g).
+views-fall (g ∷ places) falls = let less = AllPairs-head (λ a b. b <ℤ a) g places falls in let below = λ (v : View) (at : v.place ≡ g).
     All-views (comes_below v) places (All-weaker (λ x. x <ℤ g) (λ x. comes_below v (above_place x) × comes_below v (from_place x))
     (λ x h. (inl (omega (arith, ints)), inl (omega (arith, ints)))) places less) in
     AllPairs-cons_if comes_below true (above_place g) (from_place g ∷ views_of places)
@@ -144,16 +143,14 @@ module _ (p : Part) (order : p.low ≤ℤ p.high) where
       less = AllPairs-head (λ a b. b <ℤ a) g places falls
 
       here : g ≡ p.high → LeavesAt p (above_place p.high) (views_of (g ∷ places))
-      here e =
-          let rest = stands_all places (All-weaker (λ x. x <ℤ g) (λ x. (x <ℤ p.high) × (x ≤ℤ p.low))
+      here e = let rest = stands_all places (All-weaker (λ x. x <ℤ g) (λ x. (x <ℤ p.high) × (x ≤ℤ p.low))
           (λ x h. (omega (arith, ints), omega (arith, ints))) places less) in (
             int_lt-false g p.high (omega (arith, ints)),
             inl (ap above_place e, All-cons (λ w. stands p w ≡ true) (from_place g) (views_of places) (int_le-from g p.low (omega (arith, ints))) rest),
           )
 
       later : Contains places p.high → LeavesAt p (above_place p.high) (views_of places) → LeavesAt p (above_place p.high) (views_of (g ∷ places))
-      later inside next =
-          let under = All-contains (λ x. x <ℤ g) places p.high less inside in
+      later inside next = let under = All-contains (λ x. x <ℤ g) places p.high less inside in
           (int_lt-false g p.high (omega (arith, ints)), inr (int_le-false g p.low (omega (arith, ints)), inr next))
 
   leaves_interval : p.low <ℤ p.high → (places : List ℤ) → AllPairs (λ a b. b <ℤ a) places → Contains places p.high
@@ -170,21 +167,18 @@ module _ (p : Part) (order : p.low ≤ℤ p.high) where
       others = All-tail (λ x. x <ℤ p.high → x ≤ℤ p.low) g places none
 
       here : g ≡ p.high → LeavesAt p (from_place p.high) (views_of (g ∷ places))
-      here e =
-          let both : All (λ x. (x <ℤ p.high) × (x ≤ℤ p.low)) places = λ k d within.
+      here e = let both : All (λ x. (x <ℤ p.high) × (x ≤ℤ p.low)) places = λ k d within.
           let under : get_or places k d <ℤ p.high = subst (λ y. get_or places k d <ℤ y) e (less k d within) in (under, others k d within under) in
           (int_lt-false g p.high (omega (arith, ints)), inr (int_le-false g p.low (omega (arith, ints)), inl (ap from_place e, stands_all places both)))
 
       later : Contains places p.high → LeavesAt p (from_place p.high) (views_of places) → LeavesAt p (from_place p.high) (views_of (g ∷ places))
-      later inside next =
-          let under = All-contains (λ x. x <ℤ g) places p.high less inside in
+      later inside next = let under = All-contains (λ x. x <ℤ g) places p.high less inside in
           (int_lt-false g p.high (omega (arith, ints)), inr (int_le-false g p.low (omega (arith, ints)), inr next))
 
 pub leaves_own : (places : List ℤ) (p : Part) → AllPairs (λ a b. b <ℤ a) places → (ends : HasEnds places p)
     → LeavesAt p (own_view places p ends) (views_of places)
 leaves_own places p falls (inl (level, found)) = leaves_level p (omega (arith, ints)) level places falls found
-leaves_own places p falls (inr interval) =
-    let less = interval_falls places p.high p.low falls interval in
+leaves_own places p falls (inr interval) = let less = interval_falls places p.high p.low falls interval in
     leaves_interval p (omega (arith, ints)) less places falls (interval_ends places p.high p.low interval).0
     (All-weaker (Contains places) (λ x. x <ℤ p.high → x ≤ℤ p.low) (λ x at h. interval_below places p.high p.low x falls interval at h) places
     (All-contains_itself places))
@@ -267,11 +261,9 @@ two_steps a b c x =
     sym (plus-times (whole (a -ℤ b)) (whole (b -ℤ c)) x) ∙ ap (λ rise. times rise x) (whole-plus (a -ℤ b) (b -ℤ c) ∙ ap whole (omega (arith, ints)))
 
 -- the same heat at the rises of both prices, with what the second ones are above the first ones
-shifted_rises : (p q p_next q_next : ℤ) (x rest : Rational)
-    → plus (plus (times (whole (p -ℤ p_next)) x) rest) (times (whole (q -ℤ p)) x)
+shifted_rises : (p q p_next q_next : ℤ) (x rest : Rational) → plus (plus (times (whole (p -ℤ p_next)) x) rest) (times (whole (q -ℤ p)) x)
     ≡ plus (times (whole (q -ℤ q_next)) x) (plus rest (times (whole (q_next -ℤ p_next)) x))
-shifted_rises p q p_next q_next x rest =
-    let here = times (whole (p -ℤ p_next)) x in let higher = times (whole (q -ℤ p)) x in
+shifted_rises p q p_next q_next x rest = let here = times (whole (p -ℤ p_next)) x in let higher = times (whole (q -ℤ p)) x in
     let first = times (whole (q -ℤ q_next)) x in let next = times (whole (q_next -ℤ p_next)) x in
     plus_comm (plus here rest) higher ∙ sym (plus_assoc higher here rest) ∙ ap (λ y. plus y rest) (two_steps q p p_next x ∙ sym (two_steps q q_next p_next x))
     ∙ plus_assoc first next rest ∙ ap (plus first) (plus_comm next rest)
@@ -282,8 +274,7 @@ module _ (least : ℤ) (p q : View → ℤ) (x : View → Rational) (more : (v :
   rise_worth-ordered : (p_top q_top : ℤ) (c : Rational) (views : List View) → p_top ≤ℤ q_top
       → last_price p_top p views ≡ least → last_price q_top q views ≡ least → AllPairs comes_below views → All (λ v. IsAtMost c (x v)) views
       → IsAtMost (plus (rise_worth p_top p x views) (times (whole (q_top -ℤ p_top)) c)) (rise_worth q_top q x views)
-  rise_worth-ordered p_top q_top c [] higher p_last q_last pairs seen =
-      let level : q_top -ℤ p_top ≡ pos 0 = omega (arith, ints, p_last, q_last) in
+  rise_worth-ordered p_top q_top c [] higher p_last q_last pairs seen = let level : q_top -ℤ p_top ≡ pos 0 = omega (arith, ints, p_last, q_last) in
       at_most_from_same _ _ (zero-plus _ ∙ ap (λ n. times (whole n) c) level ∙ zero-times c)
   rise_worth-ordered p_top q_top c (v ∷ views) higher p_last q_last pairs seen =
       let above_next : All (λ w. IsAtMost (x v) (x w)) views = λ k d within. rising v (get_or views k d) (AllPairs-head comes_below v views pairs k d within) in
@@ -296,8 +287,7 @@ module _ (least : ℤ) (p q : View → ℤ) (x : View → Rational) (more : (v :
 pub step_worth-ordered : (least : ℤ) (views : List View) (p q : StepPrices) → FallTo least views p → FallTo least views q → AreAtMost p q
     → AllPairs comes_below views → (a : Rational) (x : View → Rational) → AreRising x → ((v : View) → IsAtMost rational_zero (x v))
     → IsAtMost (step_worth least views p a x) (step_worth least views q a x)
-step_worth-ordered least views p q p_falls q_falls more pairs a x rising some =
-    let no_heat = times (whole (q.top -ℤ p.top)) rational_zero in
+step_worth-ordered least views p q p_falls q_falls more pairs a x rising some = let no_heat = times (whole (q.top -ℤ p.top)) rational_zero in
     let none : IsAtMost rational_zero no_heat = not_negative-times _ _ (not_negative-fall q.top p.top more.top) (at_most_refl rational_zero) in
     at_most-plus_plus _ _ _ _ (at_most_refl (times (whole least) a)) (at_most_trans _ _ _ (at_most-plus_right (rise_worth p.top p.below x views) no_heat none)
     (rise_worth-ordered least p.below q.below x more.below rising p.top q.top rational_zero views more.top p_falls.last q_falls.last pairs
@@ -350,8 +340,7 @@ module _ (p : Part) (x : Rational) (below : View → ℤ) where
 -- the heat of a part is worth the price below the last view that the part does not stand above
 pub step-part : (least : ℤ) (views : List View) (q : StepPrices) (p : Part) (own : View) (x : Rational) → last_price q.top q.below views ≡ least
     → LeavesAt p own views → step_worth least views q x (stood p x) ≡ times (whole (q.below own)) x
-step-part least views q p own x last leaves =
-    let total : least +ℤ (q.below own -ℤ least) ≡ q.below own = omega (arith, ints) in
+step-part least views q p own x last leaves = let total : least +ℤ (q.below own -ℤ least) ≡ q.below own = omega (arith, ints) in
     ap (plus (times (whole least) x)) (rise-leaves p x q.below own q.top views leaves ∙ ap (λ n. times (whole (q.below own -ℤ n)) x) last)
     ∙ sym (plus-times (whole least) (whole (q.below own -ℤ least)) x) ∙ ap (λ y. times y x) (whole-plus least (q.below own -ℤ least) ∙ ap whole total)
 
@@ -409,14 +398,12 @@ module _ (least : ℤ) (prices : List ℤ) where
   greatest-at : (counts : Part → Bool) (n : ℕ) (parts : List Part) (b : ℕ) (p : Part) → slice_get parts b ≡ Some p → counts p ≡ true
       → price_at prices (n + b) ≤ℤ greatest_price least counts prices (enumerate_from n parts)
   greatest-at counts n [] b p at h = absurd (cc)
-  greatest-at counts n (q ∷ parts) zero p at h =
-      let is : q ≡ p = cc in let index : n + 0 ≡ n = omega arith in
+  greatest-at counts n (q ∷ parts) zero p at h = let is : q ≡ p = cc in let index : n + 0 ≡ n = omega arith in
       let here : (if counts q then price_at prices n else least) ≡ price_at prices n = ap (λ c. if c then price_at prices n else least) (ap counts is ∙ h) in
       subst (λ k. price_at prices k ≤ℤ greatest_price least counts prices (enumerate_from n (q ∷ parts))) (sym index)
       (front (price_at prices n) (if counts q then price_at prices n else least) (greatest_price least counts prices (enumerate_from (n + 1) parts))
       (omega (arith, ints)))
-  greatest-at counts n (q ∷ parts) (suc b) p at h =
-      let index : n + 1 + b ≡ n + suc b = omega arith in
+  greatest-at counts n (q ∷ parts) (suc b) p at h = let index : n + 1 + b ≡ n + suc b = omega arith in
       subst (λ k. price_at prices k ≤ℤ greatest_price least counts prices (enumerate_from n (q ∷ parts))) index
       (behind (price_at prices (n + 1 + b)) (if counts q then price_at prices n else least)
       (greatest_price least counts prices (enumerate_from (n + 1) parts)) (greatest-at counts (n + 1) parts b p at h))
@@ -472,14 +459,12 @@ module _ (case : Case) (least : ℤ) (prices : List ℤ) (cold : List Part) (gri
     below_before u v at below = more_counted least prices (counts_below on s v) (counts_below on s u) cold more
       where
         more : (b : ℕ) (p : Part) → slice_get cold b ≡ Some p → counts_below on s v p ≡ true → counts_below on s u p ≡ true
-        more b p here h =
-            let (counted, under) = below-parts on s v p h in below-from on s u p counted
+        more b p here h = let (counted, under) = below-parts on s v p h in below-from on s u p counted
             (false_from_ne_true (stands p u) (λ e. let later = stands_later grid p falls (ends_at b p here) u v at below e in cc))
 
     none_counts : (counted : Part → Bool) → ((b : ℕ) (p : Part) → slice_get cold b ≡ Some p → counted p ≡ true → ⊥)
         → greatest_price least counted prices (enumerate_from 0 cold) ≡ least
-    none_counts counted none =
-        let upto = upto_counted least prices counted least cold (omega (arith, ints)) (λ b p at h. absurd (none b p at h)) in
+    none_counts counted none = let upto = upto_counted least prices counted least cold (omega (arith, ints)) (λ b p at h. absurd (none b p at h)) in
         let from = greatest-least least prices counted (enumerate_from 0 cold) in omega (arith, ints)
 
     last_least : (places : List ℤ) → AllPairs (λ a b. b <ℤ a) places → All (HasEnds places) cold → last_price steps.top steps.below (views_of places) ≡ least
@@ -533,8 +518,7 @@ module _ (case : Case) (least : ℤ) (prices : List ℤ) (cold : List Part) (gri
 
       -- no end of the one lies inside the other
       same : p.low <ℤ q.high → (p.high ≡ q.high) × (p.low ≡ q.low)
-      same more =
-          let low = none_inside grid q falls other p.low (interval_ends grid p.high p.low interval).1 more in let wide = width in let under = lower in (
+      same more = let low = none_inside grid q falls other p.low (interval_ends grid p.high p.low interval).1 more in let wide = width in let under = lower in (
             by_lt_z p.high q.high
                 (λ up. let inside = none_inside grid q falls other p.high (interval_ends grid p.high p.low interval).0 up in absurd (omega (arith, ints)))
                 (λ upto. by_lt_z q.high p.high
@@ -559,16 +543,14 @@ module _ (case : Case) (least : ℤ) (prices : List ℤ) (cold : List Part) (gri
   pub hot_price : (p : Part) (own : HasEnds grid p) (price : ℤ) → least ≤ℤ price
       → ((b : ℕ) (q : Part) → slice_get cold b ≡ Some q → part_reaches case p q ≡ true → price_at prices b ≤ℤ price)
       → (price_steps case least prices cold side.Hot p.source).below (own_view grid p own) ≤ℤ price
-  hot_price p own price some reached =
-      let v = own_view grid p own in upto_counted least prices (counts_below side.Hot p.source v) price cold some (λ b q at h.
+  hot_price p own price some reached = let v = own_view grid p own in upto_counted least prices (counts_below side.Hot p.source v) price cold some (λ b q at h.
       let (permitted, under) = below-parts side.Hot p.source v q h in
       reached b q at (and_from (passes_heat p q) (not (is_forbidden case.forbids p.source q.source)) (passes_own p q own (ends_at b q at) under) permitted))
 
   -- a cold part's is at least its price
   pub cold_price : (b : ℕ) (p : Part) (at : slice_get cold b ≡ Some p) (own : HasEnds grid p)
       → price_at prices b ≤ℤ (price_steps case least prices cold side.Cold p.source).below (own_view grid p own)
-  cold_price b p at own =
-      let v = own_view grid p own in let index : 0 + b ≡ b = omega arith in
+  cold_price b p at own = let v = own_view grid p own in let index : 0 + b ≡ b = omega arith in
       subst (λ k. price_at prices k ≤ℤ (price_steps case least prices cold side.Cold p.source).below v) index
       (greatest-at least prices (counts_below side.Cold p.source v) 0 cold b p at
       (below-from side.Cold p.source v p (same_source-same p.source) (own_not grid p falls own)))
