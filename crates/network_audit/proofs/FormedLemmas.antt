@@ -3,8 +3,7 @@ use Rattle.network_audit.proofs.Words.{All-cons, All-nil, Case, Decides-is_withi
 use Rattle.network_audit.proofs.Words.{IsWholeValuation, IsWithinLimits, Item, Network, Place, Rational, Step, Test, Valuation}
 use Rattle.network_audit.proofs.Words.{false≢true, finding_of, first_finding, is_passed}
 use Rattle.network_audit.proofs.Words.{items}
-use Rattle.network_audit.proofs.FoundLemmas.{found-item}
-use Rattle.network_audit.proofs.ValidLemmas.{invalid_network}
+use Rattle.network_audit.proofs.ValidLemmas.{found-item, invalid_network}
 use Rattle.std.proofs.Common.{All, List, None, Option, Some, [], false, length, refl, sym, ℕ, ◌∙◌, ◌∷◌, ◌≡◌}
 use Rattle.network_audit.specs.declared.findings.Finding.TheVariants as finding
 

@@ -6,7 +6,6 @@ pub mod SumBounds
 pub mod GroupSums
 pub mod NoFinding
 pub mod BalanceWithin
-pub mod FoundLemmas
 pub mod HeatLemmas
 pub mod JointLemmas
 pub mod SumSteps

@@ -20,9 +20,9 @@ use Rattle.price_floor.proofs.Words.{utility_worth, value_at, value_worth, views
 use Rattle.price_floor.proofs.Words.{◌*ℤ◌, ◌+ℤ◌, ◌-ℤ◌, ◌≤ℤ◌}
 use Rattle.std.proofs.Common.{All, AllPairs, Bool, Contains, List, None, Option, Some, ap, ap₂, arith, false, get_or, if◌then◌else◌, inl, inr, is_some, length}
 use Rattle.std.proofs.Common.{refl, slice_get, subst, sym, true, unwrap_or, ℕ, ℤ, ⊎_elim, ◌<ℤ◌, ◌<◌, ◌==◌, ◌||◌, ◌∙◌, ◌≡◌}
-use Rattle.price_floor.proofs.PartSums.{before-not, of_source, own_over, own_worth, part_worth, stream_parts-are, sum-by_source, sum-single}
-use Rattle.price_floor.proofs.StepsOfParts.{AreRising, HasEnds, IsLowest, from_place, stands, stands_lowest, step-none, step-same, step-sum, step_worth-at_most}
-use Rattle.price_floor.proofs.StepsOfParts.{step_worth-minus, step_worth-ordered, step_worth-plus, step_worth-same, stood, views-places}
+use Rattle.price_floor.proofs.StepsOfParts.{AreRising, HasEnds, IsLowest, before-not, from_place, of_source, own_over, own_worth, part_worth, stands}
+use Rattle.price_floor.proofs.StepsOfParts.{stands_lowest, step-none, step-same, step-sum, step_worth-at_most, step_worth-minus, step_worth-ordered}
+use Rattle.price_floor.proofs.StepsOfParts.{step_worth-plus, step_worth-same, stood, stream_parts-are, sum-by_source, sum-single, views-places}
 use Rattle.fractions.proofs.Comparisons.{Decides-is_below, Decides-is_le, at_most-plus_plus, at_most-plus_right, at_most-whole, at_most_from_not_negative}
 use Rattle.fractions.proofs.Comparisons.{at_most_from_same, at_most_refl, at_most_trans, below-whole, below_at_most_trans, not_negative-minus, positive-minus}
 use Rattle.network_values.proofs.PenaltyLemmas.{stream_given}

@@ -9,9 +9,8 @@ use Rattle.price_floor.proofs.Words.{int_min, ints, low_end, minus, parts_on_gri
 use Rattle.price_floor.proofs.Words.{price_steps, rational_sum_by, rational_sum_by-minus, rational_zero, reach_between, side_of_part, stream_loss}
 use Rattle.price_floor.proofs.Words.{sum-enumerated, sum-items, times, use_worth, used_by, used_heat, views_of, whole, worth_of_uses, ℤ, ◌<ℤ◌, ◌≤ℤ◌}
 use Rattle.price_floor.proofs.NetworkWorth.{duties_of, duty_worth, duty_worth-by, stream_worth-is, utility_worth-is, worths_ordered}
-use Rattle.price_floor.proofs.PartSums.{own_worth, part_worth, sum-by_source}
-use Rattle.price_floor.proofs.StepsOfParts.{HasEnds, cold_price, hot_price, leaves_own, own_view, some_lowest, step-part, steps_are_ordered, steps_fall}
-use Rattle.price_floor.proofs.StepsOfParts.{views-fall}
+use Rattle.price_floor.proofs.StepsOfParts.{HasEnds, cold_price, hot_price, leaves_own, own_view, own_worth, part_worth, some_lowest, step-part}
+use Rattle.price_floor.proofs.StepsOfParts.{steps_are_ordered, steps_fall, sum-by_source, views-fall}
 use Rattle.std.proofs.Common.{All, AllPairs, Contains, List, Some, [], ap, ap₂, arith, inl, inr, is_some, refl, slice_get, subst, suc, sym, zero, ℕ, ◌∙◌, ◌∷◌}
 use Rattle.std.proofs.Common.{◌≡◌}
 use Rattle.stream_case.specs.declared.source.Side.TheVariants as side
