@@ -22,10 +22,10 @@ source_on side.Hot e = e.hot
 source_on side.Cold e = e.cold
 
 -- the duty with a utility of the side
-abbrev part_on : Side → ℕ × Utility → Exchanger → Rational
+abbrev pub part_on : Side → ℕ × Utility → Exchanger → Rational
 part_on on (index, u) e = if same_side u.side on then unwrap_or (duty_with index e) rational_zero else rational_zero
 
-abbrev own_part : Side → Exchanger → ℕ → Rational
+abbrev pub own_part : Side → Exchanger → ℕ → Rational
 own_part on e index = if same_source (source_on on e) (source.Utility index) then e.duty else rational_zero
 
 -- a source of another side is not this utility
@@ -42,7 +42,7 @@ not_of case (source.Utility k) index u on is at other = ne_eqb k index (λ same.
     clash same = let here : Some u.side ≡ Some on = sym (ap (option_map (λ v. v.side)) (ap (slice_get case.utilities) same ∙ at)) ∙ is in
         let side_is : u.side ≡ on = cc here in cc (sym other, ap (λ s. same_side s on) side_is, own on)
 
-part-own : (case : Case) (e : Exchanger) (on : Side) (index : ℕ) (u : Utility) → IsExchanger case e → slice_get case.utilities index ≡ Some u
+pub part-own : (case : Case) (e : Exchanger) (on : Side) (index : ℕ) (u : Utility) → IsExchanger case e → slice_get case.utilities index ≡ Some u
     → part_on on (index, u) e ≡ own_part on e index
 part-own case e side.Hot index u is at = by u.side refl
   where
