@@ -8,7 +8,7 @@ use Rattle.fractions.proofs.Words.{enumerate_from, list_any, list_any_at, list_a
 use Rattle.fractions.proofs.Words.{option_map_or, plus, range_with_len, ratio, rational_sum, rational_sum_by, rational_zero, whole}
 use Rattle.std.proofs.Common.{All, AllPairs, Bool, Contains, List, None, Option, Some, [], ap, ap₂, arith, cond, count_by, eq-eqb, false, filter_map, find}
 use Rattle.std.proofs.Common.{flat_map, get_or, if◌then◌else◌, inl, inr, length, map, ne_eqb, pos, refl, slice_get, suc, sym, true, unwrap_or, zero, ℕ, ℤ, ◌++◌}
-use Rattle.std.proofs.Common.{◌+ℤ◌, ◌+◌, ◌<◌, ◌==◌, ◌||◌, ◌∙◌, ◌∷◌, ◌≡◌, ◌≢◌, ◌≤◌, ◌⊎◌}
+use Rattle.std.proofs.Common.{◌+ℤ◌, ◌+◌, ◌<◌, ◌==◌, ◌||◌, ◌∙◌, ◌∷◌, ◌≡◌, ◌≢◌, ⊎_elim, ◌≤◌, ◌⊎◌}
 use Rattle.std.proofs.lemmas.List.Elements.{All-head, All-tail, All-weaker}
 
 module _ {X : Type 0} where
@@ -184,6 +184,20 @@ module _ (f : ℕ → Rational) where
           ∙ ap (λ x. plus (f u) (plus x rest)) (rw (eq-eqb a u same) refl)
       by (inr other) later = ap (plus (f a)) (later (omega (arith, from, other)) (omega (arith, upto))) ∙ plus_swap_left (f a) (f u) rest
           ∙ ap (λ x. plus (f u) (plus x rest)) (sym (but_at-other u a other))
+
+-- one number of a range, and one element beside its index
+pub sum-one_number : (a : Rational) (k n : ℕ) → k < n → rational_sum_by (λ i. if k == i then a else rational_zero) (range_with_len 0 n) ≡ a
+sum-one_number a k n within = one_taken (λ i. if k == i then a else rational_zero) k 0 n (omega arith) (omega (arith, within))
+    ∙ ap₂ plus (rw (eq-eqb k k refl) refl) (rational_sum_by-zero (but_at (λ i. if k == i then a else rational_zero) k) (range_with_len 0 n)
+    (λ j d inside. none (get_or (range_with_len 0 n) j d))) ∙ plus-zero a
+  where
+    none : (i : ℕ) → but_at (λ j. if k == j then a else rational_zero) k i ≡ rational_zero
+    none i = ⊎_elim (λ same. rw (eq-eqb i k same) refl) (λ other. rw (ne_eqb i k other, ne_eqb k i (λ is. other (sym is))) refl) (cases_eq i k)
+
+pub sum-picked : {X : Type 0} (k : ℕ) (a : Rational) (xs : List X) → k < length xs
+    → rational_sum_by (λ (e : ℕ × X). if k == e.0 then a else rational_zero) (enumerate_from 0 xs) ≡ a
+sum-picked k a xs within = sum-enumerate (λ e. if k == e.0 then a else rational_zero) (λ i. if k == i then a else rational_zero) xs (λ i x at. refl)
+    ∙ sum-one_number a k (length xs) within
 
 -- f but for the numbers of a list, where it is 0
 abbrev pub left_of : (ℕ → Rational) → List ℕ → ℕ → Rational

@@ -1,16 +1,14 @@
 -- The heats of the utilities make up the hot and the cold heat, and the balance.
 use Rattle.network_audit.proofs.Words.{All-enumerated, All-head, All-tail, Case, Exchanger, HasShape, IsExchanger, IsSourceOf, IsSourceOf-side, Item, Network}
-use Rattle.network_audit.proofs.Words.{Rational, Side, Source, Step, Utility, balance_in, balance_items, balance_of, balance_steps_in, cases_eq, cold_heat}
-use Rattle.network_audit.proofs.Words.{cons_option, cost_of, cost_steps, duties_in, duties_with, duty_with, enumerate_from, exchangers_of}
-use Rattle.network_audit.proofs.Words.{get_or-enumerate_from, get_or_default, heat_at, heat_on, heat_on_in, heat_price, heat_with, heats_in, heats_on}
-use Rattle.network_audit.proofs.Words.{heats_on_in, hot_heat, hot_target, joints_of, minus, plus, plus-zero, price_in, prices_in, range_with_len, rational_sum}
-use Rattle.network_audit.proofs.Words.{rational_sum_by, rational_sum_by-map, rational_zero, same_side, same_source, side_of, sum_steps, times, utility_part}
-use Rattle.network_audit.proofs.Words.{whole}
-use Rattle.std.proofs.Common.{All, Bool, List, None, Option, Some, [], ap, ap₂, arith, eq-eqb, false, filter_map, get_or, if◌then◌else◌, inl, inr, is_some}
-use Rattle.std.proofs.Common.{length, map, ne_eqb, option_map, refl, slice_get, subst, sym, true, unwrap_or, ℕ, ◌++◌, ◌+◌, ◌<◌, ◌==◌, ◌||◌, ◌∙◌, ◌∷◌, ◌≡◌, ◌≢◌}
-use Rattle.std.proofs.Common.{◌⊎◌}
+use Rattle.network_audit.proofs.Words.{Rational, Side, Source, Step, Utility, balance_in, balance_items, balance_of, balance_steps_in, cold_heat, cons_option}
+use Rattle.network_audit.proofs.Words.{cost_of, cost_steps, duties_in, duties_with, duty_with, enumerate_from, exchangers_of, get_or-enumerate_from}
+use Rattle.network_audit.proofs.Words.{get_or_default, heat_at, heat_on, heat_on_in, heat_price, heat_with, heats_in, heats_on, heats_on_in, hot_heat}
+use Rattle.network_audit.proofs.Words.{hot_target, joints_of, minus, price_in, prices_in, range_with_len, rational_sum, rational_sum_by, rational_sum_by-map}
+use Rattle.network_audit.proofs.Words.{rational_zero, same_side, same_source, side_of, sum_steps, times, utility_part, whole}
+use Rattle.std.proofs.Common.{All, Bool, List, None, Option, Some, [], ap, ap₂, arith, false, filter_map, get_or, if◌then◌else◌, is_some, length, map, ne_eqb}
+use Rattle.std.proofs.Common.{option_map, refl, slice_get, subst, sym, true, unwrap_or, ℕ, ◌++◌, ◌+◌, ◌<◌, ◌||◌, ◌∙◌, ◌∷◌, ◌≡◌}
 use Rattle.network_audit.proofs.JointLemmas.{duties-are, get_or-made}
-use Rattle.fractions.proofs.RationalSums.{but_at, one_taken, rational_sum_by-same, rational_sum_by-swap, rational_sum_by-zero, sum-enumerate, sum-filter_map}
+use Rattle.fractions.proofs.RationalSums.{rational_sum_by-same, rational_sum_by-swap, rational_sum_by-zero, sum-enumerate, sum-filter_map, sum-one_number}
 use Rattle.stream_case.specs.declared.source.Side.TheVariants as side
 use Rattle.stream_case.specs.declared.source.Source.TheVariants as source
 use Rattle.network_audit.specs.declared.findings.Place.TheVariants as place
@@ -75,18 +73,7 @@ part-own case e side.Cold index u is at = by u.side refl
 own-sum : (n : ℕ) (duty : Rational) (of : Source) → ((k : ℕ) → of ≡ source.Utility k → k < n)
     → rational_sum_by (λ index. if same_source of (source.Utility index) then duty else rational_zero) (range_with_len 0 n) ≡ utility_part duty of
 own-sum n duty (source.Stream stream) within = rational_sum_by-zero (λ index. rational_zero) (range_with_len 0 n) (λ k d inside. refl)
-own-sum n duty (source.Utility k) within = one_taken (λ index. if k == index then duty else rational_zero) k 0 n (omega arith) (omega (arith, within k refl))
-    ∙ ap₂ plus (ap (λ b. if b then duty else rational_zero) (eq-eqb k k refl))
-    (rational_sum_by-zero (but_at (λ index. if k == index then duty else rational_zero) k) (range_with_len 0 n)
-    (λ j d inside. none (get_or (range_with_len 0 n) j d))) ∙ plus-zero duty
-  where
-    none : (i : ℕ) → but_at (λ index. if k == index then duty else rational_zero) k i ≡ rational_zero
-    none i = by (cases_eq i k)
-      where
-        by : (i ≡ k) ⊎ (i ≢ k) → but_at (λ index. if k == index then duty else rational_zero) k i ≡ rational_zero
-        by (inl same) = ap (λ b. if b then rational_zero else (if k == i then duty else rational_zero)) (eq-eqb i k same)
-        by (inr other) = ap (λ b. if b then rational_zero else (if k == i then duty else rational_zero)) (ne_eqb i k other)
-            ∙ ap (λ b. if b then duty else rational_zero) (ne_eqb k i (λ is. other (sym is)))
+own-sum n duty (source.Utility k) within = sum-one_number duty k n (within k refl)
 
 module _ (case : Case) (network : Network) where
   side_heat-is : (on : Side) → HasShape case network → ((e : Exchanger) → IsExchanger case e → side_of case (source_on on e) ≡ Some on)

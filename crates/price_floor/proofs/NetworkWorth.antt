@@ -19,7 +19,7 @@ use Rattle.price_floor.proofs.Words.{subst₂, sum-filter_map, sum-items, there_
 use Rattle.price_floor.proofs.Words.{utility_worth, value_at, value_worth, views_of, weight_at, weight_balance, whole, whole-minus, whole-times, zero-plus}
 use Rattle.price_floor.proofs.Words.{◌*ℤ◌, ◌+ℤ◌, ◌-ℤ◌, ◌≤ℤ◌}
 use Rattle.std.proofs.Common.{All, AllPairs, Bool, Contains, List, None, Option, Some, ap, ap₂, arith, false, get_or, if◌then◌else◌, inl, inr, is_some, length}
-use Rattle.std.proofs.Common.{refl, slice_get, subst, sym, true, unwrap_or, ℕ, ℤ, ⊎_elim, ◌<ℤ◌, ◌<◌, ◌==◌, ◌||◌, ◌∙◌, ◌≡◌}
+use Rattle.std.proofs.Common.{refl, slice_get, subst, sym, true, unwrap_or, ℕ, ℤ, ⊎_elim, ◌<ℤ◌, ◌<◌, ◌==◌, ◌∙◌, ◌≡◌}
 use Rattle.price_floor.proofs.StepsOfParts.{AreRising, HasEnds, IsLowest, before-not, from_place, of_source, own_over, own_worth, part_worth, stands}
 use Rattle.price_floor.proofs.StepsOfParts.{stands_lowest, step-none, step-same, step-sum, step_worth-at_most, step_worth-minus, step_worth-ordered}
 use Rattle.price_floor.proofs.StepsOfParts.{step_worth-plus, step_worth-same, stood, stream_parts-are, sum-by_source, sum-single, views-places}

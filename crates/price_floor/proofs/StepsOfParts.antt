@@ -2,18 +2,18 @@
 use Rattle.price_floor.proofs.Words.{All-cons, All-contains, All-contains_itself, All-enumerated, All-head, All-nil, All-slice_get, All-tail, All-weaker}
 use Rattle.price_floor.proofs.Words.{AllPairs-cons_if, AllPairs-head, AllPairs-nil, AllPairs-tail, AreAtMost, AreFalling, AreOrderedPrices, Case}
 use Rattle.price_floor.proofs.Words.{Contains-append_right, Contains-cons, Decides-int_eq, FallTo, HoldsPlaces, IsAtMost, IsInterval, IsSourceOf, IsValidStream}
-use Rattle.price_floor.proofs.Words.{Network, Part, Rational, Side, Source, StepPrices, Stream, Utility, View, but_at, by_lt_z, cases_eq, clamps, comes_before}
+use Rattle.price_floor.proofs.Words.{Network, Part, Rational, Side, Source, StepPrices, Stream, Utility, View, by_lt_z, clamps, comes_before}
 use Rattle.price_floor.proofs.Words.{comes_before_source, comes_below, counts_for, covers, enumerate_from, false_from_ne_true, greatest_price, heat_over}
 use Rattle.price_floor.proofs.Words.{high_end, holds_ends, if_zero, if◌then◌else◌, int_eq, int_le, int_le-false, int_le-from, int_le-true, int_lt, int_lt-false}
 use Rattle.price_floor.proofs.Words.{int_lt-from, int_lt-true, int_max, int_sum_by, int_sum_by-append, int_sum_by-cons_if, interval_below, interval_ends}
 use Rattle.price_floor.proofs.Words.{interval_falls, interval_parts, ints, is_forbidden, is_here, last_price, low_end, made_parts, minus, minus-interchange}
-use Rattle.price_floor.proofs.Words.{minus-self, one_taken, part_reaches, passes_heat, picked, plus, plus-interchange, plus-times, plus-zero, plus_assoc}
-use Rattle.price_floor.proofs.Words.{plus_comm, price_at, price_steps, range_with_len, rational_sum_by, rational_sum_by-plus, rational_sum_by-same}
-use Rattle.price_floor.proofs.Words.{rational_sum_by-swap, rational_sum_by-zero, rational_zero, rise_worth, same_side, same_source, same_source-same}
-use Rattle.price_floor.proofs.Words.{same_source-true, stands_above, stands_at, step_worth, stream_part, sum-enumerate, times, times-minus, times-plus}
-use Rattle.price_floor.proofs.Words.{times-zero, used_heat, utility_part, views_of, whole, whole-plus, zero-plus, zero-times, ◌+ℤ◌, ◌<ℤ◌}
-use Rattle.std.proofs.Common.{All, AllPairs, Bool, Contains, List, Some, [], ap, ap₂, arith, eq-eqb, false, get_or, inl, inr, length, ne_eqb, not, pos, refl}
-use Rattle.std.proofs.Common.{slice_get, subst, suc, sym, true, zero, ℕ, ℤ, ⊎_elim, ◌&&◌, ◌++◌, ◌+◌, ◌-ℤ◌, ◌<◌, ◌==◌, ◌∙◌, ◌∷◌, ◌≡◌, ◌≢◌, ◌≤ℤ◌, ◌⊎◌}
+use Rattle.price_floor.proofs.Words.{minus-self, part_reaches, passes_heat, picked, plus, plus-interchange, plus-times, plus-zero, plus_assoc, plus_comm}
+use Rattle.price_floor.proofs.Words.{price_at, price_steps, rational_sum_by, rational_sum_by-plus, rational_sum_by-same, rational_sum_by-swap}
+use Rattle.price_floor.proofs.Words.{rational_sum_by-zero, rational_zero, rise_worth, same_side, same_source, same_source-same, same_source-true, stands_above}
+use Rattle.price_floor.proofs.Words.{stands_at, step_worth, stream_part, sum-picked, times, times-minus, times-plus, times-zero, used_heat, utility_part}
+use Rattle.price_floor.proofs.Words.{views_of, whole, whole-plus, zero-plus, zero-times, ◌+ℤ◌, ◌<ℤ◌}
+use Rattle.std.proofs.Common.{All, AllPairs, Bool, Contains, List, Some, [], ap, ap₂, arith, eq-eqb, false, get_or, inl, inr, ne_eqb, not, pos, refl, slice_get}
+use Rattle.std.proofs.Common.{subst, suc, sym, true, zero, ℕ, ℤ, ⊎_elim, ◌&&◌, ◌++◌, ◌+◌, ◌-ℤ◌, ◌<◌, ◌∙◌, ◌∷◌, ◌≡◌, ◌≢◌, ◌≤ℤ◌, ◌⊎◌}
 use Rattle.std.proofs.lemmas.Bool.{and_from, and_parts, not_from_false, or_left, or_right}
 use Rattle.fractions.proofs.Comparisons.{at_most-plus_plus, at_most-plus_right, at_most-times_left, at_most-whole, at_most_from_same, at_most_refl}
 use Rattle.fractions.proofs.Comparisons.{at_most_trans, not_negative-times}
@@ -573,24 +573,6 @@ part_worth least views prices network on p = step_worth least views (prices on p
 -- the same of the parts of one source
 abbrev pub own_worth : ℤ → List View → (Side → Source → StepPrices) → Network → Side → Source → Part → Rational
 own_worth least views prices network on s p = if same_source p.source s then part_worth least views prices network on p else rational_zero
-
--- ---- one number, and one element
-
-pub sum-picked : {X : Type 0} (k : ℕ) (a : Rational) (xs : List X) → k < length xs
-    → rational_sum_by (λ (e : ℕ × X). if k == e.0 then a else rational_zero) (enumerate_from 0 xs) ≡ a
-sum-picked k a xs within = sum-enumerate (λ e. if k == e.0 then a else rational_zero) (λ i. if k == i then a else rational_zero) xs (λ i x at. refl)
-    ∙ one_taken (λ i. if k == i then a else rational_zero) k 0 (length xs) (omega arith) (omega (arith, within))
-    ∙ ap₂ plus (ap (λ b. if b then a else rational_zero) (eq-eqb k k refl))
-    (rational_sum_by-zero (but_at (λ i. if k == i then a else rational_zero) k) (range_with_len 0 (length xs))
-    (λ j d inside. none (get_or (range_with_len 0 (length xs)) j d))) ∙ plus-zero a
-  where
-    none : (i : ℕ) → but_at (λ j. if k == j then a else rational_zero) k i ≡ rational_zero
-    none i = by (cases_eq i k)
-      where
-        by : (i ≡ k) ⊎ (i ≢ k) → but_at (λ j. if k == j then a else rational_zero) k i ≡ rational_zero
-        by (inl same) = ap (λ b. if b then rational_zero else (if k == i then a else rational_zero)) (eq-eqb i k same)
-        by (inr other) = ap (λ b. if b then rational_zero else (if k == i then a else rational_zero)) (ne_eqb i k other)
-            ∙ ap (λ b. if b then a else rational_zero) (ne_eqb k i (λ is. other (sym is)))
 
 -- a sum that has but one term
 pub sum-single : {X : Type 0} (f : X → Rational) (xs : List X) (x : X) → AllPairs (λ a b. a ≢ b) xs → Contains xs x
