@@ -17,7 +17,7 @@ pub at_most_from_same : (a b : Rational) → a ≡ b → IsAtMost a b
 at_most_from_same a b same = subst (IsAtMost a) same (at_most_refl a)
 
 pub at_most_from_below : (a b : Rational) → IsBelow a b → IsAtMost a b
-at_most_from_below a b h = let less = h.cross in record { cross = omega (arith, ints, less) }
+at_most_from_below a b h = record { cross = omega (arith, ints) }
 
 pub below_not_at_most : (a b : Rational) → IsBelow a b → IsAtMost b a → ⊥
 below_not_at_most a b less more = clash_ℤ less.cross more.cross
@@ -94,63 +94,52 @@ below_from_ratio n m d some h = <ℤ_from_*ℤ (pos d) n m (omega (arith, ints))
 -- ---- from one to the next
 
 pub at_most_trans : (a b c : Rational) → IsAtMost a b → IsAtMost b c → IsAtMost a c
-at_most_trans =
-    by_three _ (λ n m l d some h k. let x = at_most_from_ratio n m d some h in let y = at_most_from_ratio m l d some k in
-    at_most-ratio n l d some (omega (arith, ints, x, y)))
+at_most_trans = by_three _ (λ n m l d some h k. at_most-ratio n l d some
+    (omega (arith, ints, at_most_from_ratio n m d some h, at_most_from_ratio m l d some k)))
 
 pub below_at_most_trans : (a b c : Rational) → IsBelow a b → IsAtMost b c → IsBelow a c
-below_at_most_trans =
-    by_three _ (λ n m l d some h k. let x = below_from_ratio n m d some h in let y = at_most_from_ratio m l d some k in
-    below-ratio n l d some (omega (arith, ints, x, y)))
+below_at_most_trans = by_three _ (λ n m l d some h k. below-ratio n l d some
+    (omega (arith, ints, below_from_ratio n m d some h, at_most_from_ratio m l d some k)))
 
 pub at_most_below_trans : (a b c : Rational) → IsAtMost a b → IsBelow b c → IsBelow a c
-at_most_below_trans =
-    by_three _ (λ n m l d some h k. let x = at_most_from_ratio n m d some h in let y = below_from_ratio m l d some k in
-    below-ratio n l d some (omega (arith, ints, x, y)))
+at_most_below_trans = by_three _ (λ n m l d some h k. below-ratio n l d some
+    (omega (arith, ints, at_most_from_ratio n m d some h, below_from_ratio m l d some k)))
 
 -- ---- sums and differences
 
 pub at_most_from_plus : (a b c : Rational) → IsAtMost (plus a c) (plus b c) → IsAtMost a b
-at_most_from_plus =
-    by_three _ (λ n m l d some h. let x = at_most_from_ratio (n +ℤ l) (m +ℤ l) d some (simp one_denominator at h) in
-    at_most-ratio n m d some (omega (arith, ints, x)))
+at_most_from_plus = by_three _ (λ n m l d some h. at_most-ratio n m d some
+    (omega (arith, ints, at_most_from_ratio (n +ℤ l) (m +ℤ l) d some (simp one_denominator at h))))
 
 pub at_most-plus_plus : (a b c e : Rational) → IsAtMost a b → IsAtMost c e → IsAtMost (plus a c) (plus b e)
-at_most-plus_plus =
-    by_four _ (λ n m l k d some h g. let x = at_most_from_ratio n m d some h in let y = at_most_from_ratio l k d some g in
-    simp one_denominator (at_most-ratio (n +ℤ l) (m +ℤ k) d some (omega (arith, ints, x, y))))
+at_most-plus_plus = by_four _ (λ n m l k d some h g. simp one_denominator (at_most-ratio (n +ℤ l) (m +ℤ k) d some
+    (omega (arith, ints, at_most_from_ratio n m d some h, at_most_from_ratio l k d some g))))
 
 pub below-plus : (a b c : Rational) → IsBelow a b → IsBelow (plus a c) (plus b c)
-below-plus =
-    by_three _ (λ n m l d some h. let x = below_from_ratio n m d some h in simp one_denominator (below-ratio (n +ℤ l) (m +ℤ l) d some (omega (arith, ints, x))))
+below-plus = by_three _ (λ n m l d some h. simp one_denominator (below-ratio (n +ℤ l) (m +ℤ l) d some (omega (arith, ints, below_from_ratio n m d some h))))
 
 -- a lesser value less a greater one
 pub at_most-minus_minus : (a b c e : Rational) → IsAtMost a b → IsAtMost c e → IsAtMost (minus a e) (minus b c)
-at_most-minus_minus =
-    by_four _ (λ n m l k d some h g. let x = at_most_from_ratio n m d some h in let y = at_most_from_ratio l k d some g in
-    simp one_denominator (at_most-ratio (n -ℤ k) (m -ℤ l) d some (omega (arith, ints, x, y))))
+at_most-minus_minus = by_four _ (λ n m l k d some h g. simp one_denominator (at_most-ratio (n -ℤ k) (m -ℤ l) d some
+    (omega (arith, ints, at_most_from_ratio n m d some h, at_most_from_ratio l k d some g))))
 
 -- a is at most b less c where a and c together are at most b
 pub at_most-minus_right : (a b c : Rational) → IsAtMost (plus a c) b → IsAtMost a (minus b c)
-at_most-minus_right =
-    by_three _ (λ n m l d some h. let x = at_most_from_ratio (n +ℤ l) m d some (simp one_denominator at h) in
-    simp one_denominator (at_most-ratio n (m -ℤ l) d some (omega (arith, ints, x))))
+at_most-minus_right = by_three _ (λ n m l d some h. simp one_denominator (at_most-ratio n (m -ℤ l) d some
+    (omega (arith, ints, at_most_from_ratio (n +ℤ l) m d some (simp one_denominator at h)))))
 
 pub at_most_from_minus_right : (a b c : Rational) → IsAtMost a (minus b c) → IsAtMost (plus a c) b
-at_most_from_minus_right =
-    by_three _ (λ n m l d some h. let x = at_most_from_ratio n (m -ℤ l) d some (simp one_denominator at h) in
-    simp one_denominator (at_most-ratio (n +ℤ l) m d some (omega (arith, ints, x))))
+at_most_from_minus_right = by_three _ (λ n m l d some h. simp one_denominator (at_most-ratio (n +ℤ l) m d some
+    (omega (arith, ints, at_most_from_ratio n (m -ℤ l) d some (simp one_denominator at h)))))
 
 -- what is taken away turns the order
 pub at_most_from_minus_turned : (a b c : Rational) → IsAtMost (minus c b) (minus c a) → IsAtMost a b
-at_most_from_minus_turned =
-    by_three _ (λ n m l d some h. let x = at_most_from_ratio (l -ℤ m) (l -ℤ n) d some (simp one_denominator at h) in
-    at_most-ratio n m d some (omega (arith, ints, x)))
+at_most_from_minus_turned = by_three _ (λ n m l d some h. at_most-ratio n m d some
+    (omega (arith, ints, at_most_from_ratio (l -ℤ m) (l -ℤ n) d some (simp one_denominator at h))))
 
 pub at_most-minus_swap : (h c x y : Rational) → IsAtMost (minus y x) (minus h c) → IsAtMost (minus c x) (minus h y)
-at_most-minus_swap =
-    by_four _ (λ n m l k d some h. let x = at_most_from_ratio (k -ℤ l) (n -ℤ m) d some (simp one_denominator at h) in
-    simp one_denominator (at_most-ratio (m -ℤ l) (n -ℤ k) d some (omega (arith, ints, x))))
+at_most-minus_swap = by_four _ (λ n m l k d some h. simp one_denominator (at_most-ratio (m -ℤ l) (n -ℤ k) d some
+    (omega (arith, ints, at_most_from_ratio (k -ℤ l) (n -ℤ m) d some (simp one_denominator at h)))))
 
 -- ---- against 0
 
@@ -162,8 +151,7 @@ pub positive_num : (a : Rational) → IsBelow rational_zero a → pos 0 <ℤ a.n
 positive_num a h = let less = h.cross in omega (arith, ints)
 
 pub is_below-zero : (a : Rational) → is_below rational_zero a ≡ int_lt (pos 0) a.num
-is_below-zero a =
-    same_from_decides (is_below rational_zero a) (int_lt (pos 0) a.num) (Decides-is_below rational_zero a)
+is_below-zero a = same_from_decides (is_below rational_zero a) (int_lt (pos 0) a.num) (Decides-is_below rational_zero a)
     (λ e. positive-is a (omega (arith, ints)), λ h. let less = positive_num a h in grind (arith, ints))
 
 -- 0 as a ratio over any denominator
@@ -184,46 +172,38 @@ positive-nonzero a some none = below_not_same rational_zero a some (sym none)
 
 -- a difference is not negative exactly where it goes down
 pub not_negative-minus : (a b : Rational) → IsAtMost a b → IsAtMost rational_zero (minus b a)
-not_negative-minus =
-    by_two _ (λ n m d some h. let x = at_most_from_ratio n m d some h in simp one_denominator (not_negative-ratio (m -ℤ n) d some (omega (arith, ints, x))))
+not_negative-minus = by_two _ (λ n m d some h. simp one_denominator (not_negative-ratio (m -ℤ n) d some (omega (arith, ints, at_most_from_ratio n m d some h))))
 
 pub at_most_from_not_negative : (a b : Rational) → IsAtMost rational_zero (minus b a) → IsAtMost a b
-at_most_from_not_negative =
-    by_two _ (λ n m d some h. let x = not_negative_from_ratio (m -ℤ n) d some (simp one_denominator at h) in at_most-ratio n m d some (omega (arith, ints, x)))
+at_most_from_not_negative = by_two _ (λ n m d some h. at_most-ratio n m d some
+    (omega (arith, ints, not_negative_from_ratio (m -ℤ n) d some (simp one_denominator at h))))
 
 pub positive-minus : (a b : Rational) → IsBelow a b → IsBelow rational_zero (minus b a)
-positive-minus =
-    by_two _ (λ n m d some h. let x = below_from_ratio n m d some h in simp one_denominator (positive-ratio (m -ℤ n) d some (omega (arith, ints, x))))
+positive-minus = by_two _ (λ n m d some h. simp one_denominator (positive-ratio (m -ℤ n) d some (omega (arith, ints, below_from_ratio n m d some h))))
 
 pub below_from_positive : (a b : Rational) → IsBelow rational_zero (minus b a) → IsBelow a b
-below_from_positive =
-    by_two _ (λ n m d some h. let x = positive_from_ratio (m -ℤ n) d some (simp one_denominator at h) in below-ratio n m d some (omega (arith, ints, x)))
+below_from_positive = by_two _ (λ n m d some h. below-ratio n m d some (omega (arith, ints, positive_from_ratio (m -ℤ n) d some (simp one_denominator at h))))
 
 pub not_negative-plus : (a b : Rational) → IsAtMost rational_zero a → IsAtMost rational_zero b → IsAtMost rational_zero (plus a b)
-not_negative-plus =
-    by_two _ (λ n m d some h k. let x = not_negative_from_ratio n d some h in let y = not_negative_from_ratio m d some k in
-    simp one_denominator (not_negative-ratio (n +ℤ m) d some (omega (arith, ints, x, y))))
+not_negative-plus = by_two _ (λ n m d some h k. simp one_denominator (not_negative-ratio (n +ℤ m) d some
+    (omega (arith, ints, not_negative_from_ratio n d some h, not_negative_from_ratio m d some k))))
 
 pub positive-plus : (a b : Rational) → IsBelow rational_zero a → IsAtMost rational_zero b → IsBelow rational_zero (plus a b)
-positive-plus =
-    by_two _ (λ n m d some h k. let x = positive_from_ratio n d some h in let y = not_negative_from_ratio m d some k in
-    simp one_denominator (positive-ratio (n +ℤ m) d some (omega (arith, ints, x, y))))
+positive-plus = by_two _ (λ n m d some h k. simp one_denominator (positive-ratio (n +ℤ m) d some
+    (omega (arith, ints, positive_from_ratio n d some h, not_negative_from_ratio m d some k))))
 
 -- what is added, where it is not negative
 pub at_most-plus_right : (a b : Rational) → IsAtMost rational_zero b → IsAtMost a (plus a b)
-at_most-plus_right =
-    by_two _ (λ n m d some h. let x = not_negative_from_ratio m d some h in simp one_denominator (at_most-ratio n (n +ℤ m) d some (omega (arith, ints, x))))
+at_most-plus_right = by_two _ (λ n m d some h. simp one_denominator (at_most-ratio n (n +ℤ m) d some (omega (arith, ints, not_negative_from_ratio m d some h))))
 
 pub at_most-plus_left : (a b : Rational) → IsAtMost rational_zero a → IsAtMost b (plus a b)
-at_most-plus_left =
-    by_two _ (λ n m d some h. let x = not_negative_from_ratio n d some h in simp one_denominator (at_most-ratio m (n +ℤ m) d some (omega (arith, ints, x))))
+at_most-plus_left = by_two _ (λ n m d some h. simp one_denominator (at_most-ratio m (n +ℤ m) d some (omega (arith, ints, not_negative_from_ratio n d some h))))
 
 -- ---- products and quotients
 
 -- a factor that is not negative keeps the order
 pub at_most-times : (a b c : Rational) → IsAtMost rational_zero c → IsAtMost a b → IsAtMost (times a c) (times b c)
-at_most-times = by_three _ (λ n m l d some h k. let square = mul-pos some some in
-    simp times-ratio
+at_most-times = by_three _ (λ n m l d some h k. let square = mul-pos some some in simp times-ratio
     (at_most-ratio (n *ℤ l) (m *ℤ l) (d * d) square (*ℤ-≤ℤ_right l n m (not_negative_from_ratio l d some h) (at_most_from_ratio n m d some k))))
 
 pub at_most-times_left : (c a b : Rational) → IsAtMost rational_zero c → IsAtMost a b → IsAtMost (times c a) (times c b)
@@ -234,8 +214,7 @@ not_negative-times a b one two = subst (λ x. IsAtMost x (times a b)) (zero-time
 
 -- a factor that is not above 0 turns the order
 pub times-turned : (f h x : Rational) → IsAtMost f h → IsAtMost x rational_zero → IsAtMost (times h x) (times f x)
-times-turned f h x more below =
-    at_most_from_minus_turned (times h x) (times f x) rational_zero
+times-turned f h x more below = at_most_from_minus_turned (times h x) (times f x) rational_zero
     (subst₂ IsAtMost (away f) (away h) (at_most-times f h (minus rational_zero x) (not_negative-minus x rational_zero below) more))
   where
     away : (g : Rational) → times g (minus rational_zero x) ≡ minus rational_zero (times g x)
@@ -243,8 +222,7 @@ times-turned f h x more below =
 
 -- what is above 0 by a factor that is not negative
 pub positive_factor : (f x : Rational) → IsAtMost rational_zero f → IsBelow rational_zero (times f x) → IsBelow rational_zero x
-positive_factor f x some h =
-    below_from_not_at_most rational_zero x
+positive_factor f x some h = below_from_not_at_most rational_zero x
     (λ none. below_not_at_most rational_zero (times f x) h (subst (IsAtMost (times f x)) (times-zero f) (at_most-times_left f x rational_zero some none)))
 
 -- ---- against whole numbers

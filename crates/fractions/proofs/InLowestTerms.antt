@@ -48,12 +48,10 @@ pub record IsReduced (n : ℤ) (d g : ℕ) : Type 0 where
   pub same : ratio (signed (int_lt n (pos 0)) (unsigned_abs n / g)) (d / g) ≡ ratio n d
 
 pub reduced_by : (n : ℤ) (d g : ℕ) → 0 < d → IsGcd (unsigned_abs n) d g → IsReduced n d g
-reduced_by n d g some is =
-    let negative = int_lt n (pos 0) in let parts = divided (unsigned_abs n) d g some is in
+reduced_by n d g some is = let negative = int_lt n (pos 0) in let parts = divided (unsigned_abs n) d g some is in
     record {
       terms = record { positive = parts.positive; lowest = parts.lowest };
-      same =
-          ratio-same _ _ (d / g) d parts.positive some (same_divided negative (unsigned_abs n) d g _ _ parts.whole parts.under)
+      same = ratio-same _ _ (d / g) d parts.positive some (same_divided negative (unsigned_abs n) d g _ _ parts.whole parts.under)
           ∙ ap (λ z. ratio z d) (signed-sign n);
     }
 
@@ -63,12 +61,10 @@ pub record IsProduct (s t : Bool) (a b c d f g : ℕ) : Type 0 where
   pub same : ratio (signed (not (beq s t)) (a / f * (c / g))) (b / g * (d / f)) ≡ times (ratio (signed s a) b) (ratio (signed t c) d)
 
 pub product_by : (s t : Bool) (a b c d f g : ℕ) → IsInLowestTerms a b → IsInLowestTerms c d → IsGcd a d f → IsGcd c b g → IsProduct s t a b c d f g
-product_by s t a b c d f g one two isf isg =
-    let parts = crosswise a b c d f g one.lowest two.lowest one.positive two.positive isf isg in
+product_by s t a b c d f g one two isf isg = let parts = crosswise a b c d f g one.lowest two.lowest one.positive two.positive isf isg in
     record {
       terms = record { positive = parts.positive; lowest = parts.lowest };
-      same =
-          ratio-same _ _ _ (b * d) parts.positive (mul-pos one.positive two.positive)
+      same = ratio-same _ _ _ (b * d) parts.positive (mul-pos one.positive two.positive)
           (same_divided (not (beq s t)) (a * c) (b * d) (f * g) _ _ parts.whole parts.under)
           ∙ ap (λ z. ratio z (b * d)) (sym (signed-*ℤ-signed s t a c)) ∙ sym (times-ratio (signed s a) (signed t c) b d one.positive two.positive);
     }
@@ -84,14 +80,13 @@ sign-above false (suc a) some = grind (arith, nat_tests)
 sign-above true (suc a) some = refl
 
 above_zero : (negative : Bool) (a b : ℕ) → ratio (signed negative a) b ≢ rational_zero → 0 < a
-above_zero false zero b some = absurd (some (ratio-zero b))
-above_zero true zero b some = absurd (some (ratio-zero b))
 above_zero negative (suc a) b some = omega arith
+above_zero true zero b some = absurd (some (ratio-zero b))
+above_zero false zero b some = absurd (some (ratio-zero b))
 
 pub turned_over : (negative : Bool) (a b : ℕ) → IsInLowestTerms a b → ratio (signed negative a) b ≢ rational_zero → IsTurned negative a b
 unfolding reciprocal
-turned_over negative a b is some =
-    let above = above_zero negative a b some in let x = ratio (signed negative a) b in
+turned_over negative a b is some = let above = above_zero negative a b some in let x = ratio (signed negative a) b in
     let sign : int_lt x.num (pos 0) ≡ negative = ap (λ z. int_lt z (pos 0)) (terms-num negative a b is) ∙ sign-above negative a above in
     record {
       terms = record { positive = above; lowest = λ k kb ka. is.lowest k ka kb };

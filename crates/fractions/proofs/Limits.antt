@@ -50,5 +50,5 @@ within-whole n small = record { den = omega arith; num = small }
 
 -- a whole number of 64 bits
 pub size-whole : (n : ℤ) → SFits w64 n → unsigned_abs n ≤ 2 ^ 63
-size-whole (pos a) f = let small = f.sfits in omega (arith, small)
-size-whole (negsuc a) f = let small = f.sfits in omega (arith, small)
+size-whole (pos a) f = omega arith
+size-whole (negsuc a) f = omega arith

@@ -16,13 +16,11 @@ times_assoc = by_three _ (λ n m l d some.
     ∙ sym (times-ratio n (m *ℤ l) d (d * d) some square) ∙ ap (times (ratio n d)) (sym (times-ratio m l d d some some)))
 
 pub times-one : (a : Rational) → times a rational_one ≡ a
-times-one =
-    by_one _ (λ n d some. ap (times (ratio n d)) (sym (ratio-one (pos 1))) ∙ times-ratio n (pos 1) d 1 some (omega arith)
+times-one = by_one _ (λ n d some. ap (times (ratio n d)) (sym (ratio-one (pos 1))) ∙ times-ratio n (pos 1) d 1 some (omega arith)
     ∙ ap₂ ratio (*ℤ-pos_one n) (mul-one d))
 
 pub times-zero : (a : Rational) → times a rational_zero ≡ rational_zero
-times-zero =
-    by_one _ (λ n d some. ap (times (ratio n d)) (sym (ratio-one (pos 0))) ∙ times-ratio n (pos 0) d 1 some (omega arith)
+times-zero = by_one _ (λ n d some. ap (times (ratio n d)) (sym (ratio-one (pos 0))) ∙ times-ratio n (pos 0) d 1 some (omega arith)
     ∙ ap (λ z. ratio z (d * 1)) (*ℤ-zero n) ∙ ratio-zero (d * 1))
 
 pub zero-times : (a : Rational) → times rational_zero a ≡ rational_zero
@@ -54,8 +52,7 @@ square_of_sign true a b = signed-*ℤ-signed true true a b
 
 pub times-reciprocal : (a : Rational) → a ≢ rational_zero → times a (reciprocal a) ≡ rational_one
 unfolding reciprocal
-times-reciprocal a some =
-    let negative = int_lt a.num (pos 0) in let size = unsigned_abs a.num in let above = size-positive a some in
+times-reciprocal a some = let negative = int_lt a.num (pos 0) in let size = unsigned_abs a.num in let above = size-positive a some in
     let product : a.num *ℤ signed negative a.den ≡ pos (size * a.den) =
     ap (λ z. z *ℤ signed negative a.den) (sym (signed-sign a.num)) ∙ square_of_sign negative size a.den in
     ap (λ x. times x (reciprocal a)) (sym (ratio-self a)) ∙ times-ratio a.num (signed negative a.den) a.den size a.positive above

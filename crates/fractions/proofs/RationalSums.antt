@@ -8,7 +8,7 @@ use Rattle.fractions.proofs.Words.{enumerate_from, list_any, list_any_at, list_a
 use Rattle.fractions.proofs.Words.{option_map_or, plus, range_with_len, ratio, rational_sum, rational_sum_by, rational_zero, whole}
 use Rattle.std.proofs.Common.{All, AllPairs, Bool, Contains, List, None, Option, Some, [], ap, ap₂, arith, cond, count_by, eq-eqb, false, filter_map, find}
 use Rattle.std.proofs.Common.{flat_map, get_or, if◌then◌else◌, inl, inr, length, map, ne_eqb, pos, refl, slice_get, suc, sym, true, unwrap_or, zero, ℕ, ℤ, ◌++◌}
-use Rattle.std.proofs.Common.{◌+ℤ◌, ◌+◌, ◌<◌, ◌==◌, ◌||◌, ◌∙◌, ◌∷◌, ◌≡◌, ◌≢◌, ◌≤◌, ◌⊎◌}
+use Rattle.std.proofs.Common.{◌+ℤ◌, ◌+◌, ◌<◌, ◌==◌, ◌||◌, ◌∙◌, ◌∷◌, ◌≡◌, ◌≢◌, ⊎_elim, ◌≤◌, ◌⊎◌}
 use Rattle.std.proofs.lemmas.List.Elements.{All-head, All-tail, All-weaker}
 
 module _ {X : Type 0} where
@@ -64,8 +64,7 @@ module _ {X : Type 0} where
   pub not_negative-rational_sum_by : (f : X → Rational) (xs : List X) → All (λ x. IsAtMost rational_zero (f x)) xs
       → IsAtMost rational_zero (rational_sum_by f xs)
   not_negative-rational_sum_by f [] h = at_most_refl rational_zero
-  not_negative-rational_sum_by f (x ∷ xs) h =
-      not_negative-plus (f x) (rational_sum_by f xs) (All-head (λ y. IsAtMost rational_zero (f y)) x xs h)
+  not_negative-rational_sum_by f (x ∷ xs) h = not_negative-plus (f x) (rational_sum_by f xs) (All-head (λ y. IsAtMost rational_zero (f y)) x xs h)
       (not_negative-rational_sum_by f xs (All-tail (λ y. IsAtMost rational_zero (f y)) x xs h))
 
   -- a term of a sum of which none is below 0
@@ -79,8 +78,7 @@ module _ {X : Type 0} where
 
       by : (y ≡ x) ⊎ Contains ys x → (Contains ys x → IsAtMost (f x) (rational_sum_by f ys)) → IsAtMost (f x) (plus (f y) (rational_sum_by f ys))
       by (inl same) later = rw (← same) (at_most-plus_right (f y) (rational_sum_by f ys) (not_negative-rational_sum_by f ys rest))
-      by (inr inside) later =
-          at_most_trans (f x) (rational_sum_by f ys) (plus (f y) (rational_sum_by f ys)) (later inside)
+      by (inr inside) later = at_most_trans (f x) (rational_sum_by f ys) (plus (f y) (rational_sum_by f ys)) (later inside)
           (at_most-plus_left (f y) (rational_sum_by f ys) (All-head (λ z. IsAtMost rational_zero (f z)) y ys h))
 
 module _ {X Y : Type 0} where
@@ -120,14 +118,12 @@ module _ {X : Type 0} where
   -- a sum over indices, and one over elements
   pub sum-enumerate : (f : ℕ × X → Rational) (g : ℕ → Rational) (xs : List X) → ((i : ℕ) (x : X) → slice_get xs i ≡ Some x → f (i, x) ≡ g i)
       → rational_sum_by f (enumerate_from 0 xs) ≡ rational_sum_by g (range_with_len 0 (length xs))
-  sum-enumerate f g xs h =
-      sum-enumerated f (λ p. g p.0) xs h ∙ sym (rational_sum_by-map g (λ (p : ℕ × X). p.0) (enumerate_from 0 xs))
+  sum-enumerate f g xs h = sum-enumerated f (λ p. g p.0) xs h ∙ sym (rational_sum_by-map g (λ (p : ℕ × X). p.0) (enumerate_from 0 xs))
       ∙ ap (rational_sum_by g) (map-enumerate_from_index 0 xs)
 
   pub sum-items : (f : ℕ × X → Rational) (g : X → Rational) (xs : List X) → ((i : ℕ) (x : X) → slice_get xs i ≡ Some x → f (i, x) ≡ g x)
       → rational_sum_by f (enumerate_from 0 xs) ≡ rational_sum_by g xs
-  sum-items f g xs h =
-      sum-enumerated f (λ p. g p.1) xs h ∙ sym (rational_sum_by-map g (λ (p : ℕ × X). p.1) (enumerate_from 0 xs))
+  sum-items f g xs h = sum-enumerated f (λ p. g p.1) xs h ∙ sym (rational_sum_by-map g (λ (p : ℕ × X). p.1) (enumerate_from 0 xs))
       ∙ ap (rational_sum_by g) (map-enumerate_from_item 0 xs)
 
   pub not_negative-enumerated : (f : ℕ × X → Rational) (xs : List X) → ((i : ℕ) (x : X) → slice_get xs i ≡ Some x → IsAtMost rational_zero (f (i, x)))
@@ -184,12 +180,24 @@ module _ (f : ℕ → Rational) where
 
       by : (a ≡ u) ⊎ (a ≢ u) → (a + 1 ≤ u → u < a + 1 + n → rational_sum_by f (range_with_len (a + 1) n) ≡ plus (f u) rest)
           → plus (f a) (rational_sum_by f (range_with_len (a + 1) n)) ≡ plus (f u) (plus (but_at u a) rest)
-      by (inl same) later =
-          ap₂ plus (ap f same) (sym (but_at-behind u (a + 1) n (omega (arith, same))) ∙ sym (zero-plus rest))
+      by (inl same) later = ap₂ plus (ap f same) (sym (but_at-behind u (a + 1) n (omega (arith, same))) ∙ sym (zero-plus rest))
           ∙ ap (λ x. plus (f u) (plus x rest)) (rw (eq-eqb a u same) refl)
-      by (inr other) later =
-          ap (plus (f a)) (later (omega (arith, from, other)) (omega (arith, upto))) ∙ plus_swap_left (f a) (f u) rest
+      by (inr other) later = ap (plus (f a)) (later (omega (arith, from, other)) (omega (arith, upto))) ∙ plus_swap_left (f a) (f u) rest
           ∙ ap (λ x. plus (f u) (plus x rest)) (sym (but_at-other u a other))
+
+-- one number of a range, and one element beside its index
+pub sum-one_number : (a : Rational) (k n : ℕ) → k < n → rational_sum_by (λ i. if k == i then a else rational_zero) (range_with_len 0 n) ≡ a
+sum-one_number a k n within = one_taken (λ i. if k == i then a else rational_zero) k 0 n (omega arith) (omega (arith, within))
+    ∙ ap₂ plus (rw (eq-eqb k k refl) refl) (rational_sum_by-zero (but_at (λ i. if k == i then a else rational_zero) k) (range_with_len 0 n)
+    (λ j d inside. none (get_or (range_with_len 0 n) j d))) ∙ plus-zero a
+  where
+    none : (i : ℕ) → but_at (λ j. if k == j then a else rational_zero) k i ≡ rational_zero
+    none i = ⊎_elim (λ same. rw (eq-eqb i k same) refl) (λ other. rw (ne_eqb i k other, ne_eqb k i (λ is. other (sym is))) refl) (cases_eq i k)
+
+pub sum-picked : {X : Type 0} (k : ℕ) (a : Rational) (xs : List X) → k < length xs
+    → rational_sum_by (λ (e : ℕ × X). if k == e.0 then a else rational_zero) (enumerate_from 0 xs) ≡ a
+sum-picked k a xs within = sum-enumerate (λ e. if k == e.0 then a else rational_zero) (λ i. if k == i then a else rational_zero) xs (λ i x at. refl)
+    ∙ sum-one_number a k (length xs) within
 
 -- f but for the numbers of a list, where it is 0
 abbrev pub left_of : (ℕ → Rational) → List ℕ → ℕ → Rational
@@ -212,8 +220,7 @@ left_of-cons f u us k = by (k == u)
 pub sum_over_used : (f : ℕ → Rational) (us : List ℕ) (n : ℕ) → AllPairs (λ a b. a ≢ b) us → All (λ u. u < n) us
     → rational_sum_by f (range_with_len 0 n) ≡ plus (rational_sum_by f us) (rational_sum_by (left_of f us) (range_with_len 0 n))
 sum_over_used f [] n distinct within = sym (zero-plus (rational_sum_by f (range_with_len 0 n)))
-sum_over_used f (u ∷ us) n distinct within =
-    let numbers = range_with_len 0 n in let small = All-head (λ v. v < n) u us within in
+sum_over_used f (u ∷ us) n distinct within = let numbers = range_with_len 0 n in let small = All-head (λ v. v < n) u us within in
     let rest = sum_over_used f us n (AllPairs-tail (λ a b. a ≢ b) u us distinct) (All-tail (λ v. v < n) u us within) in
     let taken = one_taken (left_of f us) u 0 n (omega arith) (omega (arith, small)) in
     let others = rational_sum_by-same (but_at (left_of f us) u) (left_of f (u ∷ us)) numbers (λ k d inside. left_of-cons f u us (get_or numbers k d)) in

@@ -6,22 +6,18 @@ use Rattle.std.proofs.Common.{ap, ap₂, arith, int_cmp, pos, refl, subst, suc, 
 -- ---- equality
 
 same_value-trans : (m n l : ℤ) (e d c : ℕ) → 0 < d → SameValue m e n d → SameValue n d l c → SameValue m e l c
-same_value-trans m n l e d c some one two =
-    *ℤ_cancel_right (pos d) (m *ℤ pos c) (l *ℤ pos e) (pos_above d some)
+same_value-trans m n l e d c some one two = *ℤ_cancel_right (pos d) (m *ℤ pos c) (l *ℤ pos e) (pos_above d some)
     (*ℤ_swap m (pos c) (pos d) ∙ ap (λ z. z *ℤ pos c) one ∙ *ℤ_swap n (pos e) (pos c) ∙ ap (λ z. z *ℤ pos e) two ∙ *ℤ_swap l (pos d) (pos e))
 
 -- equal cross products make equal ratios
 pub ratio-same : (n m : ℤ) (d e : ℕ) → 0 < d → 0 < e → SameValue n d m e → ratio n d ≡ ratio m e
-ratio-same n m d e hd he same =
-    let a = ratio n d in let b = ratio m e in
-    let left = same_value-trans a.num n m a.den d e hd (ratio-value n d hd) same in
+ratio-same n m d e hd he same = let a = ratio n d in let b = ratio m e in let left = same_value-trans a.num n m a.den d e hd (ratio-value n d hd) same in
     same_from_value a b (same_value-trans a.num m b.num a.den e b.den he left (sym (ratio-value m e he)))
 
 -- and the other way round
 pub same_from_ratio : (n m : ℤ) (d e : ℕ) → 0 < d → 0 < e → ratio n d ≡ ratio m e → SameValue n d m e
 same_from_ratio n m d e hd he same =
-    let a = ratio n d in
-    same_value-trans n a.num m d a.den e a.positive (sym (ratio-value n d hd)) (rw same (ratio-value m e he))
+    let a = ratio n d in same_value-trans n a.num m d a.den e a.positive (sym (ratio-value n d hd)) (rw same (ratio-value m e he))
 
 -- a common factor is taken away
 pub ratio-cancel : (n : ℤ) (d k : ℕ) → 0 < d → 0 < k → ratio (n *ℤ pos k) (d * k) ≡ ratio n d
@@ -49,9 +45,7 @@ module _ (op : ℤ → ℤ → ℤ) (spread : (x y z : ℤ) → op x y *ℤ z �
   joined-ratio : (n m : ℤ) (d e : ℕ) → 0 < d → 0 < e
       → ratio (op ((ratio n d).num *ℤ pos (ratio m e).den) ((ratio m e).num *ℤ pos (ratio n d).den)) ((ratio n d).den * (ratio m e).den)
       ≡ ratio (op (n *ℤ pos e) (m *ℤ pos d)) (d * e)
-  joined-ratio n m d e hd he =
-      let a = ratio n d in let b = ratio m e in
-      let first = crossed a.num n a.den d b.den e (ratio-value n d hd) in
+  joined-ratio n m d e hd he = let a = ratio n d in let b = ratio m e in let first = crossed a.num n a.den d b.den e (ratio-value n d hd) in
       let second = crossed b.num m b.den e a.den d (ratio-value m e he) in
       ratio-same _ _ (a.den * b.den) (d * e) (mul-pos a.positive b.positive) (mul-pos hd he)
       (spread _ _ _ ∙ ap₂ op first (ap (λ k. b.num *ℤ pos a.den *ℤ pos k) (mul_comm d e) ∙ second ∙ ap (λ k. m *ℤ pos d *ℤ pos k) (mul_comm b.den a.den))
@@ -84,17 +78,14 @@ pub ruleset one_denominator = (plus-ratio_same_den, minus-ratio_same_den)
 
 pub times-ratio : (n m : ℤ) (d e : ℕ) → 0 < d → 0 < e → times (ratio n d) (ratio m e) ≡ ratio (n *ℤ m) (d * e)
 unfolding times
-times-ratio n m d e hd he =
-    let a = ratio n d in let b = ratio m e in
+times-ratio n m d e hd he = let a = ratio n d in let b = ratio m e in
     ratio-same (a.num *ℤ b.num) (n *ℤ m) (a.den * b.den) (d * e) (mul-pos a.positive b.positive) (mul-pos hd he)
     (*ℤ-interchange a.num b.num (pos d) (pos e) ∙ ap₂ ◌*ℤ◌ (ratio-value n d hd) (ratio-value m e he) ∙ *ℤ-interchange n (pos a.den) m (pos b.den))
 
 -- the order is that of the cross products
 pub rational_cmp-ratio : (n m : ℤ) (d e : ℕ) → 0 < d → 0 < e → rational_cmp (ratio n d) (ratio m e) ≡ int_cmp (n *ℤ pos e) (m *ℤ pos d)
 unfolding rational_cmp
-rational_cmp-ratio n m d e hd he =
-    let a = ratio n d in let b = ratio m e in
-    let first = crossed a.num n a.den d b.den e (ratio-value n d hd) in
+rational_cmp-ratio n m d e hd he = let a = ratio n d in let b = ratio m e in let first = crossed a.num n a.den d b.den e (ratio-value n d hd) in
     let second = crossed b.num m b.den e a.den d (ratio-value m e he) in
     sym (cmp-scale (a.num *ℤ pos b.den) (b.num *ℤ pos a.den) (d * e) (mul-pos hd he))
     ∙ ap₂ int_cmp first (ap (λ k. b.num *ℤ pos a.den *ℤ pos k) (mul_comm d e) ∙ second ∙ ap (λ k. m *ℤ pos d *ℤ pos k) (mul_comm b.den a.den))
@@ -110,9 +101,7 @@ over_all a rest d some is = ap (ratio (a.num *ℤ pos rest)) (sym is) ∙ ratio-
 
 pub by_four : (P : Rational → Rational → Rational → Rational → Type 0) → ((n m l k : ℤ) (d : ℕ) → 0 < d → P (ratio n d) (ratio m d) (ratio l d) (ratio k d))
     → (a b c e : Rational) → P a b c e
-by_four P h a b c e =
-    let ab = mul-pos a.positive b.positive in let ce = mul-pos c.positive e.positive in
-    let d = a.den * b.den * (c.den * e.den) in
+by_four P h a b c e = let ab = mul-pos a.positive b.positive in let ce = mul-pos c.positive e.positive in let d = a.den * b.den * (c.den * e.den) in
     subst₂ (λ x y. P x y c e) (over_all a (b.den * (c.den * e.den)) d (mul-pos b.positive ce) (omega arith))
     (over_all b (a.den * (c.den * e.den)) d (mul-pos a.positive ce) (omega arith))
     (subst₂ (P _ _) (over_all c (a.den * b.den * e.den) d (mul-pos ab e.positive) (omega arith))

@@ -2,11 +2,10 @@
 use Rattle.network_audit.proofs.Words.{Balance, Case, Decides-is_within_limits, HasNoFinding, HasShape, IsWithinLimits, Item, Network, Place, Rational, Step}
 use Rattle.network_audit.proofs.Words.{balance_items, balance_of, cost_of, cost_steps, enumerate_from, excess_of, first_finding, heat_price, heats_on, plus}
 use Rattle.network_audit.proofs.Words.{rational_sum_by-map, rational_zero, sum_steps}
-use Rattle.network_audit.proofs.FoundLemmas.{passed-back, passed-front, passed-item, passed-rest}
+use Rattle.network_audit.proofs.ValidLemmas.{passed-back, passed-each, passed-front, passed-item, passed-rest}
 use Rattle.network_audit.proofs.HeatLemmas.{cold_heat-is, hot_heat-is}
 use Rattle.network_audit.proofs.LineSteps.{within-zero}
 use Rattle.network_audit.proofs.SumSteps.{added, added-zero}
-use Rattle.network_audit.proofs.ValidLemmas.{passed-each}
 use Rattle.std.proofs.Common.{List, None, [], length, map, subst, ℕ, ◌++◌, ◌+◌, ◌∙◌, ◌∷◌, ◌≡◌}
 use Rattle.network_audit.specs.declared.findings.Place.TheVariants as place
 use Rattle.stream_case.specs.declared.source.Side.TheVariants as side
@@ -37,8 +36,7 @@ pub record HasFractions (balance : Balance) : Type 0 where
 
 pub balance-within : (case : Case) (network : Network) → HasShape case network → HasNoFinding case network → HasFractions (balance_of case network)
 unfolding balance_items cost_of
-balance-within case network shape none =
-    let hot = heats_on side.Hot case network in let cold = heats_on side.Cold case network in
+balance-within case network shape none = let hot = heats_on side.Hot case network in let cold = heats_on side.Cold case network in
     let prices = map (heat_price network) (enumerate_from 0 case.utilities) in let before = length hot + length cold + 1 in
     let hots = sum_steps place.Balance 0 rational_zero hot in let colds = sum_steps place.Balance (length hot) rational_zero cold in
     let last : List Item = Step place.Balance before (excess_of case network) ∷ cost_steps place.Balance before rational_zero prices in

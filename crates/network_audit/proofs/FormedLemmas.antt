@@ -1,10 +1,8 @@
 -- A valid network has no finding where each number that is formed on the way is within the limits.
 use Rattle.network_audit.proofs.Words.{All-cons, All-nil, Case, Decides-is_within_limits, Finding, HasNoFinding, HasShape, IsFormed, IsValidNetwork}
-use Rattle.network_audit.proofs.Words.{IsWholeValuation, IsWithinLimits, Item, Network, Place, Rational, Step, Test, Valuation}
-use Rattle.network_audit.proofs.Words.{false≢true, finding_of, first_finding, is_passed}
-use Rattle.network_audit.proofs.Words.{items}
-use Rattle.network_audit.proofs.FoundLemmas.{found-item}
-use Rattle.network_audit.proofs.ValidLemmas.{invalid_network}
+use Rattle.network_audit.proofs.Words.{IsWholeValuation, IsWithinLimits, Item, Network, Place, Rational, Step, Test, Valuation, false≢true, finding_of}
+use Rattle.network_audit.proofs.Words.{first_finding, is_passed, items}
+use Rattle.network_audit.proofs.ValidLemmas.{found-item, invalid_network}
 use Rattle.std.proofs.Common.{All, List, None, Option, Some, [], false, length, refl, sym, ℕ, ◌∙◌, ◌∷◌, ◌≡◌}
 use Rattle.network_audit.specs.declared.findings.Finding.TheVariants as finding
 

@@ -16,8 +16,7 @@ over_any : (d m : ℕ) (a : Rational) → 0 < d → IsSized 1 m a → IsSized d 
 over_any d m a some sized = subst (IsSized d m) (sym (sized.is ∙ ratio-one sized.num)) (sized-whole d m sized.num some (omega arith))
 
 over_one : (d m : ℕ) (n : ℤ) → 0 < d → IsSized d m (whole n) → IsSized 1 m (whole n)
-over_one d m n some sized =
-    let same : n *ℤ pos d ≡ sized.num = *ℤ_cancel_right (pos d) (n *ℤ pos d) sized.num (pos_above d some)
+over_one d m n some sized = let same : n *ℤ pos d ≡ sized.num = *ℤ_cancel_right (pos d) (n *ℤ pos d) sized.num (pos_above d some)
     (same_from_ratio (n *ℤ pos d) sized.num d d some some (ratio-multiple n d some ∙ sized.is)) in let small = sized.small in
     let product : unsigned_abs n * d ≤ m * d = omega (arith, unsigned_abs-mul n (pos d), ap unsigned_abs same, small) in
     sized-whole 1 m n (omega arith) (le_of_mul-le-mul_right product some)
@@ -26,15 +25,13 @@ over_one d m n some sized =
 
 module _ (den m : ℕ) (small : den ≤ most_den) where
   group-sized : (group : List Rational) → IsWholeGroup den m group → IsSized 1 (length group * m) (rational_sum group)
-  group-sized group is =
-      let sum = sized-sum is.over m is.some (omega (arith, small)) group is.each in subst (IsSized 1 (length group * m)) (sym is.is)
+  group-sized group is = let sum = sized-sum is.over m is.some (omega (arith, small)) group is.each in subst (IsSized 1 (length group * m)) (sym is.is)
       (over_one is.over (length group * m) is.sum is.some (subst (IsSized is.over (length group * m)) is.is sum))
 
   pub groups_formed : (at : Place) (before k : ℕ) (total : Rational) (groups : List (List Rational)) → (k + count_of groups * m) * den ≤ most_num
       → IsSized 1 k total → All (IsWholeGroup den m) groups → AreFormed (sum_steps at before total (numbers_of groups))
   groups_formed at before k total [] most sized each = formed-none
-  groups_formed at before k total (group ∷ groups) most sized each =
-      let is = All-head (IsWholeGroup den m) group groups each in let upto = is.upto in
+  groups_formed at before k total (group ∷ groups) most sized each = let is = All-head (IsWholeGroup den m) group groups each in let upto = is.upto in
       let here : (k + length group * m) * is.over ≤ (k + (length group + count_of groups) * m) * den = mul-le-mul (omega arith) upto in
       let later : (k + length group * m + count_of groups * m) * den ≤ most_num = omega (arith, most) in
       let next = subst (IsSized 1 (k + length group * m)) (sym (added-sum total group))
@@ -48,7 +45,6 @@ module _ (den m : ℕ) (small : den ≤ most_den) where
   -- the sum of the duties of a utility
   pub grouped_utility_formed : (network : Network) (index : ℕ) (u : Utility) (groups : List (List Rational)) → duties_with network index ≡ numbers_of groups
       → (count_of groups * m) * den ≤ most_num → All (IsWholeGroup den m) groups → AreFormed (utility_items_at network (index, u))
-  grouped_utility_formed network index u groups duties most each =
-      let at = place.Utility index in
+  grouped_utility_formed network index u groups duties most each = let at = place.Utility index in
       let sums = groups_formed at 0 0 rational_zero groups (omega (arith, most)) (sized-whole 1 0 (pos 0) (omega arith) (omega arith)) each in
       with_range network index u (subst (λ numbers. AreFormed (sum_steps at 0 rational_zero numbers)) (sym duties) sums)

@@ -1,16 +1,14 @@
 -- The heats of the utilities make up the hot and the cold heat, and the balance.
 use Rattle.network_audit.proofs.Words.{All-enumerated, All-head, All-tail, Case, Exchanger, HasShape, IsExchanger, IsSourceOf, IsSourceOf-side, Item, Network}
-use Rattle.network_audit.proofs.Words.{Rational, Side, Source, Step, Utility, balance_in, balance_items, balance_of, balance_steps_in, cases_eq, cold_heat}
-use Rattle.network_audit.proofs.Words.{cons_option, cost_of, cost_steps, duties_in, duties_with, duty_with, enumerate_from, exchangers_of}
-use Rattle.network_audit.proofs.Words.{get_or-enumerate_from, get_or_default, heat_at, heat_on, heat_on_in, heat_price, heat_with, heats_in, heats_on}
-use Rattle.network_audit.proofs.Words.{heats_on_in, hot_heat, hot_target, joints_of, minus, plus, plus-zero, price_in, prices_in, range_with_len, rational_sum}
-use Rattle.network_audit.proofs.Words.{rational_sum_by, rational_sum_by-map, rational_zero, same_side, same_source, side_of, sum_steps, times, utility_part}
-use Rattle.network_audit.proofs.Words.{whole}
-use Rattle.std.proofs.Common.{All, Bool, List, None, Option, Some, [], ap, ap₂, arith, eq-eqb, false, filter_map, get_or, if◌then◌else◌, inl, inr, is_some}
-use Rattle.std.proofs.Common.{length, map, ne_eqb, option_map, refl, slice_get, subst, sym, true, unwrap_or, ℕ, ◌++◌, ◌+◌, ◌<◌, ◌==◌, ◌||◌, ◌∙◌, ◌∷◌, ◌≡◌, ◌≢◌}
-use Rattle.std.proofs.Common.{◌⊎◌}
+use Rattle.network_audit.proofs.Words.{Rational, Side, Source, Step, Utility, balance_in, balance_items, balance_of, balance_steps_in, cold_heat, cons_option}
+use Rattle.network_audit.proofs.Words.{cost_of, cost_steps, duties_in, duties_with, duty_with, enumerate_from, exchangers_of, get_or-enumerate_from}
+use Rattle.network_audit.proofs.Words.{get_or_default, heat_at, heat_on, heat_on_in, heat_price, heat_with, heats_in, heats_on, heats_on_in, hot_heat}
+use Rattle.network_audit.proofs.Words.{hot_target, joints_of, minus, price_in, prices_in, range_with_len, rational_sum, rational_sum_by, rational_sum_by-map}
+use Rattle.network_audit.proofs.Words.{rational_zero, same_side, same_source, side_of, sum_steps, times, utility_part, whole}
+use Rattle.std.proofs.Common.{All, Bool, List, None, Option, Some, [], ap, ap₂, arith, false, filter_map, get_or, if◌then◌else◌, is_some, length, map, ne_eqb}
+use Rattle.std.proofs.Common.{option_map, refl, slice_get, subst, sym, true, unwrap_or, ℕ, ◌++◌, ◌+◌, ◌<◌, ◌||◌, ◌∙◌, ◌∷◌, ◌≡◌}
 use Rattle.network_audit.proofs.JointLemmas.{duties-are, get_or-made}
-use Rattle.fractions.proofs.RationalSums.{but_at, one_taken, rational_sum_by-same, rational_sum_by-swap, rational_sum_by-zero, sum-enumerate, sum-filter_map}
+use Rattle.fractions.proofs.RationalSums.{rational_sum_by-same, rational_sum_by-swap, rational_sum_by-zero, sum-enumerate, sum-filter_map, sum-one_number}
 use Rattle.stream_case.specs.declared.source.Side.TheVariants as side
 use Rattle.stream_case.specs.declared.source.Source.TheVariants as source
 use Rattle.network_audit.specs.declared.findings.Place.TheVariants as place
@@ -22,10 +20,10 @@ source_on side.Hot e = e.hot
 source_on side.Cold e = e.cold
 
 -- the duty with a utility of the side
-abbrev part_on : Side → ℕ × Utility → Exchanger → Rational
+abbrev pub part_on : Side → ℕ × Utility → Exchanger → Rational
 part_on on (index, u) e = if same_side u.side on then unwrap_or (duty_with index e) rational_zero else rational_zero
 
-abbrev own_part : Side → Exchanger → ℕ → Rational
+abbrev pub own_part : Side → Exchanger → ℕ → Rational
 own_part on e index = if same_source (source_on on e) (source.Utility index) then e.duty else rational_zero
 
 -- a source of another side is not this utility
@@ -39,17 +37,15 @@ not_of case (source.Utility k) index u on is at other = ne_eqb k index (λ same.
     own side.Cold = refl
 
     clash : k ≡ index → ⊥
-    clash same =
-        let here : Some u.side ≡ Some on = sym (ap (option_map (λ v. v.side)) (ap (slice_get case.utilities) same ∙ at)) ∙ is in
+    clash same = let here : Some u.side ≡ Some on = sym (ap (option_map (λ v. v.side)) (ap (slice_get case.utilities) same ∙ at)) ∙ is in
         let side_is : u.side ≡ on = cc here in cc (sym other, ap (λ s. same_side s on) side_is, own on)
 
-part-own : (case : Case) (e : Exchanger) (on : Side) (index : ℕ) (u : Utility) → IsExchanger case e → slice_get case.utilities index ≡ Some u
+pub part-own : (case : Case) (e : Exchanger) (on : Side) (index : ℕ) (u : Utility) → IsExchanger case e → slice_get case.utilities index ≡ Some u
     → part_on on (index, u) e ≡ own_part on e index
 part-own case e side.Hot index u is at = by u.side refl
   where
     by : (s : Side) → u.side ≡ s → (if same_side s side.Hot then unwrap_or (duty_with index e) rational_zero else rational_zero) ≡ own_part side.Hot e index
-    by side.Hot is_hot =
-        let cold : same_source e.cold (source.Utility index) ≡ false = not_of case e.cold index u side.Cold is.cold at
+    by side.Hot is_hot = let cold : same_source e.cold (source.Utility index) ≡ false = not_of case e.cold index u side.Cold is.cold at
         (ap (λ s. same_side s side.Cold) is_hot) in
         ap (λ b. unwrap_or (if same_source e.hot (source.Utility index) || b then Some e.duty else None) rational_zero) cold
         ∙ one (same_source e.hot (source.Utility index))
@@ -77,25 +73,13 @@ part-own case e side.Cold index u is at = by u.side refl
 own-sum : (n : ℕ) (duty : Rational) (of : Source) → ((k : ℕ) → of ≡ source.Utility k → k < n)
     → rational_sum_by (λ index. if same_source of (source.Utility index) then duty else rational_zero) (range_with_len 0 n) ≡ utility_part duty of
 own-sum n duty (source.Stream stream) within = rational_sum_by-zero (λ index. rational_zero) (range_with_len 0 n) (λ k d inside. refl)
-own-sum n duty (source.Utility k) within = one_taken (λ index. if k == index then duty else rational_zero) k 0 n (omega arith) (omega (arith, within k refl))
-    ∙ ap₂ plus (ap (λ b. if b then duty else rational_zero) (eq-eqb k k refl))
-    (rational_sum_by-zero (but_at (λ index. if k == index then duty else rational_zero) k) (range_with_len 0 n)
-    (λ j d inside. none (get_or (range_with_len 0 n) j d))) ∙ plus-zero duty
-  where
-    none : (i : ℕ) → but_at (λ index. if k == index then duty else rational_zero) k i ≡ rational_zero
-    none i = by (cases_eq i k)
-      where
-        by : (i ≡ k) ⊎ (i ≢ k) → but_at (λ index. if k == index then duty else rational_zero) k i ≡ rational_zero
-        by (inl same) = ap (λ b. if b then rational_zero else (if k == i then duty else rational_zero)) (eq-eqb i k same)
-        by (inr other) = ap (λ b. if b then rational_zero else (if k == i then duty else rational_zero)) (ne_eqb i k other)
-            ∙ ap (λ b. if b then duty else rational_zero) (ne_eqb k i (λ is. other (sym is)))
+own-sum n duty (source.Utility k) within = sum-one_number duty k n (within k refl)
 
 module _ (case : Case) (network : Network) where
   side_heat-is : (on : Side) → HasShape case network → ((e : Exchanger) → IsExchanger case e → side_of case (source_on on e) ≡ Some on)
       → rational_sum (heats_on on case network) ≡ rational_sum_by (λ e. utility_part e.duty (source_on on e)) (exchangers_of network.lines)
   unfolding heats_on duties_with
-  side_heat-is on shape sides =
-      let es = exchangers_of network.lines in let us = enumerate_from 0 case.utilities in sum-filter_map (heat_on on network) us
+  side_heat-is on shape sides = let es = exchangers_of network.lines in let us = enumerate_from 0 case.utilities in sum-filter_map (heat_on on network) us
       ∙ rational_sum_by-same (λ p. unwrap_or (heat_on on network p) rational_zero) (λ p. rational_sum_by (part_on on p) es) us
       (λ k d inside. heat (get_or us k d)) ∙ rational_sum_by-swap (part_on on) us es
       ∙ rational_sum_by-same (λ e. rational_sum_by (λ p. part_on on p e) us) (λ e. utility_part e.duty (source_on on e)) es
@@ -168,8 +152,7 @@ module _ (case : Case) (network : Network) where
   pub balance-is : (heats : List Rational) → HasShape case network → AreHeats case network heats
       → balance_in (whole (hot_target case.streams)) case.utilities heats ≡ balance_of case network
   unfolding cost_of
-  balance-is heats shape are =
-      let hot = ap rational_sum (heats_on-are side.Hot case network heats are) ∙ hot_heat-is case network shape in
+  balance-is heats shape are = let hot = ap rational_sum (heats_on-are side.Hot case network heats are) ∙ hot_heat-is case network shape in
       let cold = ap rational_sum (heats_on-are side.Cold case network heats are) ∙ cold_heat-is case network shape in
       let cost = ap rational_sum (prices-are heats are) ∙ rational_sum_by-map (λ a. a) (heat_price network) (enumerate_from 0 case.utilities) in
       λ i. record { hot = hot i; cold = cold i; excess = minus (hot i) (whole (hot_target case.streams)); cost = cost i }
@@ -181,8 +164,7 @@ steps_from case hot cold prices excess = sum_steps place.Balance 0 rational_zero
 pub balance_items-are : (case : Case) (network : Network) (heats : List Rational) → HasShape case network → AreHeats case network heats
     → balance_steps_in place.Balance (whole (hot_target case.streams)) case.utilities heats ≡ balance_items case network
 unfolding balance_items
-balance_items-are case network heats shape are =
-    let hot = heats_on-are side.Hot case network heats are in
+balance_items-are case network heats shape are = let hot = heats_on-are side.Hot case network heats are in
     let excess = ap (λ h. minus h (whole (hot_target case.streams))) (ap rational_sum hot ∙ hot_heat-is case network shape) in
     λ i. steps_from case (hot i) ((heats_on-are side.Cold case network heats are) i) ((prices-are case network heats are) i) (excess i)
 

@@ -13,8 +13,7 @@ use Rattle.network_audit.proofs.Words.{utility_items, utility_items_at, value_at
 use Rattle.std.proofs.Common.{All, Bool, List, None, Option, Some, [], ap, append-nil, ap₂, arith, cond, eq-eqb, false, filter_map, find, flat_map, get_or}
 use Rattle.std.proofs.Common.{if◌then◌else◌, inl, inr, length, length-take, map, ne_eqb, refl, set, slice_get, suc, sym, take, true, unwrap_or, zero, ℕ, ℤ}
 use Rattle.std.proofs.Common.{◌&&◌, ◌++◌, ◌+◌, ◌<◌, ◌==◌, ◌∙◌, ◌∷◌, ◌≡◌, ◌≢◌, ◌⊎◌}
-use Rattle.network_audit.proofs.FoundLemmas.{flat_map-same, found-append, found-behind}
-use Rattle.network_audit.proofs.ValidLemmas.{items-whole}
+use Rattle.network_audit.proofs.ValidLemmas.{flat_map-same, found-append, found-behind, items-whole}
 use Rattle.network_audit.specs.Table.{ends_at, level_ends, passed_ends}
 use Rattle.networks.specs.declared.network.Line.TheVariants as line
 use Rattle.stream_case.specs.declared.source.Source.TheVariants as source
@@ -114,15 +113,13 @@ crossing-other branches lines l n (source.Utility index) other = refl
 
 joint-other : (branches : List Branch) (lines : List Line) (l : Line) (n : ℕ) (e : Exchanger) → ((stream : ℕ) → is_pass_of branches n stream l ≡ false)
     → joint_among branches (lines ++ l ∷ []) (n, e) ≡ joint_among branches lines (n, e)
-joint-other branches lines l n e other =
-    let crossed = λ (side : Source). crossing-other branches lines l n side other in
+joint-other branches lines l n e other = let crossed = λ (side : Source). crossing-other branches lines l n side other in
     λ i. record { hot = e.hot; cold = e.cold; duty = e.duty; given = crossed e.hot i; taken = crossed e.cold i }
 
 joint-here : (branches : List Branch) (lines : List Line) (from n to : ℕ) (e : Exchanger)
     → joint_among branches (lines ++ line.Pass from n to ∷ []) (n, e) ≡ passed_joint (stream_at branches from) (record { from = from; to = to })
     (joint_among branches lines (n, e))
-joint-here branches lines from n to e =
-    let crossed = λ (side : Source). crossing-here branches lines from n to side in
+joint-here branches lines from n to e = let crossed = λ (side : Source). crossing-here branches lines from n to side in
     λ i. record { hot = e.hot; cold = e.cold; duty = e.duty; given = crossed e.hot i; taken = crossed e.cold i }
 
 passes-other : (branches : List Branch) (from k to n stream : ℕ) → n ≢ k → is_pass_of branches n stream (line.Pass from k to) ≡ false
@@ -140,8 +137,7 @@ module _ {X Y : Type 0} (f g : ℕ × X → Y) where
       → ((n : ℕ) (x : X) → n ≢ k → g (n, x) ≡ f (n, x))
       → k ≡ m + j → j < length xs → map g (enumerate_from m xs) ≡ set (map f (enumerate_from m xs)) j (change (get_or (map f (enumerate_from m xs)) j d))
   map-changed change k m [] j d here same at within = absurd (omega (arith, within))
-  map-changed change k m (x ∷ xs) zero d here same at within =
-      let first : m ≡ k = omega (arith, at) in
+  map-changed change k m (x ∷ xs) zero d here same at within = let first : m ≡ k = omega (arith, at) in
       ap₂ (λ y ys. y ∷ ys) (ap (λ n. g (n, x)) first ∙ here x ∙ ap (λ n. change (f (n, x))) (sym first)) (map-unchanged k (m + 1) xs same (omega (arith, at)))
   map-changed change k m (x ∷ xs) (suc j) d here same at within =
       ap₂ (λ y ys. y ∷ ys) (same m x (λ is. omega (arith, is, at))) (map-changed change k (m + 1) xs j d here same (omega (arith, at)) (omega (arith, within)))
@@ -186,8 +182,7 @@ declared-next lines n l within read =
     ∙ ap (λ m. filter_map exchanger_of (take n lines) ++ filter_map exchanger_of (m ∷ [])) (sym read)
 
 pub declared-some : (branches : List Branch) (lines : List Line) (n : ℕ) (l : Line) (name : List ℕ) (hot cold : Source) (duty : Rational) → n < length lines
-    → l ≡ get_or lines n l → l ≡ line.Exchanger name hot cold duty
-    → joints_among branches [] (exchangers_of (take (n + 1) lines)) ≡ joints_among branches []
+    → l ≡ get_or lines n l → l ≡ line.Exchanger name hot cold duty → joints_among branches [] (exchangers_of (take (n + 1) lines)) ≡ joints_among branches []
     (exchangers_of (take n lines)) ++ record { hot = hot; cold = cold; duty = duty; given = None; taken = None } ∷ []
 unfolding exchangers_of
 declared-some branches lines n l name hot cold duty within read is =
@@ -251,8 +246,7 @@ ends-are : (case : Case) (network : Network) (values : Valuation) (number : ℕ)
     → slice_get (exchangers_of network.lines) number ≡ Some e → (e.hot ≡ of) ⊎ (e.cold ≡ of) → side_of case of ≡ Some on
     → ends_at case values of (crossing_among network.branches network.lines number of) ≡ ends_of on (side_run case network values number of)
 unfolding side_run
-ends-are case network values number e (source.Stream stream) on shape at joins is =
-    let (from, to, index, pass) = the_pass_of shape number stream e at joins in
+ends-are case network values number e (source.Stream stream) on shape at joins is = let (from, to, index, pass) = the_pass_of shape number stream e at joins in
     ap (ends_at case values (source.Stream stream)) (crossing-found network number stream from to pass.found)
     ∙ ap (λ ends. level_ends ends (fixed_level case (source.Stream stream)))
     (sym (stream_run case network values number stream from to on pass.found (branch_side-is case network from stream on pass.of_stream is)))
@@ -279,8 +273,7 @@ joint_items-are case network values shape =
   where
     each : (number : ℕ) (e : Exchanger) → slice_get (exchangers_of network.lines) number ≡ Some e
         → joint_items_at case values (number, joint_among network.branches network.lines (number, e)) ≡ exchanger_items_at case network values (number, e)
-    each number e at =
-        let is = all_at (IsExchanger case) (exchangers_of network.lines) number e shape.exchangers.each at in
+    each number e at = let is = all_at (IsExchanger case) (exchangers_of network.lines) number e shape.exchangers.each at in
         ap₂ (side_items case (place.Exchanger number) e.hot e.cold) (ends-are case network values number e e.hot side.Hot shape at (inl refl) is.hot)
         (ends-are case network values number e e.cold side.Cold shape at (inr refl) is.cold)
 
@@ -299,8 +292,7 @@ duties-are network index = duties-made index (joint_among network.branches netwo
 
 pub heat_items-are : (case : Case) (network : Network) → all_heat_items (joints_of network) case.utilities ≡ utility_items case network
 unfolding all_heat_items utility_items
-heat_items-are case network =
-    let same : (p : ℕ × Utility) → heat_items (joints_of network) p ≡ utility_items_at network p =
+heat_items-are case network = let same : (p : ℕ × Utility) → heat_items (joints_of network) p ≡ utility_items_at network p =
     λ p. ap (λ duties. sum_steps (place.Utility p.0) 0 rational_zero duties ++ range_items (place.Utility p.0) p.1 (rational_sum duties))
     (duties-are network p.0) in λ i. flat_map (λ p. same p i) (enumerate_from 0 case.utilities)
 
@@ -341,8 +333,7 @@ duty-read network joints number j is within =
 
 -- where all statements are passed, all items find what those behind them do
 pub found-all : (case : Case) (network : Network) (values : Valuation) (joints : List Joint) (utilities : List Utility) → HasShape case network
-    → joints ≡ joints_of network → utilities ≡ case.utilities
-    → first_finding (items_before case network values (length network.lines)) ≡ None
+    → joints ≡ joints_of network → utilities ≡ case.utilities → first_finding (items_before case network values (length network.lines)) ≡ None
     → first_finding (items case network values (length network.lines)) ≡ first_finding
     (stream_items case network ++ (joint_items case values joints ++ (all_heat_items joints utilities ++ balance_items case network)))
 unfolding items_before items_behind

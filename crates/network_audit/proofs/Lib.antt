@@ -6,8 +6,6 @@ pub mod SumBounds
 pub mod GroupSums
 pub mod NoFinding
 pub mod BalanceWithin
-pub mod AcceptedLemmas
-pub mod FoundLemmas
 pub mod HeatLemmas
 pub mod JointLemmas
 pub mod SumSteps

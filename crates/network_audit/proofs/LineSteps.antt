@@ -1,5 +1,5 @@
 -- The numbers that statements and exchangers form are within the limits where what the branches carry leaves room.
-use Rattle.network_audit.proofs.FoundLemmas.{all-if}
+use Rattle.network_audit.proofs.ValidLemmas.{all-if}
 use Rattle.network_audit.proofs.Words.{All-from_recursion, BranchValue, Case, Exchanger, HasShape, HasValidStreams-IsComplete, IsBelow, IsBetween, IsComplete}
 use Rattle.network_audit.proofs.Words.{IsContribution, IsFormed, IsLevel, IsMix, IsPass, IsSplit, IsTemperature, IsUtility, IsValidStream, IsWholeValuation}
 use Rattle.network_audit.proofs.Words.{IsWithinLimits, Line, MOST_CONTRIBUTION, Network, Place, Rational, Side, Solves, Source, StaysValid-IsComplete}
@@ -51,8 +51,7 @@ factors d e most some_d some_e both =
 
 -- they leave room
 pub sized_roomy : (d m e n : ℕ) (v : BranchValue) → AreSmall d m e n → IsSized d m v.cp → IsSized e n v.t → IsRoomy v
-sized_roomy d m e n v small size state =
-    let dens = factors d e (most_den) small.size_den small.state_den small.dens in let most = small.state in record {
+sized_roomy d m e n v small size state = let dens = factors d e (most_den) small.size_den small.state_den small.dens in let most = small.state in record {
       size = sized-within d m v.cp small.size_den dens.0 small.size size;
       state = sized-within e n v.t small.state_den dens.1 (omega (arith, most)) state;
       heat = sized-within (d * e) (m * n) (times v.cp v.t) (mul-pos small.size_den small.state_den) small.dens small.heat
@@ -65,8 +64,7 @@ sized_roomy d m e n v small size state =
 -- and so does the change from one state to another
 pub sized_change : (d m e n : ℕ) (of : Side) (before after : Rational) → AreSmall d m e n → IsSized e n before → IsSized e n after
     → IsWithinLimits (change of before after)
-sized_change d m e n of before after small one two =
-    let dens = factors d e (most_den) small.size_den small.state_den small.dens in
+sized_change d m e n of before after small one two = let dens = factors d e (most_den) small.size_den small.state_den small.dens in
     by of (sized-within e (n + n) (minus before after) small.state_den dens.1 (omega arith) (sized-minus e n n before after one two))
     (sized-within e (n + n) (minus after before) small.state_den dens.1 (omega arith) (sized-minus e n n after before two one))
   where
@@ -93,8 +91,7 @@ pub record HasRoom (case : Case) (network : Network) (values : Valuation) : Type
 -- the rest of a split is the size of its second branch
 pub split_formed : (at : Place) (from first second : BranchValue) (cp : Rational) → IsSplit from first second cp → IsRoomy second
     → AreFormed (split_items at from cp)
-split_formed at from first second cp split roomy =
-    let rest = ap (λ (v : BranchValue). v.cp) (split_determined from first second cp split).second_is in
+split_formed at from first second cp split roomy = let rest = ap (λ (v : BranchValue). v.cp) (split_determined from first second cp split).second_is in
     All-from_recursion IsFormed (split_items at from cp) (tt, (subst IsWithinLimits rest roomy.size, tt))
 
 load_formed : (at : Place) (latent : Bool) (state : Rational) → AreFormed (load_items at latent state)
@@ -104,8 +101,7 @@ load_formed at true state = All-from_recursion IsFormed (load_items at true stat
 -- a pass forms the change of the state, and the state behind it
 pub pass_formed : (at : Place) (of : Side) (latent : Bool) (duty : Rational) (from to : BranchValue) → IsBelow rational_zero from.cp → IsPass of duty from to
     → IsRoomy to → IsWithinLimits (change of from.t to.t) → AreFormed (pass_items at of latent from duty)
-pass_formed at of latent duty from to positive pass roomy change_within =
-    let by = change of from.t to.t in let after = moved of from.t (over duty from.cp) in
+pass_formed at of latent duty from to positive pass roomy change_within = let by = change of from.t to.t in let after = moved of from.t (over duty from.cp) in
     let over_size = over_from_times by duty from.cp (positive-nonzero from.cp positive) (times_comm by from.cp ∙ pass.heat) in
     let state = ap (λ (v : BranchValue). v.t) (pass_determined of from to duty positive pass) in
     formed-step at 1 (over duty from.cp) (Step at 2 after ∷ load_items at latent after) (subst IsWithinLimits over_size change_within)
@@ -161,8 +157,7 @@ contribution-within case complete (source.Utility number) = by (slice_get case.u
     by (Some u) at = (all_at IsUtility case.utilities number u (StaysValid-IsComplete case complete).utilities at).contribution
 
 pub approach-within : (case : Case) → IsComplete case → (hot cold : Source) → IsApproach (approach_of case hot cold)
-approach-within case complete hot cold =
-    let one = contribution-within case complete hot in let two = contribution-within case complete cold in
+approach-within case complete hot cold = let one = contribution-within case complete hot in let two = contribution-within case complete cold in
     record { from = omega (arith, ints); upto = omega (arith, ints) }
 
 -- a level that a source has is one of a case
@@ -175,8 +170,7 @@ level-within case complete (source.Stream number) level is = by (slice_get case.
   where
     by : (o : Option Stream) → slice_get case.streams number ≡ o → stream_level o ≡ Some level → IsLevel level
     by None at found = cc found
-    by (Some s) at found =
-        let valid = all_at IsValidStream case.streams number s (HasValidStreams-IsComplete case complete).are_streams.each at in
+    by (Some s) at found = let valid = all_at IsValidStream case.streams number s (HasValidStreams-IsComplete case complete).are_streams.each at in
         supply-level (is_latent s) s.supply level valid.supply found
 level-within case complete (source.Utility number) level is = subst IsLevel (same_Some _ level is) (by (slice_get case.utilities number) refl)
   where

@@ -15,14 +15,12 @@ sized-more d m n a more sized =
 
 -- whole numbers, over any denominator
 pub sized-whole : (d m : ℕ) (n : ℤ) → 0 < d → unsigned_abs n ≤ m → IsSized d m (whole n)
-sized-whole d m n some small =
-    let larger : unsigned_abs n * d ≤ m * d = mul-le-mul small (omega arith) in
+sized-whole d m n some small = let larger : unsigned_abs n * d ≤ m * d = mul-le-mul small (omega arith) in
     record { num = n *ℤ pos d; is = sym (ratio-multiple n d some); small = omega (arith, larger, unsigned_abs-mul n (pos d)) }
 
 -- a number of this denominator that is at least 0 and at most a whole one
 pub sized-between : (d m : ℕ) (a : Rational) (n : ℤ) → 0 < d → a ≡ ratio n d → IsAtMost rational_zero a → IsAtMost a (whole (pos m)) → IsSized d m a
-sized-between d m a n some is least most =
-    let upto = at_most_from_ratio_whole n (pos m) d some (subst (λ x. IsAtMost x (whole (pos m))) is most) in
+sized-between d m a n some is least most = let upto = at_most_from_ratio_whole n (pos m) d some (subst (λ x. IsAtMost x (whole (pos m))) is most) in
     record { num = n; is = is; small = omega (arith, ints, not_negative_from_ratio n d some (subst (IsAtMost rational_zero) is least), upto) }
 
 -- ---- sums, differences and products

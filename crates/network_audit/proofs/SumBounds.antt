@@ -60,8 +60,7 @@ module _ (d m : ℕ) (some : 0 < d) (den : d ≤ most_den) where
   pub sums_formed : (at : Place) (before k : ℕ) (total : Rational) (numbers : List Rational) → (k + length numbers * m) * d ≤ most_num → IsSized d k total
       → All (IsSized d m) numbers → AreFormed (sum_steps at before total numbers)
   sums_formed at before k total [] most sized each = formed-none
-  sums_formed at before k total (a ∷ numbers) most sized each =
-      let next = sized-plus d k m total a sized (All-head (IsSized d m) a numbers each) in
+  sums_formed at before k total (a ∷ numbers) most sized each = let next = sized-plus d k m total a sized (All-head (IsSized d m) a numbers each) in
       let later : (k + m + length numbers * m) * d ≤ most_num = omega (arith, most) in let now : (k + m) * d ≤ most_num = omega (arith, later) in
       formed-step _ _ _ _ (sized-within d (k + m) (plus total a) some den now next)
       (sums_formed at (before + 1) (k + m) (plus total a) numbers later next (All-tail (IsSized d m) a numbers each))
@@ -85,8 +84,7 @@ most_heat = unsigned_abs MOST_HEAT
 
 -- a heat in the range of a utility is at most the most that utilities have
 pub heat-sized : (d : ℕ) (u : Utility) (heat : Rational) (n : ℤ) → 0 < d → heat ≡ ratio n d → IsPlaced u → IsInRange u heat → IsSized d most_heat heat
-heat-sized d u heat n some is placed range =
-    let least = placed.least in let most = placed.most in let from = least.from in let upto = most.upto in
+heat-sized d u heat n some is placed range = let least = placed.least in let most = placed.most in let from = least.from in let upto = most.upto in
     sized-between d most_heat heat n some is (at_most_trans rational_zero (whole u.least) heat (at_most-whole (pos 0) u.least from) range.least)
     (at_most_trans heat (whole u.most) (whole (pos most_heat)) range.most (at_most-whole u.most (pos most_heat) upto))
 
@@ -129,8 +127,7 @@ module _ (case : Case) (network : Network) where
 
   pub balance_formed : IsComplete case → HasShape case network → HaveWholeHeats case network → AreFormed (balance_items case network)
   unfolding balance_items
-  balance_formed complete shape heats =
-      let hot = heats_on side.Hot case network in let cold = heats_on side.Cold case network in
+  balance_formed complete shape heats = let hot = heats_on side.Hot case network in let cold = heats_on side.Cold case network in
       let prices = map (heat_price network) (enumerate_from 0 case.utilities) in
       let before = length hot + length cold + 1 in let few = length-utilities case complete in
       let few_hot = few-heats side.Hot case network in let few_cold = few-heats side.Cold case network in let few_prices : length prices ≤ ALL_UTILITIES =

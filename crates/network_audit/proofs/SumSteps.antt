@@ -3,7 +3,7 @@ use Rattle.network_audit.proofs.Words.{Place, Rational, Step, append-nil, cons_o
 use Rattle.network_audit.proofs.Words.{plus, plus-zero, plus_assoc, rational_sum, rational_zero, sum_steps, take-append-drop, take_all, take_more, zero-plus}
 use Rattle.std.proofs.Common.{List, None, Option, Some, [], ap, arith, drop, get_or, length, length-append, map, refl, subst, suc, sym, take, ℕ, ◌*◌, ◌++◌, ◌+◌}
 use Rattle.std.proofs.Common.{◌<◌, ◌∙◌, ◌∷◌, ◌≡◌, ◌≤◌}
-use Rattle.network_audit.proofs.FoundLemmas.{found-behind, found-front, found-nothing}
+use Rattle.network_audit.proofs.ValidLemmas.{found-behind, found-front, found-nothing}
 use Rattle.network_audit.specs.declared.findings.Finding.TheVariants as finding
 
 -- a total with more numbers
@@ -164,8 +164,7 @@ module _ {X : Type 0} (f : X → Rational) where
       → IsPriced before (map f (take n xs)) cost steps
       → ((at : Place) → first_finding (Step at (steps + 1) a ∷ Step at (steps + 2) (plus cost a) ∷ []) ≡ Some (finding.TooFine at step))
       → (at : Place) → first_finding (cost_steps at before rational_zero (map f xs)) ≡ Some (finding.TooFine at step)
-  cost-not before xs n d a cost steps step within is priced found at =
-      let front = map f (take n xs) ++ a ∷ [] in let later = map f (drop (n + 1) xs) in
+  cost-not before xs n d a cost steps step within is priced found at = let front = map f (take n xs) ++ a ∷ [] in let later = map f (drop (n + 1) xs) in
       let all : map f xs ≡ front ++ later = ap (map f) (sym (take-append-drop (n + 1) xs)) ∙ map-append f (take (n + 1) xs) (drop (n + 1) xs)
       ∙ ap (λ ps. ps ++ later) (prices-more xs n d a within is) in
       ap (λ ps. first_finding (cost_steps at before rational_zero ps)) all ∙ ap first_finding (cost-append at before rational_zero front later)

@@ -77,21 +77,13 @@ found_once p [] once = absurd (omega (arith, once))
 found_once {X} p (a ∷ xs) once = by (p a) refl (found_once p xs)
   where
     by : (b : Bool) → p a ≡ b → (count_by p xs ≡ 1 → (index : ℕ) × (x : X) × IsOnly p xs index x) → (index : ℕ) × (x : X) × IsOnly p (a ∷ xs) index x
-    by true is rest =
-        let one = ap {B = ℕ} (λ b. cond b 1 0) is in
-        let none = none_counted p xs (omega (arith, once, count_by-cons p a xs, one)) in
+    by true is rest = let one = ap {B = ℕ} (λ b. cond b 1 0) is in let none = none_counted p xs (omega (arith, once, count_by-cons p a xs, one)) in
         (0, a, record { here = refl; passes = is; found = ap (λ b. cond b (Some a) (find p xs)) is; only = only_first p a xs none })
-    by false is rest =
-        let no = ap {B = ℕ} (λ b. cond b 1 0) is in
+    by false is rest = let no = ap {B = ℕ} (λ b. cond b 1 0) is in
         let (index, x, it) = rest (omega (arith, once, count_by-cons p a xs, no)) in (
           suc index,
           x,
-          record {
-            here = it.here;
-            passes = it.passes;
-            found = ap (λ b. cond b (Some a) (find p xs)) is ∙ it.found;
-            only = only_later p a xs index is it.only;
-          },
+          record { here = it.here; passes = it.passes; found = ap (λ b. cond b (Some a) (find p xs)) is ∙ it.found; only = only_later p a xs index is it.only },
         )
 
 -- ---- filters
@@ -110,24 +102,18 @@ stands_before {X} {Y} f (a ∷ xs) number y at = by (f a) refl number at (stands
     by : (o : Option Y) → f a ≡ o → (n : ℕ) → slice_get (cons_option o (filter_map f xs)) n ≡ Some y
         → ((m : ℕ) (z : Y) → slice_get (filter_map f xs) m ≡ Some z → (index : ℕ) × (x : X) × StandsBefore f xs m z index x)
         → (index : ℕ) × (x : X) × StandsBefore f (a ∷ xs) n y index x
-    by None is n at rest =
-        let (index, x, stands) = rest n y at in (
-          suc index,
-          x,
-          record {
-            here = stands.here;
-            gives = stands.gives;
-            earlier = ap (λ o. length (cons_option o (filter_map f (take index xs)))) is ∙ stands.earlier;
-          },
-        )
+    by None is n at rest = let (index, x, stands) = rest n y at in (
+      suc index,
+      x,
+      record { here = stands.here; gives = stands.gives; earlier = ap (λ o. length (cons_option o (filter_map f (take index xs)))) is ∙ stands.earlier },
+    )
     by (Some b) is zero at rest = (0, a, record { here = refl; gives = is ∙ at; earlier = refl })
-    by (Some b) is (suc n) at rest =
-        let (index, x, stands) = rest n y at in (
-          suc index,
-          x,
-          record {
-            here = stands.here;
-            gives = stands.gives;
-            earlier = ap (λ o. length (cons_option o (filter_map f (take index xs)))) is ∙ ap suc stands.earlier;
-          },
-        )
+    by (Some b) is (suc n) at rest = let (index, x, stands) = rest n y at in (
+      suc index,
+      x,
+      record {
+        here = stands.here;
+        gives = stands.gives;
+        earlier = ap (λ o. length (cons_option o (filter_map f (take index xs)))) is ∙ ap suc stands.earlier;
+      },
+    )

@@ -40,20 +40,15 @@ unfolding stream_at
 stream_at-front bs more k within = ap (λ o. unwrap_or (option_map (λ (b : Branch). b.stream) o) 0) (slice_get-front bs more k within)
 
 pub passage_of-front : (bs more : List Branch) (l : Line) → All (λ k. k < length bs) (uses l) → passage_of (bs ++ more) l ≡ passage_of bs l
-passage_of-front bs more (line.Exchanger name hot cold duty) made = refl
-passage_of-front bs more (line.Split from first cp second) made = refl
 passage_of-front bs more (line.Pass from exchanger to) made = ap (λ s. Some (record { exchanger = exchanger; stream = s }))
     (stream_at-front bs more from (All-head (λ k. k < length bs) from [] made))
-passage_of-front bs more (line.Mix first second to) made = refl
-passage_of-front bs more (line.End branch) made = refl
+passage_of-front bs more other made = refl
 
 pub passages_of-front : (bs more : List Branch) (ls : List Line) → All (λ k. k < length bs) (used_by ls) → passages_of (bs ++ more) ls ≡ passages_of bs ls
 unfolding passages_of used_by
 passages_of-front bs more [] made = refl
-passages_of-front bs more (l ∷ ls) made =
-    let here = passage_of-front bs more l (All-front (λ k. k < length bs) (uses l) (flat_map uses ls) made) in
-    let rest = passages_of-front bs more ls (All-back (λ k. k < length bs) (uses l) (flat_map uses ls) made) in
-    λ i. cons_option (here i) (rest i)
+passages_of-front bs more (l ∷ ls) made = let here = passage_of-front bs more l (All-front (λ k. k < length bs) (uses l) (flat_map uses ls) made) in
+    let rest = passages_of-front bs more ls (All-back (λ k. k < length bs) (uses l) (flat_map uses ls) made) in λ i. cons_option (here i) (rest i)
 
 pub names_of-append : (bs more : List Branch) → names_of (bs ++ more) ≡ names_of bs ++ names_of more
 unfolding names_of

@@ -30,6 +30,5 @@ AllPairs-take R m xs pairs = AllPairs-front R (take m xs) (drop m xs) (subst (Al
 pub two_pushed : {X : Type 0} (R : X → X → Type 0) (xs : List X) (y z : X) → AllPairs R xs → All (λ x. R x y) xs → All (λ x. R x z) xs → R y z
     → AllPairs R (xs ++ y ∷ z ∷ [])
 two_pushed R xs y z pairs first second last =
-    let one = all_pairs_push R xs y pairs first in
-    let all = all_pairs_push R (xs ++ y ∷ []) z one (All-push (λ x. R x z) xs y second last) in
+    let one = all_pairs_push R xs y pairs first in let all = all_pairs_push R (xs ++ y ∷ []) z one (All-push (λ x. R x z) xs y second last) in
     subst (AllPairs R) (append_assoc xs (y ∷ []) (z ∷ [])) all

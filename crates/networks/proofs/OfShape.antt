@@ -23,8 +23,7 @@ pub record StandsAt (lines : List Line) (index : ℕ) (l : Line) : Type 0 where
   pub more : take (suc index) lines ≡ take index lines ++ l ∷ []
 
 pub stands_at : (lines : List Line) (index : ℕ) (l : Line) → slice_get lines index ≡ Some l → StandsAt lines index l
-stands_at lines index l at =
-    let within = slice_get_within lines index l at in let here = get_or_from_slice_get lines index l l at in
+stands_at lines index l at = let within = slice_get_within lines index l at in let here = get_or_from_slice_get lines index l l at in
     record {
       here = at;
       within = within;
@@ -64,8 +63,7 @@ pub exchanger_at : (lines : List Line) (index : ℕ) (name : List ℕ) (hot cold
     → slice_get (exchangers_of lines) (length (exchangers_of (take index lines))) ≡ Some (record { name = name; hot = hot; cold = cold; duty = duty })
 unfolding exchangers_of
 exchanger_at lines index name hot cold duty here =
-    let l = line.Exchanger name hot cold duty in
-    let e : Exchanger = record { name = name; hot = hot; cold = cold; duty = duty } in
+    let l = line.Exchanger name hot cold duty in let e : Exchanger = record { name = name; hot = hot; cold = cold; duty = duty } in
     let before = exchangers_of (take index lines) in let later = exchangers_of (drop (suc index) lines) in
     let parts : exchangers_of lines ≡ before ++ e ∷ later = declared_parts (stands_at lines index l here) in
     let within : length before < length (exchangers_of lines) = omega (arith, ap length parts, length-append before (e ∷ later)) in
@@ -84,35 +82,28 @@ streams_first {case} {network} made = omega (arith, ap length made.own, many_own
 
 -- there are the streams' branches and those that lines make
 pub all_made : {case : Case} {network : Network} → AreMadeInOrder case network → length case.streams + length (made_by network.lines) ≡ length network.branches
-all_made {case} {network} made =
-    let long = ap length made.made ∙ length-range_with_len (length case.streams) (length network.branches - length case.streams) in
+all_made {case} {network} made = let long = ap length made.made ∙ length-range_with_len (length case.streams) (length network.branches - length case.streams) in
     omega (arith, long, streams_first made)
 
 -- a line makes the next branches
 pub made_next : (case : Case) (network : Network) {index : ℕ} {l : Line} → StandsAt network.lines index l
     → made_before case network (suc index) ≡ made_before case network index + length (makes l)
 unfolding made_by
-made_next case network {index} {l} at =
-    let before = flat_map makes (take index network.lines) in
+made_next case network {index} {l} at = let before = flat_map makes (take index network.lines) in
     let all = ap (flat_map makes) at.more ∙ flat_map-append makes (take index network.lines) (l ∷ []) in
-    let long = ap length all ∙ length-append before (flat_map makes (l ∷ [])) in
-    let one = length-append (makes l) [] in
-    omega (arith, long, one)
+    let long = ap length all ∙ length-append before (flat_map makes (l ∷ [])) in let one = length-append (makes l) [] in omega (arith, long, one)
 
 -- they are there
 pub made_within : {case : Case} {network : Network} {index : ℕ} {l : Line} → AreMadeInOrder case network → StandsAt network.lines index l
     → made_before case network index + length (makes l) ≤ length network.branches
-made_within {case} {network} {index} {l} made at =
-    let before = made_by (take index network.lines) in let later = made_by (drop (suc index) network.lines) in
-    let parts = ap length (made_parts at) ∙ length-append before (makes l ++ later) in
-    omega (arith, parts, length-append (makes l) later, all_made made)
+made_within {case} {network} {index} {l} made at = let before = made_by (take index network.lines) in let later = made_by (drop (suc index) network.lines) in
+    let parts = ap length (made_parts at) ∙ length-append before (makes l ++ later) in omega (arith, parts, length-append (makes l) later, all_made made)
 
 -- and have the next numbers
 pub made_at : {case : Case} {network : Network} {index : ℕ} {l : Line} → AreMadeInOrder case network → StandsAt network.lines index l → (j : ℕ)
     → j < length (makes l) → get_or (makes l) j 0 ≡ made_before case network index + j
 made_at {case} {network} {index} {l} made at j within =
-    let before = made_by (take index network.lines) in let later = made_by (drop (suc index) network.lines) in
-    let n = length before in
+    let before = made_by (take index network.lines) in let later = made_by (drop (suc index) network.lines) in let n = length before in
     let here = ap (λ ns. get_or ns (n + j) 0) (made_parts at) ∙ get_or-append-add before (makes l ++ later) j 0
     ∙ get_or_append_left (makes l) later 0 j within in
     let all = ap length (made_parts at) ∙ length-append before (makes l ++ later) in
@@ -125,17 +116,14 @@ made_at {case} {network} {index} {l} made at j within =
 -- earlier lines make no more branches
 pub made_fewer : (case : Case) (network : Network) (k index : ℕ) → k ≤ index → made_before case network k ≤ made_before case network index
 unfolding made_by
-made_fewer case network k index early =
-    let front = take index network.lines in let first = take-take k index network.lines early in
+made_fewer case network k index early = let front = take index network.lines in let first = take-take k index network.lines early in
     let parts = ap (flat_map makes) (sym (take-append-drop k front)) ∙ flat_map-append makes (take k front) (drop k front) in
     let long = ap length parts ∙ length-append (flat_map makes (take k front)) (flat_map makes (drop k front)) in
-    let same = ap (λ ls. length (flat_map makes ls)) first in
-    omega (arith, long, same)
+    let same = ap (λ ls. length (flat_map makes ls)) first in omega (arith, long, same)
 
 pub made_no_more : {case : Case} {network : Network} → AreMadeInOrder case network → (index : ℕ) → made_before case network index ≤ length network.branches
 unfolding made_by
-made_no_more {case} {network} made index =
-    let parts = ap (flat_map makes) (sym (take-append-drop index network.lines))
+made_no_more {case} {network} made index = let parts = ap (flat_map makes) (sym (take-append-drop index network.lines))
     ∙ flat_map-append makes (take index network.lines) (drop index network.lines) in
     let long = ap length parts ∙ length-append (flat_map makes (take index network.lines)) (flat_map makes (drop index network.lines)) in
     omega (arith, long, all_made made)
@@ -161,14 +149,11 @@ numbers_at {case} {network} {index} {l} shape at = record {
 pub used_there : {case : Case} {network : Network} → AreMadeInOrder case network → AreMadeBeforeUse case network
     → All (λ l. All (λ b. b < length network.branches) (uses l)) network.lines
 used_there {case} {network} made first k d within j e inside =
-    let early = first k (get_or network.lines k d) (slice_get-get_or network.lines k d within) j e inside in
-    omega (arith, early, made_no_more made k)
+    let early = first k (get_or network.lines k d) (slice_get-get_or network.lines k d within) j e inside in omega (arith, early, made_no_more made k)
 
 pub made_there : {case : Case} {network : Network} → AreMadeInOrder case network → All (λ l. All (λ b. b < length network.branches) (makes l)) network.lines
-made_there {case} {network} made k d within j e inside =
-    let l = get_or network.lines k d in let at = line_at network.lines k d within in
-    let number = get_or_default (makes l) j e 0 inside ∙ made_at made at j inside in
-    omega (arith, number, made_within made at, inside)
+made_there {case} {network} made k d within j e inside = let l = get_or network.lines k d in let at = line_at network.lines k d within in
+    let number = get_or_default (makes l) j e 0 inside ∙ made_at made at j inside in omega (arith, number, made_within made at, inside)
 
 pub used_within : {case : Case} {network : Network} → AreMadeInOrder case network → AreMadeBeforeUse case network
     → All (λ b. b < length network.branches) (used_by network.lines)
@@ -179,8 +164,7 @@ used_within {case} {network} made first = All-flat_map (λ b. b < length network
 pub used_before : (case : Case) (network : Network) → AreMadeBeforeUse case network → (index : ℕ)
     → All (λ b. b < made_before case network index) (used_by (take index network.lines))
 unfolding used_by
-used_before case network first index =
-    All-flat_map (λ b. b < made_before case network index) uses (take index network.lines) (λ k d inside.
+used_before case network first index = All-flat_map (λ b. b < made_before case network index) uses (take index network.lines) (λ k d inside.
     let early : k < index = omega (arith, inside, length-take index network.lines) in
     let at = sym (slice_get-take index network.lines k early) ∙ slice_get-get_or (take index network.lines) k d inside in
     let fewer = made_fewer case network k index (omega (arith, early)) in
@@ -212,8 +196,7 @@ own_stream {case} {network} made i within =
 pub stream_within : {case : Case} {network : Network} → HasShape case network → (b : ℕ) → b < length network.branches
     → stream_at network.branches b < length case.streams
 stream_within {case} {network} shape b within =
-    let d : Branch = record { name = []; stream = 0 } in
-    omega (arith, shape.streams b d within, stream_at-get_or network.branches b d within)
+    let d : Branch = record { name = []; stream = 0 } in omega (arith, shape.streams b d within, stream_at-get_or network.branches b d within)
 
 -- ---- what a line names is there
 
@@ -247,16 +230,12 @@ exchanger_known {case} {network} {index} {from} {exchanger} {to} shape at =
 pub names-known : (case : Case) (network : Network) → HasShape case network → (index : ℕ) (l : Line) → slice_get network.lines index ≡ Some l
     → NamesKnown case network l
 names-known case network shape index (line.Exchanger name hot cold duty) here =
-    let e = own_exchanger shape index name hot cold duty here in
-    (IsSourceOf-side case hot (ap is_some e.hot), IsSourceOf-side case cold (ap is_some e.cold))
-names-known case network shape index (line.Split from first cp second) here =
-    let at = stands_at network.lines index (line.Split from first cp second) here in
+    let e = own_exchanger shape index name hot cold duty here in (IsSourceOf-side case hot (ap is_some e.hot), IsSourceOf-side case cold (ap is_some e.cold))
+names-known case network shape index (line.Split from first cp second) here = let at = stands_at network.lines index (line.Split from first cp second) here in
     (used_known shape at 0 (omega arith), made_known shape at 0 (omega arith), made_known shape at 1 (omega arith))
-names-known case network shape index (line.Pass from exchanger to) here =
-    let at = stands_at network.lines index (line.Pass from exchanger to) here in
+names-known case network shape index (line.Pass from exchanger to) here = let at = stands_at network.lines index (line.Pass from exchanger to) here in
     (used_known shape at 0 (omega arith), exchanger_known shape at, made_known shape at 0 (omega arith))
-names-known case network shape index (line.Mix first second to) here =
-    let at = stands_at network.lines index (line.Mix first second to) here in
+names-known case network shape index (line.Mix first second to) here = let at = stands_at network.lines index (line.Mix first second to) here in
     (used_known shape at 0 (omega arith), used_known shape at 1 (omega arith), made_known shape at 0 (omega arith))
 names-known case network shape index (line.End branch) here = used_known shape (stands_at network.lines index (line.End branch) here) 0 (omega arith)
 
@@ -272,15 +251,14 @@ pub record IsLineOf (case : Case) (network : Network) (index : ℕ) (l : Line) :
 
 pub line_of : {case : Case} {network : Network} → HasShape case network → (index : ℕ) (l : Line) → slice_get network.lines index ≡ Some l
     → IsLineOf case network index l
-line_of {case} {network} shape index l here =
-    let at = stands_at network.lines index l here in record {
-      at = at;
-      numbers = numbers_at shape at;
-      known = names-known case network shape index l here;
-      one_stream = all_at (IsOfOneStream network.branches) network.lines index l shape.one_stream here;
-      flow = all_at HasPositiveFlow network.lines index l shape.flows here;
-      declared = shape.declared_first index l here;
-    }
+line_of {case} {network} shape index l here = let at = stands_at network.lines index l here in record {
+  at = at;
+  numbers = numbers_at shape at;
+  known = names-known case network shape index l here;
+  one_stream = all_at (IsOfOneStream network.branches) network.lines index l shape.one_stream here;
+  flow = all_at HasPositiveFlow network.lines index l shape.flows here;
+  declared = shape.declared_first index l here;
+}
 
 -- the line that code reads at an index
 pub line_read : {case : Case} {network : Network} → HasShape case network → (index : ℕ) (l : Line) → index < length network.lines
@@ -293,19 +271,15 @@ line_read {case} {network} shape index l within read = line_of shape index l (sl
 passage-counts : (branches : List Branch) (exchanger stream : ℕ) (l : Line) (rest : List Passage)
     → count_by (same_passage (record { exchanger = exchanger; stream = stream })) (cons_option (passage_of branches l) rest)
     ≡ cond (is_pass_of branches exchanger stream l) 1 0 + count_by (same_passage (record { exchanger = exchanger; stream = stream })) rest
-passage-counts branches exchanger stream (line.Exchanger name hot cold duty) rest = omega arith
-passage-counts branches exchanger stream (line.Split from first cp second) rest = omega arith
 passage-counts branches exchanger stream (line.Pass from through to) rest = count_by-cons _ _ rest
-passage-counts branches exchanger stream (line.Mix first second to) rest = omega arith
-passage-counts branches exchanger stream (line.End branch) rest = omega arith
+passage-counts branches exchanger stream other rest = omega arith
 
 pub count-passages : (branches : List Branch) (exchanger stream : ℕ) (lines : List Line)
     → count_by (same_passage (record { exchanger = exchanger; stream = stream })) (passages_of branches lines)
     ≡ count_by (is_pass_of branches exchanger stream) lines
 unfolding passages_of
 count-passages branches exchanger stream [] = refl
-count-passages branches exchanger stream (l ∷ lines) =
-    passage-counts branches exchanger stream l (filter_map (passage_of branches) lines)
+count-passages branches exchanger stream (l ∷ lines) = passage-counts branches exchanger stream l (filter_map (passage_of branches) lines)
     ∙ ap (λ n. cond (is_pass_of branches exchanger stream l) 1 0 + n) (count-passages branches exchanger stream lines)
     ∙ sym (count_by-cons (is_pass_of branches exchanger stream) l lines)
 
@@ -319,8 +293,6 @@ pub record IsPassOf (network : Network) (exchanger stream from to index : ℕ) :
 the_pass : (network : Network) (exchanger stream index : ℕ) (l : Line) → IsOnly (is_pass_of network.branches exchanger stream) network.lines index l
     → (from : ℕ) × (to : ℕ) × IsPassOf network exchanger stream from to index
 unfolding pass_of
-the_pass network exchanger stream index (line.Exchanger name hot cold duty) it = cc it.passes
-the_pass network exchanger stream index (line.Split from first cp second) it = cc it.passes
 the_pass network exchanger stream index (line.Pass from through to) it =
     let parts = and_parts (exchanger == through) (stream == stream_at network.branches from) it.passes in
     let same : through ≡ exchanger = grind (arith, nat_tests, parts.0) in
@@ -334,8 +306,7 @@ the_pass network exchanger stream index (line.Pass from through to) it =
         only = it.only;
       },
     )
-the_pass network exchanger stream index (line.Mix first second to) it = cc it.passes
-the_pass network exchanger stream index (line.End branch) it = cc it.passes
+the_pass network exchanger stream index other it = cc it.passes
 
 pub the_pass_of : {case : Case} {network : Network} → HasShape case network → (number stream : ℕ) (e : Exchanger)
     → slice_get (exchangers_of network.lines) number ≡ Some e → Joins e stream → (from : ℕ) × (to : ℕ) × (index : ℕ)
@@ -343,5 +314,4 @@ pub the_pass_of : {case : Case} {network : Network} → HasShape case network �
 the_pass_of {case} {network} shape number stream e at joins =
     let once = sym (count-passages network.branches number stream network.lines) ∙ shape.passed_once number stream e at joins in
     let (index, l, it) = found_once (is_pass_of network.branches number stream) network.lines once in
-    let (from, to, is) = the_pass network number stream index l it in
-    (from, to, index, is)
+    let (from, to, is) = the_pass network number stream index l it in (from, to, index, is)

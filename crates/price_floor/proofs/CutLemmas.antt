@@ -33,8 +33,7 @@ worth-listed network f parts =
 
 -- prices below 0
 use-turned : (network : Network) (f : ℕ → ℤ) (parts : List Part) → use_at network (λ a. pos 0 -ℤ f a) parts ≡ minus rational_zero (use_at network f parts)
-use-turned network f parts =
-    let es = enumerate_from 0 parts in let term = λ (e : ℕ × Part). times (whole (f e.0)) (used_heat network e.1) in
+use-turned network f parts = let es = enumerate_from 0 parts in let term = λ (e : ℕ × Part). times (whole (f e.0)) (used_heat network e.1) in
     rational_sum_by-same (λ (e : ℕ × Part). times (whole (pos 0 -ℤ f e.0)) (used_heat network e.1)) (λ e. minus rational_zero (term e)) es
     (λ k d inside. let e = get_or es k d in turned (f e.0) (used_heat network e.1)) ∙ rational_sum_by-minus (λ (e : ℕ × Part). rational_zero) term es
     ∙ ap (λ none. minus none (use_at network f parts)) (rational_sum_by-zero (λ (e : ℕ × Part). rational_zero) es (λ k d inside. refl))
@@ -58,8 +57,7 @@ is_member members i = list_any (λ k. i == k) members
 
 meets-member : (of : Side) (reach : ℕ → ℕ → Bool) (members : List ℕ) (i j : ℕ) → joins of reach i j ≡ true → is_member members i ≡ true
     → meets of reach members j ≡ true
-meets-member of reach members i j joined is =
-    let (n, k, inside, at, same) = Any-from_list_any (λ k. i == k) members is in
+meets-member of reach members i j joined is = let (n, k, inside, at, same) = Any-from_list_any (λ k. i == k) members is in
     list_any-from_Any (λ k. joins of reach k j) members (n, k, inside, at, subst (λ m. joins of reach m j ≡ true) (eqb-true i k same) joined)
 
 reach-within : (case : Case) (hot cold : List Part) (a b : ℕ) → reach_between case hot cold a b ≡ true → (a < length hot) × (b < length cold)
@@ -88,8 +86,7 @@ module _ (uses : UsesAreOrdered) (case : Case) (network : Network) (hot cold : L
       (uses case network hot cold (listed (met side.Cold) (length hot)) (listed own (length cold)) complete shape valid parts supporting)
     where
       supporting : IsSupporting reach (listed (met side.Cold) (length hot)) (listed own (length cold))
-      supporting a b reached =
-          let within = reach-within case hot cold a b reached in
+      supporting a b reached = let within = reach-within case hot cold a b reached in
           subst₂ (λ p q. p ≤ℤ q) (sym (price-listed own (length cold) b within.1)) (sym (price-listed (met side.Cold) (length hot) a within.0))
           (one_if-le (is_member members b) (meets side.Cold reach members a) (meets-member side.Cold reach members b a reached))
   members-at_most side.Hot = at_most_from_minus_turned (use_at network own hot) (use_at network (met side.Hot) cold) rational_zero
@@ -98,8 +95,7 @@ module _ (uses : UsesAreOrdered) (case : Case) (network : Network) (hot cold : L
       (listed (λ b. pos 0 -ℤ met side.Hot b) (length cold)) complete shape valid parts supporting))
     where
       supporting : IsSupporting reach (listed (λ a. pos 0 -ℤ own a) (length hot)) (listed (λ b. pos 0 -ℤ met side.Hot b) (length cold))
-      supporting a b reached =
-          let within = reach-within case hot cold a b reached in
+      supporting a b reached = let within = reach-within case hot cold a b reached in
           let less = one_if-le (is_member members a) (meets side.Hot reach members b) (meets-member side.Hot reach members a b reached) in
           subst₂ (λ p q. p ≤ℤ q) (sym (price-listed (λ j. pos 0 -ℤ met side.Hot j) (length cold) b within.1))
           (sym (price-listed (λ i. pos 0 -ℤ own i) (length hot) a within.0)) (omega (arith, ints, less))
@@ -111,8 +107,7 @@ module _ (uses : UsesAreOrdered) (case : Case) (network : Network) (hot cold : L
 -- ---- the need and the offer
 
 members-within : (parts : List Part) (members : List ℕ) → All (λ i. pos 0 <ℤ least_at parts i) members → All (λ i. i < length parts) members
-members-within parts members needing k d inside =
-    let i = get_or members k d in let some = needing k d inside in
+members-within parts members needing k d inside = let i = get_or members k d in let some = needing k d inside in
     ⊎_elim (λ within. within) (λ past. let none : least_at parts i ≡ pos 0 = rw (slice_get_past parts i past) refl in absurd (omega (arith, ints, some, none)))
     (cases_lt i (length parts))
 
@@ -131,8 +126,7 @@ need-at_most network parts members used ordered needing = subst (λ n. IsAtMost 
     taken i = minus (least i) (left_of least members i)
 
     need : whole (need_of parts members) ≡ rational_sum_by (λ (e : ℕ × Part). taken e.0) (enumerate_from 0 parts)
-    need =
-        let numbers = range_with_len 0 (length parts) in let left = rational_sum_by (left_of least members) numbers in let split =
+    need = let numbers = range_with_len 0 (length parts) in let left = rational_sum_by (left_of least members) numbers in let split =
         sum_over_used least members (length parts) (λ i j d less inside same. let rises = ordered i j d less inside in omega (arith, rises, same))
         (members-within parts members needing) in sym (rational_sum_by-whole (least_at parts) (int_sum_by (least_at parts)) refl (λ i is. refl) members)
         ∙ sym (minus-plus (rational_sum_by least members) left) ∙ ap (λ all. minus all left) (sym split)

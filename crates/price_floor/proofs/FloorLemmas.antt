@@ -3,15 +3,16 @@ use Rattle.fractions.proofs.Comparisons.{at_most-plus_plus, at_most-ratio, at_mo
 use Rattle.fractions.proofs.Comparisons.{times-turned}
 use Rattle.price_floor.proofs.Words.{All-contains, All-enumerated, All-head, All-tail, AllPairs, AllPairs-head, AllPairs-tail, AreCaseParts, AreParts, Case}
 use Rattle.price_floor.proofs.Words.{Contains, Contains-cons, IsAtMost, IsInRange, IsPartOf, IsValidNetwork, Network, NoNetworkCostsLess, Part, Rational, Side}
-use Rattle.price_floor.proofs.Words.{Source, UsesAreOrdered, Utility, all_at, at_most-rational_sum_by, by_four, clamps, comes_before, comes_before_source}
-use Rattle.price_floor.proofs.Words.{cost_of, enumerate_from, excess_price, false_from_ne_true, heat_price, heat_with, int_sum_from, ints, least_product, minus}
-use Rattle.price_floor.proofs.Words.{negsuc, one_denominator, own_side, plus, plus-times, plus-zero, pos, price_at, rational_sum_by, rational_sum_by-minus}
-use Rattle.price_floor.proofs.Words.{rational_sum_by-plus, rational_sum_by-same, rational_sum_by-swap, rational_sum_by-zero, rational_zero, same_Some}
-use Rattle.price_floor.proofs.Words.{same_side, same_side-true, same_source, same_source-same, same_source-true, side_value, sum-items, times, times-minus}
-use Rattle.price_floor.proofs.Words.{times_comm, true≢false, use_worth, used_heat, utility_part, value_of, whole, whole-minus, whole-plus, whole-times}
-use Rattle.price_floor.proofs.Words.{worth_of_uses, zero-plus, zero-times, ℤ, ◌*ℤ◌, ◌+ℤ◌, ◌-ℤ◌}
-use Rattle.std.proofs.Common.{All, Bool, List, Some, [], ap, ap₂, arith, eq-eqb, false, get_or, if◌then◌else◌, inl, inr, ne_eqb, refl, slice_get, subst, subst₂}
-use Rattle.std.proofs.Common.{suc, sym, true, zero, ℕ, ⊎_elim, ◌+◌, ◌<◌, ◌==◌, ◌∙◌, ◌∷◌, ◌≡◌}
+use Rattle.price_floor.proofs.Words.{Source, UsesAreOrdered, Utility, all_at, at_most-rational_sum_by, by_four, cases_eq, clamps, comes_before}
+use Rattle.price_floor.proofs.Words.{comes_before_source, cost_of, enumerate_from, excess_price, false_from_ne_true, heat_price, heat_with, int_sum_from, ints}
+use Rattle.price_floor.proofs.Words.{least_product, minus, negsuc, one_denominator, own_side, plus, plus-times, plus-zero, pos, price_at, rational_sum_by}
+use Rattle.price_floor.proofs.Words.{rational_sum_by-minus, rational_sum_by-plus, rational_sum_by-same, rational_sum_by-swap, rational_sum_by-zero}
+use Rattle.price_floor.proofs.Words.{rational_zero, same_Some, same_side, same_side-true, same_source, same_source-same, same_source-true, side_value}
+use Rattle.price_floor.proofs.Words.{slice_get_within, sum-enumerated, sum-items, sum-picked, times, times-minus, times_comm, true≢false, use_worth, used_heat}
+use Rattle.price_floor.proofs.Words.{utility_part, value_of, whole, whole-minus, whole-plus, whole-times, worth_of_uses, zero-plus, zero-times, ℤ, ◌*ℤ◌, ◌+ℤ◌}
+use Rattle.price_floor.proofs.Words.{◌-ℤ◌}
+use Rattle.std.proofs.Common.{All, Bool, List, Some, [], ap, ap₂, arith, false, get_or, if◌then◌else◌, inl, inr, ne_eqb, refl, slice_get, subst, subst₂, suc}
+use Rattle.std.proofs.Common.{sym, true, ℕ, ⊎_elim, ◌+◌, ◌==◌, ◌∙◌, ◌∷◌, ◌≡◌}
 use Rattle.stream_case.specs.declared.source.Side.TheVariants as side
 use Rattle.stream_case.specs.declared.source.Source.TheVariants as source
 
@@ -39,8 +40,7 @@ pub used-within : (case : Case) (network : Network) (places : List ℤ) (on : Si
     → IsPartOf case.streams case.utilities places on p → IsUsedWithin network p
 used-within case network places on p valid (inl (i, s, is)) =
     subst (IsUsedWithin network) (sym is.is) (record { least = at_most_refl _; most = at_most_refl _ })
-used-within case network places on p valid (inr (i, u, is)) =
-    let range : IsInRange u (heat_with network i) = valid.ranges i u is.utility in
+used-within case network places on p valid (inr (i, u, is)) = let range : IsInRange u (heat_with network i) = valid.ranges i u is.utility in
     subst (IsUsedWithin network) (sym is.is) (record { least = range.least; most = range.most })
 
 pub uses-within : (case : Case) (network : Network) (places : List ℤ) (on : Side) (parts : List Part) → IsValidNetwork case network
@@ -53,8 +53,7 @@ uses-within case network places on parts valid are a p at =
 pub whole-int_sum_from : {X : Type 0} (f : ℕ → X → ℤ) (n : ℕ) (xs : List X)
     → whole (int_sum_from f n xs) ≡ rational_sum_by (λ (p : ℕ × X). whole (f p.0 p.1)) (enumerate_from n xs)
 whole-int_sum_from f n [] = refl
-whole-int_sum_from f n (x ∷ xs) =
-    let next : suc n ≡ n + 1 = omega arith in sym (whole-plus (f n x) (int_sum_from f (suc n) xs))
+whole-int_sum_from f n (x ∷ xs) = let next : suc n ≡ n + 1 = omega arith in sym (whole-plus (f n x) (int_sum_from f (suc n) xs))
     ∙ ap (plus (whole (f n x))) (whole-int_sum_from f (suc n) xs ∙ ap (λ k. rational_sum_by (λ p. whole (f p.0 p.1)) (enumerate_from k xs)) next)
 
 -- what a part is used for costs
@@ -106,23 +105,14 @@ side_value-at_most network on parts prices within = subst₂ IsAtMost (sym (whol
 -- ---- the cost of a network, part by part
 
 -- the one member that has a number
-module _ {X : Type 0} (f : ℕ × X → Rational) (i : ℕ) where
-  abbrev numbered : ℕ × X → Rational
-  numbered e = if i == e.0 then f e else rational_zero
-
-  numbered-behind : (n : ℕ) (xs : List X) → i < n → rational_sum_by numbered (enumerate_from n xs) ≡ rational_zero
-  numbered-behind n [] less = refl
-  numbered-behind n (x ∷ xs) less = ap₂ plus (ap (λ b. if b then f (n, x) else rational_zero) (ne_eqb i n (λ same. absurd (omega (arith, less, same)))))
-      (numbered-behind (n + 1) xs (omega (arith, less))) ∙ plus-zero rational_zero
-
-  numbered-one : (n k : ℕ) (xs : List X) (x : X) → n + k ≡ i → slice_get xs k ≡ Some x → rational_sum_by numbered (enumerate_from n xs) ≡ f (i, x)
-  numbered-one n k [] x is at = cc at
-  numbered-one n zero (y ∷ xs) x is at =
-      let here : i ≡ n = omega (arith, is) in let same : y ≡ x = cc at in
-      ap₂ plus (ap (λ b. if b then f (n, y) else rational_zero) (eq-eqb i n here)) (numbered-behind (n + 1) xs (omega (arith, is))) ∙ plus-zero (f (n, y))
-      ∙ (λ j. f (sym here j, same j))
-  numbered-one n (suc k) (y ∷ xs) x is at = ap₂ plus (ap (λ b. if b then f (n, y) else rational_zero) (ne_eqb i n (λ same. absurd (omega (arith, is, same)))))
-      (numbered-one (n + 1) k xs x (omega (arith, is)) at) ∙ zero-plus (f (i, x))
+numbered-one : {X : Type 0} (f : ℕ × X → Rational) (i : ℕ) (xs : List X) (x : X) → slice_get xs i ≡ Some x
+    → rational_sum_by (λ e. if i == e.0 then f e else rational_zero) (enumerate_from 0 xs) ≡ f (i, x)
+numbered-one {X} f i xs x here = sum-enumerated (λ e. if i == e.0 then f e else rational_zero) (λ e. if i == e.0 then f (i, x) else rational_zero) xs same
+    ∙ sum-picked i (f (i, x)) xs (slice_get_within xs i x here)
+  where
+    same : (k : ℕ) (y : X) → slice_get xs k ≡ Some y → (if i == k then f (k, y) else rational_zero) ≡ (if i == k then f (i, x) else rational_zero)
+    same k y at = ⊎_elim (λ is. ap₂ (λ n z. if i == k then f (n, z) else rational_zero) (sym is)
+        (same_Some y x (sym at ∙ ap (slice_get xs) (sym is) ∙ here))) (λ other. rw (ne_eqb i k other) refl) (cases_eq i k)
 
 -- the cost of a utility where it is this source
 abbrev own_price : Network → Source → ℕ × Utility → Rational
@@ -135,7 +125,7 @@ part_cost-is case network places on p (inl (i, s, is)) =
     (zero-times (whole _) ∙ sym (rational_sum_by-zero (own_price network (source.Stream i)) (enumerate_from 0 case.utilities) (λ k d inside. refl)))
 part_cost-is case network places on p (inr (i, u, is)) =
     subst (λ (q : Part). part_cost network q ≡ rational_sum_by (own_price network q.source) (enumerate_from 0 case.utilities)) (sym is.is)
-    (sym (numbered-one (heat_price network) i 0 i case.utilities u (omega arith) is.utility))
+    (sym (numbered-one (heat_price network) i case.utilities u is.utility))
 
 not_before_itself : (p : Part) → comes_before p p → ⊥
 not_before_itself p (inl less) = omega (arith, ints, less)
@@ -225,8 +215,7 @@ both_sides network e = by e.1.side
 cost-is : (case : Case) (network : Network) (hot cold : List Part) → AreCaseParts case hot cold
     → plus (rational_sum_by (part_cost network) hot) (rational_sum_by (part_cost network) cold) ≡ cost_of case network
 unfolding cost_of
-cost-is case network hot cold parts =
-    let us = enumerate_from 0 case.utilities in
+cost-is case network hot cold parts = let us = enumerate_from 0 case.utilities in
     ap₂ plus (side_cost-is case network parts.grid side.Hot hot parts.hot_parts) (side_cost-is case network parts.grid side.Cold cold parts.cold_parts)
     ∙ sym (rational_sum_by-plus (side_price network side.Hot) (side_price network side.Cold) us)
     ∙ rational_sum_by-same (λ e. plus (side_price network side.Hot e) (side_price network side.Cold e)) (heat_price network) us

@@ -2,6 +2,5 @@ pub mod UsesLemmas
 pub mod FloorLemmas
 pub mod CutLemmas
 pub mod NetworkWorth
-pub mod PartSums
 pub mod StepsOfParts
 pub mod Words

@@ -10,18 +10,19 @@ use Rattle.price_floor.proofs.Words.{heat_over-sensible, heat_with, height_at, h
 use Rattle.price_floor.proofs.Words.{hot_worth, inlet_height, int_le-from, int_sum_by, int_sum_by-same, ints, is_above, is_above-whole, is_latent}
 use Rattle.price_floor.proofs.Words.{is_latent-latent, is_latent-sensible, item_at, last_part_of_load, last_value, length_above, level-latent, load_over}
 use Rattle.price_floor.proofs.Words.{low_end, made_parts, minus, minus-zero, mix_loss, not_negative-rational_sum_by, option_map_or, order-sensible}
-use Rattle.price_floor.proofs.Words.{other_source, outlet_height, own_side, pass_loss, passes_by_side, plus, plus-times, plus-zero, plus_swap_right, pos}
-use Rattle.price_floor.proofs.Words.{rational_sum_by, rational_sum_by-plus, rational_sum_by-same, rational_sum_by-whole, rational_sum_by-zero, rational_zero}
-use Rattle.price_floor.proofs.Words.{released_heat, run_of, run_on_scale, same_side, same_side-true, same_source, same_source-same, same_source-true, seen_from}
-use Rattle.price_floor.proofs.Words.{sensible_above, share, share_in, shares_parts, shares_rise, shifted, shifted_level, shifted_run, side_of, side_run}
-use Rattle.price_floor.proofs.Words.{side_taken, sides_taken, source_on, step_worth, stream_at, stream_loss, stream_within, subst₂, sum-filter_map, sum-items}
-use Rattle.price_floor.proofs.Words.{there_and_back, times, times-minus, unshifted, used_by, used_there, uses, utility_part, utility_worth, value_at}
-use Rattle.price_floor.proofs.Words.{value_worth, views_of, weight_at, weight_balance, whole, whole-minus, whole-times, zero-plus, ◌*ℤ◌, ◌+ℤ◌, ◌-ℤ◌, ◌≤ℤ◌}
+use Rattle.price_floor.proofs.Words.{other_source, outlet_height, own_side, part-own, pass_loss, passes_by_side, plus, plus-times, plus-zero, plus_swap_right}
+use Rattle.price_floor.proofs.Words.{pos, rational_sum_by, rational_sum_by-plus, rational_sum_by-same, rational_sum_by-whole, rational_sum_by-zero}
+use Rattle.price_floor.proofs.Words.{rational_zero, released_heat, run_of, run_on_scale, same_side, same_side-true, same_source, same_source-same}
+use Rattle.price_floor.proofs.Words.{same_source-true, seen_from, sensible_above, share, share_in, shares_parts, shares_rise, shifted, shifted_level}
+use Rattle.price_floor.proofs.Words.{shifted_run, side_of, side_run, side_taken, sides_taken, source_on, step_worth, stream_at, stream_loss, stream_within}
+use Rattle.price_floor.proofs.Words.{subst₂, sum-filter_map, sum-items, there_and_back, times, times-minus, unshifted, used_by, used_there, uses, utility_part}
+use Rattle.price_floor.proofs.Words.{utility_worth, value_at, value_worth, views_of, weight_at, weight_balance, whole, whole-minus, whole-times, zero-plus}
+use Rattle.price_floor.proofs.Words.{◌*ℤ◌, ◌+ℤ◌, ◌-ℤ◌, ◌≤ℤ◌}
 use Rattle.std.proofs.Common.{All, AllPairs, Bool, Contains, List, None, Option, Some, ap, ap₂, arith, false, get_or, if◌then◌else◌, inl, inr, is_some, length}
-use Rattle.std.proofs.Common.{refl, slice_get, subst, sym, true, unwrap_or, ℕ, ℤ, ⊎_elim, ◌<ℤ◌, ◌<◌, ◌==◌, ◌||◌, ◌∙◌, ◌≡◌}
-use Rattle.price_floor.proofs.PartSums.{before-not, of_source, own_over, own_worth, part_worth, stream_parts-are, sum-by_source, sum-single}
-use Rattle.price_floor.proofs.StepsOfParts.{AreRising, HasEnds, IsLowest, from_place, stands, stands_lowest, step-none, step-same, step-sum, step_worth-at_most}
-use Rattle.price_floor.proofs.StepsOfParts.{step_worth-minus, step_worth-ordered, step_worth-plus, step_worth-same, stood, views-places}
+use Rattle.std.proofs.Common.{refl, slice_get, subst, sym, true, unwrap_or, ℕ, ℤ, ⊎_elim, ◌<ℤ◌, ◌<◌, ◌==◌, ◌∙◌, ◌≡◌}
+use Rattle.price_floor.proofs.StepsOfParts.{AreRising, HasEnds, IsLowest, before-not, from_place, of_source, own_over, own_worth, part_worth, stands}
+use Rattle.price_floor.proofs.StepsOfParts.{stands_lowest, step-none, step-same, step-sum, step_worth-at_most, step_worth-minus, step_worth-ordered}
+use Rattle.price_floor.proofs.StepsOfParts.{step_worth-plus, step_worth-same, stood, stream_parts-are, sum-by_source, sum-single, views-places}
 use Rattle.fractions.proofs.Comparisons.{Decides-is_below, Decides-is_le, at_most-plus_plus, at_most-plus_right, at_most-whole, at_most_from_not_negative}
 use Rattle.fractions.proofs.Comparisons.{at_most_from_same, at_most_refl, at_most_trans, below-whole, below_at_most_trans, not_negative-minus, positive-minus}
 use Rattle.network_values.proofs.PenaltyLemmas.{stream_given}
@@ -37,8 +38,7 @@ module _ (case : Case) (least : ℤ) (views : List View) (prices : Side → Sour
       by : (o : Option Stream) → value_worth least views prices i o (record { cp = plus f g; t = t })
           ≡ plus (value_worth least views prices i o (record { cp = f; t = t })) (value_worth least views prices i o (record { cp = g; t = t }))
       by None = sym (plus-zero rational_zero)
-      by (Some s) =
-          let p = prices s.side (source.Stream i) in let height = λ (size : Rational) (v : View). height_in v s (record { cp = size; t = t }) in
+      by (Some s) = let p = prices s.side (source.Stream i) in let height = λ (size : Rational) (v : View). height_in v s (record { cp = size; t = t }) in
           step_worth-same least views p _ (plus (times f t) (times g t)) _ (λ v. plus (height f v) (height g v)) (plus-times f g t)
           (λ v. height_on-additive v.from_itself (course_of v.place s) f g t) ∙ step_worth-plus least views p (times f t) (times g t) (height f) (height g)
 
@@ -171,8 +171,7 @@ change_given s x valid under = ⊎_elim sensible latent valid.heat
         ∙ ap (λ heat. whole (given_by s.side heat)) (sym (heat_over-sensible true x s h))
 
     latent : IsLatent s → change_of s (is_latent s) (full_size s) ≡ whole (given_by s.side (heat_over true x s))
-    latent h =
-        let level = level-latent s h in ap₂ (change_of s) (is_latent-latent s h) (full_size-latent s h) ∙ latent_change s x (omega (arith, ints))
+    latent h = let level = level-latent s h in ap₂ (change_of s) (is_latent-latent s h) (full_size-latent s h) ∙ latent_change s x (omega (arith, ints))
         ∙ ap (λ heat. whole (given_by s.side heat)) (sym (heat_over-latent true x s h))
 
 -- ---- heats on a side
@@ -222,11 +221,9 @@ module _ (network : Network) (least : ℤ) (views : List View) (prices : Side �
           (λ v. whole (if stands p v then p.least else pos 0)) refl (λ k d within. if_whole (stands p (get_or views k d)))
       by false same = sym (step-none least views (prices on (source.Stream i)))
 
-  own-sum : (parts : List Part)
-      → rational_sum_by (own_worth least views prices network on (source.Stream i)) parts
+  own-sum : (parts : List Part) → rational_sum_by (own_worth least views prices network on (source.Stream i)) parts
       ≡ priced_heat (int_sum_by (own_least i) parts) (λ v. int_sum_by (over v) parts)
-  own-sum parts =
-      let q = prices on (source.Stream i) in
+  own-sum parts = let q = prices on (source.Stream i) in
       rational_sum_by-same (own_worth least views prices network on (source.Stream i)) (λ p. priced_heat (own_least i p) (λ v. over v p)) parts
       (λ k d within. own-heat (get_or parts k d)) ∙ step-sum least views q (λ p. whole (own_least i p)) (λ p v. whole (over v p)) parts
       ∙ step-same least views q (rational_sum_by (λ p. whole (own_least i p)) parts) (whole (int_sum_by (own_least i) parts))
@@ -268,16 +265,14 @@ module _ (case : Case) (network : Network) (least : ℤ) (grid : List ℤ) (pric
       ≡ step_worth least (views_of grid) (prices s.side (source.Stream i)) (whole (given_by s.side (seen (from_place lowest))))
       (λ v. whole (given_by s.side (seen v)))
   unfolding branch_worth
-  loss_given under =
-      let views = views_of grid in let q = prices s.side (source.Stream i) in let first = first_value s in let last = last_value s in
+  loss_given under = let views = views_of grid in let q = prices s.side (source.Stream i) in let first = first_value s in let last = last_value s in
       ap (λ o. minus (value_worth least views prices i o first) (value_worth least views prices i o last)) at
       ∙ sym (step_worth-minus least views q (times first.cp first.t) (times last.cp last.t) (λ v. height_in v s first) (λ v. height_in v s last))
       ∙ step-same least views q (minus (times first.cp first.t) (times last.cp last.t)) (whole (given_by s.side (seen (from_place lowest))))
       (λ v. minus (height_in v s first) (height_in v s last)) (λ v. whole (given_by s.side (seen v))) (change_given s lowest valid under)
       (λ k d within. stream_given (get_or views k d) s valid)
 
-  pub stream_worth-is : lowest ≤ℤ low_end s → (hot cold : List Part)
-      → hot ≡ made_parts case.streams case.utilities side.Hot grid → All (HasEnds grid) hot
+  pub stream_worth-is : lowest ≤ℤ low_end s → (hot cold : List Part) → hot ≡ made_parts case.streams case.utilities side.Hot grid → All (HasEnds grid) hot
       → cold ≡ made_parts case.streams case.utilities side.Cold grid → All (HasEnds grid) cold
       → stream_loss (branch_worth case least (views_of grid) prices) (i, s)
       ≡ minus (rational_sum_by (own_worth least (views_of grid) prices network side.Hot (source.Stream i)) hot)
@@ -302,18 +297,8 @@ own_duty on k e = if same_source (source_on on e) (source.Utility k) then e.duty
 
 duty-own : (case : Case) (on : Side) (k : ℕ) (u : Utility) (e : Exchanger) → IsExchanger case e → slice_get case.utilities k ≡ Some u → u.side ≡ on
     → unwrap_or (duty_with k e) rational_zero ≡ own_duty on k e
-duty-own case side.Hot k u e is at side_is = ap (λ b. unwrap_or (if same_source e.hot (source.Utility k) || b then Some e.duty else None) rational_zero)
-    (other_source case e.cold side.Cold k u is.cold at (λ wrong. cc)) ∙ one (same_source e.hot (source.Utility k))
-  where
-    one : (b : Bool) → unwrap_or (if b || false then Some e.duty else None) rational_zero ≡ (if b then e.duty else rational_zero)
-    one true = refl
-    one false = refl
-duty-own case side.Cold k u e is at side_is = ap (λ b. unwrap_or (if b || same_source e.cold (source.Utility k) then Some e.duty else None) rational_zero)
-    (other_source case e.hot side.Hot k u is.hot at (λ wrong. cc)) ∙ one (same_source e.cold (source.Utility k))
-  where
-    one : (b : Bool) → unwrap_or (if b then Some e.duty else None) rational_zero ≡ (if b then e.duty else rational_zero)
-    one true = refl
-    one false = refl
+duty-own case on k u e is at side_is = let same : same_side u.side on ≡ true = ap (λ s. same_side s on) side_is ∙ own_side on in
+    sym (ap (λ b. if b then unwrap_or (duty_with k e) rational_zero else rational_zero) same) ∙ part-own case e on k u is at
 
 heat-own : (case : Case) (network : Network) (on : Side) (k : ℕ) (u : Utility) → HasShape case network → slice_get case.utilities k ≡ Some u → u.side ≡ on
     → rational_sum_by (own_duty on k) (exchangers_of network.lines) ≡ heat_with network k
@@ -321,6 +306,10 @@ unfolding duties_with
 heat-own case network on k u shape at side_is =
     let es = exchangers_of network.lines in rational_sum_by-same (own_duty on k) (λ e. unwrap_or (duty_with k e) rational_zero) es
     (λ n d within. sym (duty-own case on k u (get_or es n d) (shape.exchangers.each n d within) at side_is)) ∙ sym (sum-filter_map (duty_with k) es)
+
+if_either : {A : Type 0} (b : Bool) (x : A) → (if b then x else x) ≡ x
+if_either true x = refl
+if_either false x = refl
 
 -- ---- the run of a utility is the level of its part
 
@@ -339,11 +328,7 @@ module _ (case : Case) (network : Network) (values : Valuation) (on : Side) (num
 
   share-stood : (v : View) (duty : Rational) → share_in v duty (shifted_run on case network values number (source.Utility k)) ≡ stood (utility_part k u) duty v
   share-stood v duty = ap (share_in v duty) run-is ∙ ap (λ b. if b then duty else rational_zero)
-      (is_above-whole v.from_itself v.place (shifted_level u) ∙ ap (counts_above v.from_itself v.place) (sym (either v.from_itself)))
-    where
-      either : (b : Bool) → (if b then shifted_level u else shifted_level u) ≡ shifted_level u
-      either true = refl
-      either false = refl
+      (is_above-whole v.from_itself v.place (shifted_level u) ∙ ap (counts_above v.from_itself v.place) (sym (if_either v.from_itself (shifted_level u))))
 
 -- ---- duties at step prices
 
@@ -367,10 +352,6 @@ module _ (case : Case) (network : Network) (values : Valuation) (least : ℤ) (v
     duty-stood : u.side ≡ on → (e : ℕ × Exchanger) → of_source side_source duty_worth (source.Utility k) e ≡ stood_worth (own_duty on k e.1)
     duty-stood side_is e = by (same_source (source_on on e.1) (source.Utility k)) (same_source-true (source_on on e.1) (source.Utility k))
       where
-        nothing : (b : Bool) → rational_zero ≡ (if b then rational_zero else rational_zero)
-        nothing true = refl
-        nothing false = refl
-
         by : (b : Bool) → (b ≡ true → source_on on e.1 ≡ source.Utility k)
             → (if b then duty_worth e else rational_zero) ≡ stood_worth (if b then e.1.duty else rational_zero)
         by true same = ap (utility_worth case network values least views prices on e.0 e.1.duty) (same refl)
@@ -379,12 +360,11 @@ module _ (case : Case) (network : Network) (values : Valuation) (least : ℤ) (v
             (λ n d within. share-stood case network values on e.0 k u at side_is (get_or views n d) e.1.duty)
         by false same = sym (step-none least views (prices on (source.Utility k)))
             ∙ step-same least views (prices on (source.Utility k)) rational_zero rational_zero (λ v. rational_zero) (stood (utility_part k u) rational_zero)
-            refl (λ n d within. nothing (stands (utility_part k u) (get_or views n d)))
+            refl (λ n d within. sym (if_either (stands (utility_part k u) (get_or views n d)) rational_zero))
 
     -- the duties of a utility of the side are worth what its part is worth
     duties-worth : HasShape case network → u.side ≡ on → duties_of k ≡ part_worth least views prices network on (utility_part k u)
-    duties-worth shape side_is =
-        let es = exchangers_of network.lines in let numbered = enumerate_from 0 es in let q = prices on (source.Utility k) in
+    duties-worth shape side_is = let es = exchangers_of network.lines in let numbered = enumerate_from 0 es in let q = prices on (source.Utility k) in
         let duty = λ (e : ℕ × Exchanger). own_duty on k e.1 in let heat = heat_with network k in let total : rational_sum_by duty numbered ≡ heat =
         sum-items duty (own_duty on k) es (λ n e here. refl) ∙ heat-own case network on k u shape at side_is in
         rational_sum_by-same (of_source side_source duty_worth (source.Utility k))
@@ -409,8 +389,7 @@ module _ (case : Case) (network : Network) (values : Valuation) (least : ℤ) (v
     part-is : (places : List ℤ) (p : Part) → IsPartOf case.streams case.utilities places on p → p.source ≡ source.Utility k
         → (p ≡ utility_part k u) × (u.side ≡ on)
     part-is places p (inl (i, s, h)) of = let from : p.source ≡ source.Stream i = ap (λ (r : Part). r.source) h.is in absurd (cc)
-    part-is places p (inr (j, w, h)) of =
-        let from : p.source ≡ source.Utility j = ap (λ (r : Part). r.source) h.is in let number : j ≡ k = cc in
+    part-is places p (inr (j, w, h)) of = let from : p.source ≡ source.Utility j = ap (λ (r : Part). r.source) h.is in let number : j ≡ k = cc in
         let found : Some w ≡ Some u = sym h.utility ∙ ap (slice_get case.utilities) number ∙ at in let utility : w ≡ u = cc in
         (h.is ∙ ap₂ utility_part number utility, sym (ap (λ (r : Utility). r.side) utility) ∙ h.side_is)
 
@@ -421,8 +400,7 @@ module _ (case : Case) (network : Network) (values : Valuation) (least : ℤ) (v
     -- its part among the parts of the side
     part-once : (places : List ℤ) (parts : List Part) → AreParts case.streams case.utilities places on parts → u.side ≡ on
         → rational_sum_by (own_worth least views prices network on (source.Utility k)) parts ≡ part_worth least views prices network on (utility_part k u)
-    part-once places parts are side_is =
-        let own = utility_part k u in sum-single (own_worth least views prices network on (source.Utility k)) parts own
+    part-once places parts are side_is = let own = utility_part k u in sum-single (own_worth least views prices network on (source.Utility k)) parts own
         (λ i j d less within. before-not (get_or parts i d) (get_or parts j d) (are.ordered i j d less within))
         (are.every own (inr (k, u, record { utility = at; side_is = side_is; is = refl })))
         (λ n d within differ. own-none (get_or parts n d) (λ of. differ (part-is places (get_or parts n d) (are.each n d within) of).0))
@@ -448,8 +426,7 @@ module _ (case : Case) (network : Network) (values : Valuation) (least : ℤ) (v
   -- what the exchangers have with streams of the side is no utility's
   pub duty_worth-by : HasShape case network
       → rational_sum_by duty_worth (enumerate_from 0 (exchangers_of network.lines)) ≡ rational_sum_by (λ e. duties_of e.0) (enumerate_from 0 case.utilities)
-  duty_worth-by shape =
-      let es = enumerate_from 0 (exchangers_of network.lines) in
+  duty_worth-by shape = let es = enumerate_from 0 (exchangers_of network.lines) in
       let utilities = rational_sum_by (λ (e : ℕ × Utility). duties_of e.0) (enumerate_from 0 case.utilities) in sum-by_source case side_source duty_worth es
       (All-enumerated (λ (e : ℕ × Exchanger). IsSourceOf case (source_on on e.1)) (exchangers_of network.lines)
       (λ n e here. IsSourceOf-side case (source_on on e)
@@ -462,14 +439,10 @@ module _ (case : Case) (network : Network) (values : Valuation) (least : ℤ) (v
       nothing : (i : ℕ) (e : ℕ × Exchanger) → of_source side_source duty_worth (source.Stream i) e ≡ rational_zero
       nothing i e = by (source_on on e.1)
         where
-          if_same : (b : Bool) → (if b then rational_zero else rational_zero) ≡ rational_zero
-          if_same true = refl
-          if_same false = refl
-
           by : (s : Source)
               → (if same_source s (source.Stream i) then utility_worth case network values least views prices on e.0 e.1.duty s else rational_zero)
               ≡ rational_zero
-          by (source.Stream j) = if_same (j == i)
+          by (source.Stream j) = if_either (j == i) rational_zero
           by (source.Utility j) = refl
 
 -- The worths of a network are ordered.
@@ -489,8 +462,7 @@ share-strictly_lower v w duty (Between size low high) positive has lower =
 share-strictly_lower v w duty (Level at) positive has lower = by (is_above true (minus at (whole v))) refl
   where
     by : (b : Bool) → is_above true (minus at (whole v)) ≡ b → IsAtMost (if b then duty else rational_zero) (share false duty (Level (minus at (whole w))))
-    by true above =
-        let more = higher_distance at v w lower ((Decides-is_le rational_zero (minus at (whole v))).0 above) in
+    by true above = let more = higher_distance at v w lower ((Decides-is_le rational_zero (minus at (whole v))).0 above) in
         at_most_from_same _ _ (ap (λ b. if b then duty else rational_zero) (sym ((Decides-is_below rational_zero (minus at (whole w))).1 more)))
     by false other = (shares_parts false (whole w) duty (Level at) positive tt).least
 
@@ -543,8 +515,7 @@ module _ (case : Case) (network : Network) (values : Valuation) (least : ℤ) (v
     -- the cold side is worth no more than the hot one
     sides_ordered : (number : ℕ) (e : Exchanger) → slice_get (exchangers_of network.lines) number ≡ Some e
         → IsAtMost (sold side.Cold number e.duty e.cold) (sold side.Hot number e.duty e.hot)
-    sides_ordered number e at =
-        let runs = run_on_scale shape whole_values number e at in let hot = shifted_run side.Hot case network values number e.hot in
+    sides_ordered number e at = let runs = run_on_scale shape whole_values number e at in let hot = shifted_run side.Hot case network values number e.hot in
         let cold = shifted_run side.Cold case network values number e.cold in
         let open_match = all_at (IsPermitted case) (exchangers_of network.lines) number e permitted at in
         let dearer = step_worth-ordered least views (prices side.Cold e.cold) (prices side.Hot e.hot) (ordered.falls side.Cold e.cold)
@@ -567,8 +538,7 @@ module _ (case : Case) (network : Network) (values : Valuation) (least : ℤ) (v
 
     exchanger_ordered : (number : ℕ) (e : Exchanger) → slice_get (exchangers_of network.lines) number ≡ Some e
         → IsAtMost (cold_bought (number, e)) (plus (taken (number, e)) (hot_bought (number, e)))
-    exchanger_ordered number e at =
-        let valid = all_at (IsExchanger case) (exchangers_of network.lines) number e shape.exchangers.each at in
+    exchanger_ordered number e at = let valid = all_at (IsExchanger case) (exchangers_of network.lines) number e shape.exchangers.each at in
         let all_hot = hot_given number e at e.hot refl valid.hot in let all_cold = cold_given number e at e.cold refl valid.cold in
         let sides = plus_swap_right (lost number e.hot) (lost number e.cold) (hot_bought (number, e)) ∙ ap (λ x. plus x (lost number e.cold)) all_hot in
         subst₂ IsAtMost (sym all_cold) (sym sides) (at_most-plus_plus _ _ _ _ (sides_ordered number e at) (at_most_refl (lost number e.cold)))
@@ -583,12 +553,10 @@ module _ (case : Case) (network : Network) (values : Valuation) (least : ℤ) (v
         (λ k d within. mix_worth case least views prices shape whole_values ordered.falls (get_or network.lines k d)
         (used_there shape.made_once shape.made_first k d within) (shape.one_stream k d within) (all_solved whole_values k d within))
 
-    worths-ordered : AreEnded case network values
-        → IsAtMost (rational_sum_by cold_bought (enumerate_from 0 (exchangers_of network.lines)))
+    worths-ordered : AreEnded case network values → IsAtMost (rational_sum_by cold_bought (enumerate_from 0 (exchangers_of network.lines)))
         (plus (rational_sum_by (stream_loss (branch_worth case least views prices)) (enumerate_from 0 case.streams))
         (rational_sum_by hot_bought (enumerate_from 0 (exchangers_of network.lines))))
-    worths-ordered ended =
-        let es = enumerate_from 0 (exchangers_of network.lines) in let passes = rational_sum_by (pass_loss weigh) network.lines in
+    worths-ordered ended = let es = enumerate_from 0 (exchangers_of network.lines) in let passes = rational_sum_by (pass_loss weigh) network.lines in
         let mixes = rational_sum_by (mix_loss weigh) network.lines in let hot = rational_sum_by hot_bought es in
         let balance = weight_balance case network values (branch_worth case least views prices) shape whole_values ended
         (branch_worth-additive case least views prices) in let each = at_most-rational_sum_by cold_bought (λ p. plus (taken p) (hot_bought p)) es

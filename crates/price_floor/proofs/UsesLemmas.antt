@@ -9,9 +9,8 @@ use Rattle.price_floor.proofs.Words.{int_min, ints, low_end, minus, parts_on_gri
 use Rattle.price_floor.proofs.Words.{price_steps, rational_sum_by, rational_sum_by-minus, rational_zero, reach_between, side_of_part, stream_loss}
 use Rattle.price_floor.proofs.Words.{sum-enumerated, sum-items, times, use_worth, used_by, used_heat, views_of, whole, worth_of_uses, ℤ, ◌<ℤ◌, ◌≤ℤ◌}
 use Rattle.price_floor.proofs.NetworkWorth.{duties_of, duty_worth, duty_worth-by, stream_worth-is, utility_worth-is, worths_ordered}
-use Rattle.price_floor.proofs.PartSums.{own_worth, part_worth, sum-by_source}
-use Rattle.price_floor.proofs.StepsOfParts.{HasEnds, cold_price, hot_price, leaves_own, own_view, some_lowest, step-part, steps_are_ordered, steps_fall}
-use Rattle.price_floor.proofs.StepsOfParts.{views-fall}
+use Rattle.price_floor.proofs.StepsOfParts.{HasEnds, cold_price, hot_price, leaves_own, own_view, own_worth, part_worth, some_lowest, step-part}
+use Rattle.price_floor.proofs.StepsOfParts.{steps_are_ordered, steps_fall, sum-by_source, views-fall}
 use Rattle.std.proofs.Common.{All, AllPairs, Contains, List, Some, [], ap, ap₂, arith, inl, inr, is_some, refl, slice_get, subst, suc, sym, zero, ℕ, ◌∙◌, ◌∷◌}
 use Rattle.std.proofs.Common.{◌≡◌}
 use Rattle.stream_case.specs.declared.source.Side.TheVariants as side
@@ -32,10 +31,8 @@ least_price-least (x ∷ xs) (suc a) = let rest = least_price-least xs a in omeg
 -- ---- the parts on a grid
 
 module _ (case : Case) (network : Network) (hot cold : List Part) (y z : List ℤ) (complete : IsComplete case) (shape : HasShape case network)
-    (valid : IsValidNetwork case network)
-    (grid : List ℤ) (is_grid : IsGrid case grid) (hot_parts : AreParts case.streams case.utilities grid side.Hot hot)
-    (cold_parts : AreParts case.streams case.utilities grid side.Cold cold)
-    (hot_ends : All (HasEnds grid) hot) (cold_ends : All (HasEnds grid) cold) where
+    (valid : IsValidNetwork case network) (grid : List ℤ) (is_grid : IsGrid case grid) (hot_parts : AreParts case.streams case.utilities grid side.Hot hot)
+    (cold_parts : AreParts case.streams case.utilities grid side.Cold cold) (hot_ends : All (HasEnds grid) hot) (cold_ends : All (HasEnds grid) cold) where
   abbrev least : ℤ
   least = least_price y
 
@@ -57,12 +54,10 @@ module _ (case : Case) (network : Network) (hot cold : List Part) (y z : List �
   -- ---- uses are not negative
 
   not_negative-used : (on : Side) (p : Part) → IsPartOf case.streams case.utilities grid on p → IsAtMost rational_zero (used_heat network p)
-  not_negative-used on p (inl (i, s, h)) =
-      let from : source.Stream i ≡ p.source = sym (ap (λ (r : Part). r.source) h.is) in let bounded =
+  not_negative-used on p (inl (i, s, h)) = let from : source.Stream i ≡ p.source = sym (ap (λ (r : Part). r.source) h.is) in let bounded =
       IsBounded-part case.streams case.utilities on grid (AreStreams-IsComplete case complete).each (IsPlaced-IsComplete case complete) holds p
       (inl (i, s, h)) in subst (λ r. IsAtMost rational_zero (used_by network p.least r)) from (at_most-whole (pos 0) p.least bounded.least.from)
-  not_negative-used on p (inr (k, u, h)) =
-      let from : source.Utility k ≡ p.source = sym (ap (λ (r : Part). r.source) h.is) in
+  not_negative-used on p (inr (k, u, h)) = let from : source.Utility k ≡ p.source = sym (ap (λ (r : Part). r.source) h.is) in
       let placed = All-slice_get IsPlaced case.utilities k u (IsPlaced-IsComplete case complete) h.utility in
       subst (λ r. IsAtMost rational_zero (used_by network p.least r)) from
       (at_most_trans rational_zero (whole u.least) (heat_with network k) (at_most-whole (pos 0) u.least placed.least.from) (valid.ranges k u h.utility).least)
@@ -75,8 +70,7 @@ module _ (case : Case) (network : Network) (hot cold : List Part) (y z : List �
       (steps_fall case least z cold grid falls cold_ends on p.source).last (leaves_own grid p falls own)
 
   cold_part : (b : ℕ) (p : Part) → slice_get cold b ≡ Some p → IsAtMost (use_worth network z (b, p)) (worth side.Cold p)
-  cold_part b p at =
-      let own = All-slice_get (HasEnds grid) cold b p cold_ends at in let price = (prices side.Cold p.source).below (own_view grid p own) in
+  cold_part b p at = let own = All-slice_get (HasEnds grid) cold b p cold_ends at in let price = (prices side.Cold p.source).below (own_view grid p own) in
       subst (IsAtMost (use_worth network z (b, p))) (sym (worth-is side.Cold p own)) (at_most-times (whole (price_at z b)) (whole price) (used_heat network p)
       (not_negative-used side.Cold p (All-slice_get (IsPartOf case.streams case.utilities grid side.Cold) cold b p cold_parts.each at))
       (at_most-whole (price_at z b) price (cold_price case least z cold grid falls cold_ends b p at own)))
@@ -115,8 +109,7 @@ module _ (case : Case) (network : Network) (hot cold : List Part) (y z : List �
   -- the streams lose what the parts of the hot ones are worth, less what those of the cold ones are worth
   streams_lose : rational_sum_by (stream_loss (branch_worth case least views prices)) (enumerate_from 0 case.streams)
       ≡ minus (of_streams side.Hot hot) (of_streams side.Cold cold)
-  streams_lose =
-      let hots = λ (e : ℕ × Stream). rational_sum_by (own_worth least views prices network side.Hot (source.Stream e.0)) hot in
+  streams_lose = let hots = λ (e : ℕ × Stream). rational_sum_by (own_worth least views prices network side.Hot (source.Stream e.0)) hot in
       let colds = λ (e : ℕ × Stream). rational_sum_by (own_worth least views prices network side.Cold (source.Stream e.0)) cold in
       sum-enumerated (stream_loss (branch_worth case least views prices)) (λ e. minus (hots e) (colds e)) case.streams one
       ∙ rational_sum_by-minus hots colds (enumerate_from 0 case.streams)
@@ -124,8 +117,7 @@ module _ (case : Case) (network : Network) (hot cold : List Part) (y z : List �
       one : (i : ℕ) (s : Stream) → slice_get case.streams i ≡ Some s → stream_loss (branch_worth case least views prices) (i, s)
           ≡ minus (rational_sum_by (own_worth least views prices network side.Hot (source.Stream i)) hot)
           (rational_sum_by (own_worth least views prices network side.Cold (source.Stream i)) cold)
-      one i s at =
-          let ends = All-slice_get (λ (r : Stream). Contains grid (high_end r) × Contains grid (low_end r)) case.streams i s
+      one i s at = let ends = All-slice_get (λ (r : Stream). Contains grid (high_end r) × Contains grid (low_end r)) case.streams i s
           (holds_ends case.streams case.utilities grid holds) at in let (lowest, low) = some_lowest grid (low_end s) falls ends.1 in
           let under = All-contains (λ x. lowest ≤ℤ x) grid (low_end s) low.each ends.1 in stream_worth-is case network least grid prices holds lowest low i s at
           (All-slice_get IsValidStream case.streams i s (AreStreams-IsComplete case complete).each at) under hot cold
@@ -141,8 +133,7 @@ module _ (case : Case) (network : Network) (hot cold : List Part) (y z : List �
       (at_most-plus_plus c (plus (minus a b) e) b b h (at_most_refl b)))
 
   sides_ordered : IsAtMost (rational_sum_by (worth side.Cold) cold) (rational_sum_by (worth side.Hot) hot)
-  sides_ordered =
-      let es = exchangers_of network.lines in let takes = sum-enumerated (cold_worth case network valid.values least views prices)
+  sides_ordered = let es = exchangers_of network.lines in let takes = sum-enumerated (cold_worth case network valid.values least views prices)
       (duty_worth case network valid.values least views prices side.Cold) es (λ n e at. refl) in let gives =
       sum-enumerated (hot_worth case network valid.values least views prices)
       (duty_worth case network valid.values least views prices side.Hot) es (λ n e at. refl) in let h =
@@ -156,8 +147,7 @@ module _ (case : Case) (network : Network) (hot cold : List Part) (y z : List �
 
   uses_on_grid : IsSupporting (reach_between case hot cold) y z → IsAtMost (worth_of_uses network z cold) (worth_of_uses network y hot)
   unfolding worth_of_uses
-  uses_on_grid supporting =
-      let colds = rational_sum_by (worth side.Cold) cold in let hots = rational_sum_by (worth side.Hot) hot in
+  uses_on_grid supporting = let colds = rational_sum_by (worth side.Cold) cold in let hots = rational_sum_by (worth side.Hot) hot in
       let cold_sum = sum-items (λ (e : ℕ × Part). worth side.Cold e.1) (worth side.Cold) cold (λ i p at. refl) in
       let hot_sum = sum-items (λ (e : ℕ × Part). worth side.Hot e.1) (worth side.Hot) hot (λ i p at. refl) in
       let taken = subst (IsAtMost (rational_sum_by (use_worth network z) (enumerate_from 0 cold))) cold_sum
@@ -170,8 +160,7 @@ module _ (case : Case) (network : Network) (hot cold : List Part) (y z : List �
       (at_most_trans colds hots (rational_sum_by (use_worth network y) (enumerate_from 0 hot)) sides_ordered given)
 
 pub uses_ordered : UsesAreOrdered
-uses_ordered case network hot cold y z complete shape valid parts supporting =
-    let on = parts_on_grid case hot cold parts in
+uses_ordered case network hot cold y z complete shape valid parts supporting = let on = parts_on_grid case hot cold parts in
     let same = ListsFalling-unique (Contains (places_of case.streams case.utilities)) parts.grid on.grid parts.is_grid on.is_grid in
     uses_on_grid case network hot cold y z complete shape valid on.grid on.is_grid
     (subst (λ g. AreParts case.streams case.utilities g side.Hot hot) same parts.hot_parts)

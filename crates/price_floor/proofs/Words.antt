@@ -2,7 +2,7 @@
 pub use Rattle.fractions.proofs.Products.{plus-times, times-minus, times-one, times-plus, times-zero, times_comm, zero-times}
 pub use Rattle.fractions.proofs.RationalSums.{at_most-rational_sum_by, but_at, left_of, not_negative-rational_sum_by, one_taken, rational_sum_by-minus}
 pub use Rattle.fractions.proofs.RationalSums.{rational_sum_by-plus, rational_sum_by-same, rational_sum_by-swap, rational_sum_by-whole, rational_sum_by-zero}
-pub use Rattle.fractions.proofs.RationalSums.{sum-enumerate, sum-enumerated, sum-filter_map, sum-items, sum_over_used}
+pub use Rattle.fractions.proofs.RationalSums.{sum-enumerate, sum-enumerated, sum-filter_map, sum-items, sum-picked, sum_over_used}
 pub use Rattle.fractions.proofs.Ratios.{by_four, one_denominator}
 pub use Rattle.fractions.proofs.Sums.{minus-interchange, minus-plus, minus-self, minus-zero, plus-interchange, plus-minus, plus-zero, plus_assoc, plus_comm}
 pub use Rattle.fractions.proofs.Sums.{plus_swap_right, there_and_back, zero-plus}
@@ -23,7 +23,7 @@ pub use Rattle.heat_flow.specs.Prices.{IsSupporting, excess_price, least_product
 pub use Rattle.heat_flow.specs.Reach.{both_reach, part_reaches, passes_heat, reach_between}
 pub use Rattle.heat_flow.specs.Table.{reaches}
 pub use Rattle.network_audit.proofs.ValidLemmas.{known_network}
-pub use Rattle.network_audit.proofs.HeatLemmas.{source_on}
+pub use Rattle.network_audit.proofs.HeatLemmas.{part-own, source_on}
 pub use Rattle.network_audit.specs.Balance.{duty_with, heat_price, heat_with}
 unfoldable pub use Rattle.network_audit.specs.Balance.{cost_of, duties_with}
 pub use Rattle.network_audit.specs.Valid.{IsInRange, IsPermitted, IsValidNetwork}

@@ -1,6 +1,6 @@
 use Rattle.network_audit.proofs.JointLemmas.{found-all, length-joints}
 use Rattle.network_audit.proofs.HeatLemmas.{balance-is, balance_items-are, heats-are}
-use Rattle.network_audit.proofs.FoundLemmas.{found-behind, found-front}
+use Rattle.network_audit.proofs.ValidLemmas.{found-behind, found-front}
 use Rattle.network_audit.proofs.SumSteps.{length-numbers}
 use Rattle.network_audit.proofs.auditor.audit_network.Goals.{After-hot_target-target, In_default}
 use Rattle.network_audit.proofs.Words.{Finding, IsFinding, Item, all_heat_items, balance_in, balance_items, balance_of, balance_steps_in, exchanger_of}
@@ -35,8 +35,7 @@ returns-in-Err-audit_streams c =
 -- the exchangers are few
 few_joints : (c : In_default) → length c.args.joints.now < 2 ^ 32
 unfolding exchangers_of
-few_joints c =
-    let n = c.args.network.now in omega (
+few_joints c = let n = c.args.network.now in omega (
       arith,
       ap length c.requires.table,
       length-joints n.branches n.lines (exchangers_of n.lines),
@@ -67,8 +66,7 @@ record IsBalanced (c : After-hot_target-target) : Type 0 where
   is : balance_in c.hot_target-target.result c.as_slice-utilities.result.now c.audit_utilities.new.heats ≡ balance_of c.args.case.now c.args.network.now
 
 balanced : (c : After-hot_target-target) → IsBalanced c
-balanced c =
-    let case = c.args.case.now in let n = c.args.network.now in let heats = c.audit_utilities.new.heats in
+balanced c = let case = c.args.case.now in let n = c.args.network.now in let heats = c.audit_utilities.new.heats in
     let are = heats-are case n heats (c.in_default-audit_utilities.ensures.1 ∙ (λ i. heats_in (c.requires.table i) (c.as_slice-utilities.ensures i))) in
     let steps : balance_steps_in place.Balance c.hot_target-target.result c.as_slice-utilities.result.now heats ≡ balance_items case n =
     (λ i. balance_steps_in place.Balance (c.hot_target-target.ensures i) (c.as_slice-utilities.ensures i) heats)
@@ -79,8 +77,7 @@ balanced c =
     }
 
 pub returns-in-Ok : goal.returns-in-Ok
-returns-in-Ok c =
-    let b = balanced (goal.at.returns-in-Ok c).After-hot_target-target in record {
+returns-in-Ok c = let b = balanced (goal.at.returns-in-Ok c).After-hot_target-target in record {
       faultless = record {
         valuation = c.in_default.ensures.0;
         none = all_found (goal.at.returns-in-Ok c).In_default ∙ b.found ∙ c.in-Ok.ensures.0 place.Balance;
@@ -89,7 +86,6 @@ returns-in-Ok c =
     }
 
 pub returns-in-Err-balance_of : goal.returns-in-Err-balance_of
-returns-in-Err-balance_of c =
-    let b = balanced (goal.at.returns-in-Err-balance_of c).After-hot_target-target in
+returns-in-Err-balance_of c = let b = balanced (goal.at.returns-in-Err-balance_of c).After-hot_target-target in
     is_finding (goal.at.returns-in-Err-balance_of c).In_default (finding.TooFine place.Balance c.in-Err-balance_of.step) (b.found
     ∙ c.in-Err-balance_of.ensures place.Balance)

@@ -2,7 +2,7 @@ use Rattle.network_audit.proofs.Words.{Gives, Step, Sum, enumerate_from, err_fro
 use Rattle.network_audit.proofs.Words.{times, value_formed, whole}
 use Rattle.network_audit.proofs.HeatLemmas.{price-here}
 use Rattle.network_audit.proofs.SumSteps.{IsPriced, cost-all, cost-is, cost-more, cost-not, priced-none}
-use Rattle.network_audit.proofs.FoundLemmas.{found-formed, found-not_formed}
+use Rattle.network_audit.proofs.ValidLemmas.{found-formed, found-not_formed}
 use Rattle.std.proofs.Common.{[], ap, arith, length, map, subst, sym, take, ◌+◌, ◌<◌, ◌∙◌, ◌∷◌, ◌≡◌, ◌≤◌}
 use Rattle.network_audit.proofs.balance.cost_of.Goals as goal
 
@@ -14,8 +14,7 @@ loop-index-init c = record {
 
 pub returns-in_default : goal.returns-in_default
 unfolding prices_in
-returns-in_default c =
-    let n = c.loop-index.index in let us = c.args.utilities.now in let u = c.index-utilities-index.result in
+returns-in_default c = let n = c.loop-index.index in let us = c.args.utilities.now in let u = c.index-utilities-index.result in
     let h = c.index-heats-index.result in let total = c.loop-index.cost.total in let steps = c.loop-index.cost.steps in
     let has = price-here c.args.heats.now us n u h c.loop-index-test.true c.requires.room c.index-utilities-index.is c.index-heats-index.is in
     let within : n < length (enumerate_from 0 us) = omega (arith, c.loop-index-test.true, length-enumerate_from 0 us) in
@@ -26,8 +25,7 @@ returns-in_default c =
 
 pub returns-in_err-cost : goal.returns-in_err-cost
 unfolding prices_in
-returns-in_err-cost c =
-    let n = c.loop-index.index in let us = c.args.utilities.now in let u = c.index-utilities-index.result in
+returns-in_err-cost c = let n = c.loop-index.index in let us = c.args.utilities.now in let u = c.index-utilities-index.result in
     let h = c.index-heats-index.result in let total = c.loop-index.cost.total in let steps = c.loop-index.cost.steps in
     let has = price-here c.args.heats.now us n u h c.loop-index-test.true c.requires.room c.index-utilities-index.is c.index-heats-index.is in
     let within : n < length (enumerate_from 0 us) = omega (arith, c.loop-index-test.true, length-enumerate_from 0 us) in
@@ -41,8 +39,7 @@ returns-in_err-cost c =
     ∙ (λ i. first_finding (Step at (two i) (plus total (sym value i)) ∷ [])) ∙ c.in_err-cost.ensures at))
 
 pub loop-index-preserved : goal.loop-index-preserved
-loop-index-preserved c =
-    let n = c.loop-index.index in let us = c.args.utilities.now in let u = c.index-utilities-index.result in
+loop-index-preserved c = let n = c.loop-index.index in let us = c.args.utilities.now in let u = c.index-utilities-index.result in
     let h = c.index-heats-index.result in let total = c.loop-index.cost.total in let steps = c.loop-index.cost.steps in
     let has = price-here c.args.heats.now us n u h c.loop-index-test.true c.requires.room c.index-utilities-index.is c.index-heats-index.is in
     let within : n < length (enumerate_from 0 us) = omega (arith, c.loop-index-test.true, length-enumerate_from 0 us) in
@@ -61,8 +58,7 @@ loop-index-preserved c =
 
 pub returns : goal.returns
 unfolding prices_in
-returns c =
-    let us = c.args.utilities.now in let f = price_in c.args.heats.now in
+returns c = let us = c.args.utilities.now in let f = price_in c.args.heats.now in
     let end : length (enumerate_from 0 us) ≤ c.loop-index.index = omega (arith, c.loop-index-test.false, length-enumerate_from 0 us) in
     let all = cost-all f c.args.before (enumerate_from 0 us) c.loop-index.index c.loop-index.cost.total c.loop-index.cost.steps end
     c.loop-index.invariant.priced in (all.passed, cost-is c.args.before (map f (enumerate_from 0 us)) c.loop-index.cost.total c.loop-index.cost.steps all)

@@ -23,8 +23,7 @@ returns-in_err-sum c =
     (n, u) h c.loop-index.sum.total c.loop-index.sum.steps _ within has c.loop-index.invariant.summed c.in_err-sum.ensures)
 
 pub loop-index-preserved : goal.loop-index-preserved
-loop-index-preserved c =
-    let n = c.loop-index.index in let us = c.args.utilities.now in let u = c.index-utilities-index.result in
+loop-index-preserved c = let n = c.loop-index.index in let us = c.args.utilities.now in let u = c.index-utilities-index.result in
     let numbers = filter_map (heat_on_in c.args.side c.args.heats.now) (take (n + 1) (enumerate_from 0 us)) in
     let within : n < length (enumerate_from 0 us) = omega (arith, c.loop-index-test.true, length-enumerate_from 0 us) in elim c.if-is_on.branch [
       | then-is_on+in_ok-sum w ↦
@@ -50,8 +49,7 @@ loop-index-preserved c =
 
 pub returns : goal.returns
 unfolding heats_on_in
-returns c =
-    let us = c.args.utilities.now in let f = heat_on_in c.args.side c.args.heats.now in
+returns c = let us = c.args.utilities.now in let f = heat_on_in c.args.side c.args.heats.now in
     let end : length (enumerate_from 0 us) ≤ c.loop-index.index = omega (arith, c.loop-index-test.false, length-enumerate_from 0 us) in
     let all = sum-all f c.args.before (enumerate_from 0 us) c.loop-index.index c.loop-index.sum.total c.loop-index.sum.steps end
     c.loop-index.invariant.summed in

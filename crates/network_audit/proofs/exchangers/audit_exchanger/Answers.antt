@@ -1,5 +1,5 @@
 use Rattle.network_audit.proofs.Words.{Gives, Rational, Step, Test, first_finding, is_below, is_reached, plus, side_items, value_formed, wanted_above}
-use Rattle.network_audit.proofs.FoundLemmas.{found-failed, found-formed, found-not_formed, found-nothing, found-passed}
+use Rattle.network_audit.proofs.ValidLemmas.{found-failed, found-formed, found-not_formed, found-nothing, found-passed}
 use Rattle.network_audit.proofs.exchangers.audit_exchanger.Goals.{After-plus, After-plus-2}
 use Rattle.std.proofs.Common.{Some, [], ap, not, subst, sym, ◌∙◌, ◌∷◌, ◌≡◌}
 use Rattle.network_audit.proofs.exchangers.audit_exchanger.Goals as goal
@@ -18,8 +18,7 @@ returns-in_default c = found-passed _ _ (ap not (sym c.is_forbidden.ensures ∙ 
     ∙ found-not_formed _ 1 _ _ _ c.in_default.is (hot_end (goal.at.returns-in_default c).After-plus)
 
 pub returns-then-is_below : goal.returns-then-is_below
-returns-then-is_below c =
-    let hot = hot_end (goal.at.returns-then-is_below c).After-plus in let wanted = value_formed _ _ _ c.in-Some.is hot in
+returns-then-is_below c = let hot = hot_end (goal.at.returns-then-is_below c).After-plus in let wanted = value_formed _ _ _ c.in-Some.is hot in
     let low = ap (is_below c.args.given.now.enters) (sym wanted) ∙ sym c.is_below.ensures.value ∙ c.if-is_below.true in
     found-passed _ _ (ap not (sym c.is_forbidden.ensures ∙ c.if-is_forbidden.false)) ∙ found-formed _ 1 _ _ _ _ c.in-Some.is hot ∙ found-failed _ _ (ap not low)
     ∙ ap (λ (w : Rational). Some (finding.Failed c.args.place (reason.HotEndApproach c.args.given.now.enters w))) (sym wanted)
@@ -32,8 +31,7 @@ record IsLeft (wanted : Rational) (c : After-plus-2) : Type 0 where
       (reason.ColdEndApproach c.args.given.now.leaves wanted) ∷ [])
 
 cold_end : (c : After-plus-2) → IsLeft (wanted_above c.args.case.now c.args.joint.now.hot c.args.joint.now.cold c.args.taken.now.enters) c
-cold_end c =
-    let hot = hot_end (goal.at.After-plus-2 c).After-plus in
+cold_end c = let hot = hot_end (goal.at.After-plus-2 c).After-plus in
     let far = ap (is_below c.args.given.now.enters) (sym (value_formed _ _ _ c.in-Some.is hot)) ∙ sym c.is_below.ensures.value ∙ c.if-is_below.false in record {
       gives = subst (λ a. Gives c.plus-2.result (plus c.args.taken.now.enters a)) c.approach_of-approach.ensures c.plus-2.ensures;
       found = found-passed _ _ (ap not (sym c.is_forbidden.ensures ∙ c.if-is_forbidden.false)) ∙ found-formed _ 1 _ _ _ _ c.in-Some.is hot
@@ -52,7 +50,6 @@ returns-then-is_below-2 c =
     ∙ ap (λ (w : Rational). Some (finding.Failed c.args.place (reason.ColdEndApproach c.args.given.now.leaves w))) (sym wanted)
 
 pub returns : goal.returns
-returns c =
-    let cold = cold_end (goal.at.returns c).After-plus-2 in
+returns c = let cold = cold_end (goal.at.returns c).After-plus-2 in
     let high = ap (is_below c.args.given.now.leaves) (sym (value_formed _ _ _ c.in-Some-plus.is cold.gives)) ∙ sym c.is_below-2.ensures.value
     ∙ c.if-is_below-2.false in (cold.found ∙ found-formed _ 2 _ _ _ _ c.in-Some-plus.is cold.gives ∙ found-passed _ _ (ap not high) ∙ found-nothing, tt)

@@ -9,8 +9,7 @@ unfolding exchangers_of
 loop-line-init c = λ branches. c.new-joints.ensures.items ∙ sym (joints-none branches)
 
 pub loop-line-preserved : goal.loop-line-preserved
-loop-line-preserved c =
-    let n = c.loop-line.line-index in let l = c.line-item.result in elim c.match-line.branch [
+loop-line-preserved c = let n = c.loop-line.line-index in let l = c.line-item.result in elim c.match-line.branch [
       | in-Exchanger+in_ok-push w ↦ λ branches. let e = w.in-Exchanger in
           let new : Joint = record { hot = e.hot; cold = e.cold; duty = e.duty; given = None; taken = None } in
           ap (λ v. v.items) w.joints-is ∙ w.in_ok-push.ensures.items ∙ ap (λ js. js ++ new ∷ []) (c.loop-line.invariant branches)

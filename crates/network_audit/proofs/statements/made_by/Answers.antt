@@ -1,7 +1,7 @@
 use Rattle.network_audit.proofs.Words.{AreStreams-IsComplete, BranchValue, IsValidStream, NamesKnown, Rational, Side, all_at, branch_side, duty_at, end_items}
 use Rattle.network_audit.proofs.Words.{err_from_is_err_and, exchangers_of, first_finding, is_latent_branch, mix_items, mixed_value, pass_items, passed_value}
 use Rattle.network_audit.proofs.Words.{stream_at, uses, value_at}
-use Rattle.network_audit.proofs.FoundLemmas.{found-nothing}
+use Rattle.network_audit.proofs.ValidLemmas.{found-nothing}
 use Rattle.network_audit.proofs.JointLemmas.{duty-read, length-joints, value-read}
 use Rattle.network_audit.proofs.statements.made_by.Goals.{After-ended, After-mixed, After-passed, In-Pass, In-Some}
 use Rattle.std.proofs.Common.{All, Bool, None, Some, [], ap, arith, get_or, length, option_copied, refl, slice_get, subst, sym, ◌<◌, ◌∙◌, ◌∷◌, ◌≡◌}
@@ -9,8 +9,7 @@ use Rattle.network_audit.proofs.statements.made_by.Goals as goal
 
 -- the exchanger of a pass is in the table
 exchanger_in : (c : In-Pass) → c.in-Pass.exchanger < length c.args.joints.now
-exchanger_in c =
-    let n = c.args.network.now in let known = subst (NamesKnown c.args.case.now n) c.in-Pass.is c.requires.known in
+exchanger_in c = let n = c.args.network.now in let known = subst (NamesKnown c.args.case.now n) c.in-Pass.is c.requires.known in
     let long = ap length c.requires.joints ∙ length-joints n.branches n.lines (exchangers_of n.lines) in omega (arith, long, known.1)
 
 pub bounds-joints-exchanger : goal.bounds-joints-exchanger
@@ -23,8 +22,7 @@ pub returns-in-Exchanger : goal.returns-in-Exchanger
 returns-in-Exchanger c = rw c.in-Exchanger.is (found-nothing, refl)
 
 pub returns-in_default : goal.returns-in_default
-returns-in_default c =
-    let n = c.args.network.now in let stream = c.stream_at-stream.ensures ∙ ap (λ bs. stream_at bs c.in-End.branch) c.as_slice.ensures in
+returns-in_default c = let n = c.args.network.now in let stream = c.stream_at-stream.ensures ∙ ap (λ bs. stream_at bs c.in-End.branch) c.as_slice.ensures in
     let there : None ≡ slice_get c.args.case.now.streams (stream_at n.branches c.in-End.branch) =
     ap option_copied (sym c.in_default.is) ∙ c.get.ensures ∙ ap (slice_get c.args.case.now.streams) stream in
     rw c.in-End.is (ap (λ o. first_finding (end_items c.args.place (value_at c.args.values.now c.in-End.branch) o)) (sym there) ∙ found-nothing, refl)
@@ -44,29 +42,25 @@ pass_read f c =
     λ i. f ((c.branch_side-side.ensures n (sym c.as_slice-branches.ensures)) i) (latent i) (value i) (duty i)
 
 pub returns-in_ok-to-in-Pass : goal.returns-in_ok-to-in-Pass
-returns-in_ok-to-in-Pass c =
-    let at = (goal.at.returns-in_ok-to-in-Pass c).After-passed in rw c.in-Pass.is (
+returns-in_ok-to-in-Pass c = let at = (goal.at.returns-in_ok-to-in-Pass c).After-passed in rw c.in-Pass.is (
       sym (pass_read (λ on latent v duty. first_finding (pass_items c.args.place on latent v duty)) at) ∙ c.in_ok-to-in-Pass.ensures.0,
       ap (λ v. v ∷ []) (c.in_ok-to-in-Pass.ensures.1 ∙ pass_read (λ on latent v duty. passed_value on v duty) at),
     )
 
 pub returns-in_err-to-in-Pass : goal.returns-in_err-to-in-Pass
-returns-in_err-to-in-Pass c =
-    let at = (goal.at.returns-in_err-to-in-Pass c).After-passed in
+returns-in_err-to-in-Pass c = let at = (goal.at.returns-in_err-to-in-Pass c).After-passed in
     let p = err_from_is_err_and c.from_residual-in_err-to-in-Pass.result c.from_residual-in_err-to-in-Pass.ensures.1 in rw (p.1, p.2, c.in-Pass.is)
     (sym (pass_read (λ on latent v duty. first_finding (pass_items c.args.place on latent v duty)) at) ∙ c.in_err-to-in-Pass.ensures)
 
 -- what the code reads for a mix
 mix_read : {X : Type 0} (f : BranchValue → BranchValue → X) (c : After-mixed)
     → f c.index-values-first.result c.index-values-second.result ≡ f (value_at c.args.values.now c.in-Mix.first) (value_at c.args.values.now c.in-Mix.second)
-mix_read f c =
-    let values = c.args.values.now in let used = subst (λ l. All (λ b. b < length values) (uses l)) c.in-Mix.is c.requires.used in
+mix_read f c = let values = c.args.values.now in let used = subst (λ l. All (λ b. b < length values) (uses l)) c.in-Mix.is c.requires.used in
     let first = value-read values c.in-Mix.first c.index-values-first.result (used 0 0 (omega arith)) c.index-values-first.is in
     let second = value-read values c.in-Mix.second c.index-values-second.result (used 1 0 (omega arith)) c.index-values-second.is in λ i. f (first i) (second i)
 
 pub returns-in-Ok : goal.returns-in-Ok
-returns-in-Ok c =
-    let at = (goal.at.returns-in-Ok c).After-mixed in rw c.in-Mix.is (
+returns-in-Ok c = let at = (goal.at.returns-in-Ok c).After-mixed in rw c.in-Mix.is (
       sym (mix_read (λ v w. first_finding (mix_items c.args.place v w)) at) ∙ c.in-Ok.ensures.0 c.args.place,
       ap (λ v. v ∷ []) (c.in-Ok.ensures.1 ∙ mix_read mixed_value at),
     )
@@ -77,22 +71,18 @@ returns-in-Err c =
 
 -- the stream of the branch that ends
 stream_there : (c : In-Some) → slice_get c.args.case.now.streams (stream_at c.args.network.now.branches c.in-End.branch) ≡ Some c.in-Some.stream.now
-stream_there c =
-    let stream = c.stream_at-stream.ensures ∙ ap (λ bs. stream_at bs c.in-End.branch) c.as_slice.ensures in
+stream_there c = let stream = c.stream_at-stream.ensures ∙ ap (λ bs. stream_at bs c.in-End.branch) c.as_slice.ensures in
     sym (ap option_copied (sym c.in-Some.is) ∙ c.get.ensures ∙ ap (slice_get c.args.case.now.streams) stream)
 
 pub ended-requires : goal.ended-requires
-ended-requires c =
-    let case = c.args.case.now in all_at IsValidStream case.streams (stream_at c.args.network.now.branches c.in-End.branch) c.in-Some.stream.now
+ended-requires c = let case = c.args.case.now in all_at IsValidStream case.streams (stream_at c.args.network.now.branches c.in-End.branch) c.in-Some.stream.now
     (AreStreams-IsComplete case c.requires.complete).each (stream_there (goal.at.ended-requires c).In-Some)
 
 -- the items of an end, as the code reads them
-end_read : (c : After-ended)
-    → first_finding (end_items c.args.place (value_at c.args.values.now c.in-End.branch)
+end_read : (c : After-ended) → first_finding (end_items c.args.place (value_at c.args.values.now c.in-End.branch)
     (slice_get c.args.case.now.streams (stream_at c.args.network.now.branches c.in-End.branch)))
     ≡ first_finding (end_items c.args.place c.index-values-branch.result (Some c.in-Some.stream.now))
-end_read c =
-    let values = c.args.values.now in let used = subst (λ l. All (λ b. b < length values) (uses l)) c.in-End.is c.requires.used in
+end_read c = let values = c.args.values.now in let used = subst (λ l. All (λ b. b < length values) (uses l)) c.in-End.is c.requires.used in
     let value = value-read values c.in-End.branch c.index-values-branch.result (used 0 0 (omega arith)) c.index-values-branch.is in
     let there = stream_there (goal.at.After-ended c).In-Some in λ i. first_finding (end_items c.args.place (sym value i) (there i))
 

@@ -1,5 +1,5 @@
 use Rattle.network_audit.proofs.Words.{Gives, Place, Step, first_finding, heat_of_both, mean_items, over, plus, positive-nonzero, value_formed}
-use Rattle.network_audit.proofs.FoundLemmas.{found-formed, found-not_formed, found-nothing}
+use Rattle.network_audit.proofs.ValidLemmas.{found-formed, found-not_formed, found-nothing}
 use Rattle.network_audit.proofs.statements.mean.Goals.{After-over, After-plus}
 use Rattle.std.proofs.Common.{[], ap₂, subst, ◌∙◌, ◌∷◌, ◌≡◌}
 use Rattle.network_audit.proofs.statements.mean.Goals as goal
@@ -18,8 +18,7 @@ record IsBoth (c : After-plus) : Type 0 where
       ∷ Step at 5 (over (heat_of_both c.args.first.now c.args.second.now) c.args.cp.now) ∷ [])
 
 is_both : (c : After-plus) → IsBoth c
-is_both c =
-    let one = value_formed _ _ _ c.in-Some.is c.times.ensures in let other = value_formed _ _ _ c.in-Some-times.is c.times-2.ensures in record {
+is_both c = let one = value_formed _ _ _ c.in-Some.is c.times.ensures in let other = value_formed _ _ _ c.in-Some-times.is c.times-2.ensures in record {
       gives = subst (Gives c.plus.result) (ap₂ plus one other) c.plus.ensures;
       found = λ at. found-formed at 2 _ _ _ _ c.in-Some.is c.times.ensures ∙ found-formed at 3 _ _ _ _ c.in-Some-times.is c.times-2.ensures;
     }
@@ -35,8 +34,7 @@ record IsMean (c : After-over) : Type 0 where
       ≡ first_finding (Step at 5 (over (heat_of_both c.args.first.now c.args.second.now) c.args.cp.now) ∷ [])
 
 is_mean : (c : After-over) → IsMean c
-is_mean c =
-    let both = is_both (goal.at.After-over c).After-plus in let sum = value_formed _ _ _ c.in-Some-plus.is both.gives in record {
+is_mean c = let both = is_both (goal.at.After-over c).After-plus in let sum = value_formed _ _ _ c.in-Some-plus.is both.gives in record {
       gives = subst (λ h. Gives c.over.result (over h c.args.cp.now)) sum (c.over.ensures.value (positive-nonzero c.args.cp.now c.requires));
       found = λ at. both.found at ∙ found-formed at 4 _ _ _ _ c.in-Some-plus.is both.gives;
     }
@@ -46,8 +44,7 @@ returns-in_default-over c =
     let mean = is_mean (goal.at.returns-in_default-over c).After-over in λ at. mean.found at ∙ found-not_formed at 5 _ _ _ c.in_default-over.is mean.gives
 
 pub returns : goal.returns
-returns c =
-    let mean = is_mean (goal.at.returns c).After-over in (
+returns c = let mean = is_mean (goal.at.returns c).After-over in (
       λ at. mean.found at ∙ found-formed at 5 _ _ _ _ c.in-Some-over.is mean.gives ∙ found-nothing,
       value_formed _ _ _ c.in-Some-over.is mean.gives,
     )

@@ -1,5 +1,5 @@
 use Rattle.network_audit.proofs.Words.{is_below, value_formed}
-use Rattle.network_audit.proofs.FoundLemmas.{found-failed, found-formed, found-not_formed, found-nothing, found-passed}
+use Rattle.network_audit.proofs.ValidLemmas.{found-failed, found-formed, found-not_formed, found-nothing, found-passed}
 use Rattle.std.proofs.Common.{false, true, ◌∙◌, ◌≡◌}
 use Rattle.network_audit.proofs.statements.split_rest.Goals as goal
 
@@ -11,8 +11,7 @@ returns-in_default c =
     let e : is_below c.args.cp.now c.args.from.now.cp ≡ true = cc in found-passed _ _ e ∙ found-not_formed _ _ _ _ _ c.in_default.is c.minus.ensures
 
 pub returns : goal.returns
-returns c =
-    let e : is_below c.args.cp.now c.args.from.now.cp ≡ true = cc in (
+returns c = let e : is_below c.args.cp.now c.args.from.now.cp ≡ true = cc in (
       found-passed _ _ e ∙ found-formed _ _ _ _ _ _ c.in-Some.is c.minus.ensures ∙ found-nothing,
       λ i. record { cp = value_formed _ _ _ c.in-Some.is c.minus.ensures i; t = c.args.from.now.t },
     )

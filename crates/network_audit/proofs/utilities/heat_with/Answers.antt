@@ -16,8 +16,7 @@ plus-requires c = omega (arith, c.loop-joint.invariant.few)
 
 pub returns-in_err-sum : goal.returns-in_err-sum
 unfolding duties_in
-returns-in_err-sum c =
-    let d = c.joint-item.result in
+returns-in_err-sum c = let d = c.joint-item.result in
     let has : joint_duty c.args.index d ≡ Some d.duty = ap (λ b. if b then Some d.duty else None) (sym c.needs.ensures ∙ c.if-needs.true) in
     let p = err_from_is_err_and c.from_residual.result c.from_residual.ensures.1 in rw (p.1, p.2)
     (sum-not (joint_duty c.args.index) 0 c.args.joints.now c.loop-joint.joint-index d d.duty c.loop-joint.sum.total c.loop-joint.sum.steps _ (omega arith)
@@ -25,8 +24,7 @@ returns-in_err-sum c =
 
 pub loop-joint-preserved : goal.loop-joint-preserved
 unfolding duties_in
-loop-joint-preserved c =
-    let d = c.joint-item.result in let n = c.loop-joint.joint-index in elim c.if-needs.branch [
+loop-joint-preserved c = let d = c.joint-item.result in let n = c.loop-joint.joint-index in elim c.if-needs.branch [
       | then-needs+in_ok-sum w ↦
           let has : joint_duty c.args.index (get_or c.args.joints.now n d) ≡ Some d.duty = ap (joint_duty c.args.index) (sym c.joint-item.is)
           ∙ ap (λ b. if b then Some d.duty else None) (sym c.needs.ensures ∙ w.if-needs.true) in
@@ -49,7 +47,6 @@ loop-joint-preserved c =
 
 pub returns : goal.returns
 unfolding duties_in
-returns c =
-    let all = sum-all (joint_duty c.args.index) 0 c.args.joints.now c.loop-joint.joint-index c.loop-joint.sum.total c.loop-joint.sum.steps
+returns c = let all = sum-all (joint_duty c.args.index) 0 c.args.joints.now c.loop-joint.joint-index c.loop-joint.sum.total c.loop-joint.sum.steps
     (omega arith) c.loop-joint.invariant.summed in
     (all.passed, total-is 0 (filter_map (joint_duty c.args.index) c.args.joints.now) c.loop-joint.sum.total c.loop-joint.sum.steps all)

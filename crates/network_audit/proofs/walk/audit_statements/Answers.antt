@@ -1,4 +1,4 @@
-use Rattle.network_audit.proofs.FoundLemmas.{IsWalked, line_here, walked-all, walked-found, walked-more, walked-room, walked-start, walked-wide}
+use Rattle.network_audit.proofs.ValidLemmas.{IsWalked, line_here, walked-all, walked-found, walked-more, walked-room, walked-start, walked-wide}
 use Rattle.network_audit.proofs.walk.audit_statements.Goals.{After-line-item}
 use Rattle.network_audit.proofs.Words.{AreStreams-IsComplete, IsLineOf, IsValidStream, first_value, streams_first}
 use Rattle.std.proofs.Common.{All, ap, arith, length, map, subst, sym, take, ◌++◌, ◌+◌, ◌∙◌, ◌≡◌}
@@ -26,34 +26,29 @@ pub made_by-requires-clause-known : goal.made_by-requires-clause-known
 made_by-requires-clause-known c = (here (goal.at.made_by-requires-clause-known c).After-line-item).known
 
 pub made_by-requires-clause-used : goal.made_by-requires-clause-used
-made_by-requires-clause-used c =
-    let is = here (goal.at.made_by-requires-clause-used c).After-line-item in
+made_by-requires-clause-used c = let is = here (goal.at.made_by-requires-clause-used c).After-line-item in
     let wide = walked-wide c.args.case.now c.args.network.now c.loop-index.index c.loop-index.made c.loop-index.values c.requires.shape
     c.loop-index.invariant in λ k d inside. omega (arith, wide, is.numbers.used k d inside)
 
 pub keep-made-requires : goal.keep-made-requires
-keep-made-requires c =
-    let is = here (goal.at.keep-made-requires c).After-line-item in
+keep-made-requires c = let is = here (goal.at.keep-made-requires c).After-line-item in
     walked-room c.args.case.now c.args.network.now c.loop-index.index c.loop-index.made c.loop-index.values c.line-item.result _ is c.loop-index.invariant
     c.in-Ok.ensures.1
 
 pub returns-in-Err : goal.returns-in-Err
-returns-in-Err c =
-    let is = here (goal.at.returns-in-Err c).After-line-item in
+returns-in-Err c = let is = here (goal.at.returns-in-Err c).After-line-item in
     walked-found c.args.case.now c.args.network.now c.loop-index.index c.loop-index.made c.loop-index.values c.line-item.result c.in-Err.found
     is.at.here c.loop-index.invariant c.in-Err.ensures
 
 pub loop-index-preserved : goal.loop-index-preserved
-loop-index-preserved c =
-    let is = here (goal.at.loop-index-preserved c).After-line-item in
+loop-index-preserved c = let is = here (goal.at.loop-index-preserved c).After-line-item in
     let old = take c.loop-index.made c.loop-index.values in let made_are = c.in-Ok.ensures.1 in
     walked-more c.args.case.now c.args.network.now c.loop-index.index c.loop-index.made c.loop-index.values c.keep-made.new.values
     c.keep-made.result c.line-item.result c.requires.shape is.at.here c.loop-index.invariant c.in-Ok.ensures.0 c.keep-made.auto.values
     (c.keep-made.ensures.many ∙ ap (λ vs. c.loop-index.made + length vs) made_are) (c.keep-made.ensures.kept ∙ ap (λ vs. old ++ vs) made_are)
 
 pub returns : goal.returns
-returns c =
-    let end : c.loop-index.index ≡ length c.args.network.now.lines =
+returns c = let end : c.loop-index.index ≡ length c.args.network.now.lines =
     omega (arith, ap length c.as_slice-line-items.ensures, c.loop-index-test.false, c.loop-index.auto.index-end) in
     walked-all c.args.case.now c.args.network.now c.loop-index.made c.loop-index.values c.requires.shape
     (subst (λ n. IsWalked c.args.case.now c.args.network.now n c.loop-index.made c.loop-index.values) end c.loop-index.invariant)

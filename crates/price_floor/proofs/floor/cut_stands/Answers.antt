@@ -5,8 +5,7 @@ use Rattle.std.proofs.Common.{subst, sym, ◌≡◌}
 use Rattle.price_floor.proofs.floor.cut_stands.Goals as goal
 
 pub returns-clause-exact : goal.returns-clause-exact
-returns-clause-exact c =
-    let hot = c.args.parts.now.hot in let cold = c.args.parts.now.cold in
+returns-clause-exact c = let hot = c.args.parts.now.hot in let cold = c.args.parts.now.cold in
     let same : reaches c.args.reach.now ≡ reach_between c.args.case.now hot cold = λ i a b. c.requires.reach.cells a b i in
     let exact = c.is_cut.ensures.exact in (
       λ stands. subst (λ r. IsCutOf r hot cold c.args.cut.now) same (exact.0 stands).is_cut,

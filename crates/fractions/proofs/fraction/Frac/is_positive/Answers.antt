@@ -4,8 +4,7 @@ use Rattle.std.proofs.Common.{SFits, ap, int_lt, pos, rules, sym, ◌∙◌}
 use Rattle.fractions.proofs.fraction.Frac.is_positive.Goals as goal
 
 pub returns-clause-value : goal.returns-clause-value
-returns-clause-value c =
-    let fits : SFits w128 c.num.result = search rules in
+returns-clause-value c = let fits : SFits w128 c.num.result = search rules in
     ap (int_lt (pos 0)) (to_z-of_z w128 c.num.result fits ∙ c.num.ensures.value) ∙ sym (is_below-zero c.args.self.now)
 
 pub returns-clause-ranks : goal.returns-clause-ranks

@@ -6,8 +6,7 @@ use Rattle.fractions.proofs.fraction.Frac.over.Goals as goal
 
 pub returns-then-num-eq0-clause-value : goal.returns-then-num-eq0-clause-value
 returns-then-num-eq0-clause-value c some =
-    let fits : SFits w128 c.num.result = search rules in
-    absurd (some (zero_from_num c.args.other.now (omega (arith, ints))))
+    let fits : SFits w128 c.num.result = search rules in absurd (some (zero_from_num c.args.other.now (omega (arith, ints))))
 
 pub returns-in_err-times-clause-value : goal.returns-in_err-times-clause-value
 unfolding over

@@ -1,5 +1,4 @@
-use Rattle.network_audit.proofs.FoundLemmas.{one_verdict}
-use Rattle.network_audit.proofs.ValidLemmas.{excess_of_verdict, one_valuation_left, says_exactly, says_valid}
+use Rattle.network_audit.proofs.ValidLemmas.{excess_of_verdict, one_valuation_left, one_verdict, says_exactly, says_valid}
 use Rattle.network_audit.proofs.auditor.Auditor.audit.Goals as goal
 
 pub returns-clause-only : goal.returns-clause-only
