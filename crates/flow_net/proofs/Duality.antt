@@ -111,9 +111,9 @@ module _ (net : Net) (limits : IsWithinLimits net) (source sink : ℕ) (ends : A
   surplus_is amount flow routing v within = elim (cases_eq source v) [
     | inl e ↦
         let other : sink ≢ v = (λ d. ends.apart (e ∙ sym d)) in rw (eq-eqb source v e, ne_eqb sink v other)
-        (subst (λ u. surplus net.links flow u ≡ amount -ℤ pos 0) e (let gives = routing.source_gives in omega (arith, ints)))
+        (subst (λ u. surplus net.links flow u ≡ amount -ℤ pos 0) e (omega (arith, ints)))
     | inr ne ↦ rw (ne_eqb source v ne) (elim (cases_eq sink v) [
-      | inl e ↦ rw (eq-eqb sink v e) (subst (λ u. surplus net.links flow u ≡ pos 0 -ℤ amount) e (let takes = routing.sink_takes in omega (arith, ints)))
+      | inl e ↦ rw (eq-eqb sink v e) (subst (λ u. surplus net.links flow u ≡ pos 0 -ℤ amount) e (omega (arith, ints)))
       | inr other ↦ rw (ne_eqb sink v other) (let same = routing.balances v within (λ d. ne (sym d)) (λ d. other (sym d)) in omega (arith, ints))
     ])
   ]
@@ -193,5 +193,4 @@ module _ (net : Net) (limits : IsWithinLimits net) (source sink : ℕ) (ends : A
 
   -- nothing routes an amount past a cut
   pub none_past_cut : (amount : ℤ) (flow : List ℤ) (set : List Bool) → IsCutBelow net source sink amount set → IsRouting net source sink amount flow → ⊥
-  none_past_cut amount flow set cut routing =
-      let most = amount_within_rooms amount flow routing set cut.source_in cut.sink_out in let short = cut.short in omega (arith, ints, most, short)
+  none_past_cut amount flow set cut routing = let most = amount_within_rooms amount flow routing set cut.source_in cut.sink_out in omega (arith, ints, most)

@@ -105,8 +105,7 @@ module _ (links : List Link) (flow : List ℤ) (k : ℕ) (below : k < length lin
   changed_openings : (openings : List Opening) (o : Opening) → IsOpening (link_at links k) x o → AreOpenings links flow openings
       → AreOpenings links (set flow k x) (set openings k o)
   changed_openings openings o here are =
-      let none : Opening = record { forward = false; back = false } in
-      let opening_here = get_or-set_same openings k o none (let e = are.one_each in omega arith) in record {
+      let none : Opening = record { forward = false; back = false } in let opening_here = get_or-set_same openings k o none (omega arith) in record {
         one_each = length-set openings k o ∙ are.one_each;
         each = λ j l.
             each_link (λ i. IsOpening (link_at links i) (flow_on (set flow k x) i) (opening_at (set openings k o) i)) (rw (flow_here, opening_here) here) j
@@ -265,14 +264,14 @@ module _ (p : Problem) (r : Routing) (standing : IsStanding p r) where
   pub IsPotential-standing : (v : ℕ) → v < p.net.now.nodes → IsPotential (potential_at r.potentials.items v)
   IsPotential-standing v within =
       let net = p.net.now in let start = standing.problem.start in let bound = standing.bounded.bounded v within in
-      let largest = greatest-le (λ (s : ℤ). s) p.start.now MOST_INITIAL_POTENTIAL (pos 0) (λ k b. start.within k (let e = start.one_each in omega arith)) in
+      let largest = greatest-le (λ (s : ℤ). s) p.start.now MOST_INITIAL_POTENTIAL (pos 0) (λ k b. start.within k (omega arith)) in
       let times : net.nodes * largest_cost net ≤ MOST_NODES * MOST_COST =
       mul-le net.nodes (largest_cost net) MOST_NODES MOST_COST standing.problem.net.few_nodes (largest_cost-small net standing.problem.net) in
       omega (arith, bound, largest, times)
 
   pub IsPriced-arc : (a : Arc) → IsArc p.net.now.links a → IsPriced r.potentials.items a
   IsPriced-arc a is =
-      let nodes = arc-nodes p.net.now standing.problem.net a is in let each = standing.bounded.one_each in record {
+      let nodes = arc-nodes p.net.now standing.problem.net a is in record {
         tail_in = omega arith;
         head_in = omega arith;
         cost = (arc-cost p.net.now standing.problem.net a is).1;
@@ -295,8 +294,8 @@ module _ (p : Problem) (r : Routing) (standing : IsStanding p r) where
     pub Stands-augmented : (openings : List Opening) → AreOpenings p.net.now.links (sent_along_path r.flow.items path m) openings
         → Stands p (sent_along_path r.flow.items path m) r.potentials.items (r.routed +ℤ m) openings
     Stands-augmented openings are =
-        let net = p.net.now in let some = most.some in let limited = most.limited in let routed_from = standing.routed_from in
-        let from : pos 0 ≤ℤ m = omega (arith, ints) in let rooms = standing.routes.rooms in record {
+        let net = p.net.now in let routed_from = standing.routed_from in let from : pos 0 ≤ℤ m = omega (arith, ints) in let rooms = standing.routes.rooms in
+        record {
           problem = standing.problem;
           routed_from = omega (arith, ints);
           routed_upto = omega (arith, ints);
@@ -344,8 +343,7 @@ Stands-none p openings h are =
       };
       bounded = record {
         one_each = h.start.one_each;
-        bounded = λ v within. let size = size-le-greatest (λ (x : ℤ). x) p.start.now v (pos 0) (let e = h.start.one_each in omega (arith, within, e)) in
-            omega (arith, size);
+        bounded = λ v within. let size = size-le-greatest (λ (x : ℤ). x) p.start.now v (pos 0) (omega (arith, within)) in omega (arith, size);
       };
       at_source = refl;
       risen = λ v within. omega (arith, ints);
@@ -409,8 +407,7 @@ apart_by_rank : (links : List Link) (rank : ℕ → ℕ) (path : List Arc) (u w 
 apart_by_rank links rank [] u w walk arcs rising = tt
 apart_by_rank links rank (a ∷ path) u w walk arcs rising =
     let first = All-head (λ b. rank b.tail < rank b.head) a path rising in let rest = All-tail (λ b. rank b.tail < rank b.head) a path rising in
-    let above = rising_above rank path a.head w walk.1 rest in let is = All-head (IsArc links) a path arcs in
-    let others = All-tail (IsArc links) a path arcs in (
+    let above = rising_above rank path a.head w walk.1 rest in let is = All-head (IsArc links) a path arcs in let others = All-tail (IsArc links) a path arcs in (
       λ k d l same. let up = rest k d l in let over = above k d l in elim (same_ends links a (get_or path k d) is (others k d l) same) [
         | inl e ↦ (let h = ap rank e in omega (arith, h, first, up, over))
         | inr e ↦ (let h = ap rank e in omega (arith, h, first, up, over))
@@ -479,7 +476,7 @@ module _ (p : Problem) (r : Routing) (levels : List (Option ℕ)) (path : List A
   IsStep-closed walk steps =
       let up = step.up in let turned = All-permutation (IsStep p r levels) _ _ (IsPermutation-reverse path) steps in
       let above = rising_above (height_at levels) (reverse path) a.head w walk
-      (All-weaker (IsStep p r levels) (λ b. height_at levels b.tail < height_at levels b.head) (λ b h. let e = h.up in omega arith) (reverse path) turned) in
+      (All-weaker (IsStep p r levels) (λ b. height_at levels b.tail < height_at levels b.head) (λ b h. omega arith) (reverse path) turned) in
       let higher = All-permutation (λ b. height_at levels a.head ≤ height_at levels b.tail) _ _ (IsPermutation-sym _ _ (IsPermutation-reverse path)) above in
       λ k d l. let b = get_or path k d in let s = steps k d l in let over = higher k d l in let next = s.up in
       let tail = kept b.tail (λ e. let same = ap (height_at levels) e in absurd (omega (arith, up, over, same))) in
@@ -497,6 +494,4 @@ module _ (p : Problem) (r : Routing) (levels : List (Option ℕ)) (path : List A
       let was = ap {B = ℕ} (λ b. cond b 1 0) step.has_level in omega (arith, change, was)
 
   pub height_kept : height_at (set levels a.tail None) a.head ≡ height_at levels a.head
-  height_kept =
-      let up = step.up in
-      ap height_of (get_or-set_other levels a.tail a.head None None (λ e. let same = ap (height_at levels) e in absurd (omega (arith, up, same))))
+  height_kept = ap height_of (get_or-set_other levels a.tail a.head None None (λ e. let same = ap (height_at levels) e in absurd (omega (arith, same))))

@@ -43,7 +43,7 @@ module _ (labels : List (Option Label)) (reached : List Bool) (old new : Queue) 
   -- it was reached before
   pub IsQueued-stale : is_in reached v ≡ true → IsQueued labels reached new.level (entries_of new)
   IsQueued-stale stale = record {
-    upto_level = λ u hit. let upto = queued.upto_level u hit in let level = next.level in omega (arith, ints);
+    upto_level = λ u hit. let upto = queued.upto_level u hit in omega (arith, ints);
     queued = λ u labelled free. still_queued u (λ e. false≢true (sym free ∙ (ap (is_in reached) e ∙ stale))) labelled free;
     rises = All-tail (IsEntry labels) (entry new.level v) (entries_of new) entries_now;
   }
@@ -53,7 +53,7 @@ module _ (labels : List (Option Label)) (reached : List Bool) (old new : Queue) 
     pub IsQueued-reached : IsQueued labels (set reached v true) new.level (entries_of new)
     IsQueued-reached = record {
       upto_level = set_cases reached v true false within (λ u b. b ≡ true → rise_at labels u ≤ℤ new.level) (λ _. next-entry.no_less)
-          (λ u ne hit. let upto = queued.upto_level u hit in let level = next.level in omega (arith, ints));
+          (λ u ne hit. let upto = queued.upto_level u hit in omega (arith, ints));
       queued = λ u labelled. set_cases reached v true false within (λ w b. w ≡ u → b ≡ false → Contains (entries_of new) (entry (rise_at labels u) u))
           (λ _ e. absurd (false≢true (sym e))) (λ w ne e miss. still_queued u (λ d. ne (e ∙ d)) labelled (sym (ap (is_in reached) e) ∙ miss)) u refl;
       rises = All-tail (IsEntry labels) (entry new.level v) (entries_of new) entries_now;
@@ -85,7 +85,7 @@ AreLabels-reached p r labels reached v labelled free h = record {
 }
   where
     within : v < length reached
-    within = let b = labelled_within labels v labelled in let e = h.one_each in let m = h.one_mark_each in omega arith
+    within = let b = labelled_within labels v labelled in omega arith
 
     still : (u : ℕ) → is_in reached u ≡ true → is_in (set reached v true) u ≡ true
     still = set_cases reached v true false within (λ u b. is_in reached u ≡ true → b ≡ true) (λ _. refl) (λ u ne hit. hit)
@@ -97,7 +97,7 @@ AreLabels-reached p r labels reached v labelled free h = record {
 
     deep : (o : Option Arc) → arc_at labels v ≡ o → depth_at labels v < reached_count (set reached v true)
     deep None none = let root = ap (depth_at labels) (h.root v labelled none) in let depth = ap depth_of_label h.source in let more = one_more in omega arith
-    deep (Some a) some = let by = h.by_arc v a some in let depth = by.depth in let below = h.depths a.tail by.tail_reached in let more = one_more in omega arith
+    deep (Some a) some = let by = h.by_arc v a some in let below = h.depths a.tail by.tail_reached in let more = one_more in omega arith
 
 -- a reached node rises by no more than a potential can, and few arcs lead to it
 pub record IsSmall (l : Option Label) : Type 0 where
@@ -107,12 +107,11 @@ pub record IsSmall (l : Option Label) : Type 0 where
 pub IsSmall-reached : (p : Problem) (r : Routing) → IsStanding p r → (labels : List (Option Label)) (reached : List Bool) → AreLabels p r labels reached
     → (v : ℕ) → is_in reached v ≡ true → IsSmall (label_at labels v)
 IsSmall-reached p r standing labels reached h v hit =
-    let net = p.net.now in let deep = h.depths v hit in let count = count_by-le-length (λ b. b) reached in let each = h.one_mark_each in
-    let few = standing.problem.net.few_nodes in let cost = largest_cost-small net standing.problem.net in
-    let shallow : depth_at labels v < MOST_NODES = omega (arith, deep, count, each, few) in
+    let net = p.net.now in let deep = h.depths v hit in let count = count_by-le-length (λ b. b) reached in
+    let cost = largest_cost-small net standing.problem.net in let shallow : depth_at labels v < MOST_NODES = omega (arith, deep, count) in
     let times : depth_at labels v * largest_cost net ≤ most_path_cost =
     mul-le (depth_at labels v) (largest_cost net) MOST_NODES MOST_COST (omega (arith, shallow)) cost in
-    let within = reached_within reached v hit in let here = IsPotential-standing p r standing v (omega (arith, within, each)) in
+    let within = reached_within reached v hit in let here = IsPotential-standing p r standing v (omega (arith, within)) in
     let source = IsPotential-standing p r standing p.source standing.problem.ends.source_in in let upto = (h.near v (h.reached_labelled v hit)).upto in
     record { rise = omega (arith, sizes, times, here, source, upto); depth = shallow }
 
@@ -132,18 +131,17 @@ module _ (p : Problem) (r : Routing) (standing : IsStanding p r) (s : Search) (s
 
   -- it is closed where its head is reached, since that rises no more than its tail, and where the head's label is low
   pub IsRelaxed-reached : is_in s.reached.items a.head ≡ true → IsRelaxed p r s s a
-  IsRelaxed-reached hit = IsRelaxed-same (λ residual. let low = search.queue.upto_level a.head hit in let level = at.level in let tail = tail_rise in
+  IsRelaxed-reached hit = IsRelaxed-same (λ residual. let low = search.queue.upto_level a.head hit in let tail = tail_rise in
       let more = reduced-residual p r standing a residual in
-      record { labelled = search.labels.reached_labelled a.head hit; low = omega (arith, ints, low, level, tail, more) })
+      record { labelled = search.labels.reached_labelled a.head hit; low = omega (arith, ints, low, tail, more) })
 
   -- its head gets a label
   module _ (rise : ℤ) (rise_is : rise ≡ l.rise +ℤ reduced_cost_of r.potentials.items a) where
     pub IsRelaxed-low : (is_labelled s.labels.items a.head ≡ true) × (rise_at s.labels.items a.head ≤ℤ rise) → IsRelaxed p r s s a
-    IsRelaxed-low low = IsRelaxed-same
-        (λ _. let tail = tail_rise in let upto = low.1 in record { labelled = low.0; low = omega (arith, ints, rise_is, tail, upto) })
+    IsRelaxed-low low = IsRelaxed-same (λ _. let tail = tail_rise in record { labelled = low.0; low = omega (arith, ints, rise_is, tail) })
 
     pub above-level : IsResidualArc p r a → s.queue.level ≤ℤ rise
-    above-level residual = let more = reduced-residual p r standing a residual in let level = at.level in omega (arith, ints, rise_is, more, level)
+    above-level residual = let more = reduced-residual p r standing a residual in omega (arith, ints, rise_is, more)
 
     module _ (residual : IsResidualArc p r a) (free : is_in s.reached.items a.head ≡ false)
         (better : is_labelled s.labels.items a.head ≡ true → rise <ℤ rise_at s.labels.items a.head)
@@ -152,7 +150,7 @@ module _ (p : Problem) (r : Routing) (standing : IsStanding p r) (s : Search) (s
       label_by = record { rise = rise; depth = l.depth + 1; arc = Some a }
 
       head_in : a.head < length s.labels.items
-      head_in = let e = search.labels.one_each in let nodes = arc-nodes p.net.now standing.problem.net a residual.arc in omega arith
+      head_in = let nodes = arc-nodes p.net.now standing.problem.net a residual.arc in omega arith
 
       by_node : (P : ℕ → Option Label → Type 0) → P a.head (Some label_by) → ((v : ℕ) → v ≢ a.head → P v (label_at s.labels.items v)) → (v : ℕ)
           → P v (label_at t.labels.items v)
@@ -235,7 +233,7 @@ module _ (p : Problem) (r : Routing) (standing : IsStanding p r) (s : Search) (s
             (record { labelled = ap is_some at_head; no_less = rw at_head (omega (arith, ints)) })
             (All-weaker (IsEntry s.labels.items) (IsEntry t.labels.items) (λ e old. record {
               labelled = labelled e.1 old.labelled;
-              no_less = (let less = fell e.1 old.labelled in let no_less = old.no_less in omega (arith, ints, less, no_less));
+              no_less = (let less = fell e.1 old.labelled in omega (arith, ints, less));
             }) (entries_of s.queue) search.queue.rises));
       }
 
@@ -255,7 +253,7 @@ module _ (p : Problem) (r : Routing) (standing : IsStanding p r) (s : Search) (f
   none_labelled v = replicate_same p.net.now.nodes v None
 
   source_in : p.source < length (replicate {A = Option Label} p.net.now.nodes None)
-  source_in = let e = length-replicate {A = Option Label} p.net.now.nodes None in let within = standing.problem.ends.source_in in omega arith
+  source_in = let e = length-replicate {A = Option Label} p.net.now.nodes None in omega arith
 
   by_source : (P : ℕ → Option Label → Type 0) → P p.source (Some source_label) → ((v : ℕ) → P v None) → (v : ℕ) → P v (label_at s.labels.items v)
   by_source P here there = rw fresh.labels
@@ -326,7 +324,7 @@ module _ (p : Problem) (r : Routing) (s t : Search) (v : ℕ) (l : Label) (reach
   v_labelled = ap is_some reaching.label
 
   v_in : v < length s.reached.items
-  v_in = let within = labelled_within s.labels.items v v_labelled in let e = s.one_mark_each in omega arith
+  v_in = let within = labelled_within s.labels.items v v_labelled in omega arith
 
   -- what holds of v, and of each node reached before, holds of each node reached
   pub reached_cases : (P : ℕ → Type 0) → P v → ((u : ℕ) → is_in s.reached.items u ≡ true → P u) → (u : ℕ) → is_in t.reached.items u ≡ true → P u
@@ -413,9 +411,8 @@ module _ (p : Problem) (r : Routing) (s : Search) (standing : IsStanding p r) (a
             let upto = arrived.search.queue.upto_level v hit in
             record { from = omega (arith, ints, same, risen); upto = omega (arith, ints, same, upto); low = λ _. omega (arith, ints, same) }
         | inr miss ↦
-            let same = other_rise (label_at s.labels.items v) (is_in s.reached.items v) s.queue.level miss in let sink = labels.risen p.sink in
-            let level = arrived.level in record {
-              from = omega (arith, ints, same, sink, level);
+            let same = other_rise (label_at s.labels.items v) (is_in s.reached.items v) s.queue.level miss in let sink = labels.risen p.sink in record {
+              from = omega (arith, ints, same, sink);
               upto = omega (arith, ints, same);
               low = λ labelled. (let above = All-contains (λ (e : Reverse ℤ × ℕ). s.queue.level ≤ℤ e.0.0) (entries_of s.queue)
                   (entry (rise_at s.labels.items v) v) (above-entries s.queue) (arrived.search.queue.queued v labelled miss) in
@@ -434,13 +431,12 @@ module _ (p : Problem) (r : Routing) (s : Search) (standing : IsStanding p r) (a
   pub rise_fits : (v : ℕ) → v < p.net.now.nodes → FitsSigned w64 (potential_at r.potentials.items v +ℤ rise_of s v)
   rise_fits v within =
       let potential = IsPotential-standing p r standing v within in let from = (rises v).from in let upto = (rises v).upto in
-      let sink = (IsSmall-reached p r standing s.labels.items s.reached.items arrived.search.labels p.sink arrived.sink_reached).rise in
-      let level = arrived.level in omega (arith, sizes)
+      let sink = (IsSmall-reached p r standing s.labels.items s.reached.items arrived.search.labels p.sink arrived.sink_reached).rise in omega (arith, sizes)
 
   module _ (potentials : List ℤ) (one_each : length potentials ≡ length r.potentials.items)
       (raised : (v : ℕ) → v < length r.potentials.items → potential_at potentials v ≡ potential_at r.potentials.items v +ℤ rise_of s v) where
     raised_at : (v : ℕ) → v < p.net.now.nodes → potential_at potentials v ≡ potential_at r.potentials.items v +ℤ rise_of s v
-    raised_at v within = raised v (let e = standing.bounded.one_each in omega arith)
+    raised_at v within = raised v (omega arith)
 
     raised_ends : (a : Arc) → IsArc p.net.now.links a
         → reduced_cost_of potentials a ≡ (reduced_cost_of r.potentials.items a +ℤ rise_of s a.tail) -ℤ rise_of s a.head
@@ -458,8 +454,8 @@ module _ (p : Problem) (r : Routing) (s : Search) (standing : IsStanding p r) (a
           | inl hit ↦ elim (cases_eq a.tail p.sink) [
             | inl same ↦ let tail = ap (rise_of s) same ∙ sink_rise in omega (arith, ints, ends, was, head, tail)
             | inr ne ↦
-                let closed = arrived.closed a residual.arc hit ne residual in let upto = closed.low in let low = (rises a.head).low closed.labelled in
-                let tail = as_labelled a.tail hit in omega (arith, ints, ends, upto, low, tail)
+                let closed = arrived.closed a residual.arc hit ne residual in let low = (rises a.head).low closed.labelled in
+                let tail = as_labelled a.tail hit in omega (arith, ints, ends, low, tail)
           ]
         ]
 
@@ -467,8 +463,7 @@ module _ (p : Problem) (r : Routing) (s : Search) (standing : IsStanding p r) (a
     pub tree_reduced : (a : Arc) → IsTreeArc s a → IsResidualArc p r a × (reduced_cost_of potentials a ≡ pos 0)
     tree_reduced a last =
         let by = arrived.search.labels.by_arc a.head a last.is_last in let ends = raised_ends a by.residual.arc in
-        let head = as_labelled a.head last.head_reached in let tail = as_labelled a.tail by.tail_reached in let rise = by.rise in
-        (by.residual, omega (arith, ints, ends, head, tail, rise))
+        let head = as_labelled a.head last.head_reached in let tail = as_labelled a.tail by.tail_reached in (by.residual, omega (arith, ints, ends, head, tail))
 
     raised_proof : AreProofOfLeast p.net.now.links r.flow.items potentials
     raised_proof = record {
@@ -482,18 +477,18 @@ module _ (p : Problem) (r : Routing) (s : Search) (standing : IsStanding p r) (a
 
     source_stays : potential_at potentials p.source ≡ potential_at r.potentials.items p.source
     source_stays =
-        let at = raised_at p.source standing.problem.ends.source_in in let rise = rises p.source in let from = rise.from in
+        let at = raised_at p.source standing.problem.ends.source_in in let rise = rises p.source in
         let low = rise.low (ap is_some arrived.search.labels.source) in let none = ap rise_of_label arrived.search.labels.source in
-        omega (arith, ints, at, from, low, none)
+        omega (arith, ints, at, low, none)
 
     -- the sink's potential is not far above the source's
     sink_near : potential_at potentials p.sink ≤ℤ (potential_at r.potentials.items p.source +ℤ pos (p.net.now.nodes * largest_cost p.net.now))
     sink_near =
         let n = p.net.now.nodes in let labels = arrived.search.labels in
         let near = (labels.near p.sink (labels.reached_labelled p.sink arrived.sink_reached)).upto in let deep = labels.depths p.sink arrived.sink_reached in
-        let count = count_by-le-length (λ b. b) s.reached.items in let each = labels.one_mark_each in let depth = depth_at s.labels.items p.sink in
+        let count = count_by-le-length (λ b. b) s.reached.items in let depth = depth_at s.labels.items p.sink in
         let times : depth * largest_cost p.net.now ≤ n * largest_cost p.net.now =
-        mul-le depth (largest_cost p.net.now) n (largest_cost p.net.now) (omega (arith, deep, count, each)) (omega arith) in
+        mul-le depth (largest_cost p.net.now) n (largest_cost p.net.now) (omega (arith, deep, count)) (omega arith) in
         let at = raised_at p.sink standing.problem.ends.sink_in in let rise = as_labelled p.sink arrived.sink_reached in
         omega (arith, ints, near, times, at, rise)
 
@@ -501,11 +496,11 @@ module _ (p : Problem) (r : Routing) (s : Search) (standing : IsStanding p r) (a
     raised_bounded = record {
       one_each = one_each ∙ standing.bounded.one_each;
       bounded = λ v within. let size = λ (u : ℕ) (b : u < p.net.now.nodes). size-le-greatest (λ (x : ℤ). x) p.start.now u (pos 0)
-          (let e = standing.problem.start.one_each in omega (arith, b, e)) in let at_v = size v within in
+          (omega (arith, b)) in let at_v = size v within in
           let at_sink = size p.sink standing.problem.ends.sink_in in let at_source = size p.source standing.problem.ends.source_in in
           let v_at = raised_at v within in let sink_at = raised_at p.sink standing.problem.ends.sink_in in let from = (rises v).from in
           let upto = (rises v).upto in let sink_up = sink_rise in let risen = standing.risen v within in let most = standing.sink_most v within in
-          let source = standing.at_source in let near = sink_near in omega (arith, sizes);
+          let near = sink_near in omega (arith, sizes);
     }
 
     pub Stands-raised : Stands p r.flow.items potentials r.routed r.openings.items
@@ -528,8 +523,7 @@ pub tree_free : (p : Problem) (r : Routing) (s : Search) (standing : IsStanding 
     → IsTreeArc s a → IsFreeArc p r a
 tree_free p r s standing arrived level a last =
     let tree = tree_reduced p r s standing arrived r.potentials.items refl
-    (λ v _. let h = rises p r s standing arrived v in let from = h.from in let upto = h.upto in omega (arith, ints, level, from, upto)) a last in
-    record { residual = tree.0; free = tree.1 }
+    (λ v _. let h = rises p r s standing arrived v in omega (arith, ints, level)) a last in record { residual = tree.0; free = tree.1 }
 
 -- Where the search is stuck, the nodes reached are a cut that the amount cannot pass.
 

@@ -46,8 +46,8 @@ loop-node-smaller c =
     (fewer_levels c.args.problem.now c.args.routing.now levels c.pop.new.self.items a c.args.problem.now.sink at.step) in
     let kept = subst (λ v. height_at (set levels v None) a.head ≡ height_at levels a.head) at.tail
     (height_kept c.args.problem.now c.args.routing.now levels c.pop.new.self.items a c.args.problem.now.sink at.step) in
-    let same = ap (λ t. 2 * level_count t.items + height_at t.items c.loop-node.node) c.in_default.ensures.levels in let up = at.step.up in
-    let tail = ap (height_at levels) at.tail in omega (arith, fewer, kept, same, up, tail)
+    let same = ap (λ t. 2 * level_count t.items + height_at t.items c.loop-node.node) c.in_default.ensures.levels in let tail = ap (height_at levels) at.tail in
+    omega (arith, fewer, kept, same, tail)
 
 pub loop-node-preserved : goal.loop-node-preserved
 loop-node-preserved c =
@@ -71,4 +71,4 @@ returns-clause-path c =
     subst (IsFreePath p r) (sym c.reverse.ensures.items)
     (IsFreePath-rising p r (height_at levels) (reverse path) (subst (λ v. IsWalk (reverse path) v p.sink) c.loop-node-test.false inv.walk)
     (All-weaker (IsStep p r levels) (λ a. IsFreeArc p r a × (height_at levels a.tail < height_at levels a.head))
-    (λ a h. (h.free, (let e = h.up in omega arith))) (reverse path) turned))
+    (λ a h. (h.free, (omega arith))) (reverse path) turned))

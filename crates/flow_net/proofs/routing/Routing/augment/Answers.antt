@@ -17,8 +17,8 @@ loop-arc-preserved c =
     let links = c.args.problem.now.net.now.links in let path = c.args.path.now in let m = to_z w64 (of_z w64 c.bottleneck-amount.result) in
     let i = c.loop-arc.arc-index in let flow = c.loop-arc.self.flow.items in let within = c.loop-arc-test.true in let inv = c.loop-arc.invariant in
     let a = get_or path i no_arc in let read = next_carried links flow path m i within inv.rooms inv.can_carry c.index.result.now c.index.ensures in
-    let from : pos 0 ≤ℤ m = (let some = c.bottleneck-amount.ensures.some in omega (arith, ints)) in
-    let kept_index = to_z-of_z w64 c.index.result.now (search rules) in let kept = to_z-of_z w64 c.carry-carried.result (search rules) in
+    let from : pos 0 ≤ℤ m = omega (arith, ints) in let kept_index = to_z-of_z w64 c.index.result.now (search rules) in
+    let kept = to_z-of_z w64 c.carry-carried.result (search rules) in
     let value = kept ∙ (c.carry-carried.ensures ∙ ap (λ x. carry a x m) (kept_index ∙ read)) in
     let sent : set flow a.link (to_z w64 (of_z w64 c.carry-carried.result)) ≡ sent_along flow a m = ap (set flow a.link) value in
     let opened = subst (λ xs. IsOpening (link_at xs a.link) (to_z w64 (of_z w64 c.carry-carried.result)) c.at.result) c.as_slice.ensures c.at.ensures in
@@ -38,15 +38,12 @@ returns-clause-standing c =
     let most = c.bottleneck-amount.ensures in let kept : to_z w64 (of_z w64 m) ≡ m = to_z-of_z w64 m (search rules) in let inv = c.loop-arc.invariant in
     let flow = inv.sent ∙ (ap (λ xs. sent_along_path r.flow.items xs (to_z w64 (of_z w64 m))) (take_all c.loop-arc.arc-index path c.loop-arc-test.false)
     ∙ ap (sent_along_path r.flow.items path) kept) in
-    let same = inv.routed in let some = most.some in let limited = most.limited in let from = c.requires.standing.routed_from in
-    let limit = c.requires.standing.problem.amount.upto in
     let opened = subst (λ f. AreOpenings p.net.now.links f c.loop-arc.self.openings.items) flow inv.openings in
     Stands-same p _ _ _ _ _ _ _ flow (ap (λ v. v.items) inv.potentials) (omega (arith, ints))
     (Stands-augmented p r c.requires.standing path c.requires.path m most _ opened)
 
 pub returns-clause-amount : goal.returns-clause-amount
 returns-clause-amount c =
-    let m = c.bottleneck-amount.result in let most = c.bottleneck-amount.ensures in let same = c.loop-arc.invariant.routed in let some = most.some in
-    let limited = most.limited in let from = c.requires.standing.routed_from in let limit = c.requires.standing.problem.amount.upto in
+    let m = c.bottleneck-amount.result in let most = c.bottleneck-amount.ensures in
     let is : m ≡ to_z w64 (of_z w64 (to_z w64 (of_z w64 c.loop-arc.self.routed) +ℤ to_z w64 (of_z w64 m))) -ℤ c.args.self.now.routed = omega (arith, ints) in
     subst (IsBottleneck c.args.problem.now c.args.self.now c.args.path.now) is most

@@ -5,7 +5,7 @@ use Rattle.flow_net.proofs.routing.Routing.bottleneck.Goals as goal
 
 pub loop-arc-init : goal.loop-arc-init
 loop-arc-init c =
-    let some = c.requires.short in let from = c.requires.standing.routed_from in let upto = c.requires.standing.problem.amount.upto in
+    let some = c.requires.short in
     record { some = omega (arith, ints); limited = omega (arith, ints); residual = All-nil _; reached = inl (omega (arith, ints)) }
 
 -- the least of what the first arcs can carry and of what an arc more can

@@ -3,7 +3,7 @@ use Rattle.std.proofs.Common.{IsTrue, arith, subst, sym}
 use Rattle.flow_net.proofs.routing.Routing.is_residual.Goals as goal
 
 pub is_open-requires : goal.is_open-requires
-is_open-requires c = let e = c.requires.standing.opened.one_each in let b = c.requires.arc.below in omega arith
+is_open-requires c = omega arith
 
 pub returns : goal.returns
 returns c =

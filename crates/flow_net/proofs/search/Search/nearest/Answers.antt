@@ -9,17 +9,16 @@ node_in : (c : In-Some) → (c.in-Some.node < length c.loop-node.self.labels.ite
 node_in c =
     let s = c.loop-node.self in
     let at = next-entry s.labels.items s.reached.items s.queue c.pop.new.self c.in-Some.node c.in-Some.ensures c.loop-node.invariant.queue in
-    let within = labelled_within s.labels.items c.in-Some.node at.labelled in (within, (let e = s.one_mark_each in omega arith))
+    let within = labelled_within s.labels.items c.in-Some.node at.labelled in (within, (omega arith))
 
 pub index-requires : goal.index-requires
-index-requires c = let w = node_in (goal.at.index-requires c).In-Some in let e = c.loop-node.self.reached.ok.0 in omega (arith, w, e)
+index-requires c = let w = node_in (goal.at.index-requires c).In-Some in omega (arith, w)
 
 pub index-requires-then-not-index : goal.index-requires-then-not-index
-index-requires-then-not-index c = let w = node_in (goal.at.index-requires-then-not-index c).In-Some in let e = c.loop-node.self.labels.ok.0 in
-    omega (arith, w, e)
+index-requires-then-not-index c = let w = node_in (goal.at.index-requires-then-not-index c).In-Some in omega (arith, w)
 
 pub index_mut-requires : goal.index_mut-requires
-index_mut-requires c = let w = node_in (goal.at.index_mut-requires c).In-Some in let e = c.loop-node.self.reached.ok.0 in omega (arith, w, e)
+index_mut-requires c = let w = node_in (goal.at.index_mut-requires c).In-Some in omega (arith, w)
 
 pub returns-in-Some-index : goal.returns-in-Some-index
 returns-in-Some-index c =

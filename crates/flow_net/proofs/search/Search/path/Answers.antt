@@ -5,8 +5,7 @@ use Rattle.std.proofs.Common.{Some, ap, arith, reverse, subst, sym, ◌∙◌, �
 use Rattle.flow_net.proofs.search.Search.path.Goals as goal
 
 pub last_arc-requires : goal.last_arc-requires
-last_arc-requires c = let within = reached_within c.args.self.now.reached.items c.loop-arc.node c.loop-arc.invariant.reached in
-    let e = c.args.self.now.one_mark_each in omega arith
+last_arc-requires c = let within = reached_within c.args.self.now.reached.items c.loop-arc.node c.loop-arc.invariant.reached in omega arith
 
 pub loop-arc-smaller : goal.loop-arc-smaller
 loop-arc-smaller c =

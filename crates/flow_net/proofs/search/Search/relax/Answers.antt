@@ -13,7 +13,7 @@ head_in c = (arc-nodes c.args.problem.now.net.now c.requires.standing.problem.ne
 -- whether the head is reached, as the code reads it
 mark : (c : After-index) → c.index.result.now ≡ is_in c.args.self.now.reached.items c.args.arc.now.head
 mark c =
-    let within = head_in (goal.at.After-index c).Start in let each = c.requires.search.labels.one_mark_each in
+    let within = head_in (goal.at.After-index c).Start in
     get_or_read c.args.self.now.reached.items c.args.arc.now.head c.index.result.now (omega arith) c.index.ensures false
 
 pub returns-then-index : goal.returns-then-index
@@ -41,8 +41,8 @@ sum c =
     let p = c.args.problem.now in let r = c.args.routing.now in let s = c.args.self.now in let a = c.args.arc.now in
     let l = c.args.label.now in let priced = IsPriced-arc p r c.requires.standing a c.requires.arc in
     let upto = (IsSmall-tail p r c.requires.standing s c.requires.search a l c.requires.at).rise in
-    let from = subst (λ o. pos 0 ≤ℤ rise_of_label o) c.requires.at.label (c.requires.search.labels.risen a.tail) in let value = c.reduced_cost.ensures in
-    let cost = priced.cost in let at_tail = priced.at_tail in let at_head = priced.at_head in record { fits = omega (arith, sizes); is = omega (arith, sizes) }
+    let from = subst (λ o. pos 0 ≤ℤ rise_of_label o) c.requires.at.label (c.requires.search.labels.risen a.tail) in
+    record { fits = omega (arith, sizes); is = omega (arith, sizes) }
 
 pub overflow_add-rise : goal.overflow_add-rise
 overflow_add-rise c = (sum (goal.at.overflow_add-rise c).After-reduced_cost).fits
@@ -70,7 +70,7 @@ open_arc c = record {
 }
 
 pub enter-requires-clause-node : goal.enter-requires-clause-node
-enter-requires-clause-node c = let within = head_in (goal.at.enter-requires-clause-node c).Start in let each = c.requires.search.labels.one_each in omega arith
+enter-requires-clause-node c = let within = head_in (goal.at.enter-requires-clause-node c).Start in omega arith
 
 pub enter-requires-clause-rise : goal.enter-requires-clause-rise
 enter-requires-clause-rise c =
