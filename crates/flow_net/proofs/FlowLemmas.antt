@@ -263,8 +263,8 @@ Stands-same p flow flow' potentials potentials' routed routed' openings e f g h 
 module _ (p : Problem) (r : Routing) (standing : IsStanding p r) where
   pub IsPotential-standing : (v : ℕ) → v < p.net.now.nodes → IsPotential (potential_at r.potentials.items v)
   IsPotential-standing v within =
-      let net = p.net.now in let start = standing.problem.start in let bound = standing.bounded.bounded v within in
-      let largest = greatest-le (λ (s : ℤ). s) p.start.now MOST_INITIAL_POTENTIAL (pos 0) (λ k b. start.within k (omega arith)) in
+      let net = p.net.now in let bound = standing.bounded.bounded v within in
+      let largest = greatest-le (λ (s : ℤ). s) p.start.now MOST_INITIAL_POTENTIAL (pos 0) (λ k b. standing.problem.start.within k (omega arith)) in
       let times : net.nodes * largest_cost net ≤ MOST_NODES * MOST_COST =
       mul-le net.nodes (largest_cost net) MOST_NODES MOST_COST standing.problem.net.few_nodes (largest_cost-small net standing.problem.net) in
       omega (arith, bound, largest, times)
@@ -294,8 +294,7 @@ module _ (p : Problem) (r : Routing) (standing : IsStanding p r) where
     pub Stands-augmented : (openings : List Opening) → AreOpenings p.net.now.links (sent_along_path r.flow.items path m) openings
         → Stands p (sent_along_path r.flow.items path m) r.potentials.items (r.routed +ℤ m) openings
     Stands-augmented openings are =
-        let net = p.net.now in let routed_from = standing.routed_from in let from : pos 0 ≤ℤ m = omega (arith, ints) in let rooms = standing.routes.rooms in
-        record {
+        let net = p.net.now in let from : pos 0 ≤ℤ m = omega (arith, ints) in let rooms = standing.routes.rooms in record {
           problem = standing.problem;
           routed_from = omega (arith, ints);
           routed_upto = omega (arith, ints);
@@ -321,34 +320,33 @@ module _ (p : Problem) (r : Routing) (standing : IsStanding p r) where
 -- nothing is routed yet
 pub Stands-none : (p : Problem) (openings : List Opening) → IsProblem p → AreOpenings p.net.now.links (replicate (length p.net.now.links) (pos 0)) openings
     → Stands p (replicate (length p.net.now.links) (pos 0)) p.start.now (pos 0) openings
-Stands-none p openings h are =
-    let amount = h.amount.from in record {
-      problem = h;
-      routed_from = omega (arith, ints);
-      routed_upto = amount;
-      opened = are;
-      routes = record {
-        rooms = record {
-          one_each = length-replicate {A = ℤ} (length p.net.now.links) (pos 0);
-          not_negative = λ k b. rw (nothing k) (omega (arith, ints));
-          upto_room = λ k b. rw (nothing k) (h.net.links k b).room.from;
-        };
-        balances = λ v _ _ _. no_inflow v ∙ sym (no_outflow v);
-        source_gives = (let a = no_inflow p.source in let b = no_outflow p.source in omega (arith, ints, a, b));
-        sink_takes = (let a = no_inflow p.sink in let b = no_outflow p.sink in omega (arith, ints, a, b));
-      };
-      proof = record {
-        left_to_add = λ k b left. h.start.fits k b (let none = nothing k in omega (arith, ints, none, left));
-        flowing = λ k b some. absurd (let none = nothing k in omega (arith, ints, none, some));
-      };
-      bounded = record {
-        one_each = h.start.one_each;
-        bounded = λ v within. let size = size-le-greatest (λ (x : ℤ). x) p.start.now v (pos 0) (omega (arith, within)) in omega (arith, size);
-      };
-      at_source = refl;
-      risen = λ v within. omega (arith, ints);
-      sink_most = λ v within. omega (arith, ints);
-    }
+Stands-none p openings h are = record {
+  problem = h;
+  routed_from = omega (arith, ints);
+  routed_upto = h.amount.from;
+  opened = are;
+  routes = record {
+    rooms = record {
+      one_each = length-replicate {A = ℤ} (length p.net.now.links) (pos 0);
+      not_negative = λ k b. rw (nothing k) (omega (arith, ints));
+      upto_room = λ k b. rw (nothing k) (h.net.links k b).room.from;
+    };
+    balances = λ v _ _ _. no_inflow v ∙ sym (no_outflow v);
+    source_gives = (let a = no_inflow p.source in let b = no_outflow p.source in omega (arith, ints, a, b));
+    sink_takes = (let a = no_inflow p.sink in let b = no_outflow p.sink in omega (arith, ints, a, b));
+  };
+  proof = record {
+    left_to_add = λ k b left. h.start.fits k b (let none = nothing k in omega (arith, ints, none, left));
+    flowing = λ k b some. absurd (let none = nothing k in omega (arith, ints, none, some));
+  };
+  bounded = record {
+    one_each = h.start.one_each;
+    bounded = λ v within. let size = size-le-greatest (λ (x : ℤ). x) p.start.now v (pos 0) (omega (arith, within)) in omega (arith, size);
+  };
+  at_source = refl;
+  risen = λ v within. omega (arith, ints);
+  sink_most = λ v within. omega (arith, ints);
+}
   where
     nothing : (k : ℕ) → flow_on (replicate (length p.net.now.links) (pos 0)) k ≡ pos 0
     nothing k = elim (cases_lt k (length p.net.now.links)) [
@@ -407,7 +405,8 @@ apart_by_rank : (links : List Link) (rank : ℕ → ℕ) (path : List Arc) (u w 
 apart_by_rank links rank [] u w walk arcs rising = tt
 apart_by_rank links rank (a ∷ path) u w walk arcs rising =
     let first = All-head (λ b. rank b.tail < rank b.head) a path rising in let rest = All-tail (λ b. rank b.tail < rank b.head) a path rising in
-    let above = rising_above rank path a.head w walk.1 rest in let is = All-head (IsArc links) a path arcs in let others = All-tail (IsArc links) a path arcs in (
+    let above = rising_above rank path a.head w walk.1 rest in let is = All-head (IsArc links) a path arcs in
+    let others = All-tail (IsArc links) a path arcs in (
       λ k d l same. let up = rest k d l in let over = above k d l in elim (same_ends links a (get_or path k d) is (others k d l) same) [
         | inl e ↦ (let h = ap rank e in omega (arith, h, first, up, over))
         | inr e ↦ (let h = ap rank e in omega (arith, h, first, up, over))
@@ -474,13 +473,13 @@ IsStep-up p r levels a free up =
 module _ (p : Problem) (r : Routing) (levels : List (Option ℕ)) (path : List Arc) (a : Arc) (w : ℕ) (step : IsStep p r levels a) where
   pub IsStep-closed : IsWalk (reverse path) a.head w → All (IsStep p r levels) path → All (IsStep p r (set levels a.tail None)) path
   IsStep-closed walk steps =
-      let up = step.up in let turned = All-permutation (IsStep p r levels) _ _ (IsPermutation-reverse path) steps in
+      let turned = All-permutation (IsStep p r levels) _ _ (IsPermutation-reverse path) steps in
       let above = rising_above (height_at levels) (reverse path) a.head w walk
       (All-weaker (IsStep p r levels) (λ b. height_at levels b.tail < height_at levels b.head) (λ b h. omega arith) (reverse path) turned) in
       let higher = All-permutation (λ b. height_at levels a.head ≤ height_at levels b.tail) _ _ (IsPermutation-sym _ _ (IsPermutation-reverse path)) above in
       λ k d l. let b = get_or path k d in let s = steps k d l in let over = higher k d l in let next = s.up in
-      let tail = kept b.tail (λ e. let same = ap (height_at levels) e in absurd (omega (arith, up, over, same))) in
-      let head = kept b.head (λ e. let same = ap (height_at levels) e in absurd (omega (arith, up, over, next, same))) in
+      let tail = kept b.tail (λ e. let same = ap (height_at levels) e in absurd (omega (arith, over, same))) in
+      let head = kept b.head (λ e. let same = ap (height_at levels) e in absurd (omega (arith, over, next, same))) in
       record { free = s.free; up = ap height_of head ∙ (next ∙ ap (λ o. height_of o + 1) (sym tail)); has_level = ap is_some tail ∙ s.has_level }
     where
       kept : (v : ℕ) → v ≢ a.tail → level_at (set levels a.tail None) v ≡ level_at levels v

@@ -189,10 +189,9 @@ module _ (p : Problem) (r : Routing) (standing : IsStanding p r) (s : Search) (s
 
       near : IsNear p r a.head rise (l.depth + 1)
       near =
-          let at_tail = search.labels.near a.tail (search.labels.reached_labelled a.tail at.reached) in let from = at_tail.from in let upto = at_tail.upto in
+          let at_tail = search.labels.near a.tail (search.labels.reached_labelled a.tail at.reached) in
           let cost = (arc-cost p.net.now standing.problem.net a residual.arc).0 in let times = ap (λ o. depth_of_label o * largest_cost p.net.now) at.label in
-          let tail = tail_rise in
-          record { from = omega (arith, sizes, from, cost, times, tail, rise_is); upto = omega (arith, sizes, upto, cost, times, tail, rise_is) }
+          let tail = tail_rise in record { from = omega (arith, sizes, cost, times, tail, rise_is); upto = omega (arith, sizes, cost, times, tail, rise_is) }
 
       not_source : a.head ≡ p.source → ⊥
       not_source e =
@@ -315,7 +314,7 @@ IsAt-improves s t v l h at = record {
 pub IsClosedAt-improves : (p : Problem) (r : Routing) (s t : Search) (a : Arc) → Improves s t → is_in s.reached.items a.tail ≡ true → IsClosedAt p r s a
     → IsClosedAt p r t a
 IsClosedAt-improves p r s t a h hit closed residual =
-    let was = closed residual in let low = was.low in let fell = h.fell a.head was.labelled in let tail = ap rise_of_label (h.kept a.tail hit) in
+    let was = closed residual in let fell = h.fell a.head was.labelled in let tail = ap rise_of_label (h.kept a.tail hit) in
     record { labelled = h.labelled a.head was.labelled; low = omega (arith, ints) }
 
 -- node v is reached next

@@ -24,8 +24,7 @@ loop-routing-smaller c =
 
 pub loop-routing-preserved : goal.loop-routing-preserved
 loop-routing-preserved c =
-    let no_less = c.in_ok-augment_by_levels.ensures.no_less in let after = c.in_ok-augment_by_levels.ensures in
-    record { standing = after.standing; graph = after.graph; no_less = omega (arith, ints, no_less) }
+    let after = c.in_ok-augment_by_levels.ensures in record { standing = after.standing; graph = after.graph; no_less = omega (arith, ints) }
 
 pub returns-then-routing-before-clause-rises : goal.returns-then-routing-before-clause-rises
 returns-then-routing-before-clause-rises c = omega (arith, ints)

@@ -7,6 +7,4 @@ pub loop-routing-smaller : goal.loop-routing-smaller
 loop-routing-smaller c = omega (arith, sizes)
 
 pub loop-routing-preserved : goal.loop-routing-preserved
-loop-routing-preserved c =
-    let no_less = c.loop-routing.invariant.no_less in
-    record { standing = c.augment.ensures.standing; graph = c.in_ok-path.ensures.graph; no_less = omega (arith, ints, no_less) }
+loop-routing-preserved c = record { standing = c.augment.ensures.standing; graph = c.in_ok-path.ensures.graph; no_less = omega (arith, ints) }

@@ -32,9 +32,9 @@ record IsPopped (c : In-Some-pop) : Type 0 where
 
 popped : (c : In-Some-pop) → IsPopped c
 popped c =
-    let p = c.args.problem.now in let r = c.args.routing.now in let levels = c.last_arc.new.self.levels.items in let items = c.in-Some-pop.ensures.items in
+    let p = c.args.problem.now in let r = c.args.routing.now in let items = c.in-Some-pop.ensures.items in
     let steps = subst (λ t. All (IsStep p r t.items) c.loop-node.path.items) (sym c.in_default.ensures.levels) c.loop-node.invariant.steps in
-    let parts = All-pop (IsStep p r levels) c.loop-node.path.items c.pop.new.self.items (Some c.in-Some-pop.arc) items steps in
+    let parts = All-pop (IsStep p r c.last_arc.new.self.levels.items) c.loop-node.path.items c.pop.new.self.items (Some c.in-Some-pop.arc) items steps in
     let walk = walk-pop c.pop.new.self.items c.in-Some-pop.arc c.loop-node.node p.sink
     (subst (λ xs. IsWalk (reverse xs) c.loop-node.node p.sink) items c.loop-node.invariant.walk) in
     record { tail = walk.0; walk = walk.1; step = parts.1; steps = parts.0 }

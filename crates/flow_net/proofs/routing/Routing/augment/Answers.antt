@@ -35,15 +35,15 @@ loop-arc-preserved c =
 pub returns-clause-standing : goal.returns-clause-standing
 returns-clause-standing c =
     let p = c.args.problem.now in let r = c.args.self.now in let path = c.args.path.now in let m = c.bottleneck-amount.result in
-    let most = c.bottleneck-amount.ensures in let kept : to_z w64 (of_z w64 m) ≡ m = to_z-of_z w64 m (search rules) in let inv = c.loop-arc.invariant in
+    let kept : to_z w64 (of_z w64 m) ≡ m = to_z-of_z w64 m (search rules) in let inv = c.loop-arc.invariant in
     let flow = inv.sent ∙ (ap (λ xs. sent_along_path r.flow.items xs (to_z w64 (of_z w64 m))) (take_all c.loop-arc.arc-index path c.loop-arc-test.false)
     ∙ ap (sent_along_path r.flow.items path) kept) in
     let opened = subst (λ f. AreOpenings p.net.now.links f c.loop-arc.self.openings.items) flow inv.openings in
     Stands-same p _ _ _ _ _ _ _ flow (ap (λ v. v.items) inv.potentials) (omega (arith, ints))
-    (Stands-augmented p r c.requires.standing path c.requires.path m most _ opened)
+    (Stands-augmented p r c.requires.standing path c.requires.path m c.bottleneck-amount.ensures _ opened)
 
 pub returns-clause-amount : goal.returns-clause-amount
 returns-clause-amount c =
-    let m = c.bottleneck-amount.result in let most = c.bottleneck-amount.ensures in
+    let m = c.bottleneck-amount.result in
     let is : m ≡ to_z w64 (of_z w64 (to_z w64 (of_z w64 c.loop-arc.self.routed) +ℤ to_z w64 (of_z w64 m))) -ℤ c.args.self.now.routed = omega (arith, ints) in
-    subst (IsBottleneck c.args.problem.now c.args.self.now c.args.path.now) is most
+    subst (IsBottleneck c.args.problem.now c.args.self.now c.args.path.now) is c.bottleneck-amount.ensures

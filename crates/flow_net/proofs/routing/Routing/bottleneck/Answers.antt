@@ -4,24 +4,21 @@ use Rattle.std.proofs.Common.{List, [], arith, false, inl, inr, of_z, pos, rules
 use Rattle.flow_net.proofs.routing.Routing.bottleneck.Goals as goal
 
 pub loop-arc-init : goal.loop-arc-init
-loop-arc-init c =
-    let some = c.requires.short in
-    record { some = omega (arith, ints); limited = omega (arith, ints); residual = All-nil _; reached = inl (omega (arith, ints)) }
+loop-arc-init c = record { some = omega (arith, ints); limited = omega (arith, ints); residual = All-nil _; reached = inl (omega (arith, ints)) }
 
 -- the least of what the first arcs can carry and of what an arc more can
 bottleneck-more : (p : Problem) (r : Routing) (path : List Arc) (a : Arc) (before m : ℤ) → pos 0 <ℤ residual_of p.net.now.links r.flow.items a
     → m ≡ int_min before (residual_of p.net.now.links r.flow.items a) → IsBottleneck p r path before → IsBottleneck p r (path ++ a ∷ []) m
-bottleneck-more p r path a before m positive is h =
-    let some = h.some in let limited = h.limited in record {
-      some = omega (arith, ints, clamps, is);
-      limited = omega (arith, ints, clamps, is);
-      residual = All-push (λ b. m ≤ℤ residual_of p.net.now.links r.flow.items b) path a
-          (All-weaker (λ b. before ≤ℤ residual_of p.net.now.links r.flow.items b) (λ b. m ≤ℤ residual_of p.net.now.links r.flow.items b)
-          (λ b k. omega (arith, ints, clamps, is, k)) path h.residual) (omega (arith, ints, clamps, is));
-      reached = by_lt_z (residual_of p.net.now.links r.flow.items a) before
-          (λ less. inr (Any-push (λ b. residual_of p.net.now.links r.flow.items b ≡ m) path a (omega (arith, ints, clamps, is, less))))
-          (λ more. earlier (omega (arith, ints, clamps, is, more)) h.reached);
-    }
+bottleneck-more p r path a before m positive is h = record {
+  some = omega (arith, ints, clamps, is);
+  limited = omega (arith, ints, clamps, is);
+  residual = All-push (λ b. m ≤ℤ residual_of p.net.now.links r.flow.items b) path a
+      (All-weaker (λ b. before ≤ℤ residual_of p.net.now.links r.flow.items b) (λ b. m ≤ℤ residual_of p.net.now.links r.flow.items b)
+      (λ b k. omega (arith, ints, clamps, is, k)) path h.residual) (omega (arith, ints, clamps, is));
+  reached = by_lt_z (residual_of p.net.now.links r.flow.items a) before
+      (λ less. inr (Any-push (λ b. residual_of p.net.now.links r.flow.items b ≡ m) path a (omega (arith, ints, clamps, is, less))))
+      (λ more. earlier (omega (arith, ints, clamps, is, more)) h.reached);
+}
   where
     earlier : m ≡ before → (before ≡ p.amount -ℤ r.routed) ⊎ Any (λ b. residual_of p.net.now.links r.flow.items b ≡ before) path → (m ≡ p.amount -ℤ r.routed)
         ⊎ Any (λ b. residual_of p.net.now.links r.flow.items b ≡ m) (path ++ a ∷ [])

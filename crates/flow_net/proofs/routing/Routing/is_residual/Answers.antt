@@ -7,8 +7,8 @@ is_open-requires c = omega arith
 
 pub returns : goal.returns
 returns c =
-    let r = c.args.self.now in let links = c.args.problem.now.net.now.links in
-    let opens = open-residual links r.flow.items r.openings.items c.requires.standing.opened c.args.arc.now c.requires.arc in (
+    let r = c.args.self.now in
+    let opens = open-residual c.args.problem.now.net.now.links r.flow.items r.openings.items c.requires.standing.opened c.args.arc.now c.requires.arc in (
       λ h. record { arc = c.requires.arc; residual = opens.0 (subst IsTrue c.is_open.ensures h) },
       λ is. subst IsTrue (sym c.is_open.ensures) (opens.1 is.residual),
     )

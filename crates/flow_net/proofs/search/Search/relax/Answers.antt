@@ -38,9 +38,8 @@ record IsSum (c : After-reduced_cost) : Type 0 where
 
 sum : (c : After-reduced_cost) → IsSum c
 sum c =
-    let p = c.args.problem.now in let r = c.args.routing.now in let s = c.args.self.now in let a = c.args.arc.now in
-    let l = c.args.label.now in let priced = IsPriced-arc p r c.requires.standing a c.requires.arc in
-    let upto = (IsSmall-tail p r c.requires.standing s c.requires.search a l c.requires.at).rise in
+    let p = c.args.problem.now in let r = c.args.routing.now in let a = c.args.arc.now in let priced = IsPriced-arc p r c.requires.standing a c.requires.arc in
+    let upto = (IsSmall-tail p r c.requires.standing c.args.self.now c.requires.search a c.args.label.now c.requires.at).rise in
     let from = subst (λ o. pos 0 ≤ℤ rise_of_label o) c.requires.at.label (c.requires.search.labels.risen a.tail) in
     record { fits = omega (arith, sizes); is = omega (arith, sizes) }
 
