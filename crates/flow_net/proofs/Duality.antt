@@ -16,8 +16,7 @@ module _ (n m : ℕ) (node : ℕ → ℕ) (within : (k : ℕ) → k < m → node
   regrouped : sum_below n (λ v. c v *ℤ sum_below m (λ k. when (node k == v) (x k))) ≡ sum_below m (λ k. c (node k) *ℤ x k)
   regrouped =
       sum_below-same n _ _ (λ v l. sym (sum_below-scale m (c v) (λ k. when (node k == v) (x k))))
-      ∙ (sum_below-exchange n m (λ v k. c v *ℤ when (node k == v) (x k))
-      ∙ sum_below-same m _ _ (λ k l.
+      ∙ (sum_below-exchange n m (λ v k. c v *ℤ when (node k == v) (x k)) ∙ sum_below-same m _ _ (λ k l.
       sum_below-same n (λ v. c v *ℤ when (node k == v) (x k)) (λ v. when (node k == v) (c v *ℤ x k)) (λ v b. inside (node k == v) (c v) (x k))
       ∙ sum_below-single n (λ v. c v *ℤ x k) (node k) (within k l)))
     where
@@ -42,8 +41,7 @@ module _ (net : Net) (limits : IsWithinLimits net) where
   surplus_by_links : (flow : List ℤ) (c : ℕ → ℤ)
       → sum_below net.nodes (λ v. c v *ℤ surplus net.links flow v) ≡ sum_below (length net.links) (fall net.links flow c)
   surplus_by_links flow c =
-      let m = length net.links in
-      sum_below-same net.nodes _ _ (λ v l. *ℤ--ℤ (c v) (outflow net.links flow v) (inflow net.links flow v))
+      let m = length net.links in sum_below-same net.nodes _ _ (λ v l. *ℤ--ℤ (c v) (outflow net.links flow v) (inflow net.links flow v))
       ∙ (sum_below-sub net.nodes (λ v. c v *ℤ outflow net.links flow v) (λ v. c v *ℤ inflow net.links flow v)
       ∙ (ap₂ ◌-ℤ◌ (regrouped net.nodes m (λ k. (link_at net.links k).from) (λ k l. (limits.links k l).from_in) c (flow_on flow))
       (regrouped net.nodes m (λ k. (link_at net.links k).to) (λ k l. (limits.links k l).to_in) c (flow_on flow))
@@ -65,18 +63,13 @@ cost_and_fall links flow potentials =
     ∙ sum_below-add (length links) (λ k. (link_at links k).cost *ℤ flow_on flow k) (fall links flow (potential_at potentials))
   where
     split : (cost a b x : ℤ) → ((cost +ℤ a) -ℤ b) *ℤ x ≡ cost *ℤ x +ℤ (a -ℤ b) *ℤ x
-    split cost a b x =
-        let same : (cost +ℤ a) -ℤ b ≡ cost +ℤ (a -ℤ b) = omega (arith, ints) in
-        ap (λ r. r *ℤ x) same ∙ +ℤ-*ℤ cost (a -ℤ b) x
+    split cost a b x = let same : (cost +ℤ a) -ℤ b ≡ cost +ℤ (a -ℤ b) = omega (arith, ints) in ap (λ r. r *ℤ x) same ∙ +ℤ-*ℤ cost (a -ℤ b) x
 
 -- a factor below 0 turns the order round
 *ℤ-≤ℤ_turned : (a b c : ℤ) → a ≤ℤ pos 0 → c ≤ℤ b → (a *ℤ b) ≤ℤ (a *ℤ c)
 *ℤ-≤ℤ_turned a b c h k =
-    let gap = product_not_negative (pos 0 -ℤ a) (b -ℤ c) (omega (arith, ints)) (omega (arith, ints)) in
-    let split = -ℤ-*ℤ (pos 0) a (b -ℤ c) in
-    let parts = *ℤ--ℤ a b c in
-    let none = zero-*ℤ (b -ℤ c) in
-    omega (arith, ints)
+    let gap = product_not_negative (pos 0 -ℤ a) (b -ℤ c) (omega (arith, ints)) (omega (arith, ints)) in let split = -ℤ-*ℤ (pos 0) a (b -ℤ c) in
+    let parts = *ℤ--ℤ a b c in let none = zero-*ℤ (b -ℤ c) in omega (arith, ints)
 
 -- no flow within the room of a link makes its reduced cost times the flow less
 least_term : (r x y room : ℤ) → pos 0 ≤ℤ y → y ≤ℤ room → (x <ℤ room → pos 0 ≤ℤ r) → (pos 0 <ℤ x → r ≤ℤ pos 0) → x ≤ℤ room → (r *ℤ x) ≤ℤ (r *ℤ y)
@@ -115,37 +108,29 @@ module _ (net : Net) (limits : IsWithinLimits net) (source sink : ℕ) (ends : A
   -- a flow within the rooms is a routing just where its surpluses are those of one
   pub surplus_is : (amount : ℤ) (flow : List ℤ) → IsRouting net source sink amount flow → (v : ℕ) → v < net.nodes
       → surplus net.links flow v ≡ surplus_of_routing source sink amount v
-  surplus_is amount flow routing v within =
-      elim (cases_eq source v) [
-        | inl e ↦
-            let other : sink ≢ v = (λ d. ends.apart (e ∙ sym d)) in
-            rw (eq-eqb source v e, ne_eqb sink v other)
-            (subst (λ u. surplus net.links flow u ≡ amount -ℤ pos 0) e (let gives = routing.source_gives in omega (arith, ints)))
-        | inr ne ↦
-            rw (ne_eqb source v ne)
-            (elim (cases_eq sink v) [
-              | inl e ↦ rw (eq-eqb sink v e) (subst (λ u. surplus net.links flow u ≡ pos 0 -ℤ amount) e (let takes = routing.sink_takes in omega (arith, ints)))
-              | inr other ↦
-                  rw (ne_eqb sink v other) (let same = routing.balances v within (λ d. ne (sym d)) (λ d. other (sym d)) in omega (arith, ints))
-            ])
-      ]
+  surplus_is amount flow routing v within = elim (cases_eq source v) [
+    | inl e ↦
+        let other : sink ≢ v = (λ d. ends.apart (e ∙ sym d)) in rw (eq-eqb source v e, ne_eqb sink v other)
+        (subst (λ u. surplus net.links flow u ≡ amount -ℤ pos 0) e (omega (arith, ints)))
+    | inr ne ↦ rw (ne_eqb source v ne) (elim (cases_eq sink v) [
+      | inl e ↦ rw (eq-eqb sink v e) (subst (λ u. surplus net.links flow u ≡ pos 0 -ℤ amount) e (omega (arith, ints)))
+      | inr other ↦ rw (ne_eqb sink v other) (let same = routing.balances v within (λ d. ne (sym d)) (λ d. other (sym d)) in omega (arith, ints))
+    ])
+  ]
 
   pub routing_from_surplus : (amount : ℤ) (flow : List ℤ) → IsWithinRooms net.links flow
       → ((v : ℕ) → v < net.nodes → surplus net.links flow v ≡ surplus_of_routing source sink amount v) → IsRouting net source sink amount flow
   routing_from_surplus amount flow rooms is = record {
     rooms = rooms;
-    balances = λ v within not_source not_sink.
-        let here = is v within in
+    balances = λ v within not_source not_sink. let here = is v within in
         let none : surplus_of_routing source sink amount v ≡ pos 0 =
         rw (ne_eqb source v (λ e. not_source (sym e)), ne_eqb sink v (λ e. not_sink (sym e))) (omega (arith, ints)) in
         omega (arith, ints);
-    source_gives =
-        (let here = is source ends.source_in in
+    source_gives = (let here = is source ends.source_in in
         let whole : surplus_of_routing source sink amount source ≡ amount =
         rw (eq-eqb source source refl, ne_eqb sink source (λ e. ends.apart (sym e))) (omega (arith, ints)) in
         omega (arith, ints));
-    sink_takes =
-        (let here = is sink ends.sink_in in
+    sink_takes = (let here = is sink ends.sink_in in
         let whole : surplus_of_routing source sink amount sink ≡ pos 0 -ℤ amount =
         rw (ne_eqb source sink ends.apart, eq-eqb sink sink refl) (omega (arith, ints)) in
         omega (arith, ints));
@@ -165,15 +150,13 @@ module _ (net : Net) (limits : IsWithinLimits net) (source sink : ℕ) (ends : A
         (λ v b. ap (λ s. potential_at potentials v *ℤ s) (surplus_is amount flow routing v b ∙ sym (surplus_is amount other other_routing v b))) in
         let falls = sym (surplus_by_links net limits flow (potential_at potentials))
         ∙ (same_nodes ∙ surplus_by_links net limits other (potential_at potentials)) in
-        let here = cost_and_fall net.links flow potentials in
-        let there = cost_and_fall net.links other potentials in
+        let here = cost_and_fall net.links flow potentials in let there = cost_and_fall net.links other potentials in
         omega (arith, ints, terms, falls, here, there)
 
     -- what a potential falls along the links, times the flows on them, is in all its fall from the source to the sink, times the amount
     pub falls_of_routing : (c : ℕ → ℤ) → sum_below (length net.links) (fall net.links flow c) ≡ c source *ℤ amount -ℤ c sink *ℤ amount
     falls_of_routing c =
-        let n = net.nodes in
-        sym (surplus_by_links net limits flow c)
+        let n = net.nodes in sym (surplus_by_links net limits flow c)
         ∙ (sum_below-same n (λ v. c v *ℤ surplus net.links flow v) (λ v. when (source == v) (c v *ℤ amount) -ℤ when (sink == v) (c v *ℤ amount))
         (λ v b. ap (λ s. c v *ℤ s) (surplus_is amount flow routing v b) ∙ inside (c v) (source == v) (sink == v))
         ∙ (sum_below-sub n (λ v. when (source == v) (c v *ℤ amount)) (λ v. when (sink == v) (c v *ℤ amount))
@@ -193,8 +176,7 @@ module _ (net : Net) (limits : IsWithinLimits net) (source sink : ℕ) (ends : A
       -- so the rooms that leave the set are not less than the amount
       pub amount_within_rooms : amount ≤ℤ sum_below (length net.links) (leaving_room net.links set)
       amount_within_rooms =
-          let crossing = crossing_is in
-          let terms = sum_below-le (length net.links) (fall net.links flow (indicator set)) (leaving_room net.links set)
+          let crossing = crossing_is in let terms = sum_below-le (length net.links) (fall net.links flow (indicator set)) (leaving_room net.links set)
           (λ k l. crossing_term (is_in set (link_at net.links k).from) (is_in set (link_at net.links k).to) (flow_on flow k) (link_at net.links k).room
           (routing.rooms.not_negative k l) (routing.rooms.upto_room k l)) in
           omega (arith, ints, crossing, terms)
@@ -207,12 +189,8 @@ module _ (net : Net) (limits : IsWithinLimits net) (source sink : ℕ) (ends : A
       rooms_of_closed full empty =
           sym (sum_below-same (length net.links) (fall net.links flow (indicator set)) (leaving_room net.links set)
           (λ k l. full_term (is_in set (link_at net.links k).from) (is_in set (link_at net.links k).to) (flow_on flow k) (link_at net.links k).room (full k l)
-          (empty k l)))
-          ∙ crossing_is
+          (empty k l))) ∙ crossing_is
 
   -- nothing routes an amount past a cut
   pub none_past_cut : (amount : ℤ) (flow : List ℤ) (set : List Bool) → IsCutBelow net source sink amount set → IsRouting net source sink amount flow → ⊥
-  none_past_cut amount flow set cut routing =
-      let most = amount_within_rooms amount flow routing set cut.source_in cut.sink_out in
-      let short = cut.short in
-      omega (arith, ints, most, short)
+  none_past_cut amount flow set cut routing = let most = amount_within_rooms amount flow routing set cut.source_in cut.sink_out in omega (arith, ints, most)

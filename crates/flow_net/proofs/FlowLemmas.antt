@@ -1,13 +1,19 @@
 -- The arcs of a net, and what an amount sent along an arc, or along a path, keeps and changes.
-use Rattle.flow_net.proofs.Duality.{surplus, when}
-use Rattle.flow_net.proofs.Sizes.{size-le-greatest, sizes}
-use Rattle.flow_net.proofs.Sums.{sum_below-change}
-use Rattle.flow_net.proofs.Words.{All, All-head, All-tail, Arc, AreOpenings, AreProofOfLeast, CanCarry, IsArc, IsCost, IsOpening, IsWalk, IsWithinLimits}
-use Rattle.flow_net.proofs.Words.{IsWithinRooms, Link, Net, Opening, arc_of, carry, cases_eq, drop_more, flow_on, fold_more, get_or-set_other, get_or-set_same}
-use Rattle.flow_net.proofs.Words.{get_or_read, ints, is_open, largest_cost, length-set, link_at, neg_ℤ-neg_ℤ, opening_at, reduced_cost, reduced_cost_of}
-use Rattle.flow_net.proofs.Words.{residual_of, sent_along, sent_along_path, sum_below, turned, unsigned_abs}
-use Rattle.std.proofs.Common.{Bool, IsTrue, List, [], ap, arith, drop, false, get_or, inl, inr, length, pos, refl, set, subst, sym, take, true, ℕ, ℤ, ◌+ℤ◌, ◌+◌}
-use Rattle.std.proofs.Common.{◌-ℤ◌, ◌<ℤ◌, ◌<◌, ◌==◌, ◌↔◌, ◌∙◌, ◌∷◌, ◌≡◌, ◌≢◌, ◌≤ℤ◌, ◌≤◌}
+use Rattle.flow_net.proofs.Words.{All, All-cons, All-head, All-nil, All-permutation, All-tail, All-weaker, Arc, AreApart, AreOpenings, AreProofOfLeast}
+use Rattle.flow_net.proofs.Words.{CanCarry, HasArrived, IsArc, IsBottleneck, IsCost, IsFreeArc, IsFreePath, IsOpening, IsPermutation-reverse, IsPermutation-sym}
+use Rattle.flow_net.proofs.Words.{IsPotential, IsPriced, IsProblem, IsResidualArc, IsStanding, IsTree, IsTreeArc, IsTreePath, IsWalk, IsWithinLimits}
+use Rattle.flow_net.proofs.Words.{IsWithinRooms, Link, MOST_COST, MOST_INITIAL_POTENTIAL, MOST_NODES, Net, Opening, Problem, Routing, Search, Stands, StepsUp}
+use Rattle.flow_net.proofs.Words.{arc_of, carry, cases_eq, cases_lt, depth_at, drop_more, false≢true, flow_on, fold_more, get_or-replicate, get_or-set_other}
+use Rattle.flow_net.proofs.Words.{get_or-set_same, get_or_past, get_or_read, inflow, ints, is_open, largest_cost, length-replicate, length-set, level_at}
+use Rattle.flow_net.proofs.Words.{link_at, mul-le, neg_ℤ-neg_ℤ, opening_at, outflow, potential_at, reduced_cost, reduced_cost_of, residual_of, reverse-append}
+use Rattle.flow_net.proofs.Words.{sent_along, sent_along_path, sum_below, sum_by-set, turned, unsigned_abs}
+use Rattle.std.proofs.Common.{Bool, IsTrue, List, None, Option, Some, [], ap, arith, cond, count_by, drop, false, get_or, inl, inr, is_some, length, pos, refl}
+use Rattle.std.proofs.Common.{replicate, reverse, set, subst, sym, take, true, ℕ, ℤ, ◌*◌, ◌++◌, ◌+ℤ◌, ◌+◌, ◌-ℤ◌, ◌<ℤ◌, ◌<◌, ◌==◌, ◌↔◌, ◌∙◌, ◌∷◌, ◌≡◌, ◌≢◌, ◌≤ℤ◌}
+use Rattle.std.proofs.Common.{◌≤◌, ◌⊎◌}
+use Rattle.flow_net.proofs.Duality.{routing_from_surplus, surplus, surplus_is, when}
+use Rattle.flow_net.proofs.Lists.{within_from}
+use Rattle.flow_net.proofs.Sizes.{greatest-le, size-le-greatest, sizes}
+use Rattle.flow_net.proofs.Sums.{sum_below-change, sum_below-zero}
 
 -- what holds of both ways along each link holds of each arc
 abbrev OfWays : List Link → (Arc → Type 0) → Type 0
@@ -39,8 +45,7 @@ module _ (net : Net) (limits : IsWithinLimits net) where
       way k true below = (size-le-greatest (λ (l : Link). l.cost) net.links k _ below, (limits.links k below).cost)
       way k false below =
           let h = size-le-greatest (λ (l : Link). l.cost) net.links k (record { from = 0; to = 0; room = pos 0; cost = pos 0 }) below in
-          let l = (limits.links k below).cost in
-          (omega (arith, sizes), omega (arith, sizes))
+          let l = (limits.links k below).cost in (omega (arith, sizes), omega (arith, sizes))
 
 -- a residual arc has no negative reduced cost at potentials that prove the flow
 pub reduced-not_negative : (links : List Link) (flow potentials : List ℤ) → AreProofOfLeast links flow potentials → (a : Arc) → IsArc links a
@@ -57,9 +62,7 @@ pub open-residual : (links : List Link) (flow : List ℤ) (openings : List Openi
 open-residual links flow openings are = arc_cases links (λ a. IsTrue (is_open (opening_at openings a.link) a.forward) ↔ (pos 0 <ℤ residual_of links flow a)) way
   where
     way : OfWays links (λ a. IsTrue (is_open (opening_at openings a.link) a.forward) ↔ (pos 0 <ℤ residual_of links flow a))
-    way k true below =
-        let o = (are.each k below).forward in
-        (λ h. let left = o.0 h in omega (arith, ints, left), λ h. o.1 (omega (arith, ints, h)))
+    way k true below = let o = (are.each k below).forward in (λ h. let left = o.0 h in omega (arith, ints, left), λ h. o.1 (omega (arith, ints, h)))
     way k false below = (are.each k below).back
 
 -- one link's flow changed
@@ -83,34 +86,26 @@ module _ (links : List Link) (flow : List ℤ) (k : ℕ) (below : k < length lin
   }
 
   -- a link that counts at node v by a test
-  changed_sum : (test : ℕ → Bool)
-      → sum_below (length links) (λ j. when (test j) (flow_on (set flow k x) j))
+  changed_sum : (test : ℕ → Bool) → sum_below (length links) (λ j. when (test j) (flow_on (set flow k x) j))
       ≡ sum_below (length links) (λ j. when (test j) (flow_on flow j)) +ℤ when (test k) (x -ℤ flow_on flow k)
   changed_sum test =
       let change = sum_below-change (length links) (λ j. when (test j) (flow_on flow j)) (λ j. when (test j) (flow_on (set flow k x) j)) k below
       (λ j l ne. ap (when (test j)) (flow_there j ne)) in
-      let here = ap (when (test k)) flow_here in
-      let difference = less (test k) x (flow_on flow k) in
-      omega (arith, ints, change, here, difference)
+      let here = ap (when (test k)) flow_here in let difference = less (test k) x (flow_on flow k) in omega (arith, ints, change, here, difference)
     where
       less : (p : Bool) (a b : ℤ) → when p a -ℤ when p b ≡ when p (a -ℤ b)
       less true a b = refl
       less false a b = omega (arith, ints)
 
-  changed_surplus : (v : ℕ)
-      → surplus links (set flow k x) v
+  changed_surplus : (v : ℕ) → surplus links (set flow k x) v
       ≡ surplus links flow v +ℤ (when ((link_at links k).from == v) (x -ℤ flow_on flow k) -ℤ when ((link_at links k).to == v) (x -ℤ flow_on flow k))
   changed_surplus v =
-      let out = changed_sum (λ j. (link_at links j).from == v) in
-      let into = changed_sum (λ j. (link_at links j).to == v) in
-      omega (arith, ints, out, into)
+      let out = changed_sum (λ j. (link_at links j).from == v) in let into = changed_sum (λ j. (link_at links j).to == v) in omega (arith, ints, out, into)
 
   changed_openings : (openings : List Opening) (o : Opening) → IsOpening (link_at links k) x o → AreOpenings links flow openings
       → AreOpenings links (set flow k x) (set openings k o)
   changed_openings openings o here are =
-      let none : Opening = record { forward = false; back = false } in
-      let opening_here = get_or-set_same openings k o none (let e = are.one_each in omega arith) in
-      record {
+      let none : Opening = record { forward = false; back = false } in let opening_here = get_or-set_same openings k o none (omega arith) in record {
         one_each = length-set openings k o ∙ are.one_each;
         each = λ j l.
             each_link (λ i. IsOpening (link_at links i) (flow_on (set flow k x) i) (opening_at (set openings k o) i)) (rw (flow_here, opening_here) here) j
@@ -123,8 +118,7 @@ module _ (links : List Link) (flow : List ℤ) (k : ℕ) (below : k < length lin
     left_to_add = λ j l.
         each_link (λ i. flow_on (set flow k x) i <ℤ (link_at links i).room → pos 0 ≤ℤ reduced_cost (link_at links i) potentials) (λ left. omega (arith, ints)) j
         (λ ne. rw (flow_there j ne) (proof.left_to_add j l));
-    flowing = λ j l.
-        each_link (λ i. pos 0 <ℤ flow_on (set flow k x) i → reduced_cost (link_at links i) potentials ≤ℤ pos 0) (λ some. omega (arith, ints)) j
+    flowing = λ j l. each_link (λ i. pos 0 <ℤ flow_on (set flow k x) i → reduced_cost (link_at links i) potentials ≤ℤ pos 0) (λ some. omega (arith, ints)) j
         (λ ne. rw (flow_there j ne) (proof.flowing j l));
   }
 
@@ -186,11 +180,9 @@ module _ (links : List Link) (flow : List ℤ) (a : Arc) (path : List Arc) (m : 
   CanCarry-rest = record {
     arcs = All-tail (IsArc links) a path can.arcs;
     apart = can.apart.1;
-    residual = λ k d l.
-        let b = get_or path k d in
+    residual = λ k d l. let b = get_or path k d in
         let same = get_or-set_other flow a.link b.link (carry a (flow_on flow a.link) m) (pos 0) (can.apart.0 k d l) in
-        let before = All-tail (λ b. m ≤ℤ residual_of links flow b) a path can.residual k d l in
-        rw same before;
+        let before = All-tail (λ b. m ≤ℤ residual_of links flow b) a path can.residual k d l in rw same before;
   }
 
 -- the flow after an amount is sent along a path
@@ -218,8 +210,7 @@ path-surplus links flow [] m u w v from rooms can walk =
 path-surplus links flow (a ∷ path) m u w v from rooms can walk =
     let rest = path-surplus links (sent_along flow a m) path m a.head w v from (first_rooms links flow a path m rooms can from)
     (CanCarry-rest links flow a path m rooms can) walk.1 in
-    let first = sent-surplus links flow m rooms v a (first_arc links flow a path m rooms can) in
-    let begins = ap (λ x. when (x == v) m) walk.0 in
+    let first = sent-surplus links flow m rooms v a (first_arc links flow a path m rooms can) in let begins = ap (λ x. when (x == v) m) walk.0 in
     omega (arith, ints, rest, first, begins)
 
 -- what the code reads past the end of a list of arcs
@@ -249,9 +240,257 @@ module _ (links : List Link) (flow : List ℤ) (path : List Arc) (m : ℤ) (i : 
       → IsOpening (link_at links (get_or path i no_arc).link) (carry (get_or path i no_arc) (flow_on flow (get_or path i no_arc).link) m) o
       → AreOpenings links flow openings → AreOpenings links (sent_along flow (get_or path i no_arc) m) (set openings (get_or path i no_arc).link o)
   next_openings openings o here are =
-      let a = get_or path i no_arc in
-      changed_openings links flow a.link next_arc.below rooms.one_each (carry a (flow_on flow a.link) m) openings o here are
+      let a = get_or path i no_arc in changed_openings links flow a.link next_arc.below rooms.one_each (carry a (flow_on flow a.link) m) openings o here are
 
   pub next_sent : (first : List ℤ) → flow ≡ sent_along_path first (take i path) m
       → sent_along flow (get_or path i no_arc) m ≡ sent_along_path first (take (i + 1) path) m
   next_sent first e = ap (λ f. sent_along f (get_or path i no_arc) m) e ∙ sym (fold_more (λ f a. sent_along f a m) first path i no_arc within)
+
+-- What stands while a part of the amount is routed, before the first step and after each.
+
+-- the largest cost of a net within the limits
+pub largest_cost-small : (net : Net) → IsWithinLimits net → largest_cost net ≤ MOST_COST
+largest_cost-small net limits =
+    greatest-le (λ (l : Link). l.cost) net.links MOST_COST (record { from = 0; to = 0; room = pos 0; cost = pos 0 }) (λ k l. (limits.links k l).cost)
+
+-- the same lists and the same amount stand alike
+pub Stands-same : (p : Problem) (flow flow' potentials potentials' : List ℤ) (routed routed' : ℤ) (openings : List Opening) → flow' ≡ flow
+    → potentials' ≡ potentials → routed' ≡ routed → Stands p flow potentials routed openings → Stands p flow' potentials' routed' openings
+Stands-same p flow flow' potentials potentials' routed routed' openings e f g h =
+    subst (λ x. Stands p x potentials' routed' openings) (sym e)
+    (subst (λ x. Stands p flow x routed' openings) (sym f) (subst (λ x. Stands p flow potentials x openings) (sym g) h))
+
+module _ (p : Problem) (r : Routing) (standing : IsStanding p r) where
+  pub IsPotential-standing : (v : ℕ) → v < p.net.now.nodes → IsPotential (potential_at r.potentials.items v)
+  IsPotential-standing v within =
+      let net = p.net.now in let bound = standing.bounded.bounded v within in
+      let largest = greatest-le (λ (s : ℤ). s) p.start.now MOST_INITIAL_POTENTIAL (pos 0) (λ k b. standing.problem.start.within k (omega arith)) in
+      let times : net.nodes * largest_cost net ≤ MOST_NODES * MOST_COST =
+      mul-le net.nodes (largest_cost net) MOST_NODES MOST_COST standing.problem.net.few_nodes (largest_cost-small net standing.problem.net) in
+      omega (arith, bound, largest, times)
+
+  pub IsPriced-arc : (a : Arc) → IsArc p.net.now.links a → IsPriced r.potentials.items a
+  IsPriced-arc a is =
+      let nodes = arc-nodes p.net.now standing.problem.net a is in record {
+        tail_in = omega arith;
+        head_in = omega arith;
+        cost = (arc-cost p.net.now standing.problem.net a is).1;
+        at_tail = IsPotential-standing a.tail nodes.0;
+        at_head = IsPotential-standing a.head nodes.1;
+      }
+
+  pub reduced-residual : (a : Arc) → IsResidualArc p r a → pos 0 ≤ℤ reduced_cost_of r.potentials.items a
+  reduced-residual a is = reduced-not_negative p.net.now.links r.flow.items r.potentials.items standing.proof a is.arc is.residual
+
+  -- what a path can carry is sent along it
+  module _ (path : List Arc) (free : IsFreePath p r path) (m : ℤ) (most : IsBottleneck p r path m) where
+    pub path_carries : CanCarry p.net.now.links r.flow.items path m
+    path_carries = record {
+      arcs = All-weaker (IsFreeArc p r) (IsArc p.net.now.links) (λ a h. h.residual.arc) path free.arcs;
+      apart = free.apart;
+      residual = most.residual;
+    }
+
+    pub Stands-augmented : (openings : List Opening) → AreOpenings p.net.now.links (sent_along_path r.flow.items path m) openings
+        → Stands p (sent_along_path r.flow.items path m) r.potentials.items (r.routed +ℤ m) openings
+    Stands-augmented openings are =
+        let net = p.net.now in let from : pos 0 ≤ℤ m = omega (arith, ints) in let rooms = standing.routes.rooms in record {
+          problem = standing.problem;
+          routed_from = omega (arith, ints);
+          routed_upto = omega (arith, ints);
+          opened = are;
+          routes = routing_from_surplus net standing.problem.net p.source p.sink standing.problem.ends (r.routed +ℤ m) (sent_along_path r.flow.items path m)
+              (path-rooms net.links r.flow.items path m from rooms path_carries) (λ v within.
+              let before = surplus_is net standing.problem.net p.source p.sink standing.problem.ends r.routed r.flow.items standing.routes v within in
+              let change = path-surplus net.links r.flow.items path m p.source p.sink v from rooms path_carries free.walk in
+              let split_source = when-sum (p.source == v) r.routed in let split_sink = when-sum (p.sink == v) r.routed in
+              omega (arith, ints, before, change, split_source, split_sink));
+          proof = path-proof net.links r.flow.items r.potentials.items path m from rooms path_carries
+              (All-weaker (IsFreeArc p r) (λ a. reduced_cost_of r.potentials.items a ≡ pos 0) (λ a h. h.free) path free.arcs) standing.proof;
+          bounded = standing.bounded;
+          at_source = standing.at_source;
+          risen = standing.risen;
+          sink_most = standing.sink_most;
+        }
+      where
+        when-sum : (b : Bool) (x : ℤ) → when b (x +ℤ m) ≡ when b x +ℤ when b m
+        when-sum true x = refl
+        when-sum false x = refl
+
+-- nothing is routed yet
+pub Stands-none : (p : Problem) (openings : List Opening) → IsProblem p → AreOpenings p.net.now.links (replicate (length p.net.now.links) (pos 0)) openings
+    → Stands p (replicate (length p.net.now.links) (pos 0)) p.start.now (pos 0) openings
+Stands-none p openings h are = record {
+  problem = h;
+  routed_from = omega (arith, ints);
+  routed_upto = h.amount.from;
+  opened = are;
+  routes = record {
+    rooms = record {
+      one_each = length-replicate {A = ℤ} (length p.net.now.links) (pos 0);
+      not_negative = λ k b. rw (nothing k) (omega (arith, ints));
+      upto_room = λ k b. rw (nothing k) (h.net.links k b).room.from;
+    };
+    balances = λ v _ _ _. no_inflow v ∙ sym (no_outflow v);
+    source_gives = (let a = no_inflow p.source in let b = no_outflow p.source in omega (arith, ints, a, b));
+    sink_takes = (let a = no_inflow p.sink in let b = no_outflow p.sink in omega (arith, ints, a, b));
+  };
+  proof = record {
+    left_to_add = λ k b left. h.start.fits k b (let none = nothing k in omega (arith, ints, none, left));
+    flowing = λ k b some. absurd (let none = nothing k in omega (arith, ints, none, some));
+  };
+  bounded = record {
+    one_each = h.start.one_each;
+    bounded = λ v within. let size = size-le-greatest (λ (x : ℤ). x) p.start.now v (pos 0) (omega (arith, within)) in omega (arith, size);
+  };
+  at_source = refl;
+  risen = λ v within. omega (arith, ints);
+  sink_most = λ v within. omega (arith, ints);
+}
+  where
+    nothing : (k : ℕ) → flow_on (replicate (length p.net.now.links) (pos 0)) k ≡ pos 0
+    nothing k = elim (cases_lt k (length p.net.now.links)) [
+      | inl lt ↦ get_or-replicate (length p.net.now.links) k (pos 0) (pos 0) lt
+      | inr le ↦ get_or_past (replicate (length p.net.now.links) (pos 0)) k (pos 0)
+          (let e = length-replicate {A = ℤ} (length p.net.now.links) (pos 0) in omega (arith, e, le))
+    ]
+
+    none_when : (b : Bool) (x : ℤ) → x ≡ pos 0 → when b x ≡ pos 0
+    none_when true x e = e
+    none_when false x e = refl
+
+    no_outflow : (v : ℕ) → outflow p.net.now.links (replicate (length p.net.now.links) (pos 0)) v ≡ pos 0
+    no_outflow v = sum_below-zero (length p.net.now.links) _ (λ k b. none_when ((link_at p.net.now.links k).from == v) _ (nothing k))
+
+    no_inflow : (v : ℕ) → inflow p.net.now.links (replicate (length p.net.now.links) (pos 0)) v ≡ pos 0
+    no_inflow v = sum_below-zero (length p.net.now.links) _ (λ k b. none_when ((link_at p.net.now.links k).to == v) _ (nothing k))
+
+-- Walks whose arcs rise by a rank of their nodes, and the tree of a search.
+
+-- a walk that is found from its end: an arc before it, and its first arc off again
+pub walk-push : (path : List Arc) (a : Arc) (w : ℕ) → IsWalk (reverse path) a.head w → IsWalk (reverse (path ++ a ∷ [])) a.tail w
+walk-push path a w walk = subst (λ xs. IsWalk xs a.tail w) (sym (reverse-append path (a ∷ []))) (refl, walk)
+
+pub walk-pop : (path : List Arc) (a : Arc) (u w : ℕ) → IsWalk (reverse (path ++ a ∷ [])) u w → (a.tail ≡ u) × IsWalk (reverse path) a.head w
+walk-pop path a u w walk = subst (λ xs. IsWalk xs u w) (reverse-append path (a ∷ [])) walk
+
+-- the arcs of a walk that rises begin no lower than the walk
+pub rising_above : (rank : ℕ → ℕ) (path : List Arc) (u w : ℕ) → IsWalk path u w → All (λ a. rank a.tail < rank a.head) path
+    → All (λ a. rank u ≤ rank a.tail) path
+rising_above rank [] u w walk rising = All-nil (λ a. rank u ≤ rank a.tail)
+rising_above rank (a ∷ path) u w walk rising =
+    let first = All-head (λ b. rank b.tail < rank b.head) a path rising in let begins = ap rank walk.0 in
+    All-cons (λ b. rank u ≤ rank b.tail) a path (omega (arith, begins))
+    (All-weaker (λ b. rank a.head ≤ rank b.tail) (λ b. rank u ≤ rank b.tail) (λ b h. omega (arith, h, first, begins)) path
+    (rising_above rank path a.head w walk.1 (All-tail (λ b. rank b.tail < rank b.head) a path rising)))
+
+-- of two ways along one link, one ends where the other does, or where it begins
+ways_meet : (l : Link) (k : ℕ) (x y : Bool) → ((arc_of l k y).head ≡ (arc_of l k x).head) ⊎ ((arc_of l k y).head ≡ (arc_of l k x).tail)
+ways_meet l k true true = inl refl
+ways_meet l k true false = inr refl
+ways_meet l k false true = inr refl
+ways_meet l k false false = inl refl
+
+same_ends : (links : List Link) (a b : Arc) → IsArc links a → IsArc links b → b.link ≡ a.link → (b.head ≡ a.head) ⊎ (b.head ≡ a.tail)
+same_ends links a b p q same =
+    let head = ap (λ c. c.head) (q.is ∙ ap (λ k. arc_of (link_at links k) k b.forward) same) in
+    elim (ways_meet (link_at links a.link) a.link a.forward b.forward) [
+      | inl e ↦ inl (head ∙ (e ∙ sym (ap (λ c. c.head) p.is)))
+      | inr e ↦ inr (head ∙ (e ∙ sym (ap (λ c. c.tail) p.is)))
+    ]
+
+-- so no two arcs of a walk that rises are ways along one link
+apart_by_rank : (links : List Link) (rank : ℕ → ℕ) (path : List Arc) (u w : ℕ) → IsWalk path u w → All (IsArc links) path
+    → All (λ a. rank a.tail < rank a.head) path → AreApart path
+apart_by_rank links rank [] u w walk arcs rising = tt
+apart_by_rank links rank (a ∷ path) u w walk arcs rising =
+    let first = All-head (λ b. rank b.tail < rank b.head) a path rising in let rest = All-tail (λ b. rank b.tail < rank b.head) a path rising in
+    let above = rising_above rank path a.head w walk.1 rest in let is = All-head (IsArc links) a path arcs in
+    let others = All-tail (IsArc links) a path arcs in (
+      λ k d l same. let up = rest k d l in let over = above k d l in elim (same_ends links a (get_or path k d) is (others k d l) same) [
+        | inl e ↦ (let h = ap rank e in omega (arith, h, first, up, over))
+        | inr e ↦ (let h = ap rank e in omega (arith, h, first, up, over))
+      ],
+      apart_by_rank links rank path a.head w walk.1 others rest,
+    )
+
+-- a walk from the source to the sink along free arcs that rise by a rank of their nodes
+pub IsFreePath-rising : (p : Problem) (r : Routing) (rank : ℕ → ℕ) (path : List Arc) → IsWalk path p.source p.sink
+    → All (λ a. IsFreeArc p r a × (rank a.tail < rank a.head)) path → IsFreePath p r path
+IsFreePath-rising p r rank path walk arcs = record {
+  walk = walk;
+  arcs = All-weaker (λ a. IsFreeArc p r a × (rank a.tail < rank a.head)) (IsFreeArc p r) (λ a h. h.0) path arcs;
+  apart = apart_by_rank p.net.now.links rank path p.source p.sink walk
+      (All-weaker (λ a. IsFreeArc p r a × (rank a.tail < rank a.head)) (IsArc p.net.now.links) (λ a h. h.0.residual.arc) path arcs)
+      (All-weaker (λ a. IsFreeArc p r a × (rank a.tail < rank a.head)) (λ a. rank a.tail < rank a.head) (λ a h. h.1) path arcs);
+}
+
+-- the last arcs of a search that has arrived make a tree
+pub IsTree-arrived : (p : Problem) (r : Routing) (s : Search) → HasArrived p r s → IsTree p s
+IsTree-arrived p r s h =
+    let labels = h.search.labels in record {
+      one_each = labels.one_each;
+      sink_reached = h.sink_reached;
+      root = λ v hit. labels.root v (labels.reached_labelled v hit);
+      head = λ v a last. (labels.by_arc v a last).head;
+      tail_reached = λ v a last. (labels.by_arc v a last).tail_reached;
+      depth = λ v a last. (labels.by_arc v a last).depth;
+    }
+
+-- the path of the tree is a path along free arcs, where its arcs are free
+pub IsFreePath-tree : (p : Problem) (r : Routing) (s : Search) (path : List Arc) → IsTree p s → ((a : Arc) → IsTreeArc s a → IsFreeArc p r a)
+    → IsTreePath p s path → IsFreePath p r path
+IsFreePath-tree p r s path tree free h =
+    IsFreePath-rising p r (depth_at s.labels.items) path h.walk
+    (All-weaker (IsTreeArc s) (λ a. IsFreeArc p r a × (depth_at s.labels.items a.tail < depth_at s.labels.items a.head))
+    (λ a is. (free a is, (let e = tree.depth a.head a is.is_last in omega (arith, e)))) path h.arcs)
+
+-- Paths through a level graph, found from the sink.
+
+-- the level of a node, and 0 where it has none
+abbrev pub height_of : Option ℕ → ℕ
+height_of (Some n) = n
+height_of None = 0
+
+abbrev pub height_at : List (Option ℕ) → ℕ → ℕ
+height_at levels v = height_of (level_at levels v)
+
+-- how many nodes have a level
+abbrev pub level_count : List (Option ℕ) → ℕ
+level_count levels = count_by (λ o. is_some o) levels
+
+-- a free arc of a path, from a node with a level to the next level
+pub record IsStep (p : Problem) (r : Routing) (levels : List (Option ℕ)) (a : Arc) : Type 0 where
+  pub free : IsFreeArc p r a
+  pub up : height_at levels a.head ≡ height_at levels a.tail + 1
+  pub has_level : is_some (level_at levels a.tail) ≡ true
+
+pub IsStep-up : (p : Problem) (r : Routing) (levels : List (Option ℕ)) (a : Arc) → IsFreeArc p r a → StepsUp levels a → IsStep p r levels a
+IsStep-up p r levels a free up =
+    let from = ap height_of up.tail in let to = ap height_of up.head in record { free = free; up = omega (arith, from, to); has_level = ap is_some up.tail }
+
+-- the first node of a path is closed: the other arcs begin at higher levels
+module _ (p : Problem) (r : Routing) (levels : List (Option ℕ)) (path : List Arc) (a : Arc) (w : ℕ) (step : IsStep p r levels a) where
+  pub IsStep-closed : IsWalk (reverse path) a.head w → All (IsStep p r levels) path → All (IsStep p r (set levels a.tail None)) path
+  IsStep-closed walk steps =
+      let turned = All-permutation (IsStep p r levels) _ _ (IsPermutation-reverse path) steps in
+      let above = rising_above (height_at levels) (reverse path) a.head w walk
+      (All-weaker (IsStep p r levels) (λ b. height_at levels b.tail < height_at levels b.head) (λ b h. omega arith) (reverse path) turned) in
+      let higher = All-permutation (λ b. height_at levels a.head ≤ height_at levels b.tail) _ _ (IsPermutation-sym _ _ (IsPermutation-reverse path)) above in
+      λ k d l. let b = get_or path k d in let s = steps k d l in let over = higher k d l in let next = s.up in
+      let tail = kept b.tail (λ e. let same = ap (height_at levels) e in absurd (omega (arith, over, same))) in
+      let head = kept b.head (λ e. let same = ap (height_at levels) e in absurd (omega (arith, over, next, same))) in
+      record { free = s.free; up = ap height_of head ∙ (next ∙ ap (λ o. height_of o + 1) (sym tail)); has_level = ap is_some tail ∙ s.has_level }
+    where
+      kept : (v : ℕ) → v ≢ a.tail → level_at (set levels a.tail None) v ≡ level_at levels v
+      kept v other = get_or-set_other levels a.tail v None None other
+
+  -- one node fewer has a level, and the arc's head has its own
+  pub fewer_levels : level_count (set levels a.tail None) + 1 ≡ level_count levels
+  fewer_levels =
+      let within = within_from levels a.tail None (λ e. absurd (false≢true (sym (ap is_some e) ∙ step.has_level))) in
+      let change = sum_by-set (λ (o : Option ℕ). cond (is_some o) 1 0) levels a.tail None None within in
+      let was = ap {B = ℕ} (λ b. cond b 1 0) step.has_level in omega (arith, change, was)
+
+  pub height_kept : height_at (set levels a.tail None) a.head ≡ height_at levels a.head
+  height_kept = ap height_of (get_or-set_other levels a.tail a.head None None (λ e. let same = ap (height_at levels) e in absurd (omega (arith, same))))

@@ -1,15 +1,8 @@
 pub mod AdjacencyLemmas
-pub mod CutLemmas
 pub mod Duality
 pub mod FlowLemmas
-pub mod LevelGraphLemmas
 pub mod Lists
-pub mod PathLemmas
-pub mod QueueLemmas
-pub mod RaiseLemmas
 pub mod SearchLemmas
 pub mod Sizes
-pub mod StandingLemmas
 pub mod Sums
-pub mod ThreadLemmas
 pub mod Words

@@ -1,18 +1,21 @@
 -- A search as it begins, as a node is reached, and as a label is given.
-use Rattle.flow_net.proofs.FlowLemmas.{arc-cost, arc-nodes}
+use Rattle.flow_net.proofs.Words.{All, All-append, All-cons, All-contains, All-head, All-map, All-nil, All-permutation, All-tail, All-weaker, Arc, AreBounded}
+use Rattle.flow_net.proofs.Words.{AreProofOfLeast, Contains, Contains-append_right, Contains-cons, Contains-permutation, HasArrived, HasQueue, Improves, IsArc}
+use Rattle.flow_net.proofs.Words.{IsAt, IsClosedAt, IsCutBelow, IsFreeArc, IsNext, IsPermutation, IsPermutation-append_right, IsPermutation-middle}
+use Rattle.flow_net.proofs.Words.{IsPermutation-refl, IsPermutation-sym, IsPermutation-trans, IsQueued, IsResidualArc, IsSearch, IsStanding, IsStuck, IsTreeArc}
+use Rattle.flow_net.proofs.Words.{Label, MOST_COST, MOST_NODES, Problem, Queue, Reverse, Routing, Search, Stands, append_assoc, arc_at, arc_of, by_lt_z}
+use Rattle.flow_net.proofs.Words.{cases_Bool, cases_eq, count_by-le-length, depth_at, entries_of, entry, false≢true, flow_on, get_or-set_other, get_or-set_same}
+use Rattle.flow_net.proofs.Words.{heap_items, ints, is_in, is_labelled, label_at, largest_cost, length-replicate, length-set, link_at, map-append}
+use Rattle.flow_net.proofs.Words.{most_path_cost, most_rise, mul-le, none-some, potential_at, reduced_cost_of, rise_at, rise_of, rise_of_label, rise_or}
+use Rattle.flow_net.proofs.Words.{same_Some, sum_by-set}
+use Rattle.std.proofs.Common.{Bool, FitsSigned, List, None, Option, Some, [], ap, arith, cond, false, inl, inr, is_some, length, map, pos, refl, replicate, set}
+use Rattle.std.proofs.Common.{subst, sym, true, w64, ℕ, ℤ, ◌*◌, ◌++◌, ◌+ℤ◌, ◌+◌, ◌-ℤ◌, ◌<ℤ◌, ◌<◌, ◌∙◌, ◌∷◌, ◌≡◌, ◌≢◌, ◌≤ℤ◌, ◌≤◌}
+use Rattle.flow_net.proofs.Duality.{rooms_of_closed}
+use Rattle.flow_net.proofs.FlowLemmas.{IsPotential-standing, arc-cost, arc-nodes, largest_cost-small, reduced-residual}
 use Rattle.flow_net.proofs.Lists.{replicate_same, set_cases, within_from}
-use Rattle.flow_net.proofs.Sizes.{sizes}
-use Rattle.flow_net.proofs.StandingLemmas.{IsPotential-standing, largest_cost-small, reduced-residual}
-use Rattle.flow_net.proofs.Words.{All, All-cons, All-contains, All-head, All-nil, All-permutation, All-tail, All-weaker, Arc, Contains, Contains-append_right}
-use Rattle.flow_net.proofs.Words.{Contains-cons, Contains-permutation, HasQueue, Improves, IsAt, IsClosedAt, IsNext, IsQueued, IsResidualArc, IsSearch}
-use Rattle.flow_net.proofs.Words.{IsStanding, Label, MOST_COST, MOST_NODES, Problem, Queue, Reverse, Routing, Search, arc_at, cases_Bool, count_by-le-length}
-use Rattle.flow_net.proofs.Words.{depth_at, entries_of, entry, false≢true, get_or-set_other, get_or-set_same, ints, is_in, is_labelled, label_at, largest_cost}
-use Rattle.flow_net.proofs.Words.{length-replicate, length-set, most_path_cost, most_rise, mul-le, reduced_cost_of, rise_at, rise_of_label, sum_by-set}
+use Rattle.flow_net.proofs.Sizes.{size-le-greatest, sizes}
 use Rattle.flow_net.specs.Search.{AreLabels, IsDrained, IsEntered, IsEntry, IsFresh, IsLabelledBy, IsNear, IsReaching, IsRelaxed, arc_of_label, depth_of_label}
 use Rattle.flow_net.specs.Search.{reached_count, source_label}
-use Rattle.std.proofs.Common.{Bool, List, None, Option, Some, [], ap, arith, cond, false, inl, inr, is_some, length, pos, refl, replicate, set, subst, sym}
-use Rattle.std.proofs.Common.{true, ℕ, ℤ, ◌*◌, ◌+ℤ◌, ◌+◌, ◌<ℤ◌, ◌<◌, ◌∙◌, ◌∷◌, ◌≡◌, ◌≢◌, ◌≤ℤ◌, ◌≤◌}
-use Rattle.std.proofs.lemmas.Option.{none-some, same_Some}
 
 pub labelled_within : (labels : List (Option Label)) (v : ℕ) → is_labelled labels v ≡ true → v < length labels
 labelled_within labels v labelled = within_from labels v None (λ none. false≢true (sym (ap is_some none) ∙ labelled))
@@ -40,7 +43,7 @@ module _ (labels : List (Option Label)) (reached : List Bool) (old new : Queue) 
   -- it was reached before
   pub IsQueued-stale : is_in reached v ≡ true → IsQueued labels reached new.level (entries_of new)
   IsQueued-stale stale = record {
-    upto_level = λ u hit. let upto = queued.upto_level u hit in let level = next.level in omega (arith, ints);
+    upto_level = λ u hit. let upto = queued.upto_level u hit in omega (arith, ints);
     queued = λ u labelled free. still_queued u (λ e. false≢true (sym free ∙ (ap (is_in reached) e ∙ stale))) labelled free;
     rises = All-tail (IsEntry labels) (entry new.level v) (entries_of new) entries_now;
   }
@@ -50,10 +53,9 @@ module _ (labels : List (Option Label)) (reached : List Bool) (old new : Queue) 
     pub IsQueued-reached : IsQueued labels (set reached v true) new.level (entries_of new)
     IsQueued-reached = record {
       upto_level = set_cases reached v true false within (λ u b. b ≡ true → rise_at labels u ≤ℤ new.level) (λ _. next-entry.no_less)
-          (λ u ne hit. let upto = queued.upto_level u hit in let level = next.level in omega (arith, ints));
+          (λ u ne hit. let upto = queued.upto_level u hit in omega (arith, ints));
       queued = λ u labelled. set_cases reached v true false within (λ w b. w ≡ u → b ≡ false → Contains (entries_of new) (entry (rise_at labels u) u))
-          (λ _ e. absurd (false≢true (sym e)))
-          (λ w ne e miss. still_queued u (λ d. ne (e ∙ d)) labelled (sym (ap (is_in reached) e) ∙ miss)) u refl;
+          (λ _ e. absurd (false≢true (sym e))) (λ w ne e miss. still_queued u (λ d. ne (e ∙ d)) labelled (sym (ap (is_in reached) e) ∙ miss)) u refl;
       rises = All-tail (IsEntry labels) (entry new.level v) (entries_of new) entries_now;
     }
 
@@ -68,46 +70,34 @@ module _ (labels : List (Option Label)) (reached : List Bool) (old new : Queue) 
 -- a labelled node more is reached
 pub AreLabels-reached : (p : Problem) (r : Routing) (labels : List (Option Label)) (reached : List Bool) (v : ℕ) → is_labelled labels v ≡ true
     → is_in reached v ≡ false → AreLabels p r labels reached → AreLabels p r labels (set reached v true)
-AreLabels-reached p r labels reached v labelled free h =
-    record {
-      one_each = h.one_each;
-      one_mark_each = length-set reached v true ∙ h.one_mark_each;
-      source = h.source;
-      reached_labelled = set_cases reached v true false within (λ u b. b ≡ true → is_labelled labels u ≡ true) (λ _. labelled) (λ u ne. h.reached_labelled u);
-      root = h.root;
-      by_arc = λ u a e. let by = h.by_arc u a e in
-          record { residual = by.residual; head = by.head; tail_reached = still a.tail by.tail_reached; rise = by.rise; depth = by.depth };
-      risen = h.risen;
-      near = h.near;
-      depths = set_cases reached v true false within (λ u b. b ≡ true → depth_at labels u < reached_count (set reached v true))
-          (λ _. deep (arc_at labels v) refl)
-          (λ u ne hit. let below = h.depths u hit in let more = one_more in omega arith);
-    }
+AreLabels-reached p r labels reached v labelled free h = record {
+  one_each = h.one_each;
+  one_mark_each = length-set reached v true ∙ h.one_mark_each;
+  source = h.source;
+  reached_labelled = set_cases reached v true false within (λ u b. b ≡ true → is_labelled labels u ≡ true) (λ _. labelled) (λ u ne. h.reached_labelled u);
+  root = h.root;
+  by_arc = λ u a e. let by = h.by_arc u a e in
+      record { residual = by.residual; head = by.head; tail_reached = still a.tail by.tail_reached; rise = by.rise; depth = by.depth };
+  risen = h.risen;
+  near = h.near;
+  depths = set_cases reached v true false within (λ u b. b ≡ true → depth_at labels u < reached_count (set reached v true))
+      (λ _. deep (arc_at labels v) refl) (λ u ne hit. let below = h.depths u hit in let more = one_more in omega arith);
+}
   where
     within : v < length reached
-    within = let b = labelled_within labels v labelled in let e = h.one_each in let m = h.one_mark_each in omega arith
+    within = let b = labelled_within labels v labelled in omega arith
 
     still : (u : ℕ) → is_in reached u ≡ true → is_in (set reached v true) u ≡ true
     still = set_cases reached v true false within (λ u b. is_in reached u ≡ true → b ≡ true) (λ _. refl) (λ u ne hit. hit)
 
     one_more : reached_count (set reached v true) ≡ reached_count reached + 1
     one_more =
-        let change = sum_by-set (λ (b : Bool). cond b 1 0) reached v true false within in
-        let was = ap {B = ℕ} (λ b. cond b 1 0) free in
+        let change = sum_by-set (λ (b : Bool). cond b 1 0) reached v true false within in let was = ap {B = ℕ} (λ b. cond b 1 0) free in
         omega (arith, change, was)
 
     deep : (o : Option Arc) → arc_at labels v ≡ o → depth_at labels v < reached_count (set reached v true)
-    deep None none =
-        let root = ap (depth_at labels) (h.root v labelled none) in
-        let depth = ap depth_of_label h.source in
-        let more = one_more in
-        omega arith
-    deep (Some a) some =
-        let by = h.by_arc v a some in
-        let depth = by.depth in
-        let below = h.depths a.tail by.tail_reached in
-        let more = one_more in
-        omega arith
+    deep None none = let root = ap (depth_at labels) (h.root v labelled none) in let depth = ap depth_of_label h.source in let more = one_more in omega arith
+    deep (Some a) some = let by = h.by_arc v a some in let below = h.depths a.tail by.tail_reached in let more = one_more in omega arith
 
 -- a reached node rises by no more than a potential can, and few arcs lead to it
 pub record IsSmall (l : Option Label) : Type 0 where
@@ -117,19 +107,12 @@ pub record IsSmall (l : Option Label) : Type 0 where
 pub IsSmall-reached : (p : Problem) (r : Routing) → IsStanding p r → (labels : List (Option Label)) (reached : List Bool) → AreLabels p r labels reached
     → (v : ℕ) → is_in reached v ≡ true → IsSmall (label_at labels v)
 IsSmall-reached p r standing labels reached h v hit =
-    let net = p.net.now in
-    let deep = h.depths v hit in
-    let count = count_by-le-length (λ b. b) reached in
-    let each = h.one_mark_each in
-    let few = standing.problem.net.few_nodes in
-    let cost = largest_cost-small net standing.problem.net in
-    let shallow : depth_at labels v < MOST_NODES = omega (arith, deep, count, each, few) in
+    let net = p.net.now in let deep = h.depths v hit in let count = count_by-le-length (λ b. b) reached in
+    let cost = largest_cost-small net standing.problem.net in let shallow : depth_at labels v < MOST_NODES = omega (arith, deep, count) in
     let times : depth_at labels v * largest_cost net ≤ most_path_cost =
     mul-le (depth_at labels v) (largest_cost net) MOST_NODES MOST_COST (omega (arith, shallow)) cost in
-    let within = reached_within reached v hit in
-    let here = IsPotential-standing p r standing v (omega (arith, within, each)) in
-    let source = IsPotential-standing p r standing p.source standing.problem.ends.source_in in
-    let upto = (h.near v (h.reached_labelled v hit)).upto in
+    let within = reached_within reached v hit in let here = IsPotential-standing p r standing v (omega (arith, within)) in
+    let source = IsPotential-standing p r standing p.source standing.problem.ends.source_in in let upto = (h.near v (h.reached_labelled v hit)).upto in
     record { rise = omega (arith, sizes, times, here, source, upto); depth = shallow }
 
 pub Improves-refl : (s : Search) → Improves s s
@@ -148,21 +131,17 @@ module _ (p : Problem) (r : Routing) (standing : IsStanding p r) (s : Search) (s
 
   -- it is closed where its head is reached, since that rises no more than its tail, and where the head's label is low
   pub IsRelaxed-reached : is_in s.reached.items a.head ≡ true → IsRelaxed p r s s a
-  IsRelaxed-reached hit = IsRelaxed-same (λ residual.
-      let low = search.queue.upto_level a.head hit in
-      let level = at.level in
-      let tail = tail_rise in
+  IsRelaxed-reached hit = IsRelaxed-same (λ residual. let low = search.queue.upto_level a.head hit in let tail = tail_rise in
       let more = reduced-residual p r standing a residual in
-      record { labelled = search.labels.reached_labelled a.head hit; low = omega (arith, ints, low, level, tail, more) })
+      record { labelled = search.labels.reached_labelled a.head hit; low = omega (arith, ints, low, tail, more) })
 
   -- its head gets a label
   module _ (rise : ℤ) (rise_is : rise ≡ l.rise +ℤ reduced_cost_of r.potentials.items a) where
     pub IsRelaxed-low : (is_labelled s.labels.items a.head ≡ true) × (rise_at s.labels.items a.head ≤ℤ rise) → IsRelaxed p r s s a
-    IsRelaxed-low low = IsRelaxed-same
-        (λ _. let tail = tail_rise in let upto = low.1 in record { labelled = low.0; low = omega (arith, ints, rise_is, tail, upto) })
+    IsRelaxed-low low = IsRelaxed-same (λ _. let tail = tail_rise in record { labelled = low.0; low = omega (arith, ints, rise_is, tail) })
 
     pub above-level : IsResidualArc p r a → s.queue.level ≤ℤ rise
-    above-level residual = let more = reduced-residual p r standing a residual in let level = at.level in omega (arith, ints, rise_is, more, level)
+    above-level residual = let more = reduced-residual p r standing a residual in omega (arith, ints, rise_is, more)
 
     module _ (residual : IsResidualArc p r a) (free : is_in s.reached.items a.head ≡ false)
         (better : is_labelled s.labels.items a.head ≡ true → rise <ℤ rise_at s.labels.items a.head)
@@ -171,7 +150,7 @@ module _ (p : Problem) (r : Routing) (standing : IsStanding p r) (s : Search) (s
       label_by = record { rise = rise; depth = l.depth + 1; arc = Some a }
 
       head_in : a.head < length s.labels.items
-      head_in = let e = search.labels.one_each in let nodes = arc-nodes p.net.now standing.problem.net a residual.arc in omega arith
+      head_in = let nodes = arc-nodes p.net.now standing.problem.net a residual.arc in omega arith
 
       by_node : (P : ℕ → Option Label → Type 0) → P a.head (Some label_by) → ((v : ℕ) → v ≢ a.head → P v (label_at s.labels.items v)) → (v : ℕ)
           → P v (label_at t.labels.items v)
@@ -211,20 +190,13 @@ module _ (p : Problem) (r : Routing) (standing : IsStanding p r) (s : Search) (s
       near : IsNear p r a.head rise (l.depth + 1)
       near =
           let at_tail = search.labels.near a.tail (search.labels.reached_labelled a.tail at.reached) in
-          let from = at_tail.from in
-          let upto = at_tail.upto in
-          let cost = (arc-cost p.net.now standing.problem.net a residual.arc).0 in
-          let times = ap (λ o. depth_of_label o * largest_cost p.net.now) at.label in
-          let tail = tail_rise in
-          record { from = omega (arith, sizes, from, cost, times, tail, rise_is); upto = omega (arith, sizes, upto, cost, times, tail, rise_is) }
+          let cost = (arc-cost p.net.now standing.problem.net a residual.arc).0 in let times = ap (λ o. depth_of_label o * largest_cost p.net.now) at.label in
+          let tail = tail_rise in record { from = omega (arith, sizes, cost, times, tail, rise_is); upto = omega (arith, sizes, cost, times, tail, rise_is) }
 
       not_source : a.head ≡ p.source → ⊥
       not_source e =
-          let source = ap (label_at s.labels.items) e ∙ search.labels.source in
-          let at_source = ap rise_of_label source in
-          let less = better (ap is_some source) in
-          let from = rise_from in
-          omega (arith, ints, at_source, less, from)
+          let source = ap (label_at s.labels.items) e ∙ search.labels.source in let at_source = ap rise_of_label source in
+          let less = better (ap is_some source) in let from = rise_from in omega (arith, ints, at_source, less, from)
 
       relaxed-labels : AreLabels p r t.labels.items t.reached.items
       relaxed-labels = record {
@@ -237,8 +209,7 @@ module _ (p : Problem) (r : Routing) (standing : IsStanding p r) (s : Search) (s
             (λ v _. search.labels.root v);
         by_arc = by_node (λ v o. (b : Arc) → arc_of_label o ≡ Some b → IsLabelledBy p r t.labels.items t.reached.items v o b)
             (λ b e. subst (IsLabelledBy p r t.labels.items t.reached.items a.head (Some label_by)) (same_Some a b e) by_arc_now)
-            (λ v _ b e. let by = search.labels.by_arc v b e in
-            record {
+            (λ v _ b e. let by = search.labels.by_arc v b e in record {
               residual = by.residual;
               head = by.head;
               tail_reached = mark b.tail ∙ by.tail_reached;
@@ -257,12 +228,11 @@ module _ (p : Problem) (r : Routing) (standing : IsStanding p r) (s : Search) (s
             (λ _ _. Contains-permutation _ _ (entry rise a.head) entered.entries (0, omega arith, refl))
             (λ v _ h miss. Contains-permutation _ _ (entry (rise_at s.labels.items v) v) entered.entries
             (Contains-append_right (entry rise a.head ∷ []) (entries_of s.queue) _ (search.queue.queued v h (sym (mark v) ∙ miss))));
-        rises = All-permutation (IsEntry t.labels.items) _ _ entered.entries
-            (All-cons (IsEntry t.labels.items) (entry rise a.head) (entries_of s.queue)
+        rises = All-permutation (IsEntry t.labels.items) _ _ entered.entries (All-cons (IsEntry t.labels.items) (entry rise a.head) (entries_of s.queue)
             (record { labelled = ap is_some at_head; no_less = rw at_head (omega (arith, ints)) })
             (All-weaker (IsEntry s.labels.items) (IsEntry t.labels.items) (λ e old. record {
               labelled = labelled e.1 old.labelled;
-              no_less = (let less = fell e.1 old.labelled in let no_less = old.no_less in omega (arith, ints, less, no_less));
+              no_less = (let less = fell e.1 old.labelled in omega (arith, ints, less));
             }) (entries_of s.queue) search.queue.rises));
       }
 
@@ -282,7 +252,7 @@ module _ (p : Problem) (r : Routing) (standing : IsStanding p r) (s : Search) (f
   none_labelled v = replicate_same p.net.now.nodes v None
 
   source_in : p.source < length (replicate {A = Option Label} p.net.now.nodes None)
-  source_in = let e = length-replicate {A = Option Label} p.net.now.nodes None in let within = standing.problem.ends.source_in in omega arith
+  source_in = let e = length-replicate {A = Option Label} p.net.now.nodes None in omega arith
 
   by_source : (P : ℕ → Option Label → Type 0) → P p.source (Some source_label) → ((v : ℕ) → P v None) → (v : ℕ) → P v (label_at s.labels.items v)
   by_source P here there = rw fresh.labels
@@ -317,8 +287,7 @@ module _ (p : Problem) (r : Routing) (standing : IsStanding p r) (s : Search) (f
       upto_level = λ v hit. absurd (never v hit);
       queued = by_source (λ v o. is_some o ≡ true → is_in s.reached.items v ≡ false → Contains (entries_of s.queue) (entry (rise_of_label o) v))
           (λ _ _. Contains-permutation _ _ (entry (pos 0) p.source) fresh.entries (0, omega arith, refl)) (λ v labelled. absurd (false≢true labelled));
-      rises = All-permutation (IsEntry s.labels.items) _ _ fresh.entries
-          (All-cons (IsEntry s.labels.items) (entry (pos 0) p.source) []
+      rises = All-permutation (IsEntry s.labels.items) _ _ fresh.entries (All-cons (IsEntry s.labels.items) (entry (pos 0) p.source) []
           (record { labelled = ap is_some at_source; no_less = rw at_source (omega (arith, ints)) }) (All-nil (IsEntry s.labels.items)));
     };
   }
@@ -345,10 +314,7 @@ IsAt-improves s t v l h at = record {
 pub IsClosedAt-improves : (p : Problem) (r : Routing) (s t : Search) (a : Arc) → Improves s t → is_in s.reached.items a.tail ≡ true → IsClosedAt p r s a
     → IsClosedAt p r t a
 IsClosedAt-improves p r s t a h hit closed residual =
-    let was = closed residual in
-    let low = was.low in
-    let fell = h.fell a.head was.labelled in
-    let tail = ap rise_of_label (h.kept a.tail hit) in
+    let was = closed residual in let fell = h.fell a.head was.labelled in let tail = ap rise_of_label (h.kept a.tail hit) in
     record { labelled = h.labelled a.head was.labelled; low = omega (arith, ints) }
 
 -- node v is reached next
@@ -357,7 +323,7 @@ module _ (p : Problem) (r : Routing) (s t : Search) (v : ℕ) (l : Label) (reach
   v_labelled = ap is_some reaching.label
 
   v_in : v < length s.reached.items
-  v_in = let within = labelled_within s.labels.items v v_labelled in let e = s.one_mark_each in omega arith
+  v_in = let within = labelled_within s.labels.items v v_labelled in omega arith
 
   -- what holds of v, and of each node reached before, holds of each node reached
   pub reached_cases : (P : ℕ → Type 0) → P v → ((u : ℕ) → is_in s.reached.items u ≡ true → P u) → (u : ℕ) → is_in t.reached.items u ≡ true → P u
@@ -386,3 +352,209 @@ all_reached-drained s t drained v labelled = elim (cases_Bool (is_in t.reached.i
   | inl hit ↦ hit
   | inr miss ↦ let (k, within, _) = drained.queue.queued v labelled miss in let none = ap length drained.entries in absurd (omega (arith, within, none))
 ]
+
+-- The entries of a queue.
+
+-- no entry rises less than the level
+pub above-entries : (q : Queue) → All (λ e. q.level ≤ℤ e.0.0) (entries_of q)
+above-entries q =
+    All-append (λ (e : Reverse ℤ × ℕ). q.level ≤ℤ e.0.0) (map (entry q.level) q.near.items) (heap_items q.far)
+    (All-map (λ (e : Reverse ℤ × ℕ). q.level ≤ℤ e.0.0) (entry q.level) q.near.items (λ k d l. omega (arith, ints))) q.above
+
+-- a node more at the level, and one above it
+pub pushed-near : (level rise : ℤ) (near near' : List ℕ) (far : List (Reverse ℤ × ℕ)) (v : ℕ) → rise ≡ level → near' ≡ near ++ v ∷ []
+    → IsPermutation (entry rise v ∷ (map (entry level) near ++ far)) (map (entry level) near' ++ far)
+pushed-near level rise near near' far v same e =
+    rw (same, e, map-append (entry level) near (v ∷ []), append_assoc (map (entry level) near) (entry level v ∷ []) far)
+    (IsPermutation-sym _ _ (IsPermutation-middle (map (entry level) near) (entry level v) far))
+
+pub pushed-far : (rise rise' : ℤ) (v : ℕ) (near far far' : List (Reverse ℤ × ℕ)) → rise ≡ rise' → IsPermutation (entry rise' v ∷ far) far'
+    → IsPermutation (entry rise v ∷ (near ++ far)) (near ++ far')
+pushed-far rise rise' v near far far' same h =
+    rw same (IsPermutation-trans _ (near ++ entry rise' v ∷ far) _ (IsPermutation-sym _ _ (IsPermutation-middle near (entry rise' v) far))
+    (IsPermutation-append_right near (entry rise' v ∷ far) far' h))
+
+-- a node at the level leaves
+pub next-near : (old new : Queue) (v : ℕ) → old.near.items ≡ v ∷ new.near.items → new.level ≡ old.level → heap_items new.far ≡ heap_items old.far
+    → IsNext old new v
+next-near old new v near level far = record {
+  taken = rw (near, level, far) (IsPermutation-refl _);
+  level = rw level (omega (arith, ints));
+  least = above-entries new;
+}
+
+-- What stands after the potentials are raised.
+
+reached_rise : (o : Option Label) (b : Bool) (level : ℤ) → is_some o ≡ true → b ≡ true → rise_or o b level ≡ rise_of_label o
+reached_rise (Some l) true level h k = refl
+reached_rise (Some l) false level h k = absurd (false≢true k)
+reached_rise None b level h k = absurd (false≢true h)
+
+other_rise : (o : Option Label) (b : Bool) (level : ℤ) → b ≡ false → rise_or o b level ≡ level
+other_rise (Some l) true level k = absurd (false≢true (sym k))
+other_rise (Some l) false level k = refl
+other_rise None b level k = refl
+
+module _ (p : Problem) (r : Routing) (s : Search) (standing : IsStanding p r) (arrived : HasArrived p r s) where
+  -- no node rises more than the sink, or than its label says
+  pub record Rises (v : ℕ) : Type 0 where
+    pub from : pos 0 ≤ℤ rise_of s v
+    pub upto : rise_of s v ≤ℤ s.queue.level
+    pub low : is_labelled s.labels.items v ≡ true → rise_of s v ≤ℤ rise_at s.labels.items v
+
+  pub rises : (v : ℕ) → Rises v
+  rises v =
+      let labels = arrived.search.labels in let risen = labels.risen v in elim (cases_Bool (is_in s.reached.items v)) [
+        | inl hit ↦
+            let same = reached_rise (label_at s.labels.items v) (is_in s.reached.items v) s.queue.level (labels.reached_labelled v hit) hit in
+            let upto = arrived.search.queue.upto_level v hit in
+            record { from = omega (arith, ints, same, risen); upto = omega (arith, ints, same, upto); low = λ _. omega (arith, ints, same) }
+        | inr miss ↦
+            let same = other_rise (label_at s.labels.items v) (is_in s.reached.items v) s.queue.level miss in let sink = labels.risen p.sink in record {
+              from = omega (arith, ints, same, sink);
+              upto = omega (arith, ints, same);
+              low = λ labelled. (let above = All-contains (λ (e : Reverse ℤ × ℕ). s.queue.level ≤ℤ e.0.0) (entries_of s.queue)
+                  (entry (rise_at s.labels.items v) v) (above-entries s.queue) (arrived.search.queue.queued v labelled miss) in
+                  omega (arith, ints, same, above));
+            }
+      ]
+
+  -- a reached node rises as its label says
+  as_labelled : (v : ℕ) → is_in s.reached.items v ≡ true → rise_of s v ≡ rise_at s.labels.items v
+  as_labelled v hit = reached_rise (label_at s.labels.items v) (is_in s.reached.items v) s.queue.level (arrived.search.labels.reached_labelled v hit) hit
+
+  sink_rise : rise_of s p.sink ≡ s.queue.level
+  sink_rise = as_labelled p.sink arrived.sink_reached ∙ arrived.level
+
+  -- the raised potential fits 64 bits
+  pub rise_fits : (v : ℕ) → v < p.net.now.nodes → FitsSigned w64 (potential_at r.potentials.items v +ℤ rise_of s v)
+  rise_fits v within =
+      let potential = IsPotential-standing p r standing v within in let from = (rises v).from in let upto = (rises v).upto in
+      let sink = (IsSmall-reached p r standing s.labels.items s.reached.items arrived.search.labels p.sink arrived.sink_reached).rise in omega (arith, sizes)
+
+  module _ (potentials : List ℤ) (one_each : length potentials ≡ length r.potentials.items)
+      (raised : (v : ℕ) → v < length r.potentials.items → potential_at potentials v ≡ potential_at r.potentials.items v +ℤ rise_of s v) where
+    raised_at : (v : ℕ) → v < p.net.now.nodes → potential_at potentials v ≡ potential_at r.potentials.items v +ℤ rise_of s v
+    raised_at v within = raised v (omega arith)
+
+    raised_ends : (a : Arc) → IsArc p.net.now.links a
+        → reduced_cost_of potentials a ≡ (reduced_cost_of r.potentials.items a +ℤ rise_of s a.tail) -ℤ rise_of s a.head
+    raised_ends a is =
+        let nodes = arc-nodes p.net.now standing.problem.net a is in let tail = raised_at a.tail nodes.0 in let head = raised_at a.head nodes.1 in
+        omega (arith, ints, tail, head)
+
+    -- no residual arc has a reduced cost below 0
+    raised_residual : (a : Arc) → IsResidualArc p r a → pos 0 ≤ℤ reduced_cost_of potentials a
+    raised_residual a residual =
+        let ends = raised_ends a residual.arc in let was = reduced-residual p r standing a residual in let head = (rises a.head).upto in
+        elim (cases_Bool (is_in s.reached.items a.tail)) [
+          | inr miss ↦ let tail = other_rise (label_at s.labels.items a.tail) (is_in s.reached.items a.tail) s.queue.level miss in
+              omega (arith, ints, ends, was, head, tail)
+          | inl hit ↦ elim (cases_eq a.tail p.sink) [
+            | inl same ↦ let tail = ap (rise_of s) same ∙ sink_rise in omega (arith, ints, ends, was, head, tail)
+            | inr ne ↦
+                let closed = arrived.closed a residual.arc hit ne residual in let low = (rises a.head).low closed.labelled in
+                let tail = as_labelled a.tail hit in omega (arith, ints, ends, low, tail)
+          ]
+        ]
+
+    -- an arc of the tree has none any more
+    pub tree_reduced : (a : Arc) → IsTreeArc s a → IsResidualArc p r a × (reduced_cost_of potentials a ≡ pos 0)
+    tree_reduced a last =
+        let by = arrived.search.labels.by_arc a.head a last.is_last in let ends = raised_ends a by.residual.arc in
+        let head = as_labelled a.head last.head_reached in let tail = as_labelled a.tail by.tail_reached in (by.residual, omega (arith, ints, ends, head, tail))
+
+    raised_proof : AreProofOfLeast p.net.now.links r.flow.items potentials
+    raised_proof = record {
+      left_to_add = λ k b left. let h = raised_residual (arc_of (link_at p.net.now.links k) k true)
+          (record { arc = record { below = b; is = refl }; residual = omega (arith, ints, left) }) in
+          omega (arith, ints, h);
+      flowing = λ k b some.
+          let h = raised_residual (arc_of (link_at p.net.now.links k) k false) (record { arc = record { below = b; is = refl }; residual = some }) in
+          omega (arith, ints, h);
+    }
+
+    source_stays : potential_at potentials p.source ≡ potential_at r.potentials.items p.source
+    source_stays =
+        let at = raised_at p.source standing.problem.ends.source_in in let rise = rises p.source in
+        let low = rise.low (ap is_some arrived.search.labels.source) in let none = ap rise_of_label arrived.search.labels.source in
+        omega (arith, ints, at, low, none)
+
+    -- the sink's potential is not far above the source's
+    sink_near : potential_at potentials p.sink ≤ℤ (potential_at r.potentials.items p.source +ℤ pos (p.net.now.nodes * largest_cost p.net.now))
+    sink_near =
+        let n = p.net.now.nodes in let labels = arrived.search.labels in
+        let near = (labels.near p.sink (labels.reached_labelled p.sink arrived.sink_reached)).upto in let deep = labels.depths p.sink arrived.sink_reached in
+        let count = count_by-le-length (λ b. b) s.reached.items in let depth = depth_at s.labels.items p.sink in
+        let times : depth * largest_cost p.net.now ≤ n * largest_cost p.net.now =
+        mul-le depth (largest_cost p.net.now) n (largest_cost p.net.now) (omega (arith, deep, count)) (omega arith) in
+        let at = raised_at p.sink standing.problem.ends.sink_in in let rise = as_labelled p.sink arrived.sink_reached in
+        omega (arith, ints, near, times, at, rise)
+
+    raised_bounded : AreBounded p.net.now p.start.now potentials
+    raised_bounded = record {
+      one_each = one_each ∙ standing.bounded.one_each;
+      bounded = λ v within. let size = λ (u : ℕ) (b : u < p.net.now.nodes). size-le-greatest (λ (x : ℤ). x) p.start.now u (pos 0)
+          (omega (arith, b)) in let at_v = size v within in
+          let at_sink = size p.sink standing.problem.ends.sink_in in let at_source = size p.source standing.problem.ends.source_in in
+          let v_at = raised_at v within in let sink_at = raised_at p.sink standing.problem.ends.sink_in in let from = (rises v).from in
+          let upto = (rises v).upto in let sink_up = sink_rise in let risen = standing.risen v within in let most = standing.sink_most v within in
+          let near = sink_near in omega (arith, sizes);
+    }
+
+    pub Stands-raised : Stands p r.flow.items potentials r.routed r.openings.items
+    Stands-raised = record {
+      problem = standing.problem;
+      routed_from = standing.routed_from;
+      routed_upto = standing.routed_upto;
+      opened = standing.opened;
+      routes = standing.routes;
+      proof = raised_proof;
+      bounded = raised_bounded;
+      at_source = source_stays ∙ standing.at_source;
+      risen = λ v within. (let at = raised_at v within in let from = (rises v).from in let was = standing.risen v within in omega (arith, ints, at, from, was));
+      sink_most = λ v within. (let at = raised_at v within in let sink = raised_at p.sink standing.problem.ends.sink_in in let upto = (rises v).upto in
+          let up = sink_rise in let was = standing.sink_most v within in omega (arith, ints, at, sink, upto, up, was));
+    }
+
+-- where the sink rises by nothing, the tree's arcs have no reduced cost as it is
+pub tree_free : (p : Problem) (r : Routing) (s : Search) (standing : IsStanding p r) (arrived : HasArrived p r s) → s.queue.level ≡ pos 0 → (a : Arc)
+    → IsTreeArc s a → IsFreeArc p r a
+tree_free p r s standing arrived level a last =
+    let tree = tree_reduced p r s standing arrived r.potentials.items refl
+    (λ v _. let h = rises p r s standing arrived v in omega (arith, ints, level)) a last in record { residual = tree.0; free = tree.1 }
+
+-- Where the search is stuck, the nodes reached are a cut that the amount cannot pass.
+
+module _ (p : Problem) (r : Routing) (s : Search) (standing : IsStanding p r) (stuck : IsStuck p r s) where
+  source_reached : is_in s.reached.items p.source ≡ true
+  source_reached = stuck.all_reached p.source (ap is_some stuck.labels.source)
+
+  -- no residual arc leads out of the reached nodes
+  crosses : (a : Arc) → IsResidualArc p r a → is_in s.reached.items a.tail ≡ true → is_in s.reached.items a.head ≡ false → ⊥
+  crosses a residual hit miss = false≢true (sym miss ∙ stuck.all_reached a.head (stuck.closed a residual.arc hit residual).labelled)
+
+  -- so each link that leaves them is full, and each that enters them is empty
+  full : (k : ℕ) → k < length p.net.now.links → is_in s.reached.items (link_at p.net.now.links k).from ≡ true
+      → is_in s.reached.items (link_at p.net.now.links k).to ≡ false → flow_on r.flow.items k ≡ (link_at p.net.now.links k).room
+  full k below hit miss =
+      by_lt_z (flow_on r.flow.items k) (link_at p.net.now.links k).room (λ left. absurd (crosses (arc_of (link_at p.net.now.links k) k true)
+      (record { arc = record { below = below; is = refl }; residual = omega (arith, ints, left) }) hit miss))
+      (λ over. let upto = standing.routes.rooms.upto_room k below in omega (arith, ints, over, upto))
+
+  empty : (k : ℕ) → k < length p.net.now.links → is_in s.reached.items (link_at p.net.now.links k).from ≡ false
+      → is_in s.reached.items (link_at p.net.now.links k).to ≡ true → flow_on r.flow.items k ≡ pos 0
+  empty k below miss hit =
+      by_lt_z (pos 0) (flow_on r.flow.items k)
+      (λ some. absurd (crosses (arc_of (link_at p.net.now.links k) k false) (record { arc = record { below = below; is = refl }; residual = some }) hit miss))
+      (λ over. let from = standing.routes.rooms.not_negative k below in omega (arith, ints, over, from))
+
+  pub IsCutBelow-stuck : r.routed <ℤ p.amount → IsCutBelow p.net.now p.source p.sink p.amount s.reached.items
+  IsCutBelow-stuck short = record {
+    one_each = stuck.labels.one_mark_each;
+    source_in = source_reached;
+    sink_out = stuck.sink_out;
+    short = subst (λ x. x <ℤ p.amount)
+        (sym (rooms_of_closed p.net.now standing.problem.net p.source p.sink standing.problem.ends r.routed r.flow.items standing.routes s.reached.items
+        source_reached stuck.sink_out full empty)) short;
+  }

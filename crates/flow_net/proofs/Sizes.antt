@@ -26,7 +26,4 @@ size-le-greatest f (x ∷ xs) (suc k) d l = let rest = size-le-greatest f xs k d
 pub greatest-le : {X : Type 0} (f : X → ℤ) (xs : List X) (n : ℕ) (d : X) → ((k : ℕ) → k < length xs → unsigned_abs (f (get_or xs k d)) ≤ n)
     → greatest_size f xs ≤ n
 greatest-le f [] n d h = omega arith
-greatest-le f (x ∷ xs) n d h =
-    let first = h 0 (omega arith) in
-    let rest = greatest-le f xs n d (λ k l. h (suc k) (omega arith)) in
-    omega arith
+greatest-le f (x ∷ xs) n d h = let first = h 0 (omega arith) in let rest = greatest-le f xs n d (λ k l. h (suc k) (omega arith)) in omega arith

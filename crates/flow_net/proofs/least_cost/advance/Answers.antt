@@ -1,4 +1,4 @@
-use Rattle.flow_net.proofs.PathLemmas.{IsFreePath-tree, IsTree-arrived}
+use Rattle.flow_net.proofs.FlowLemmas.{IsFreePath-tree, IsTree-arrived}
 use Rattle.flow_net.proofs.Sizes.{less_left}
 use Rattle.flow_net.proofs.Words.{IsFreePath, ints, strictly}
 use Rattle.std.proofs.Common.{ap, arith, of_z, subst, sym, w64}
@@ -14,36 +14,20 @@ augment-requires-clause-path c =
     (IsFreePath-tree c.args.problem.now c.raise.new.routing c.args.search c.in_ok-path.path.items tree c.raise.ensures.free c.in_ok-path.ensures)
 
 pub returns-then-rises-clause-rises : goal.returns-then-rises-clause-rises
-returns-then-rises-clause-rises c =
-    let same = c.raise.ensures.routed in
-    let some = c.augment.ensures.amount.some in
-    omega (arith, ints, same, some)
+returns-then-rises-clause-rises c = omega (arith, ints)
 
 pub loop-routing-smaller : goal.loop-routing-smaller
 loop-routing-smaller c =
     less_left c.args.problem.now.amount c.loop-routing.routing.routed c.augment_by_levels.new.routing.routed
     (strictly c.loop-routing.routing.routed c.augment_by_levels.new.routing.routed c.in_ok-augment_by_levels.ensures.no_less
-    (λ e. c.if-routing-before.false (ap (of_z w64) (sym e))))
-    c.in_ok-augment_by_levels.ensures.standing.routed_upto
+    (λ e. c.if-routing-before.false (ap (of_z w64) (sym e)))) c.in_ok-augment_by_levels.ensures.standing.routed_upto
 
 pub loop-routing-preserved : goal.loop-routing-preserved
 loop-routing-preserved c =
-    let no_less = c.in_ok-augment_by_levels.ensures.no_less in
-    let before = c.loop-routing.invariant.no_less in
-    let after = c.in_ok-augment_by_levels.ensures in
-    record { standing = after.standing; graph = after.graph; no_less = omega (arith, ints, no_less, before) }
+    let after = c.in_ok-augment_by_levels.ensures in record { standing = after.standing; graph = after.graph; no_less = omega (arith, ints) }
 
 pub returns-then-routing-before-clause-rises : goal.returns-then-routing-before-clause-rises
-returns-then-routing-before-clause-rises c =
-    let same = c.raise.ensures.routed in
-    let some = c.augment.ensures.amount.some in
-    let before = c.loop-routing.invariant.no_less in
-    let no_less = c.in_ok-augment_by_levels.ensures.no_less in
-    omega (arith, ints, same, some, before, no_less)
+returns-then-routing-before-clause-rises c = omega (arith, ints)
 
 pub returns-clause-rises : goal.returns-clause-rises
-returns-clause-rises c =
-    let same = c.raise.ensures.routed in
-    let some = c.augment.ensures.amount.some in
-    let before = c.loop-routing.invariant.no_less in
-    omega (arith, ints, same, some, before)
+returns-clause-rises c = omega (arith, ints)

@@ -4,13 +4,7 @@ use Rattle.flow_net.proofs.Words.{ints}
 use Rattle.flow_net.proofs.least_cost.augment_by_levels.Goals as goal
 
 pub loop-routing-smaller : goal.loop-routing-smaller
-loop-routing-smaller c =
-    let some = c.augment.ensures.amount.some in
-    let upto = c.augment.ensures.standing.routed_upto in
-    omega (arith, sizes, some, upto)
+loop-routing-smaller c = omega (arith, sizes)
 
 pub loop-routing-preserved : goal.loop-routing-preserved
-loop-routing-preserved c =
-    let some = c.augment.ensures.amount.some in
-    let no_less = c.loop-routing.invariant.no_less in
-    record { standing = c.augment.ensures.standing; graph = c.in_ok-path.ensures.graph; no_less = omega (arith, ints, some, no_less) }
+loop-routing-preserved c = record { standing = c.augment.ensures.standing; graph = c.in_ok-path.ensures.graph; no_less = omega (arith, ints) }

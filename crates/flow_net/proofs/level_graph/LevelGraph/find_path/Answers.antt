@@ -1,6 +1,5 @@
-use Rattle.flow_net.proofs.FlowLemmas.{arc-nodes}
-use Rattle.flow_net.proofs.LevelGraphLemmas.{IsStep, IsStep-closed, IsStep-up, fewer_levels, height_at, height_kept, level_count}
-use Rattle.flow_net.proofs.PathLemmas.{IsFreePath-rising, walk-pop, walk-push}
+use Rattle.flow_net.proofs.FlowLemmas.{IsFreePath-rising, IsStep, IsStep-closed, IsStep-up, arc-nodes, fewer_levels, height_at, height_kept, level_count}
+use Rattle.flow_net.proofs.FlowLemmas.{walk-pop, walk-push}
 use Rattle.flow_net.proofs.level_graph.LevelGraph.find_path.Goals.{In-Some-pop}
 use Rattle.flow_net.proofs.Words.{All, All-permutation, All-pop, All-push, All-weaker, IsFreeArc, IsFreePath, IsPermutation-reverse, IsWalk, StepsUp}
 use Rattle.flow_net.proofs.Words.{length-set}
@@ -9,16 +8,10 @@ use Rattle.flow_net.proofs.level_graph.LevelGraph.find_path.Goals as goal
 
 pub loop-node-preserved-in-Some : goal.loop-node-preserved-in-Some
 loop-node-preserved-in-Some c =
-    let p = c.args.problem.now in
-    let r = c.args.routing.now in
-    let levels = c.last_arc.new.self.levels.items in
-    let a = c.in-Some.arc in
-    let inv = c.loop-node.invariant in
-    let last = c.in-Some.ensures in
-    let grown = c.in_ok-push.ensures.items in
+    let p = c.args.problem.now in let r = c.args.routing.now in let levels = c.last_arc.new.self.levels.items in let a = c.in-Some.arc in
+    let inv = c.loop-node.invariant in let last = c.in-Some.ensures in let grown = c.in_ok-push.ensures.items in
     let steps = subst (λ t. All (IsStep p r t.items) c.loop-node.path.items) (sym last.levels) inv.steps in
-    let step = IsStep-up p r levels a last.free (subst (λ t. StepsUp t.items a) (sym last.levels) last.steps_up) in
-    record {
+    let step = IsStep-up p r levels a last.free (subst (λ t. StepsUp t.items a) (sym last.levels) last.steps_up) in record {
       graph = record {
         one_level_each = ap (λ t. length t.items) last.levels ∙ inv.graph.one_level_each;
         one_cursor_each = last.cursors ∙ inv.graph.one_cursor_each;
@@ -39,40 +32,27 @@ record IsPopped (c : In-Some-pop) : Type 0 where
 
 popped : (c : In-Some-pop) → IsPopped c
 popped c =
-    let p = c.args.problem.now in
-    let r = c.args.routing.now in
-    let levels = c.last_arc.new.self.levels.items in
-    let items = c.in-Some-pop.ensures.items in
+    let p = c.args.problem.now in let r = c.args.routing.now in let items = c.in-Some-pop.ensures.items in
     let steps = subst (λ t. All (IsStep p r t.items) c.loop-node.path.items) (sym c.in_default.ensures.levels) c.loop-node.invariant.steps in
-    let parts = All-pop (IsStep p r levels) c.loop-node.path.items c.pop.new.self.items (Some c.in-Some-pop.arc) items steps in
+    let parts = All-pop (IsStep p r c.last_arc.new.self.levels.items) c.loop-node.path.items c.pop.new.self.items (Some c.in-Some-pop.arc) items steps in
     let walk = walk-pop c.pop.new.self.items c.in-Some-pop.arc c.loop-node.node p.sink
     (subst (λ xs. IsWalk (reverse xs) c.loop-node.node p.sink) items c.loop-node.invariant.walk) in
     record { tail = walk.0; walk = walk.1; step = parts.1; steps = parts.0 }
 
 pub loop-node-smaller : goal.loop-node-smaller
 loop-node-smaller c =
-    let levels = c.last_arc.new.self.levels.items in
-    let a = c.in-Some-pop.arc in
-    let at = popped c in
+    let levels = c.last_arc.new.self.levels.items in let a = c.in-Some-pop.arc in let at = popped c in
     let fewer = subst (λ v. level_count (set levels v None) + 1 ≡ level_count levels) at.tail
     (fewer_levels c.args.problem.now c.args.routing.now levels c.pop.new.self.items a c.args.problem.now.sink at.step) in
     let kept = subst (λ v. height_at (set levels v None) a.head ≡ height_at levels a.head) at.tail
     (height_kept c.args.problem.now c.args.routing.now levels c.pop.new.self.items a c.args.problem.now.sink at.step) in
-    let same = ap (λ t. 2 * level_count t.items + height_at t.items c.loop-node.node) c.in_default.ensures.levels in
-    let up = at.step.up in
-    let tail = ap (height_at levels) at.tail in
-    omega (arith, fewer, kept, same, up, tail)
+    let same = ap (λ t. 2 * level_count t.items + height_at t.items c.loop-node.node) c.in_default.ensures.levels in let tail = ap (height_at levels) at.tail in
+    omega (arith, fewer, kept, same, tail)
 
 pub loop-node-preserved : goal.loop-node-preserved
 loop-node-preserved c =
-    let p = c.args.problem.now in
-    let r = c.args.routing.now in
-    let levels = c.last_arc.new.self.levels.items in
-    let a = c.in-Some-pop.arc in
-    let inv = c.loop-node.invariant in
-    let last = c.in_default.ensures in
-    let at = popped c in
-    record {
+    let p = c.args.problem.now in let r = c.args.routing.now in let levels = c.last_arc.new.self.levels.items in let a = c.in-Some-pop.arc in
+    let inv = c.loop-node.invariant in let last = c.in_default.ensures in let at = popped c in record {
       graph = record {
         one_level_each = length-set levels c.loop-node.node None ∙ (ap (λ t. length t.items) last.levels ∙ inv.graph.one_level_each);
         one_cursor_each = last.cursors ∙ inv.graph.one_cursor_each;
@@ -86,13 +66,9 @@ loop-node-preserved c =
 
 pub returns-clause-path : goal.returns-clause-path
 returns-clause-path c =
-    let p = c.args.problem.now in
-    let r = c.args.routing.now in
-    let levels = c.loop-node.self.levels.items in
-    let inv = c.loop-node.invariant in
-    let path = c.loop-node.path.items in
-    let turned = All-permutation (IsStep p r levels) _ _ (IsPermutation-reverse path) inv.steps in
+    let p = c.args.problem.now in let r = c.args.routing.now in let levels = c.loop-node.self.levels.items in let inv = c.loop-node.invariant in
+    let path = c.loop-node.path.items in let turned = All-permutation (IsStep p r levels) _ _ (IsPermutation-reverse path) inv.steps in
     subst (IsFreePath p r) (sym c.reverse.ensures.items)
     (IsFreePath-rising p r (height_at levels) (reverse path) (subst (λ v. IsWalk (reverse path) v p.sink) c.loop-node-test.false inv.walk)
     (All-weaker (IsStep p r levels) (λ a. IsFreeArc p r a × (height_at levels a.tail < height_at levels a.head))
-    (λ a h. (h.free, (let e = h.up in omega arith))) (reverse path) turned))
+    (λ a h. (h.free, (omega arith))) (reverse path) turned))

@@ -1,5 +1,4 @@
-use Rattle.flow_net.proofs.FlowLemmas.{no_arc}
-use Rattle.flow_net.proofs.StandingLemmas.{IsPriced-arc}
+use Rattle.flow_net.proofs.FlowLemmas.{IsPriced-arc, no_arc}
 use Rattle.flow_net.proofs.level_graph.LevelGraph.reach.Goals.{else-is_none, then-is_none+then-is_open+then-reduced_cost-eq0+in_ok-enter}
 use Rattle.flow_net.proofs.Words.{IsLevelGraph, Way, arcs_at, length-map, way_of}
 use Rattle.std.proofs.Common.{ap, arith, false, length, subst, sym, ◌<◌, ◌≤◌}
@@ -11,12 +10,9 @@ no_way = record { head = 0; link = 0; forward = false }
 
 pub reduced_cost-requires : goal.reduced_cost-requires
 reduced_cost-requires c =
-    let p = c.args.problem.now in
-    let ways = ap length c.ways_from-ways.ensures.range in
-    let arcs = ap length c.arcs_from-arcs.ensures.range in
+    let p = c.args.problem.now in let ways = ap length c.ways_from-ways.ensures.range in let arcs = ap length c.arcs_from-arcs.ensures.range in
     let each = length-map (arcs_at p.adjacency c.args.node) way_of in
-    let test = c.loop-index-test.true in
-    let within : c.loop-index.index < length c.arcs_from-arcs.result.now = omega (arith, ways, arcs, each, test) in
+    let within : c.loop-index.index < length c.arcs_from-arcs.result.now = omega (arith, ways, arcs, each) in
     IsPriced-arc p c.args.routing.now c.requires.standing _ (c.arcs_from-arcs.ensures.arcs c.loop-index.index no_arc within).0
 
 pub enter-requires-clause-node : goal.enter-requires-clause-node
@@ -24,16 +20,11 @@ enter-requires-clause-node c = c.ways_from-ways.ensures.heads c.loop-index.index
 
 pub loop-index-preserved : goal.loop-index-preserved
 loop-index-preserved c =
-    let inv = c.loop-index.invariant in
-    let before = inv.no_fewer in
-    let count = length c.args.self.now.entered.items in
-    elim c.if-is_none.branch [
-      | then-is_none+then-is_open+then-reduced_cost-eq0+in_ok-enter w ↦
-          let more = w.in_ok-enter.ensures.one_more in
-          record {
-            graph = subst (IsLevelGraph c.args.problem.now) (sym w.self-is) w.in_ok-enter.ensures.graph;
-            no_fewer = subst (λ g. count ≤ length g.entered.items) (sym w.self-is) (omega (arith, before, more));
-          }
+    let inv = c.loop-index.invariant in let before = inv.no_fewer in let count = length c.args.self.now.entered.items in elim c.if-is_none.branch [
+      | then-is_none+then-is_open+then-reduced_cost-eq0+in_ok-enter w ↦ record {
+        graph = subst (IsLevelGraph c.args.problem.now) (sym w.self-is) w.in_ok-enter.ensures.graph;
+        no_fewer = subst (λ g. count ≤ length g.entered.items) (sym w.self-is) (omega (arith, before, w.in_ok-enter.ensures.one_more));
+      }
       | else-is_none w ↦ record {
         graph = subst (IsLevelGraph c.args.problem.now) (sym w.self-is) inv.graph;
         no_fewer = subst (λ g. count ≤ length g.entered.items) (sym w.self-is) before;

@@ -1,4 +1,4 @@
-use Rattle.flow_net.proofs.QueueLemmas.{pushed-far, pushed-near}
+use Rattle.flow_net.proofs.SearchLemmas.{pushed-far, pushed-near}
 use Rattle.std.proofs.Common.{arith, rules, sym, w64, ◌≡◌}
 use Rattle.flow_net.proofs.Words.{ints, to_z-of_z}
 use Rattle.flow_net.proofs.queue.Queue.push.Goals as goal

@@ -9,28 +9,22 @@ node_in : (c : In-Some) → (c.in-Some.node < length c.loop-node.self.labels.ite
 node_in c =
     let s = c.loop-node.self in
     let at = next-entry s.labels.items s.reached.items s.queue c.pop.new.self c.in-Some.node c.in-Some.ensures c.loop-node.invariant.queue in
-    let within = labelled_within s.labels.items c.in-Some.node at.labelled in
-    (within, (let e = s.one_mark_each in omega arith))
+    let within = labelled_within s.labels.items c.in-Some.node at.labelled in (within, (omega arith))
 
 pub index-requires : goal.index-requires
-index-requires c = let w = node_in (goal.at.index-requires c).In-Some in let e = c.loop-node.self.reached.ok.0 in omega (arith, w, e)
+index-requires c = let w = node_in (goal.at.index-requires c).In-Some in omega (arith, w)
 
 pub index-requires-then-not-index : goal.index-requires-then-not-index
-index-requires-then-not-index c = let w = node_in (goal.at.index-requires-then-not-index c).In-Some in let e = c.loop-node.self.labels.ok.0 in
-    omega (arith, w, e)
+index-requires-then-not-index c = let w = node_in (goal.at.index-requires-then-not-index c).In-Some in omega (arith, w)
 
 pub index_mut-requires : goal.index_mut-requires
-index_mut-requires c = let w = node_in (goal.at.index_mut-requires c).In-Some in let e = c.loop-node.self.reached.ok.0 in omega (arith, w, e)
+index_mut-requires c = let w = node_in (goal.at.index_mut-requires c).In-Some in omega (arith, w)
 
 pub returns-in-Some-index : goal.returns-in-Some-index
 returns-in-Some-index c =
-    let s = c.loop-node.self in
-    let v = c.in-Some.node in
-    let inv = c.loop-node.invariant in
-    let w = node_in (goal.at.returns-in-Some-index c).In-Some in
+    let s = c.loop-node.self in let v = c.in-Some.node in let inv = c.loop-node.invariant in let w = node_in (goal.at.returns-in-Some-index c).In-Some in
     let free = sym (get_or_read s.reached.items v c.index.result.now w.1 c.index.ensures false) ∙ c.if-not-index.true in
-    let label = sym (get_or_read s.labels.items v c.index-then-not-index.result.now w.0 c.index-then-not-index.ensures None) ∙ c.in-Some-index.is in
-    record {
+    let label = sym (get_or_read s.labels.items v c.index-then-not-index.result.now w.0 c.index-then-not-index.ensures None) ∙ c.in-Some-index.is in record {
       labels = ap (λ xs. xs.items) inv.labels;
       label = ap (λ xs. label_at xs.items v) (sym inv.labels) ∙ label;
       not_before = ap (λ xs. is_in xs.items v) (sym inv.reached) ∙ free;
@@ -51,12 +45,8 @@ loop-node-smaller-in_default-index c = shorter (goal.at.loop-node-smaller-in_def
 
 pub loop-node-preserved : goal.loop-node-preserved
 loop-node-preserved c =
-    let s = c.loop-node.self in
-    let v = c.in-Some.node in
-    let inv = c.loop-node.invariant in
-    let w = node_in (goal.at.loop-node-preserved c).In-Some in
-    let stale = sym (get_or_read s.reached.items v c.index.result.now w.1 c.index.ensures false) ∙ c.if-not-index.false in
-    record {
+    let s = c.loop-node.self in let v = c.in-Some.node in let inv = c.loop-node.invariant in let w = node_in (goal.at.loop-node-preserved c).In-Some in
+    let stale = sym (get_or_read s.reached.items v c.index.result.now w.1 c.index.ensures false) ∙ c.if-not-index.false in record {
       labels = inv.labels;
       reached = inv.reached;
       queue = IsQueued-stale s.labels.items s.reached.items s.queue c.pop.new.self v c.in-Some.ensures inv.queue stale;
@@ -64,19 +54,14 @@ loop-node-preserved c =
 
 pub loop-node-preserved-in_default-index : goal.loop-node-preserved-in_default-index
 loop-node-preserved-in_default-index c =
-    let s = c.loop-node.self in
-    let v = c.in-Some.node in
-    let w = node_in (goal.at.loop-node-preserved-in_default-index c).In-Some in
+    let s = c.loop-node.self in let v = c.in-Some.node in let w = node_in (goal.at.loop-node-preserved-in_default-index c).In-Some in
     let none = sym (get_or_read s.labels.items v c.index-then-not-index.result.now w.0 c.index-then-not-index.ensures None) ∙ c.in_default-index.is in
     let at = next-entry s.labels.items s.reached.items s.queue c.pop.new.self v c.in-Some.ensures c.loop-node.invariant.queue in
     absurd (false≢true (sym (ap is_some none) ∙ at.labelled))
 
 pub returns : goal.returns
 returns c =
-    let s = c.loop-node.self in
-    let inv = c.loop-node.invariant in
-    let empty = c.in_default.ensures in
-    record {
+    let s = c.loop-node.self in let inv = c.loop-node.invariant in let empty = c.in_default.ensures in record {
       labels = ap (λ xs. xs.items) inv.labels;
       reached = ap (λ xs. xs.items) inv.reached;
       queue = subst (IsQueued s.labels.items s.reached.items _) (empty.was_empty ∙ sym empty.is_empty)

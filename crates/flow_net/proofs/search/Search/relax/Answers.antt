@@ -1,7 +1,6 @@
-use Rattle.flow_net.proofs.FlowLemmas.{arc-nodes}
+use Rattle.flow_net.proofs.FlowLemmas.{IsPriced-arc, arc-nodes}
 use Rattle.flow_net.proofs.SearchLemmas.{IsRelaxed-entered, IsRelaxed-low, IsRelaxed-reached, IsRelaxed-same, IsSmall-tail, above-level}
 use Rattle.flow_net.proofs.Sizes.{sizes}
-use Rattle.flow_net.proofs.StandingLemmas.{IsPriced-arc}
 use Rattle.flow_net.proofs.search.Search.relax.Goals.{After-index, After-reduced_cost, Else-not-is_lower, Start, then-index-via-else-index+then-not-is_residual}
 use Rattle.flow_net.proofs.search.Search.relax.Goals.{then-index-via-then-index}
 use Rattle.flow_net.proofs.Words.{IsResidualArc, false≢true, get_or_read, is_in, on_ok_weaker, reduced_cost_of, rise_of_label}
@@ -15,15 +14,11 @@ head_in c = (arc-nodes c.args.problem.now.net.now c.requires.standing.problem.ne
 mark : (c : After-index) → c.index.result.now ≡ is_in c.args.self.now.reached.items c.args.arc.now.head
 mark c =
     let within = head_in (goal.at.After-index c).Start in
-    let each = c.requires.search.labels.one_mark_each in
     get_or_read c.args.self.now.reached.items c.args.arc.now.head c.index.result.now (omega arith) c.index.ensures false
 
 pub returns-then-index : goal.returns-then-index
 returns-then-index c =
-    let p = c.args.problem.now in
-    let s = c.args.self.now in
-    let a = c.args.arc.now in
-    elim c.then-index.branch [
+    let p = c.args.problem.now in let s = c.args.self.now in let a = c.args.arc.now in elim c.then-index.branch [
       | then-index-via-then-index w ↦
           IsRelaxed-reached p c.args.routing.now c.requires.standing s c.requires.search a c.args.label.now c.requires.at
           (sym (mark (goal.at.returns-then-index c).After-index) ∙ w.if-index.true)
@@ -43,18 +38,9 @@ record IsSum (c : After-reduced_cost) : Type 0 where
 
 sum : (c : After-reduced_cost) → IsSum c
 sum c =
-    let p = c.args.problem.now in
-    let r = c.args.routing.now in
-    let s = c.args.self.now in
-    let a = c.args.arc.now in
-    let l = c.args.label.now in
-    let priced = IsPriced-arc p r c.requires.standing a c.requires.arc in
-    let upto = (IsSmall-tail p r c.requires.standing s c.requires.search a l c.requires.at).rise in
+    let p = c.args.problem.now in let r = c.args.routing.now in let a = c.args.arc.now in let priced = IsPriced-arc p r c.requires.standing a c.requires.arc in
+    let upto = (IsSmall-tail p r c.requires.standing c.args.self.now c.requires.search a c.args.label.now c.requires.at).rise in
     let from = subst (λ o. pos 0 ≤ℤ rise_of_label o) c.requires.at.label (c.requires.search.labels.risen a.tail) in
-    let value = c.reduced_cost.ensures in
-    let cost = priced.cost in
-    let at_tail = priced.at_tail in
-    let at_head = priced.at_head in
     record { fits = omega (arith, sizes); is = omega (arith, sizes) }
 
 pub overflow_add-rise : goal.overflow_add-rise
@@ -83,7 +69,7 @@ open_arc c = record {
 }
 
 pub enter-requires-clause-node : goal.enter-requires-clause-node
-enter-requires-clause-node c = let within = head_in (goal.at.enter-requires-clause-node c).Start in let each = c.requires.search.labels.one_each in omega arith
+enter-requires-clause-node c = let within = head_in (goal.at.enter-requires-clause-node c).Start in omega arith
 
 pub enter-requires-clause-rise : goal.enter-requires-clause-rise
 enter-requires-clause-rise c =
@@ -92,7 +78,6 @@ enter-requires-clause-rise c =
 
 pub returns : goal.returns
 returns c =
-    let o = open_arc (goal.at.returns c).Else-not-is_lower in
-    on_ok_weaker c.enter.result
+    let o = open_arc (goal.at.returns c).Else-not-is_lower in on_ok_weaker c.enter.result
     (IsRelaxed-entered c.args.problem.now c.args.routing.now c.requires.standing c.args.self.now c.requires.search c.args.arc.now c.args.label.now c.requires.at
     _ (sum (goal.at.returns c).After-reduced_cost).is o.residual o.free (c.is_lower.ensures.lower c.if-not-is_lower.false) c.enter.new.self) c.enter.ensures

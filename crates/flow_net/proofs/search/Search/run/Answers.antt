@@ -7,10 +7,7 @@ use Rattle.flow_net.proofs.search.Search.run.Goals as goal
 
 pub loop-node-init : goal.loop-node-init
 loop-node-init c =
-    let p = c.args.problem.now in
-    let r = c.args.routing.now in
-    let s = c.args.self.now in
-    let none = none_reached p r c.requires.standing s c.requires.fresh in
+    let p = c.args.problem.now in let r = c.args.routing.now in let s = c.args.self.now in let none = none_reached p r c.requires.standing s c.requires.fresh in
     record {
       search = IsSearch-fresh p r c.requires.standing s c.requires.fresh;
       closed = λ a is hit. absurd (false≢true (sym (none a.tail) ∙ hit));
@@ -38,8 +35,7 @@ scan-requires-clause-at c =
 
 pub returns-then-node-problem : goal.returns-then-node-problem
 returns-then-node-problem c =
-    let t = c.nearest.new.self in
-    let at_sink = c.if-node-problem.true in
+    let t = c.nearest.new.self in let at_sink = c.if-node-problem.true in
     let search = IsSearch-reaching c.args.problem.now c.args.routing.now c.loop-node.self t c.in-Some.node c.in-Some.label c.in-Some.ensures
     c.loop-node.invariant.search in
     let at = IsAt-reaching c.args.problem.now c.args.routing.now c.loop-node.self t c.in-Some.node c.in-Some.label c.in-Some.ensures
@@ -53,38 +49,25 @@ returns-then-node-problem c =
 
 pub loop-node-preserved : goal.loop-node-preserved
 loop-node-preserved c =
-    let p = c.args.problem.now in
-    let r = c.args.routing.now in
-    let s = c.loop-node.self in
-    let t = c.nearest.new.self in
-    let u = c.scan.new.self in
-    let v = c.in-Some.node in
-    let reaching = c.in-Some.ensures in
-    let inv = c.loop-node.invariant in
-    let scan = c.in_ok-scan.ensures in
-    record {
+    let p = c.args.problem.now in let r = c.args.routing.now in let t = c.nearest.new.self in let v = c.in-Some.node in
+    let inv = c.loop-node.invariant in let scan = c.in_ok-scan.ensures in record {
       search = scan.search;
       closed = λ a is hit. elim (cases_eq a.tail v) [
         | inl e ↦ scan.closed a is e
         | inr ne ↦
             let before = ap (λ xs. is_in xs a.tail) (sym scan.improves.reached) ∙ hit in
-            IsClosedAt-improves p r t u a scan.improves before (closed_before (goal.at.loop-node-preserved c).In-Some a is ne before)
+            IsClosedAt-improves p r t c.scan.new.self a scan.improves before (closed_before (goal.at.loop-node-preserved c).In-Some a is ne before)
       ];
       sink_out = ap (λ xs. is_in xs p.sink) scan.improves.reached
-          ∙ miss-reaching p r s t v c.in-Some.label reaching inv.search p.sink (λ e. c.if-node-problem.false (sym e)) inv.sink_out;
+          ∙ miss-reaching p r c.loop-node.self t v c.in-Some.label c.in-Some.ensures inv.search p.sink (λ e. c.if-node-problem.false (sym e)) inv.sink_out;
     }
 
 pub returns : goal.returns
 returns c =
-    let p = c.args.problem.now in
-    let r = c.args.routing.now in
-    let t = c.nearest.new.self in
-    let drained = c.in_default.ensures in
-    let inv = c.loop-node.invariant in
-    record {
+    let drained = c.in_default.ensures in let inv = c.loop-node.invariant in record {
       labels = rw (drained.labels, drained.reached) inv.search.labels;
-      all_reached = all_reached-drained c.loop-node.self t drained;
-      closed = λ a is hit residual. subst (λ labels. IsClosed r labels a) (sym drained.labels)
+      all_reached = all_reached-drained c.loop-node.self c.nearest.new.self drained;
+      closed = λ a is hit residual. subst (λ labels. IsClosed c.args.routing.now labels a) (sym drained.labels)
           (inv.closed a is (ap (λ xs. is_in xs a.tail) (sym drained.reached) ∙ hit) residual);
-      sink_out = ap (λ xs. is_in xs p.sink) drained.reached ∙ inv.sink_out;
+      sink_out = ap (λ xs. is_in xs c.args.problem.now.sink) drained.reached ∙ inv.sink_out;
     }

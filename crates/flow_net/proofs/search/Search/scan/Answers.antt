@@ -21,28 +21,18 @@ relax-requires-clause-at c =
 
 pub loop-arc-preserved : goal.loop-arc-preserved
 loop-arc-preserved c =
-    let p = c.args.problem.now in
-    let r = c.args.routing.now in
-    let s = c.loop-arc.self in
-    let t = c.relax.new.self in
-    let inv = c.loop-arc.invariant in
-    let arcs = c.arcs_from-arc-items.result.now in
-    let i = c.loop-arc.arc-index in
-    let after = c.in_ok-relax.ensures in
-    let at = IsAt-improves c.args.self.now s c.args.node c.args.label.now inv.improves c.requires.at in
-    record {
+    let p = c.args.problem.now in let r = c.args.routing.now in let s = c.loop-arc.self in let t = c.relax.new.self in
+    let inv = c.loop-arc.invariant in let arcs = c.arcs_from-arc-items.result.now in let i = c.loop-arc.arc-index in let after = c.in_ok-relax.ensures in
+    let at = IsAt-improves c.args.self.now s c.args.node c.args.label.now inv.improves c.requires.at in record {
       search = after.search;
       improves = Improves-trans c.args.self.now s t inv.improves after.improves;
-      closed = All-more (IsClosedAt p r t) arcs i no_arc c.loop-arc-test.true
-          (λ k d l.
+      closed = All-more (IsClosedAt p r t) arcs i no_arc c.loop-arc-test.true (λ k d l.
           let tail = (All-take (λ a. IsArc p.net.now.links a × (a.tail ≡ c.args.node)) i arcs c.arcs_from-arc-items.ensures.arcs k d l).1 in
-          IsClosedAt-improves p r s t (get_or (take i arcs) k d) after.improves (ap (is_in s.reached.items) tail ∙ at.reached) (inv.closed k d l))
-          after.closed;
+          IsClosedAt-improves p r s t (get_or (take i arcs) k d) after.improves (ap (is_in s.reached.items) tail ∙ at.reached) (inv.closed k d l)) after.closed;
     }
 
 pub returns-clause-closed : goal.returns-clause-closed
-returns-clause-closed c = λ a is tail.
-    let closed = subst (All (IsClosedAt c.args.problem.now c.args.routing.now c.loop-arc.self))
+returns-clause-closed c = λ a is tail. let closed = subst (All (IsClosedAt c.args.problem.now c.args.routing.now c.loop-arc.self))
     (take_all c.loop-arc.arc-index c.arcs_from-arc-items.result.now c.loop-arc-test.false) c.loop-arc.invariant.closed in
     All-contains (IsClosedAt c.args.problem.now c.args.routing.now c.loop-arc.self) c.arcs_from-arc-items.result.now a closed
     (c.arcs_from-arc-items.ensures.complete a is tail)
