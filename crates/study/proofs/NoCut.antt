@@ -1,4 +1,4 @@
--- What some of the parts of a side have to have in all is no more than what all of them have to have.
+-- What some of the parts of a side have to have in all is no more than what all have to have; from it, that a case of standard utilities has no cut.
 use Rattle.study.proofs.Words.{ALL_STREAMS_HEAT, All, All-drop, All-head, All-nil, All-weaker, AllPairs, AllPairs-head, AllPairs-nil, AllPairs-tail, one_times}
 use Rattle.study.proofs.Words.{AreCaseParts, AreParts, AreStandardParts, AreStandardParts-parts, Case, Cold, Forbid, Hot, IsComplete, IsCut, IsStandard}
 use Rattle.study.proofs.Words.{IsStandardPart, IsSupplied, IsUtilityHere, IsValid, Part, Side, Source, and_from, and_left, and_right, blank, both_reach}

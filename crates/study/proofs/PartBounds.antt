@@ -1,4 +1,4 @@
--- How large the cost of a heat flow can be.
+-- How large the cost of a heat flow can be, and what parts keep where they are priced anew.
 use Rattle.study.proofs.Words.{All, All-cons, All-head, All-nil, All-set, All-slice_get, All-tail, AreOnGrid, Bool, Case, Cold, Hot, IsBounded, IsComplete}
 use Rattle.study.proofs.Words.{IsCost, IsLeastCost, IsOnPlaces, IsPlaced, IsPlaced-IsComplete, IsPrice, IsWithin, KeepsRanges, MOST_PARTS, Part, Side, Source}
 use Rattle.study.proofs.Words.{Transfer, Utility, case_prices, cases_lt, get_or_past, heat_at, int_sum_from, ints, pos, price_of, priced, priced_part}

@@ -1,4 +1,4 @@
--- The states of the generator, one after another.
+-- Samples: the states of the generator, the names of streams, that a sample is a valid case, and that it has one row.
 use Rattle.study.proofs.Words.{All, All-append, All-filter, All-from_get_or, All-map, All-nil, All-weaker, AllPairs, AllPairs-append, AllPairs-filter}
 use Rattle.study.proofs.Words.{AllPairs-map, Cold, FORBID_CHANCE, Forbid, HIGHEST_TEMPERATURE, HasValidStreams, Hot, IsComplete, IsInRange, IsName}
 use Rattle.study.proofs.Words.{IsRightlyNamed, IsSupplied, IsTemperature, IsTrue, IsUnreserved, IsValid, IsValidForbid, IsValidStream, JoinsStreams}

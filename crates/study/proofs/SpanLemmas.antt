@@ -1,4 +1,4 @@
--- Heat flows of priced parts, and what they cost at each price of one utility.
+-- The least cost over a span of prices: heat flows of priced parts, least costs, lines and segments, and the one list of answers of a study.
 use Rattle.study.proofs.Words.{*ℤ-+ℤ, *ℤ--ℤ, *ℤ-zero, *ℤ-≤ℤ_right, *ℤ_assoc, *ℤ_comm, +ℤ-*ℤ, -ℤ-*ℤ, All, All-slice_get, AreCostSegments, AreSegments, one_times}
 use Rattle.study.proofs.Words.{AreSpanSegments, Case, Cold, Cost, CostsWith, HasFlowWith, HasNoFlow, HasNoFlowAt, HoldsOfParts, HoldsOfParts-some, Hot}
 use Rattle.study.proofs.Words.{IsBetween, IsCost, IsCostFunction, IsCostSegment, IsHeatFlow, IsItem, IsItemAnswer, IsLeastCost, IsLine, IsLineEnd, IsPrice}

@@ -1,4 +1,4 @@
--- What the rows of a study file say with one more.
+-- What the rows of a study file say with one more, and that the study of a file that is accepted may be asked of the case.
 use Rattle.study.proofs.Words.{All-cons, All-head, All-nil, All-push, All-set, All-tail, AreCasePrices, Case, Decides-int_le, Entry, IsComplete, IsItem, IsKept}
 use Rattle.study.proofs.Words.{IsKnown, IsOwn, IsPrice, IsSpan, IsStudy, IsStudyOf, IsStudyOutcome, Kind, MOST_ITEMS, Passes, Row, RowFault, SoundBefore, Study}
 use Rattle.study.proofs.Words.{StudyWhy, Utility, append_snoc, bytes_eq, case_prices, cons_option, count_by-cons, count_items, drop-append-le, drop-length}

@@ -1,4 +1,4 @@
--- A case has one row for each contribution.
+-- Sweeps: a case has one row for each contribution, a sweep has one list of rows, and how many rows there are.
 use Rattle.study.proofs.Words.{*ℤ-≤ℤ_left, All-map, All-weaker, AllPairs, AreRows, Case, Forbid, HasValidStreams, IsComplete, IsContribution, IsLatent}
 use Rattle.study.proofs.Words.{IsRightlyNamed, IsSensible, IsSweepPlan, IsUnreserved, IsValid, IsValidForbid, IsValidStream, IsValidUtility, MOST_CONTRIBUTION}
 use Rattle.study.proofs.Words.{MOST_ROWS, OneRow, OneSweep, Source, Stream, SweepPlan, SweepRow, Utility, case_with, cases_lt, completed, contribution_at}
