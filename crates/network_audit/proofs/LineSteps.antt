@@ -52,14 +52,14 @@ factors d e most some_d some_e both =
 -- they leave room
 pub sized_roomy : (d m e n : ℕ) (v : BranchValue) → AreSmall d m e n → IsSized d m v.cp → IsSized e n v.t → IsRoomy v
 sized_roomy d m e n v small size state = let dens = factors d e (most_den) small.size_den small.state_den small.dens in let most = small.state in record {
-      size = sized-within d m v.cp small.size_den dens.0 small.size size;
-      state = sized-within e n v.t small.state_den dens.1 (omega (arith, most)) state;
-      heat = sized-within (d * e) (m * n) (times v.cp v.t) (mul-pos small.size_den small.state_den) small.dens small.heat
-          (sized-times d e m n v.cp v.t small.size_den small.state_den size state);
-      wanted = λ approach asked. let from = asked.from in let upto = asked.upto in let added = sized-plus e n most_approach v.t (whole approach) state
-          (sized-whole e most_approach approach small.state_den (omega (arith, ints, from, upto))) in
-          sized-within e (n + most_approach) (plus v.t (whole approach)) small.state_den dens.1 (omega (arith, most)) added;
-    }
+  size = sized-within d m v.cp small.size_den dens.0 small.size size;
+  state = sized-within e n v.t small.state_den dens.1 (omega (arith, most)) state;
+  heat = sized-within (d * e) (m * n) (times v.cp v.t) (mul-pos small.size_den small.state_den) small.dens small.heat
+      (sized-times d e m n v.cp v.t small.size_den small.state_den size state);
+  wanted = λ approach asked. let from = asked.from in let upto = asked.upto in let added = sized-plus e n most_approach v.t (whole approach) state
+      (sized-whole e most_approach approach small.state_den (omega (arith, ints, from, upto))) in
+      sized-within e (n + most_approach) (plus v.t (whole approach)) small.state_den dens.1 (omega (arith, most)) added;
+}
 
 -- and so does the change from one state to another
 pub sized_change : (d m e n : ℕ) (of : Side) (before after : Rational) → AreSmall d m e n → IsSized e n before → IsSized e n after

@@ -213,13 +213,13 @@ module _ (case : Case) (network : Network) where
       → first_finding (line_items case network (take made values) (place.Line (n + 1)) l) ≡ Some found → IsFinding case network found
   unfolding items
   walked-found n made values l found at walked some = let old = take made values in record {
-        n = n;
-        values = old;
-        valuation = walked.valuation;
-        first = found-front (items_before case network old (n + 1)) (if n == length network.lines then items_behind case network old else []) found
-            (ap first_finding (items_before-more old n l at) ∙ found-behind (items_before case network old n)
-            (line_items case network old (place.Line (n + 1)) l) walked.passed ∙ some);
-      }
+    n = n;
+    values = old;
+    valuation = walked.valuation;
+    first = found-front (items_before case network old (n + 1)) (if n == length network.lines then items_behind case network old else []) found
+        (ap first_finding (items_before-more old n l at) ∙ found-behind (items_before case network old n)
+        (line_items case network old (place.Line (n + 1)) l) walked.passed ∙ some);
+  }
 
   -- behind the last line all branches are made
   pub walked-all : (made : ℕ) (values : Valuation) → HasShape case network → IsWalked (length network.lines) made values
@@ -340,21 +340,21 @@ state_behind case network values from exchanger =
 
 module _ {case : Case} {network : Network} {values : Valuation} (shape : HasShape case network) (valuation : IsWholeValuation case network values)
     (k : ℕ) {from exchanger to : ℕ} (at : slice_get network.lines k ≡ Some (line.Pass from exchanger to)) where
-    pass_here : IsLineOf case network k (line.Pass from exchanger to)
-    pass_here = line_of shape k (line.Pass from exchanger to) at
+  pass_here : IsLineOf case network k (line.Pass from exchanger to)
+  pass_here = line_of shape k (line.Pass from exchanger to) at
 
-    pub behind_there : to < length values
-    unfolding made_by
-    behind_there = let there = pass_here.known.2 in omega (arith, there, all_made shape.made_once, ap (λ ls. length (made_by ls)) (take-length network.lines))
+  pub behind_there : to < length values
+  unfolding made_by
+  behind_there = let there = pass_here.known.2 in omega (arith, there, all_made shape.made_once, ap (λ ls. length (made_by ls)) (take-length network.lines))
 
-    pub behind_state : (value_at values to).t ≡ state_behind case network values from exchanger
-    behind_state = ap (λ v. v.t) (pass_determined (branch_side case network from) (value_at values from) (value_at values to) (duty_at network exchanger)
-        (branch_above valuation shape from pass_here.known.0)
-        (all_at (Solves case network values) network.lines k (line.Pass from exchanger to) (all_solved valuation) at))
+  pub behind_state : (value_at values to).t ≡ state_behind case network values from exchanger
+  behind_state = ap (λ v. v.t) (pass_determined (branch_side case network from) (value_at values from) (value_at values to) (duty_at network exchanger)
+      (branch_above valuation shape from pass_here.known.0)
+      (all_at (Solves case network values) network.lines k (line.Pass from exchanger to) (all_solved valuation) at))
 
-    pub behind_latent : is_latent_branch case network to ≡ is_latent_branch case network from
-    unfolding is_latent_branch
-    behind_latent = ap (λ stream. option_map_or is_latent (slice_get case.streams stream) false) pass_here.one_stream
+  pub behind_latent : is_latent_branch case network to ≡ is_latent_branch case network from
+  unfolding is_latent_branch
+  behind_latent = ap (λ stream. option_map_or is_latent (slice_get case.streams stream) false) pass_here.one_stream
 
 -- A network without a finding is valid, and no test of a valid one fails.
 
@@ -513,12 +513,12 @@ module _ (case : Case) (network : Network) where
   side_passed : (values : Valuation) (number : ℕ) (e : Exchanger)
       → first_finding (exchanger_items_at case network values (number, e)) ≡ None → SidePassed values number e
   side_passed values number e none = let after_first = passed-rest _ _ (passed-rest _ _ none) in record {
-        permitted = false_from_not (is_forbidden case.forbids e.hot e.cold) (passed-item _ _ none);
-        approach = record {
-          hot_end = (Decides-not_below _ _).0 (passed-item _ _ after_first);
-          cold_end = (Decides-not_below _ _).0 (passed-item _ _ (passed-rest _ _ (passed-rest _ _ after_first)));
-        };
-      }
+    permitted = false_from_not (is_forbidden case.forbids e.hot e.cold) (passed-item _ _ none);
+    approach = record {
+      hot_end = (Decides-not_below _ _).0 (passed-item _ _ after_first);
+      cold_end = (Decides-not_below _ _).0 (passed-item _ _ (passed-rest _ _ (passed-rest _ _ after_first)));
+    };
+  }
 
 in_range : (network : Network) (index : ℕ) (u : Utility) → first_finding (utility_items_at network (index, u)) ≡ None → IsInRange u (heat_with network index)
 in_range network index u none = let tests = passed-back (sum_steps (place.Utility index) 0 rational_zero (duties_with network index))
@@ -532,22 +532,22 @@ module _ (case : Case) (network : Network) where
       → first_finding (items case network values (length network.lines)) ≡ None → IsValidNetwork case network
   unfolding ended_by ended_streams is_ended
   valid_from_none values shape valuation none = let all = passed-each case network values none in record {
-        values = values;
-        valuation = valuation;
-        ended = record {
-          full = All-flat_map (IsFullEnd case network values) ends network.lines
-              (λ k d inside. full_end case network values (place.Line (k + 1)) (get_or network.lines k d)
-              (all.lines k (get_or network.lines k d) (slice_get-get_or network.lines k d inside)));
-          each = λ stream inside. ended-contains network.branches stream network.lines (stream_passed stream inside all);
-        };
-        loads = loads_kept case network (length network.lines) values shape valuation
-            (each_first (PassKeepsLoad case network values) network.lines (length network.lines)
-            (λ k l early at. load_kept case network values k l shape valuation at (all.lines k l at)));
-        approaches = λ number e at. (side_passed case network values number e (all.exchangers number e at)).approach;
-        permitted = λ k d inside. (side_passed case network values k (get_or (exchangers_of network.lines) k d)
-            (all.exchangers k (get_or (exchangers_of network.lines) k d) (slice_get-get_or (exchangers_of network.lines) k d inside))).permitted;
-        ranges = λ index u at. in_range network index u (all.utilities index u at);
-      }
+    values = values;
+    valuation = valuation;
+    ended = record {
+      full = All-flat_map (IsFullEnd case network values) ends network.lines
+          (λ k d inside. full_end case network values (place.Line (k + 1)) (get_or network.lines k d)
+          (all.lines k (get_or network.lines k d) (slice_get-get_or network.lines k d inside)));
+      each = λ stream inside. ended-contains network.branches stream network.lines (stream_passed stream inside all);
+    };
+    loads = loads_kept case network (length network.lines) values shape valuation
+        (each_first (PassKeepsLoad case network values) network.lines (length network.lines)
+        (λ k l early at. load_kept case network values k l shape valuation at (all.lines k l at)));
+    approaches = λ number e at. (side_passed case network values number e (all.exchangers number e at)).approach;
+    permitted = λ k d inside. (side_passed case network values k (get_or (exchangers_of network.lines) k d)
+        (all.exchangers k (get_or (exchangers_of network.lines) k d) (slice_get-get_or (exchangers_of network.lines) k d inside))).permitted;
+    ranges = λ index u at. in_range network index u (all.utilities index u at);
+  }
     where
       stream_passed : (stream : ℕ) → stream < length case.streams → HoldOfParts ArePassed case network values → is_ended network stream ≡ true
       stream_passed stream inside all = let (s, at) = item_at case.streams stream inside in passed-item _ _ (all.streams stream s at)
@@ -664,13 +664,13 @@ module _ (case : Case) (network : Network) where
 
   all_sound : HasShape case network → (valid : IsValidNetwork case network) → AreSound (items case network valid.values (length network.lines))
   all_sound shape valid = let es = exchangers_of network.lines in each-part IsSound case network valid.values (record {
-        lines = λ k l at. line_sound case network valid.values k l shape valid.valuation valid.ended valid.loads at;
-        streams = λ index s at. stream_sound case network valid.values index s valid.ended at;
-        exchangers = λ number e at.
-            exchanger_sound case network valid.values number e (valid.approaches number e at) (all_at (IsPermitted case) es number e valid.permitted at);
-        utilities = λ index u at. utility_sound network index u (valid.ranges index u at);
-        balance = balance_sound;
-      })
+    lines = λ k l at. line_sound case network valid.values k l shape valid.valuation valid.ended valid.loads at;
+    streams = λ index s at. stream_sound case network valid.values index s valid.ended at;
+    exchangers = λ number e at.
+        exchanger_sound case network valid.values number e (valid.approaches number e at) (all_at (IsPermitted case) es number e valid.permitted at);
+    utilities = λ index u at. utility_sound network index u (valid.ranges index u at);
+    balance = balance_sound;
+  })
 
   pub invalid_network : (at : Place) (because : Reason) → HasShape case network
       → IsFinding case network (finding.Failed at because) → IsValidNetwork case network → ⊥

@@ -42,13 +42,19 @@ agree-append values more = record { same = λ branch early. sym (get_or_append_l
 pub solves_same : (case : Case) (network : Network) (values other : Valuation) (m : ℕ) (l : Line) → AgreeBelow values other m → AreBelow m l
     → Solves case network values l → Solves case network other l
 solves_same case network values other m (line.Split from first cp second) agree below solved =
-    rw (sym (agree.same from (below.used 0 0 (omega arith))), sym (agree.same first (below.made 0 0 (omega arith))),
-    sym (agree.same second (below.made 1 0 (omega arith)))) solved
+    rw (
+      sym (agree.same from (below.used 0 0 (omega arith))),
+      sym (agree.same first (below.made 0 0 (omega arith))),
+      sym (agree.same second (below.made 1 0 (omega arith))),
+    ) solved
 solves_same case network values other m (line.Pass from exchanger to) agree below solved =
     rw (sym (agree.same from (below.used 0 0 (omega arith))), sym (agree.same to (below.made 0 0 (omega arith)))) solved
 solves_same case network values other m (line.Mix first second to) agree below solved =
-    rw (sym (agree.same first (below.used 0 0 (omega arith))), sym (agree.same second (below.used 1 0 (omega arith))),
-    sym (agree.same to (below.made 0 0 (omega arith)))) solved
+    rw (
+      sym (agree.same first (below.used 0 0 (omega arith))),
+      sym (agree.same second (below.used 1 0 (omega arith))),
+      sym (agree.same to (below.made 0 0 (omega arith))),
+    ) solved
 solves_same case network values other m l agree below solved = tt
 
 -- a line's branches are made by it and the lines before it
@@ -133,8 +139,11 @@ made_solves case network n values (line.Mix first second to) is numbers =
     let two : second < made_before case network n = numbers.used 1 0 (omega arith) in
     let some = mixed_positive (value_at values first) (value_at values second) (branch_positive case network n values is first one)
     (branch_positive case network n values is second two) in
-    rw (sym (agree first (omega (arith, one, is.count))), sym (agree second (omega (arith, two, is.count))),
-    made_found case network n values l is numbers 0 (omega arith)) (mix_solved (value_at values first) (value_at values second) some)
+    rw (
+      sym (agree first (omega (arith, one, is.count))),
+      sym (agree second (omega (arith, two, is.count))),
+      made_found case network n values l is numbers 0 (omega arith),
+    ) (mix_solved (value_at values first) (value_at values second) some)
 made_solves case network n values l is numbers = tt
 
 pub valuation_more : (case : Case) (network : Network) (n : ℕ) (values : Valuation) (l : Line) → HasShape case network → slice_get network.lines n ≡ Some l

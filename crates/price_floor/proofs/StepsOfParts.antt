@@ -526,13 +526,13 @@ module _ (case : Case) (least : ℤ) (prices : List ℤ) (cold : List Part) (gri
       -- no end of the one lies inside the other
       same : p.low <ℤ q.high → (p.high ≡ q.high) × (p.low ≡ q.low)
       same more = let low = none_inside grid q falls other p.low (interval_ends grid p.high p.low interval).1 more in let wide = width in let under = lower in (
-            by_lt_z p.high q.high
-                (λ up. let inside = none_inside grid q falls other p.high (interval_ends grid p.high p.low interval).0 up in absurd (omega (arith, ints)))
-                (λ upto. by_lt_z q.high p.high
-                (λ down. let inside = interval_below grid p.high p.low q.high falls interval (high_on q other) down in absurd (omega (arith, ints)))
-                (λ from. omega (arith, ints))),
-            omega (arith, ints),
-          )
+        by_lt_z p.high q.high
+            (λ up. let inside = none_inside grid q falls other p.high (interval_ends grid p.high p.low interval).0 up in absurd (omega (arith, ints)))
+            (λ upto. by_lt_z q.high p.high
+            (λ down. let inside = interval_below grid p.high p.low q.high falls interval (high_on q other) down in absurd (omega (arith, ints)))
+            (λ from. omega (arith, ints))),
+        omega (arith, ints),
+      )
 
   -- heat passes from a hot part to each cold part that does not stand above the hot part's own view
   passes_own : (p q : Part) (own : HasEnds grid p) → HasEnds grid q → stands q (own_view grid p own) ≡ false → passes_heat p q ≡ true

@@ -36,12 +36,12 @@ returns-in-Err-audit_streams c =
 few_joints : (c : In_default) → length c.args.joints.now < 2 ^ 32
 unfolding exchangers_of
 few_joints c = let n = c.args.network.now in omega (
-      arith,
-      ap length c.requires.table,
-      length-joints n.branches n.lines (exchangers_of n.lines),
-      length-numbers exchanger_of n.lines,
-      c.requires.shape.few,
-    )
+  arith,
+  ap length c.requires.table,
+  length-joints n.branches n.lines (exchangers_of n.lines),
+  length-numbers exchanger_of n.lines,
+  c.requires.shape.few,
+)
 
 pub audit_exchangers-requires : goal.audit_exchangers-requires
 audit_exchangers-requires c = few_joints (goal.at.audit_exchangers-requires c).In_default
@@ -78,12 +78,12 @@ balanced c = let case = c.args.case.now in let n = c.args.network.now in let hea
 
 pub returns-in-Ok : goal.returns-in-Ok
 returns-in-Ok c = let b = balanced (goal.at.returns-in-Ok c).After-hot_target-target in record {
-      faultless = record {
-        valuation = c.in_default.ensures.0;
-        none = all_found (goal.at.returns-in-Ok c).In_default ∙ b.found ∙ c.in-Ok.ensures.0 place.Balance;
-      };
-      sums = c.in-Ok.ensures.1 ∙ b.is;
-    }
+  faultless = record {
+    valuation = c.in_default.ensures.0;
+    none = all_found (goal.at.returns-in-Ok c).In_default ∙ b.found ∙ c.in-Ok.ensures.0 place.Balance;
+  };
+  sums = c.in-Ok.ensures.1 ∙ b.is;
+}
 
 pub returns-in-Err-balance_of : goal.returns-in-Err-balance_of
 returns-in-Err-balance_of c = let b = balanced (goal.at.returns-in-Err-balance_of c).After-hot_target-target in

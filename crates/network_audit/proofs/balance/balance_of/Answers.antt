@@ -51,11 +51,11 @@ record IsSummed (hot cold : List Rational) (c : After-minus) : Type 0 where
 summed : (c : After-minus) → IsSummed (heats_on_in side.Hot c.args.utilities.now c.args.heats.now)
     (heats_on_in side.Cold c.args.utilities.now c.args.heats.now) c
 summed c = let cold = heats_on_in side.Cold c.args.utilities.now c.args.heats.now in let steps = hot_steps (goal.at.After-minus c).In_ok-hot in record {
-      steps = ap (λ (s : Sum). s.steps) c.in_ok-cold.ensures.1 ∙ ap (λ n. n + length cold) steps;
-      gives = subst (λ h. Gives c.minus.result (minus h c.args.target.now)) (ap (λ (s : Sum). s.total) c.in_ok-hot.ensures.1) c.minus.ensures;
-      passed = λ at items. found-behind _ _ (c.in_ok-hot.ensures.0 at)
-          ∙ found-behind _ items (ap (λ n. first_finding (sum_steps at n rational_zero cold)) (sym steps) ∙ c.in_ok-cold.ensures.0 at);
-    }
+  steps = ap (λ (s : Sum). s.steps) c.in_ok-cold.ensures.1 ∙ ap (λ n. n + length cold) steps;
+  gives = subst (λ h. Gives c.minus.result (minus h c.args.target.now)) (ap (λ (s : Sum). s.total) c.in_ok-hot.ensures.1) c.minus.ensures;
+  passed = λ at items. found-behind _ _ (c.in_ok-hot.ensures.0 at)
+      ∙ found-behind _ items (ap (λ n. first_finding (sum_steps at n rational_zero cold)) (sym steps) ∙ c.in_ok-cold.ensures.0 at);
+}
 
 pub returns-in_default : goal.returns-in_default
 returns-in_default c = let s = summed (goal.at.returns-in_default c).After-minus in
@@ -69,12 +69,12 @@ returns-in_err-cost c = let s = summed (goal.at.returns-in_err-cost c).After-min
 
 pub returns : goal.returns
 returns c = let s = summed (goal.at.returns c).After-minus in let prices = prices_in c.args.utilities.now c.args.heats.now in (
-      λ at. s.passed at _ ∙ found-formed _ _ _ _ _ _ c.in-Some.is s.gives ∙ ap (λ n. first_finding (cost_steps at (n + 1) rational_zero prices)) (sym s.steps)
-          ∙ c.in_ok-cost.ensures.0 at,
-      λ i. record {
-        hot = (ap (λ (s : Sum). s.total) c.in_ok-hot.ensures.1) i;
-        cold = (ap (λ (s : Sum). s.total) c.in_ok-cold.ensures.1) i;
-        excess = value_formed _ _ _ c.in-Some.is s.gives i;
-        cost = c.in_ok-cost.ensures.1 i;
-      },
-    )
+  λ at. s.passed at _ ∙ found-formed _ _ _ _ _ _ c.in-Some.is s.gives ∙ ap (λ n. first_finding (cost_steps at (n + 1) rational_zero prices)) (sym s.steps)
+      ∙ c.in_ok-cost.ensures.0 at,
+  λ i. record {
+    hot = (ap (λ (s : Sum). s.total) c.in_ok-hot.ensures.1) i;
+    cold = (ap (λ (s : Sum). s.total) c.in_ok-cold.ensures.1) i;
+    excess = value_formed _ _ _ c.in-Some.is s.gives i;
+    cost = c.in_ok-cost.ensures.1 i;
+  },
+)

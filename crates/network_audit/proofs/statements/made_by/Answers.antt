@@ -43,9 +43,9 @@ pass_read f c =
 
 pub returns-in_ok-to-in-Pass : goal.returns-in_ok-to-in-Pass
 returns-in_ok-to-in-Pass c = let at = (goal.at.returns-in_ok-to-in-Pass c).After-passed in rw c.in-Pass.is (
-      sym (pass_read (λ on latent v duty. first_finding (pass_items c.args.place on latent v duty)) at) ∙ c.in_ok-to-in-Pass.ensures.0,
-      ap (λ v. v ∷ []) (c.in_ok-to-in-Pass.ensures.1 ∙ pass_read (λ on latent v duty. passed_value on v duty) at),
-    )
+  sym (pass_read (λ on latent v duty. first_finding (pass_items c.args.place on latent v duty)) at) ∙ c.in_ok-to-in-Pass.ensures.0,
+  ap (λ v. v ∷ []) (c.in_ok-to-in-Pass.ensures.1 ∙ pass_read (λ on latent v duty. passed_value on v duty) at),
+)
 
 pub returns-in_err-to-in-Pass : goal.returns-in_err-to-in-Pass
 returns-in_err-to-in-Pass c = let at = (goal.at.returns-in_err-to-in-Pass c).After-passed in
@@ -61,9 +61,9 @@ mix_read f c = let values = c.args.values.now in let used = subst (λ l. All (λ
 
 pub returns-in-Ok : goal.returns-in-Ok
 returns-in-Ok c = let at = (goal.at.returns-in-Ok c).After-mixed in rw c.in-Mix.is (
-      sym (mix_read (λ v w. first_finding (mix_items c.args.place v w)) at) ∙ c.in-Ok.ensures.0 c.args.place,
-      ap (λ v. v ∷ []) (c.in-Ok.ensures.1 ∙ mix_read mixed_value at),
-    )
+  sym (mix_read (λ v w. first_finding (mix_items c.args.place v w)) at) ∙ c.in-Ok.ensures.0 c.args.place,
+  ap (λ v. v ∷ []) (c.in-Ok.ensures.1 ∙ mix_read mixed_value at),
+)
 
 pub returns-in-Err : goal.returns-in-Err
 returns-in-Err c =

@@ -19,9 +19,9 @@ record IsBoth (c : After-plus) : Type 0 where
 
 is_both : (c : After-plus) → IsBoth c
 is_both c = let one = value_formed _ _ _ c.in-Some.is c.times.ensures in let other = value_formed _ _ _ c.in-Some-times.is c.times-2.ensures in record {
-      gives = subst (Gives c.plus.result) (ap₂ plus one other) c.plus.ensures;
-      found = λ at. found-formed at 2 _ _ _ _ c.in-Some.is c.times.ensures ∙ found-formed at 3 _ _ _ _ c.in-Some-times.is c.times-2.ensures;
-    }
+  gives = subst (Gives c.plus.result) (ap₂ plus one other) c.plus.ensures;
+  found = λ at. found-formed at 2 _ _ _ _ c.in-Some.is c.times.ensures ∙ found-formed at 3 _ _ _ _ c.in-Some-times.is c.times-2.ensures;
+}
 
 pub returns-in_default-plus : goal.returns-in_default-plus
 returns-in_default-plus c =
@@ -35,9 +35,9 @@ record IsMean (c : After-over) : Type 0 where
 
 is_mean : (c : After-over) → IsMean c
 is_mean c = let both = is_both (goal.at.After-over c).After-plus in let sum = value_formed _ _ _ c.in-Some-plus.is both.gives in record {
-      gives = subst (λ h. Gives c.over.result (over h c.args.cp.now)) sum (c.over.ensures.value (positive-nonzero c.args.cp.now c.requires));
-      found = λ at. both.found at ∙ found-formed at 4 _ _ _ _ c.in-Some-plus.is both.gives;
-    }
+  gives = subst (λ h. Gives c.over.result (over h c.args.cp.now)) sum (c.over.ensures.value (positive-nonzero c.args.cp.now c.requires));
+  found = λ at. both.found at ∙ found-formed at 4 _ _ _ _ c.in-Some-plus.is both.gives;
+}
 
 pub returns-in_default-over : goal.returns-in_default-over
 returns-in_default-over c =
@@ -45,6 +45,6 @@ returns-in_default-over c =
 
 pub returns : goal.returns
 returns c = let mean = is_mean (goal.at.returns c).After-over in (
-      λ at. mean.found at ∙ found-formed at 5 _ _ _ _ c.in-Some-over.is mean.gives ∙ found-nothing,
-      value_formed _ _ _ c.in-Some-over.is mean.gives,
-    )
+  λ at. mean.found at ∙ found-formed at 5 _ _ _ _ c.in-Some-over.is mean.gives ∙ found-nothing,
+  value_formed _ _ _ c.in-Some-over.is mean.gives,
+)

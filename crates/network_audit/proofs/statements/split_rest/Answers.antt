@@ -12,6 +12,6 @@ returns-in_default c =
 
 pub returns : goal.returns
 returns c = let e : is_below c.args.cp.now c.args.from.now.cp ≡ true = cc in (
-      found-passed _ _ e ∙ found-formed _ _ _ _ _ _ c.in-Some.is c.minus.ensures ∙ found-nothing,
-      λ i. record { cp = value_formed _ _ _ c.in-Some.is c.minus.ensures i; t = c.args.from.now.t },
-    )
+  found-passed _ _ e ∙ found-formed _ _ _ _ _ _ c.in-Some.is c.minus.ensures ∙ found-nothing,
+  λ i. record { cp = value_formed _ _ _ c.in-Some.is c.minus.ensures i; t = c.args.from.now.t },
+)
