@@ -1,12 +1,12 @@
 -- A cut of a net around an inner net, which the most of all parts cannot pass, leaves a cut of parts, wherever the paths are the pairs that reach.
 use Rattle.transport.proofs.Words.{All, All-cons_if, All-head, All-nil, All-slice_get, All-tail, All-weaker, AllPairs, AllPairs-cons_if, AllPairs-nil}
 use Rattle.transport.proofs.Words.{Any-from_list_any, BlocksMost, Cold, Cut, CutKind, Demand, Hot, IsAnswer, IsBounded, IsCut, IsCutOf, IsCutWithin}
-use Rattle.transport.proofs.Words.{IsInnerLink, IsPath, IsSideHeat, Link, MOST_ROOM, Net, Part, PathsAreReaches, Side, Some, Stuck, Supply, by_lt_z, cases_Bool}
-use Rattle.transport.proofs.Words.{cut_side, cuts_refuse_flows, false≢true, get_or_from_slice_get, if_between, if◌then◌else◌, int_lt, int_lt-false, int_lt-from}
-use Rattle.transport.proofs.Words.{int_lt-true, int_sum_by, int_sum_by-cons_if, int_sum_from, int_sum_from-le_each, int_sum_from-same_each, int_sum_from-sub}
-use Rattle.transport.proofs.Words.{ints, is_in, joins, least_at, leaves, link_at, links_between, meets, members_of, most_of, need_of, needing_from, net_around}
-use Rattle.transport.proofs.Words.{offer_of, opposite, parts_of, pos, slice_get, slice_get-append, slice_get-get_or, slice_get_within, spare_link, whole_link}
-use Rattle.transport.proofs.Words.{ℤ, ◌+ℤ◌, ◌-ℤ◌, ◌<ℤ◌, ◌≤ℤ◌}
+use Rattle.transport.proofs.Words.{IsInnerLink, IsPath, IsSideHeat, Link, MOST_ROOM, Net, Part, PathsAreReaches, Side, Some, Stuck, Supply, and_parts, by_lt_z}
+use Rattle.transport.proofs.Words.{cases_Bool, cut_side, cuts_refuse_flows, false≢true, get_or_from_slice_get, if_between, if◌then◌else◌, int_lt, int_lt-false}
+use Rattle.transport.proofs.Words.{int_lt-from, int_lt-true, int_sum_by, int_sum_by-cons_if, int_sum_from, int_sum_from-le_each, int_sum_from-same_each}
+use Rattle.transport.proofs.Words.{int_sum_from-sub, ints, is_in, joins, least_at, leaves, link_at, links_between, meets, members_of, most_of, need_of}
+use Rattle.transport.proofs.Words.{needing_from, net_around, offer_of, opposite, parts_of, pos, slice_get, slice_get-append, slice_get-get_or, slice_get_within}
+use Rattle.transport.proofs.Words.{spare_link, whole_link, ℤ, ◌+ℤ◌, ◌-ℤ◌, ◌<ℤ◌, ◌≤ℤ◌}
 use Rattle.std.proofs.Common.{Bool, List, [], add-zero, ap, ap₂, arith, false, length, not, refl, subst, subst₂, suc, sym, true, zero-add, ℕ, ⊎_elim, ◌&&◌, ◌+◌}
 use Rattle.std.proofs.Common.{◌<◌, ◌∙◌, ◌∷◌, ◌≡◌, ◌≤◌}
 use Rattle.transport.proofs.NetAround.{IsAround, between_at, between_is, between_sum, ends, int_sum_from-not_negative, int_sum_from-term, limits_around}
@@ -28,10 +28,6 @@ GivesLeasts f n parts = (i : ℕ) (p : Part) → slice_get parts i ≡ Some p �
 gives_next : (f : ℕ → ℤ) (n : ℕ) (p : Part) (parts : List Part) → GivesLeasts f n (p ∷ parts) → GivesLeasts f (suc n) parts
 gives_next f n p parts gives i q at = ap f {x = suc n + i} {y = n + suc i} (omega arith) ∙ gives (suc i) q at
 
-picked_needs : (x y : Bool) → x && y ≡ true → (x ≡ true) × (y ≡ true)
-picked_needs true y h = (refl, h)
-picked_needs false y h = absurd (cc h)
-
 module _ (picked : ℕ → Bool) where
   members_from : (n : ℕ) (parts : List Part) → All (λ i. n ≤ i) (needing_from picked n parts)
   members_from n [] = All-nil (λ i. n ≤ i)
@@ -50,14 +46,14 @@ module _ (picked : ℕ → Bool) where
   members_picked n [] = All-nil (λ i. picked i ≡ true)
   members_picked n (p ∷ parts) =
       All-cons_if (λ i. picked i ≡ true) (picked n && int_lt (pos 0) p.least) n (needing_from picked (suc n) parts)
-      (λ here. (picked_needs (picked n) (int_lt (pos 0) p.least) here).0) (members_picked (suc n) parts)
+      (λ here. (and_parts (picked n) (int_lt (pos 0) p.least) here).0) (members_picked (suc n) parts)
 
   members_need : (f : ℕ → ℤ) (n : ℕ) (parts : List Part) → GivesLeasts f n parts → All (λ i. pos 0 <ℤ f i) (needing_from picked n parts)
   members_need f n [] gives = All-nil (λ i. pos 0 <ℤ f i)
   members_need f n (p ∷ parts) gives =
       All-cons_if (λ i. pos 0 <ℤ f i) (picked n && int_lt (pos 0) p.least) n (needing_from picked (suc n) parts)
       (λ here. let own : f n ≡ p.least = ap f (sym (add-zero n)) ∙ gives 0 p refl in
-      let some = int_lt-true (pos 0) p.least (picked_needs (picked n) (int_lt (pos 0) p.least) here).1 in omega (arith, ints, own, some))
+      let some = int_lt-true (pos 0) p.least (and_parts (picked n) (int_lt (pos 0) p.least) here).1 in omega (arith, ints, own, some))
       (members_need f (suc n) parts (gives_next f n p parts gives))
 
   -- what is needed is the sum of the leasts of the picked parts: those that leave out no heat are left out

@@ -1,6 +1,5 @@
 pub mod CutLemmas
-pub mod FlowLemmas
 pub mod LoopLemmas
 pub mod NetAround
-pub mod PriceLemmas
+pub mod RoutingLemmas
 pub mod Words

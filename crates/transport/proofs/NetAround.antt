@@ -2,8 +2,8 @@
 use Rattle.transport.proofs.Words.{*ℤ-+ℤ, *ℤ-zero, All, All-append, All-cons, All-cons_if, All-contains, All-flat_map, All-nil, All-slice_get, All-weaker}
 use Rattle.transport.proofs.Words.{AreBounded, AreEnds, AreInitialPotentials, Cold, Contains, Contains-flat_map, Ends, Hot, IsBetween, IsBounded, IsInner}
 use Rattle.transport.proofs.Words.{IsInnerLink, IsLinkWithin, IsNodePotential, IsPath, IsPrice, IsRoom, IsRouting, IsTrue, IsWithinLimits, Link, MOST_HEAT}
-use Rattle.transport.proofs.Words.{MOST_PAIRS, MOST_PARTS, MOST_PRICE, MOST_ROOM, Net, Part, Parts, PathsAreReaches, Reach, Side, Some, cases_lt, cons_if}
-use Rattle.transport.proofs.Words.{ends_behind, false≢true, get_or-append-add, get_or-range_with_len, get_or-replicate, get_or_append_left, get_or_default}
+use Rattle.transport.proofs.Words.{MOST_PAIRS, MOST_PARTS, MOST_PRICE, MOST_ROOM, Net, Part, Parts, PathsAreReaches, Reach, Side, Some, and_parts, cases_lt}
+use Rattle.transport.proofs.Words.{cons_if, ends_behind, get_or-append-add, get_or-range_with_len, get_or-replicate, get_or_append_left, get_or_default}
 use Rattle.transport.proofs.Words.{greatest-le, int_sum_by-at_most, int_sum_by-not_negative, int_sum_from, int_sum_from-append, int_sum_from-by}
 use Rattle.transport.proofs.Words.{int_sum_from-le_each, int_sum_from-zero, ints, largest_cost, length-flat_map-le, length-range_with_len, length-replicate}
 use Rattle.transport.proofs.Words.{link_at, link_between, links_between, links_of_parts, ltb-true, most_of, mul-le, neg_ℤ, net_around, pair_link, pair_links}
@@ -468,18 +468,15 @@ module _ (hot cold : List Part) (inner : Net) (g : IsAround hot cold inner) wher
 
 -- ---- the links of the net of the pairs that reach, and that it is an inner net whose paths are those pairs
 
-both_within : (x y z : Bool) → IsTrue ((x && y) && z) → (x ≡ true) × (y ≡ true)
-both_within true true z h = (refl, refl)
-both_within true false z h = absurd (false≢true h)
-both_within false y z h = absurd (false≢true h)
+sizes_reach : (r : Reach) (a b : ℕ) → IsTrue (reaches r a b) → (nat_lt a r.hots ≡ true) × (nat_lt b r.colds ≡ true)
+sizes_reach r a b h =
+    and_parts (nat_lt a r.hots) (nat_lt b r.colds) (and_parts (nat_lt a r.hots && nat_lt b r.colds) (slice_index_or r.cells (a * r.colds + b) false) h).0
 
-pub hot_within : (r : Reach) (a b : ℕ) → IsTrue (reaches r a b) → a < r.hots
-hot_within r a b h = ltb-true a r.hots (both_within (nat_lt a r.hots) (nat_lt b r.colds) (slice_index_or r.cells (a * r.colds + b) false) h).0
+hot_within : (r : Reach) (a b : ℕ) → IsTrue (reaches r a b) → a < r.hots
+hot_within r a b h = ltb-true a r.hots (sizes_reach r a b h).0
 
-pub cold_within : (r : Reach) (a b : ℕ) → IsTrue (reaches r a b) → b < r.colds
-cold_within r a b h = ltb-true b r.colds (both_within (nat_lt a r.hots) (nat_lt b r.colds) (slice_index_or r.cells (a * r.colds + b) false) h).1
-
--- ---- the links
+cold_within : (r : Reach) (a b : ℕ) → IsTrue (reaches r a b) → b < r.colds
+cold_within r a b h = ltb-true b r.colds (sizes_reach r a b h).1
 
 module _ (r : Reach) where
   -- what holds of the link of each pair holds of all

@@ -34,7 +34,7 @@ pub use Rattle.heat_flow.specs.declared.flow.Transfer.{Transfer}
 pub use Rattle.heat_flow.specs.declared.reach.Reach.{Reach}
 pub use Rattle.std.proofs.Math.Bool.{and-false, or-false}
 pub use Rattle.std.proofs.Math.IntN.{*ℤ-zero}
-pub use Rattle.std.proofs.lemmas.Bool.{cases_Bool, cases_lt, eq-eqb, false≢true, le-ltb, lt-ltb, ltb-true, ne_eqb}
+pub use Rattle.std.proofs.lemmas.Bool.{and_parts, cases_Bool, cases_lt, eq-eqb, false≢true, le-ltb, lt-ltb, ltb-true, ne_eqb}
 pub use Rattle.std.proofs.lemmas.Int.{by_lt_z, clamps, ints, to_z-of_z}
 pub use Rattle.std.proofs.lemmas.List.{append-nil, flat_map_more, get_or-append-add, get_or-replicate, get_or-take, get_or_append_left, get_or_default}
 pub use Rattle.std.proofs.lemmas.List.{get_or_past, length-replicate, length-take-le, map-append, take_more}
