@@ -130,6 +130,10 @@ module _ {X : Type 0} where
       → IsAtMost rational_zero (rational_sum_by f (enumerate_from 0 xs))
   not_negative-enumerated f xs h = not_negative-rational_sum_by f (enumerate_from 0 xs) (All-enumerated (λ p. IsAtMost rational_zero (f p)) xs h)
 
+  pub at_most-enumerated : (f g : ℕ × X → Rational) (xs : List X) → ((i : ℕ) (x : X) → slice_get xs i ≡ Some x → IsAtMost (f (i, x)) (g (i, x)))
+      → IsAtMost (rational_sum_by f (enumerate_from 0 xs)) (rational_sum_by g (enumerate_from 0 xs))
+  at_most-enumerated f g xs h = at_most-rational_sum_by f g (enumerate_from 0 xs) (All-enumerated (λ p. IsAtMost (f p) (g p)) xs h)
+
 -- ---- a test that one element passes
 
 module _ {X : Type 0} (p : X → Bool) (f : X → Rational) where

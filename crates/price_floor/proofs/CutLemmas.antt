@@ -1,12 +1,12 @@
 -- Beside a valid network no cut stands: its members would have to use more than the parts that meet them can.
 use Rattle.fractions.proofs.Comparisons.{at_most_from_minus_turned, at_most_from_same, at_most_trans}
-use Rattle.price_floor.proofs.Words.{All-enumerated, AllPairs, Any-from_list_any, AreCaseParts, Case, HasShape, IsAtMost, IsComplete, IsSupporting}
-use Rattle.price_floor.proofs.Words.{IsValidNetwork, Network, NoCutStands, Part, Rational, Side, UsesAreOrdered, at_most-rational_sum_by, both_reach, cases_lt}
-use Rattle.price_floor.proofs.Words.{enumerate_from, eqb-true, get_or-map-range_with_len, int_sum_by, ints, left_of, list_any, list_any-from_Any, minus}
-use Rattle.price_floor.proofs.Words.{minus-plus, minus-self, minus-zero, option_map_or, pos, price_at, range_with_len, rational_sum_by, rational_sum_by-minus}
-use Rattle.price_floor.proofs.Words.{rational_sum_by-same, rational_sum_by-whole, rational_sum_by-zero, rational_zero, reach_between, slice_get_past}
-use Rattle.price_floor.proofs.Words.{slice_get_within, sum-enumerate, sum-enumerated, sum_over_used, times, times-one, times_comm, use_worth, used_heat, whole}
-use Rattle.price_floor.proofs.Words.{whole-minus, worth_of_uses, zero-times, ℤ, ◌-ℤ◌, ◌<ℤ◌, ◌≤ℤ◌}
+use Rattle.price_floor.proofs.Words.{AllPairs, Any-from_list_any, AreCaseParts, Case, HasShape, IsAtMost, IsComplete, IsSupporting, IsValidNetwork, Network}
+use Rattle.price_floor.proofs.Words.{NoCutStands, Part, Rational, Side, UsesAreOrdered, at_most-enumerated, both_reach, cases_lt, enumerate_from, eqb-true}
+use Rattle.price_floor.proofs.Words.{get_or-map-range_with_len, int_sum_by, ints, left_of, list_any, list_any-from_Any, minus, minus-plus, minus-self}
+use Rattle.price_floor.proofs.Words.{minus-zero, option_map_or, pos, price_at, range_with_len, rational_sum_by, rational_sum_by-minus, rational_sum_by-same}
+use Rattle.price_floor.proofs.Words.{rational_sum_by-whole, rational_sum_by-zero, rational_zero, reach_between, slice_get_past, slice_get_within, sum-enumerate}
+use Rattle.price_floor.proofs.Words.{sum-enumerated, sum_over_used, times, times-one, times_comm, use_worth, used_heat, whole, whole-minus, worth_of_uses}
+use Rattle.price_floor.proofs.Words.{zero-times, ℤ, ◌-ℤ◌, ◌<ℤ◌, ◌≤ℤ◌}
 use Rattle.heat_flow.specs.Cuts.{cut_side, joins, least_at, meets, need_of, offer_of, opposite, parts_of}
 use Rattle.price_floor.proofs.FloorLemmas.{IsUsedWithin, minus-times, uses-within, whole-int_sum_from}
 use Rattle.std.proofs.Common.{All, Bool, List, None, Option, Some, ap, arith, false, get_or, if◌then◌else◌, length, map, refl, slice_get, subst, subst₂, sym}
@@ -115,9 +115,7 @@ need-at_most : (network : Network) (parts : List Part) (members : List ℕ) → 
     → AllPairs (λ i j. i < j) members → All (λ i. pos 0 <ℤ least_at parts i) members
     → IsAtMost (whole (need_of parts members)) (use_at network (λ i. one_if (is_member members i)) parts)
 need-at_most network parts members used ordered needing = subst (λ n. IsAtMost n (use_at network (λ i. one_if (is_member members i)) parts)) (sym need)
-    (at_most-rational_sum_by (λ (e : ℕ × Part). taken e.0) (λ (e : ℕ × Part). times (whole (one_if (is_member members e.0))) (used_heat network e.1))
-    (enumerate_from 0 parts)
-    (All-enumerated (λ (e : ℕ × Part). IsAtMost (taken e.0) (times (whole (one_if (is_member members e.0))) (used_heat network e.1))) parts each))
+    (at_most-enumerated (λ (e : ℕ × Part). taken e.0) _ parts each)
   where
     least : ℕ → Rational
     least i = whole (least_at parts i)
@@ -145,10 +143,7 @@ offer-at_most : (network : Network) (of : Side) (reach : ℕ → ℕ → Bool) (
     → IsAtMost (use_at network (λ j. one_if (meets of reach members j)) others) (whole (offer_of of reach others members))
 offer-at_most network of reach others members used =
     subst (IsAtMost (use_at network (λ j. one_if (meets of reach members j)) others)) (sym (whole-int_sum_from offered 0 others))
-    (at_most-rational_sum_by (λ (e : ℕ × Part). times (whole (one_if (meets of reach members e.0))) (used_heat network e.1))
-    (λ (e : ℕ × Part). whole (offered e.0 e.1)) (enumerate_from 0 others)
-    (All-enumerated (λ (e : ℕ × Part). IsAtMost (times (whole (one_if (meets of reach members e.0))) (used_heat network e.1)) (whole (offered e.0 e.1))) others
-    (λ j p at. each (meets of reach members j) p (used j p at))))
+    (at_most-enumerated _ _ others (λ j p at. each (meets of reach members j) p (used j p at)))
   where
     offered : ℕ → Part → ℤ
     offered j p = if meets of reach members j then p.most else pos 0

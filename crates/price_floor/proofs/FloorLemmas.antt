@@ -1,16 +1,15 @@
 -- No valid network costs less than the value of supporting prices: each part costs at least its value beyond what its use is worth.
 use Rattle.fractions.proofs.Comparisons.{at_most-plus_plus, at_most-ratio, at_most-times_left, at_most-whole, at_most_from_ratio, at_most_refl, at_most_trans}
 use Rattle.fractions.proofs.Comparisons.{times-turned}
-use Rattle.price_floor.proofs.Words.{All-contains, All-enumerated, All-head, All-tail, AllPairs, AllPairs-head, AllPairs-tail, AreCaseParts, AreParts, Case}
-use Rattle.price_floor.proofs.Words.{Contains, Contains-cons, IsAtMost, IsInRange, IsPartOf, IsValidNetwork, Network, NoNetworkCostsLess, Part, Rational, Side}
-use Rattle.price_floor.proofs.Words.{Source, UsesAreOrdered, Utility, all_at, at_most-rational_sum_by, by_four, cases_eq, clamps, comes_before}
-use Rattle.price_floor.proofs.Words.{comes_before_source, cost_of, enumerate_from, excess_price, false_from_ne_true, heat_price, heat_with, int_sum_from, ints}
-use Rattle.price_floor.proofs.Words.{least_product, minus, negsuc, one_denominator, own_side, plus, plus-times, plus-zero, pos, price_at, rational_sum_by}
-use Rattle.price_floor.proofs.Words.{rational_sum_by-minus, rational_sum_by-plus, rational_sum_by-same, rational_sum_by-swap, rational_sum_by-zero}
-use Rattle.price_floor.proofs.Words.{rational_zero, same_Some, same_side, same_side-true, same_source, same_source-same, same_source-true, side_value}
-use Rattle.price_floor.proofs.Words.{slice_get_within, sum-enumerated, sum-items, sum-picked, times, times-minus, times_comm, true≢false, use_worth, used_heat}
-use Rattle.price_floor.proofs.Words.{utility_part, value_of, whole, whole-minus, whole-plus, whole-times, worth_of_uses, zero-plus, zero-times, ℤ, ◌*ℤ◌, ◌+ℤ◌}
-use Rattle.price_floor.proofs.Words.{◌-ℤ◌}
+use Rattle.price_floor.proofs.Words.{All-contains, All-head, All-tail, AllPairs, AllPairs-head, AllPairs-tail, AreCaseParts, AreParts, Case, Contains}
+use Rattle.price_floor.proofs.Words.{Contains-cons, IsAtMost, IsInRange, IsPartOf, IsValidNetwork, Network, NoNetworkCostsLess, Part, Rational, Side, Source}
+use Rattle.price_floor.proofs.Words.{UsesAreOrdered, Utility, all_at, at_most-enumerated, by_four, cases_eq, clamps, comes_before, comes_before_source, cost_of}
+use Rattle.price_floor.proofs.Words.{enumerate_from, excess_price, false_from_ne_true, heat_price, heat_with, int_sum_from, ints, least_product, minus, negsuc}
+use Rattle.price_floor.proofs.Words.{one_denominator, own_side, plus, plus-times, plus-zero, pos, price_at, rational_sum_by, rational_sum_by-minus}
+use Rattle.price_floor.proofs.Words.{rational_sum_by-plus, rational_sum_by-same, rational_sum_by-swap, rational_sum_by-zero, rational_zero, same_Some}
+use Rattle.price_floor.proofs.Words.{same_side, same_side-true, same_source, same_source-same, same_source-true, side_value, slice_get_within, sum-enumerated}
+use Rattle.price_floor.proofs.Words.{sum-items, sum-picked, times, times-minus, times_comm, true≢false, use_worth, used_heat, utility_part, value_of, whole}
+use Rattle.price_floor.proofs.Words.{whole-minus, whole-plus, whole-times, worth_of_uses, zero-plus, zero-times, ℤ, ◌*ℤ◌, ◌+ℤ◌, ◌-ℤ◌}
 use Rattle.std.proofs.Common.{All, Bool, List, Some, [], ap, ap₂, arith, false, get_or, if◌then◌else◌, inl, inr, ne_eqb, refl, slice_get, subst, subst₂, suc}
 use Rattle.std.proofs.Common.{sym, true, ℕ, ⊎_elim, ◌+◌, ◌==◌, ◌∙◌, ◌∷◌, ◌≡◌}
 use Rattle.stream_case.specs.declared.source.Side.TheVariants as side
@@ -81,10 +80,8 @@ side_value-at_most : (network : Network) (on : Side) (parts : List Part) (prices
     → ((a : ℕ) (p : Part) → slice_get parts a ≡ Some p → IsUsedWithin network p)
     → IsAtMost (whole (side_value on parts prices)) (excess_rational on (rational_sum_by (part_cost network) parts) (worth_of_uses network prices parts))
 unfolding worth_of_uses
-side_value-at_most network on parts prices within = subst₂ IsAtMost (sym (whole-int_sum_from value 0 parts)) split
-    (at_most-rational_sum_by (λ (e : ℕ × Part). whole (value e.0 e.1)) (λ (e : ℕ × Part). times (whole (excess e.0 e.1)) (used_heat network e.1))
-    (enumerate_from 0 parts) (All-enumerated (λ (e : ℕ × Part). IsAtMost (whole (value e.0 e.1)) (times (whole (excess e.0 e.1)) (used_heat network e.1))) parts
-    (λ a p at. let used = within a p at in least_product-at_most (excess a p) p.least p.most (used_heat network p) used.least used.most)))
+side_value-at_most network on parts prices within = subst₂ IsAtMost (sym (whole-int_sum_from value 0 parts)) split (at_most-enumerated _ _ parts
+    (λ a p at. let used = within a p at in least_product-at_most (excess a p) p.least p.most (used_heat network p) used.least used.most))
   where
     excess : ℕ → Part → ℤ
     excess a p = excess_price on p.price (price_at prices a)
@@ -94,11 +91,7 @@ side_value-at_most network on parts prices within = subst₂ IsAtMost (sym (whol
 
     split : rational_sum_by (λ (e : ℕ × Part). times (whole (excess e.0 e.1)) (used_heat network e.1)) (enumerate_from 0 parts)
         ≡ excess_rational on (rational_sum_by (part_cost network) parts) (rational_sum_by (use_worth network prices) (enumerate_from 0 parts))
-    split = rational_sum_by-same (λ (e : ℕ × Part). times (whole (excess e.0 e.1)) (used_heat network e.1))
-        (λ (e : ℕ × Part). excess_rational on (part_cost network e.1) (use_worth network prices e)) (enumerate_from 0 parts) (All-enumerated
-        (λ (e : ℕ × Part). times (whole (excess e.0 e.1)) (used_heat network e.1) ≡ excess_rational on (part_cost network e.1)
-        (use_worth network prices e)) parts (λ a p at. excess-times on p.price (price_at prices a) (used_heat network p)))
-        ∙ excess-sum on (λ (e : ℕ × Part). part_cost network e.1) (use_worth network prices) (enumerate_from 0 parts)
+    split = sum-enumerated _ _ parts (λ a p at. excess-times on p.price (price_at prices a) (used_heat network p)) ∙ excess-sum on (λ (e : ℕ × Part). part_cost network e.1) (use_worth network prices) (enumerate_from 0 parts)
         ∙ ap (λ c. excess_rational on c (rational_sum_by (use_worth network prices) (enumerate_from 0 parts)))
         (sum-items (λ (e : ℕ × Part). part_cost network e.1) (part_cost network) parts (λ a p at. refl))
 
@@ -199,9 +192,7 @@ side_cost-is case network places on parts are =
     let us = enumerate_from 0 case.utilities in rational_sum_by-same (part_cost network) (λ (p : Part). rational_sum_by (own_price network p.source) us) parts
     (λ k d inside. part_cost-is case network places on (get_or parts k d) (are.each k d inside))
     ∙ rational_sum_by-swap (λ (p : Part). own_price network p.source) parts us
-    ∙ rational_sum_by-same (λ e. rational_sum_by (λ (p : Part). own_price network p.source e) parts) (side_price network on) us
-    (All-enumerated (λ e. rational_sum_by (λ (p : Part). own_price network p.source e) parts ≡ side_price network on e) case.utilities
-    (λ i u at. its_cost case places on parts i u (heat_price network (i, u)) are at))
+    ∙ sum-enumerated _ (side_price network on) case.utilities (λ i u at. its_cost case places on parts i u (heat_price network (i, u)) are at)
 
 both_sides : (network : Network) (e : ℕ × Utility) → plus (side_price network side.Hot e) (side_price network side.Cold e) ≡ heat_price network e
 both_sides network e = by e.1.side

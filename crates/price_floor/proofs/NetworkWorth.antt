@@ -3,7 +3,7 @@ use Rattle.price_floor.proofs.Words.{*ℤ--ℤ, All-enumerated, All-slice_get, A
 use Rattle.price_floor.proofs.Words.{HasDuty, HasShape, HoldsPlaces, IsAdditive, IsAtMost, IsBelow, IsExchanger, IsLatent, IsOfOneStream, IsPartOf, IsPermitted}
 use Rattle.price_floor.proofs.Words.{IsSensible, IsSourceOf, IsSourceOf-side, IsValidStream, IsWholeValuation, KeepApproaches, Level, Line, Network, Part}
 use Rattle.price_floor.proofs.Words.{Rational, Side, SideRun, Solves, Source, StepPrices, Stream, Utility, Valuation, View, WorthsAreOrdered, absorbed_heat}
-use Rattle.price_floor.proofs.Words.{all_at, all_solved, at_most-rational_sum_by, branch_above, branch_height, branch_worth, cases_Bool, clamps, cold_worth}
+use Rattle.price_floor.proofs.Words.{all_at, all_solved, at_most-enumerated, branch_above, branch_height, branch_worth, cases_Bool, clamps, cold_worth}
 use Rattle.price_floor.proofs.Words.{comes_below, counts_above, course_of, duties_with, duty_with, enumerate_from, exchangers_of, false_from_ne_true}
 use Rattle.price_floor.proofs.Words.{first_part_of_load, first_value, full_size, full_size-latent, full_size-sensible, given_by, heat_over, heat_over-latent}
 use Rattle.price_floor.proofs.Words.{heat_over-sensible, heat_with, height_at, height_in, height_on-additive, height_on-mixed, high_end, hot_shares_lead}
@@ -559,8 +559,8 @@ module _ (case : Case) (network : Network) (values : Valuation) (least : ℤ) (v
     worths-ordered ended = let es = enumerate_from 0 (exchangers_of network.lines) in let passes = rational_sum_by (pass_loss weigh) network.lines in
         let mixes = rational_sum_by (mix_loss weigh) network.lines in let hot = rational_sum_by hot_bought es in
         let balance = weight_balance case network values (branch_worth case least views prices) shape whole_values ended
-        (branch_worth-additive case least views prices) in let each = at_most-rational_sum_by cold_bought (λ p. plus (taken p) (hot_bought p)) es
-        (All-enumerated (λ p. IsAtMost (cold_bought p) (plus (taken p) (hot_bought p))) (exchangers_of network.lines) exchanger_ordered) in
+        (branch_worth-additive case least views prices) in
+        let each = at_most-enumerated cold_bought (λ p. plus (taken p) (hot_bought p)) (exchangers_of network.lines) exchanger_ordered in
         let sum = rational_sum_by-plus taken hot_bought es ∙ ap (λ x. plus x hot) (sym (passes_by_side weigh case network shape)) in
         at_most_trans _ _ _ (subst (IsAtMost (rational_sum_by cold_bought es)) sum each) (at_most-plus_plus _ _ _ _
         (subst (IsAtMost passes) (sym balance) (at_most-plus_right passes mixes mixes_lose_worth)) (at_most_refl hot))

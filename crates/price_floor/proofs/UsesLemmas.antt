@@ -1,13 +1,13 @@
 -- What a network uses of the parts of its case is ordered at prices that support the heat flows.
 use Rattle.fractions.proofs.Comparisons.{at_most-plus_plus, at_most-times, at_most-whole, at_most_refl, at_most_trans}
-use Rattle.price_floor.proofs.Words.{All-contains, All-enumerated, All-slice_get, All-weaker, AreParts, AreParts-made, AreStreams-IsComplete, Case, HasShape}
-use Rattle.price_floor.proofs.Words.{HoldsPlaces, HoldsPlaces-IsGrid, IsAtMost, IsBounded-part, IsComplete, IsGrid, IsOnPlaces, IsPartOf, IsPlaced}
-use Rattle.price_floor.proofs.Words.{IsPlaced-IsComplete, IsSourceOf, IsSourceOf-side, IsSupporting, IsValidNetwork, IsValidStream, ListsFalling-unique}
-use Rattle.price_floor.proofs.Words.{Network, Part, Rational, Side, Source, StepPrices, Stream, UsesAreOrdered, Utility, View, at_most-rational_sum_by}
-use Rattle.price_floor.proofs.Words.{both_reach, branch_worth, clamps, cold_worth, enumerate_from, exchangers_of, heat_with, high_end, holds_ends, hot_worth}
-use Rattle.price_floor.proofs.Words.{int_min, ints, low_end, minus, parts_on_grid, places_of, plus, plus-minus, plus_assoc, plus_comm, pos, price_at}
-use Rattle.price_floor.proofs.Words.{price_steps, rational_sum_by, rational_sum_by-minus, rational_zero, reach_between, side_of_part, stream_loss}
-use Rattle.price_floor.proofs.Words.{sum-enumerated, sum-items, times, use_worth, used_by, used_heat, views_of, whole, worth_of_uses, ℤ, ◌<ℤ◌, ◌≤ℤ◌}
+use Rattle.price_floor.proofs.Words.{All-contains, All-slice_get, All-weaker, AreParts, AreParts-made, AreStreams-IsComplete, Case, HasShape, HoldsPlaces}
+use Rattle.price_floor.proofs.Words.{HoldsPlaces-IsGrid, IsAtMost, IsBounded-part, IsComplete, IsGrid, IsOnPlaces, IsPartOf, IsPlaced, IsPlaced-IsComplete}
+use Rattle.price_floor.proofs.Words.{IsSourceOf, IsSourceOf-side, IsSupporting, IsValidNetwork, IsValidStream, ListsFalling-unique, Network, Part, Rational}
+use Rattle.price_floor.proofs.Words.{Side, Source, StepPrices, Stream, UsesAreOrdered, Utility, View, at_most-enumerated, both_reach, branch_worth, clamps}
+use Rattle.price_floor.proofs.Words.{cold_worth, enumerate_from, exchangers_of, heat_with, high_end, holds_ends, hot_worth, int_min, ints, low_end, minus}
+use Rattle.price_floor.proofs.Words.{parts_on_grid, places_of, plus, plus-minus, plus_assoc, plus_comm, pos, price_at, price_steps, rational_sum_by}
+use Rattle.price_floor.proofs.Words.{rational_sum_by-minus, rational_zero, reach_between, side_of_part, stream_loss, sum-enumerated, sum-items, times}
+use Rattle.price_floor.proofs.Words.{use_worth, used_by, used_heat, views_of, whole, worth_of_uses, ℤ, ◌<ℤ◌, ◌≤ℤ◌}
 use Rattle.price_floor.proofs.NetworkWorth.{duties_of, duty_worth, duty_worth-by, stream_worth-is, utility_worth-is, worths_ordered}
 use Rattle.price_floor.proofs.StepsOfParts.{HasEnds, cold_price, hot_price, leaves_own, own_view, own_worth, part_worth, some_lowest, step-part}
 use Rattle.price_floor.proofs.StepsOfParts.{steps_are_ordered, steps_fall, sum-by_source, views-fall}
@@ -151,11 +151,9 @@ module _ (case : Case) (network : Network) (hot cold : List Part) (y z : List �
       let cold_sum = sum-items (λ (e : ℕ × Part). worth side.Cold e.1) (worth side.Cold) cold (λ i p at. refl) in
       let hot_sum = sum-items (λ (e : ℕ × Part). worth side.Hot e.1) (worth side.Hot) hot (λ i p at. refl) in
       let taken = subst (IsAtMost (rational_sum_by (use_worth network z) (enumerate_from 0 cold))) cold_sum
-      (at_most-rational_sum_by (use_worth network z) (λ (e : ℕ × Part). worth side.Cold e.1) (enumerate_from 0 cold)
-      (All-enumerated (λ (e : ℕ × Part). IsAtMost (use_worth network z e) (worth side.Cold e.1)) cold cold_part)) in
+      (at_most-enumerated (use_worth network z) (λ (e : ℕ × Part). worth side.Cold e.1) cold cold_part) in
       let given = subst (λ w. IsAtMost w (rational_sum_by (use_worth network y) (enumerate_from 0 hot))) hot_sum
-      (at_most-rational_sum_by (λ (e : ℕ × Part). worth side.Hot e.1) (use_worth network y) (enumerate_from 0 hot)
-      (All-enumerated (λ (e : ℕ × Part). IsAtMost (worth side.Hot e.1) (use_worth network y e)) hot (hot_part supporting))) in
+      (at_most-enumerated (λ (e : ℕ × Part). worth side.Hot e.1) (use_worth network y) hot (hot_part supporting)) in
       at_most_trans (rational_sum_by (use_worth network z) (enumerate_from 0 cold)) colds (rational_sum_by (use_worth network y) (enumerate_from 0 hot)) taken
       (at_most_trans colds hots (rational_sum_by (use_worth network y) (enumerate_from 0 hot)) sides_ordered given)
 

@@ -1,6 +1,6 @@
 -- The words and lemmas from elsewhere that the proofs of this crate speak in, passed on from one place. Declares nothing.
 pub use Rattle.fractions.proofs.Products.{plus-times, times-minus, times-one, times-plus, times-zero, times_comm, zero-times}
-pub use Rattle.fractions.proofs.RationalSums.{at_most-rational_sum_by, but_at, left_of, not_negative-rational_sum_by, one_taken, rational_sum_by-minus}
+pub use Rattle.fractions.proofs.RationalSums.{at_most-enumerated, but_at, left_of, not_negative-rational_sum_by, one_taken, rational_sum_by-minus}
 pub use Rattle.fractions.proofs.RationalSums.{rational_sum_by-plus, rational_sum_by-same, rational_sum_by-swap, rational_sum_by-whole, rational_sum_by-zero}
 pub use Rattle.fractions.proofs.RationalSums.{sum-enumerate, sum-enumerated, sum-filter_map, sum-items, sum-picked, sum_over_used}
 pub use Rattle.fractions.proofs.Ratios.{by_four, one_denominator}
