@@ -1,3 +1,2 @@
-pub mod BelowLemmas
 pub mod CurveLemmas
 pub mod Words

@@ -1,15 +1,57 @@
--- Deficits, and the targets, of lists of valid streams.
+-- The heat of a stream over a shifted temperature, against its whole heat.
+use Rattle.problem_table.proofs.Words.{*ℤ-zero, *ℤ-≤ℤ_left, All-contains, All-push, All-weaker, AreEnds-IsValidStream, AreSensible, AreStreams, Cold}
+use Rattle.problem_table.proofs.Words.{Contains-append_left, Contains-append_right, Contains-get_or, CountsFromItself, Decides, Decides-not, FindsHighestTight}
+use Rattle.problem_table.proofs.Words.{HasTightDeficit, HasValidStreams, Hot, IsBetween, IsLatent, IsPinch, IsReferencePlace, IsSensible, IsStreamsHeat}
+use Rattle.problem_table.proofs.Words.{IsTight, IsTightOver, IsValidStream, LOWEST_SHIFTED, Lists-same, ListsFalling, Stream, by_lt_z, clamps, cold_target}
+use Rattle.problem_table.proofs.Words.{counts_above, cp-between, deficit_above, deficit_from, deficit_over, each_end, end_deficits, fold-append}
+use Rattle.problem_table.proofs.Words.{fold-int_max_bounds, fold-int_max_reached, get_or-map, heat_between, heat_of, heat_of-between, heat_over}
+use Rattle.problem_table.proofs.Words.{heat_over-between, heat_over-sensible, high_end, hot_target, if_between, int_le-from, int_lt-from, int_max, ints}
+use Rattle.problem_table.proofs.Words.{length-AreStreams, length-map, length-stream_ends, length_above, load_over, low_end, map-append, outermost}
+use Rattle.problem_table.proofs.Words.{sensible_above, stream_ends, stream_ends-more, sum_side, take_more}
+use Rattle.std.proofs.Common.{All, Bool, Contains, IsSome, List, None, Option, Some, [], ap, ap₂, arith, cond, false, fold, get_or, if◌then◌else◌, inl, inr}
+use Rattle.std.proofs.Common.{int_lt, length, map, not, pos, refl, subst, sym, take, true, ℕ, ℤ, ⊎_elim, ◌*ℤ◌, ◌++◌, ◌+ℤ◌, ◌+◌, ◌-ℤ◌, ◌<ℤ◌, ◌<◌, ◌∙◌, ◌∷◌, ◌≡◌}
+use Rattle.std.proofs.Common.{◌≤ℤ◌, ◌⊎◌}
 use Rattle.problem_table.proofs.EndLemmas.{IsOutermost-outermost}
-use Rattle.problem_table.proofs.HeatLemmas.{heat_over-all, heat_over-le, heat_over-none}
 use Rattle.problem_table.proofs.SideLemmas.{sum_side-heat, sum_side-le, sum_side-same, sum_side-zero}
-use Rattle.problem_table.proofs.Words.{All-weaker, AreEnds-IsValidStream, AreSensible, AreStreams, Cold, Contains-get_or, HasTightDeficit, HasValidStreams, Hot}
-use Rattle.problem_table.proofs.Words.{IsBetween, IsStreamsHeat, IsTight, IsTightOver, IsValidStream, LOWEST_SHIFTED, Stream, by_lt_z, clamps, cold_target}
-use Rattle.problem_table.proofs.Words.{counts_above, deficit_above, deficit_from, deficit_over, each_end, end_deficits, fold-append, fold-int_max_bounds}
-use Rattle.problem_table.proofs.Words.{fold-int_max_reached, get_or-map, heat_of, heat_of-between, heat_over, heat_over-between, heat_over-sensible, high_end}
-use Rattle.problem_table.proofs.Words.{hot_target, int_le-from, int_lt-from, int_max, ints, length-AreStreams, length-map, length-stream_ends, low_end}
-use Rattle.problem_table.proofs.Words.{map-append, outermost, stream_ends, stream_ends-more, sum_side}
-use Rattle.std.proofs.Common.{All, Bool, Contains, List, [], ap, ap₂, arith, false, fold, get_or, inl, inr, length, map, pos, refl, subst, sym, take, true, ℕ}
-use Rattle.std.proofs.Common.{ℤ, ⊎_elim, ◌+◌, ◌-ℤ◌, ◌<ℤ◌, ◌<◌, ◌∙◌, ◌∷◌, ◌≡◌, ◌≤ℤ◌, ◌⊎◌}
+
+load-not_negative : (s : Stream) → IsSensible s ⊎ IsLatent s → pos 0 ≤ℤ s.load
+load-not_negative s (inl sensible) = let none = sensible.load in omega (arith, ints)
+load-not_negative s (inr latent) = let load = latent.load in omega (arith, ints)
+
+pub heat_over-le : (from : Bool) (t : ℤ) (s : Stream) → IsValidStream s → heat_over from t s ≤ℤ heat_of s
+heat_over-le from t s h =
+    let cp = cp-between s h in let ends = AreEnds-IsValidStream s h in
+    let sensible : sensible_above t s ≤ℤ heat_between (high_end s) (low_end s) s =
+    *ℤ-≤ℤ_left s.cp (length_above (low_end s) (high_end s) t) (high_end s -ℤ low_end s) (omega (arith, ints)) (omega (arith, ints, clamps)) in
+    let load : load_over from t s ≤ℤ s.load = (if_between (counts_above from t (high_end s)) s.load (load-not_negative s h.heat)).1 in
+    omega (arith, ints, sensible, load)
+
+-- over a temperature that no level counts as above there is none, and over one that the low end counts as above there is all
+level_below : (from : Bool) (t level : ℤ) → counts_above from t level ≡ false → level ≤ℤ t
+level_below false t level e = omega (arith, ints)
+level_below true t level e = omega (arith, ints)
+
+level_above : (from : Bool) (t level : ℤ) → counts_above from t level ≡ true → t ≤ℤ level
+level_above false t level e = omega (arith, ints)
+level_above true t level e = omega (arith, ints)
+
+higher_level : (from : Bool) (t low high : ℤ) → counts_above from t low ≡ true → low ≤ℤ high → counts_above from t high ≡ true
+higher_level false t low high e order = int_lt-from t high (omega (arith, ints))
+higher_level true t low high e order = int_le-from t high (omega (arith, ints))
+
+pub heat_over-none : (from : Bool) (t : ℤ) (s : Stream) → IsValidStream s → counts_above from t (high_end s) ≡ false → heat_over from t s ≡ pos 0
+heat_over-none from t s h below =
+    let ends = AreEnds-IsValidStream s h in let level = level_below from t (high_end s) below in
+    let sensible = ap (λ l. s.cp *ℤ l) {x = length_above (low_end s) (high_end s) t} {y = pos 0} (omega (arith, ints, clamps)) ∙ *ℤ-zero s.cp in
+    let load = ap (λ b. if b then s.load else pos 0) below in ap₂ ◌+ℤ◌ sensible load
+
+pub heat_over-all : (from : Bool) (t : ℤ) (s : Stream) → IsValidStream s → counts_above from t (low_end s) ≡ true → heat_over from t s ≡ heat_of s
+heat_over-all from t s h above =
+    let ends = AreEnds-IsValidStream s h in let level = level_above from t (low_end s) above in
+    let sensible = ap (λ l. s.cp *ℤ l) {x = length_above (low_end s) (high_end s) t} {y = high_end s -ℤ low_end s} (omega (arith, ints, clamps)) in
+    let load = ap (λ b. if b then s.load else pos 0) (higher_level from t (low_end s) (high_end s) above ends.order) in ap₂ ◌+ℤ◌ sensible load
+
+-- Deficits, and the targets, of lists of valid streams.
 
 -- ---- the deficits
 
@@ -196,3 +238,107 @@ deficit_from-sensible = deficit_over-sensible true
 -- so a tight place is tight above
 pub tight-sensible : (streams : List Stream) (p : ℤ) → AreSensible streams → IsTight streams p → deficit_above streams p ≡ hot_target streams
 tight-sensible streams p h tight = ⊎_elim (λ e. e) (λ e. sym (deficit_from-sensible p streams h) ∙ e) tight.tight
+
+-- The pinches among some stream ends.
+
+-- each found place is a pinch, and each pinch among these ends was found
+pub record Finds (streams : List Stream) (some_ends found : List ℤ) : Type 0 where
+  pub each : All (IsPinch streams) found
+  pub every : All (λ t. IsPinch streams t → Contains found t) some_ends
+
+module _ (streams : List Stream) (ends : List ℤ) (i : ℕ) (end d : ℤ) (within : i < length ends) (is : get_or ends i d ≡ end) (found : List ℤ) where
+  one_more : (now : List ℤ) → All (λ t. IsPinch streams t → Contains now t) (take i ends) → (IsPinch streams end → Contains now end)
+      → All (λ t. IsPinch streams t → Contains now t) (take (i + 1) ends)
+  one_more now before here = let P = λ (t : ℤ). IsPinch streams t → Contains now t in
+      subst (All P) (sym (take_more ends i d within)) (All-push P (take i ends) (get_or ends i d) before (subst P (sym is) here))
+
+  pub Finds-other : (IsPinch streams end → ⊥) → Finds streams (take i ends) found → Finds streams (take (i + 1) ends) found
+  Finds-other other h = record { each = h.each; every = one_more found h.every (λ pinch. absurd (other pinch)) }
+
+  pub Finds-pinch : IsPinch streams end → Finds streams (take i ends) found → Finds streams (take (i + 1) ends) (found ++ end ∷ [])
+  Finds-pinch pinch h =
+      let now = found ++ end ∷ [] in record {
+        each = All-push (IsPinch streams) found end h.each pinch;
+        every = one_more now (All-weaker (λ t. IsPinch streams t → Contains found t) (λ t. IsPinch streams t → Contains now t)
+            (λ t before p. Contains-append_left found (end ∷ []) t (before p)) (take i ends) h.every)
+            (λ p. Contains-append_right found (end ∷ []) end (Contains-get_or (end ∷ []) 0 end (omega arith)));
+      }
+
+-- the found places in falling order are the pinches
+pub ListsFalling-pinches : (streams : List Stream) (ends found falling : List ℤ) → ends ≡ stream_ends streams → Finds streams ends found
+    → ListsFalling (Contains found) falling → ListsFalling (IsPinch streams) falling
+ListsFalling-pinches streams ends found falling is finds lists =
+    Lists-same _ (Contains found) (IsPinch streams) falling (λ t at. All-contains (IsPinch streams) found t finds.each at)
+    (λ t pinch. All-contains (λ x. IsPinch streams x → Contains found x) ends t finds.every (subst (λ xs. Contains xs t) (sym is) pinch.at.end) pinch)
+    lists
+
+-- The highest stream end where one of the two deficits is the hot target.
+
+chosen : (b : Bool) (z x y : ℤ) → z ≡ cond b x y → (z ≡ x) ⊎ (z ≡ y)
+chosen true z x y e = inl e
+chosen false z x y e = inr e
+
+module _ (streams : List Stream) (ends : List ℤ) (end : ℤ) where
+  -- an end that is not tight changes nothing
+  pub FindsHighestTight-skip : (place : Option ℤ) → (HasTightDeficit streams end → ⊥) → FindsHighestTight streams ends place
+      → FindsHighestTight streams (ends ++ end ∷ []) place
+  FindsHighestTight-skip None loose found = All-push (λ t. HasTightDeficit streams t → ⊥) ends end found loose
+  FindsHighestTight-skip (Some p) loose found = record {
+    member = Contains-append_left ends (end ∷ []) p found.member;
+    tight = found.tight;
+    highest = All-push (λ t. HasTightDeficit streams t → t ≤ℤ p) ends end found.highest (λ e. absurd (loose e));
+  }
+
+  -- a tight end takes the place where there is none, and otherwise where it is higher
+  pub FindsHighestTight-first : HasTightDeficit streams end → FindsHighestTight streams ends None → FindsHighestTight streams (ends ++ end ∷ []) (Some end)
+  FindsHighestTight-first tight found = record {
+    member = Contains-append_right ends (end ∷ []) end (0, omega arith, refl);
+    tight = tight;
+    highest = All-push (λ t. HasTightDeficit streams t → t ≤ℤ end) ends end
+        (All-weaker (λ t. HasTightDeficit streams t → ⊥) (λ t. HasTightDeficit streams t → t ≤ℤ end) (λ t loose e. absurd (loose e)) ends found)
+        (λ e. omega (arith, ints));
+  }
+
+  pub FindsHighestTight-higher : (p q : ℤ) → q ≡ int_max p end → HasTightDeficit streams end → FindsHighestTight streams ends (Some p)
+      → FindsHighestTight streams (ends ++ end ∷ []) (Some q)
+  FindsHighestTight-higher p q is tight found = ⊎_elim (λ e. record {
+    member = subst (Contains (ends ++ end ∷ [])) (sym e) (Contains-append_left ends (end ∷ []) p found.member);
+    tight = subst (HasTightDeficit streams) (sym e) found.tight;
+    highest = at_most;
+  }) (λ e. record {
+    member = subst (Contains (ends ++ end ∷ [])) (sym e) (Contains-append_right ends (end ∷ []) end (0, omega arith, refl));
+    tight = subst (HasTightDeficit streams) (sym e) tight;
+    highest = at_most;
+  })
+      one_of
+    where
+      one_of : (q ≡ p) ⊎ (q ≡ end)
+      one_of = chosen (int_lt end p) q p end is
+
+      at_most : All (λ t. HasTightDeficit streams t → t ≤ℤ q) (ends ++ end ∷ [])
+      at_most = All-push (λ t. HasTightDeficit streams t → t ≤ℤ q) ends end
+          (All-weaker (λ t. HasTightDeficit streams t → t ≤ℤ p) (λ t. HasTightDeficit streams t → t ≤ℤ q)
+          (λ t le e. let below = le e in omega (arith, ints, clamps)) ends found.highest) (λ e. omega (arith, ints, clamps))
+
+-- among all ends one is found
+pub IsSome-highest : (streams : List Stream) → HasValidStreams streams → (place : Option ℤ) → FindsHighestTight streams (stream_ends streams) place
+    → IsSome place
+IsSome-highest streams h None found =
+    let at = some_tight streams h in absurd (All-contains (λ t. HasTightDeficit streams t → ⊥) (stream_ends streams) at.0 found at.1.end at.1.tight)
+IsSome-highest streams h (Some p) found = refl
+
+-- there is one reference place
+pub one_reference : (streams : List Stream) (p q : ℤ) → IsReferencePlace streams p → IsReferencePlace streams q → p ≡ q
+one_reference streams p q h k = let up = k.highest p h.at in let down = h.highest q k.at in omega (arith, ints)
+
+pub IsReferencePlace-found : (streams : List Stream) (p : ℤ) → FindsHighestTight streams (stream_ends streams) (Some p) → IsReferencePlace streams p
+IsReferencePlace-found streams p h = record {
+  at = record { end = h.member; tight = h.tight };
+  highest = λ t tight. All-contains (λ x. HasTightDeficit streams x → x ≤ℤ p) (stream_ends streams) t h.highest tight.end tight.tight;
+}
+
+-- and a test of its deficit says whether it counts from itself
+pub Decides-from_itself : (streams : List Stream) (p : ℤ) (b : Bool) → IsReferencePlace streams p → Decides b (IsTightOver false streams p) → (place : ℤ)
+    → IsReferencePlace streams place → Decides (not b) (CountsFromItself streams place)
+Decides-from_itself streams p b reference tight place h =
+    subst (λ x. Decides (not b) (CountsFromItself streams x)) (one_reference streams p place reference h) (Decides-not b tight)

@@ -1,5 +1,5 @@
 -- A sum of two heats of which one is 0.
-use Rattle.curves.proofs.BelowLemmas.{heat_under-between}
+use Rattle.curves.proofs.CurveLemmas.{heat_under-between}
 use Rattle.std.proofs.Common.{arith, of_z, to_z, w32}
 use Rattle.curves.proofs.Words.{ints}
 use Rattle.curves.proofs.below.heat_under.Goals as goal

@@ -1,5 +1,5 @@
 -- The part of the range below `t` ends where `t` is held within the range.
-use Rattle.curves.proofs.BelowLemmas.{actual-length}
+use Rattle.curves.proofs.CurveLemmas.{actual-length}
 use Rattle.std.proofs.Common.{ap, arith, rules, w64, ◌*ℤ◌, ◌∙◌}
 use Rattle.curves.proofs.Words.{clamps, ints, to_z-of_z}
 use Rattle.curves.proofs.below.sensible_below.Goals as goal

@@ -1,5 +1,5 @@
 -- A stream of the side adds its heat.
-use Rattle.curves.proofs.BelowLemmas.{heat_under-between}
+use Rattle.curves.proofs.CurveLemmas.{heat_under-between}
 use Rattle.curves.proofs.below.side_heat_under.Goals.{else-is_on, then-is_on}
 use Rattle.curves.proofs.Words.{heat_under, ints, sum_side-more, sum_side-so_far}
 use Rattle.std.proofs.Common.{Bool, ap, arith, if◌then◌else◌, of_z, pos, sym, to_z, w32, ◌∙◌}

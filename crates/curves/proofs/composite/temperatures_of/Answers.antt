@@ -1,5 +1,5 @@
 -- A stream of the side adds its two ends.
-use Rattle.curves.proofs.BelowLemmas.{temperatures_of-more}
+use Rattle.curves.proofs.CurveLemmas.{temperatures_of-more}
 use Rattle.curves.proofs.composite.temperatures_of.Goals.{else-is_on, then-is_on+in_ok-push+in_ok-push-2}
 use Rattle.std.proofs.Common.{Bool, FitsSigned, [], ap, append-nil, append_assoc, if◌then◌else◌, rules, sym, w32, ◌∙◌, ◌∷◌}
 use Rattle.curves.proofs.Words.{to_z-of_z}

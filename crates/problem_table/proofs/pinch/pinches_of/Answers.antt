@@ -1,5 +1,5 @@
 -- An end that is a pinch is found, and the found ends in falling order are the pinches.
-use Rattle.problem_table.proofs.PinchLemmas.{Finds, Finds-other, Finds-pinch, ListsFalling-pinches}
+use Rattle.problem_table.proofs.DeficitLemmas.{Finds, Finds-other, Finds-pinch, ListsFalling-pinches}
 use Rattle.problem_table.proofs.pinch.pinches_of.Goals.{else-is_pinch, then-is_pinch+in_ok-push}
 use Rattle.problem_table.proofs.Words.{IsPinch, ListsFalling, false≢true, to_z-of_z}
 use Rattle.std.proofs.Common.{FitsSigned, List, [], ap, get_or, pos, refl, rules, subst, sym, take, take_all, w32, ℤ, ◌++◌, ◌+◌, ◌∙◌, ◌∷◌}

@@ -1,5 +1,5 @@
 -- Each found end is a pinch, and each pinch among the ends so far was found.
-use Rattle.problem_table.proofs.PinchLemmas.{Finds}
+use Rattle.problem_table.proofs.DeficitLemmas.{Finds}
 use Rattle.std.proofs.Common.{take}
 use Rattle.problem_table.proofs.pinch.pinches_of.Given as goal
 

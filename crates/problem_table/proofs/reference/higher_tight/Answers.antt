@@ -1,5 +1,5 @@
 -- One more end: it is not tight, or the first tight one, or one of two.
-use Rattle.problem_table.proofs.PlaceLemmas.{FindsHighestTight-first, FindsHighestTight-higher, FindsHighestTight-skip}
+use Rattle.problem_table.proofs.DeficitLemmas.{FindsHighestTight-first, FindsHighestTight-higher, FindsHighestTight-skip}
 use Rattle.problem_table.proofs.Words.{FindsHighestTight, false≢true, int_max, to_z-of_z}
 use Rattle.std.proofs.Common.{FitsSigned, ap₂, rules, subst, sym, w32, ◌∙◌}
 use Rattle.problem_table.proofs.reference.higher_tight.Goals as goal

@@ -1,5 +1,5 @@
 -- The deficit above the one reference place is tested.
-use Rattle.problem_table.proofs.PlaceLemmas.{Decides-from_itself}
+use Rattle.problem_table.proofs.DeficitLemmas.{Decides-from_itself}
 use Rattle.std.proofs.Common.{FitsSigned, rules, w32}
 use Rattle.problem_table.proofs.Words.{to_z-of_z}
 use Rattle.problem_table.proofs.reference.reference_from_of.Goals as goal

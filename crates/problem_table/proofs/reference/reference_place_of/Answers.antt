@@ -1,5 +1,5 @@
 -- Each stream brings its two ends, and one of all ends is tight.
-use Rattle.problem_table.proofs.PlaceLemmas.{IsReferencePlace-found, IsSome-highest}
+use Rattle.problem_table.proofs.DeficitLemmas.{IsReferencePlace-found, IsSome-highest}
 use Rattle.problem_table.proofs.Words.{FindsHighestTight, Stream, high_end, low_end, stream_ends, stream_ends-more, to_z-of_z}
 use Rattle.std.proofs.Common.{FitsSigned, List, [], append_assoc, ap₂, rules, subst, sym, take, take_all, w32, ℤ, ◌++◌, ◌∙◌, ◌∷◌}
 use Rattle.problem_table.proofs.reference.reference_place_of.Goals as goal
