@@ -1,4 +1,5 @@
--- Ranks of parts: heat passes from one part to another exactly where the rank of the first is not greater.
+-- The net of chains: ranks, of which the greater are reached, links and paths of links, which lead from part to part exactly where the two reach; and that it
+-- is small.
 use Rattle.chains.proofs.Words.{ALL_UTILITIES, All-append, All-cons, All-cons_if, All-contains, All-enumerated, All-flat_map, All-map, All-nil, All-slice_get}
 use Rattle.chains.proofs.Words.{All-weaker, AllPairs-head, AllPairs-tail, AllPass-from_list_all, Any-from_list_any, AreGroups, AreOnGrid, Case, Chains, Cold}
 use Rattle.chains.proofs.Words.{Contains-append_left, Contains-append_right, Contains-cons, Contains-flat_map, Contains-get_or, Contains-slice_get}

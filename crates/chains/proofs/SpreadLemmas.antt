@@ -1,4 +1,4 @@
--- Sums over lists that are written to or put in another order, and sums of terms that are not negative.
+-- A flow taken apart: its links set out as ways and shares, shares that pass on along ways, and the transfers in which they end; first sums over such lists.
 use Rattle.chains.proofs.Words.{All, All-append, All-cons, All-cons_if, All-contains, All-drop, All-head, All-nil, All-permutation, All-pop, All-push, All-set}
 use Rattle.chains.proofs.Words.{All-tail, All-weaker, AreGathered, AreOpen, Contains, HasPassed, HaveSetOut, IsBounded, IsCarried, IsFirstShare, IsFirstWay}
 use Rattle.chains.proofs.Words.{IsHeatOf, IsInner, IsInnerLink, IsNonDecreasingBy, IsPermutation, IsPermutation-keeps, IsShare, IsSpread, IsUnderWay, IsWay}
@@ -122,27 +122,28 @@ next_way ways next node are_open node_in some =
     let same = ap (slice_index next) from_is in
     record { within = within; from_is = from_is; some_left = are_open.undone index within (omega (arith, same)) }
 
--- the ways when one of them has another heat left
-abbrev pub with_left : List Way → ℕ → ℤ → List Way
-with_left ways index left = set ways index (record { from = (way_at ways index).from; to = (way_at ways index).to; left = left })
+-- the ways when one of them, as it is read, has another heat left
+abbrev pub with_left : List Way → ℕ → Way → ℤ → List Way
+with_left ways index way left = set ways index (record { from = way.from; to = way.to; left = left })
 
-module _ (ways : List Way) (index : ℕ) (left : ℤ) (within : index < length ways) where
-  with_left-here : way_at (with_left ways index left) index ≡ record { from = (way_at ways index).from; to = (way_at ways index).to; left = left }
-  with_left-here = get_or-set_at ways index index (record { from = (way_at ways index).from; to = (way_at ways index).to; left = left }) no_way refl within
+module _ (ways : List Way) (node index : ℕ) (way : Way) (left : ℤ) (is : IsNext ways node index) (read : way_at ways index ≡ way) where
+  with_left-here : way_at (with_left ways index way left) index ≡ record { from = way.from; to = way.to; left = left }
+  with_left-here = get_or-set_at ways index index (record { from = way.from; to = way.to; left = left }) no_way refl is.within
 
-  with_left-other : (k : ℕ) → k ≢ index → way_at (with_left ways index left) k ≡ way_at ways k
-  with_left-other k other = get_or-set_other ways index k (record { from = (way_at ways index).from; to = (way_at ways index).to; left = left }) no_way other
+  with_left-other : (k : ℕ) → k ≢ index → way_at (with_left ways index way left) k ≡ way_at ways k
+  with_left-other k other = get_or-set_other ways index k (record { from = way.from; to = way.to; left = left }) no_way other
 
-  same_from : (k : ℕ) → (way_at (with_left ways index left) k).from ≡ (way_at ways k).from
-  same_from k =
-      ⊎_elim (λ e. ap (λ n. (way_at (with_left ways index left) n).from) e ∙ (ap (λ (w : Way). w.from) with_left-here ∙ ap (λ n. (way_at ways n).from) (sym e)))
+  same_from : (k : ℕ) → (way_at (with_left ways index way left) k).from ≡ (way_at ways k).from
+  same_from k = ⊎_elim (λ e. ap (λ n. (way_at (with_left ways index way left) n).from) e
+      ∙ (ap (λ (w : Way). w.from) with_left-here ∙ ap (λ (w : Way). w.from) (sym read) ∙ ap (λ n. (way_at ways n).from) (sym e)))
       (λ other. ap (λ (w : Way). w.from) (with_left-other k other)) (cases_eq k index)
 
   -- the next way of the node has some heat left, or none, and then the one behind it is the next
-  pub AreOpen-carried : (next after : List ℕ) (node : ℕ) → AreOpen ways next → slice_index next node ≡ index → (way_at ways index).from ≡ node
-      → length after ≡ length next → ((u : ℕ) → u ≢ node → slice_index after u ≡ slice_index next u) → ((slice_index after node ≡ index) × (pos 0 <ℤ left))
-      ⊎ ((slice_index after node ≡ index + 1) × (left ≡ pos 0)) → AreOpen (with_left ways index left) after
-  AreOpen-carried next after node are_open at_next from_is long others here = record {
+  pub AreOpen-carried : (next after : List ℕ) → AreOpen ways next → slice_index next node ≡ index → length after ≡ length next
+      → ((u : ℕ) → u ≢ node → slice_index after u ≡ slice_index next u)
+      → ((slice_index after node ≡ index) × (pos 0 <ℤ left)) ⊎ ((slice_index after node ≡ index + 1) × (left ≡ pos 0))
+      → AreOpen (with_left ways index way left) after
+  AreOpen-carried next after are_open at_next long others here = record {
     rising = λ i j le j_in. let low = same_from i in let high = same_from j in let old = are_open.rising i j le (omega (arith, j_in, size)) in
         omega (arith, low, high, old);
     behind = λ v k v_in from k_in.
@@ -157,8 +158,8 @@ module _ (ways : List Way) (index : ℕ) (left : ℤ) (within : index < length w
         let some = are_open.undone k (omega (arith, k_in, size)) (omega (arith, at, grows, from)) in omega (arith, ints, is, some)) (cases_eq k index);
   }
     where
-      size : length (with_left ways index left) ≡ length ways
-      size = length-set ways index (record { from = (way_at ways index).from; to = (way_at ways index).to; left = left })
+      size : length (with_left ways index way left) ≡ length ways
+      size = length-set ways index (record { from = way.from; to = way.to; left = left })
 
       next_is : (slice_index after node ≡ index) ⊎ (slice_index after node ≡ index + 1)
       next_is = ⊎_elim (λ h. inl h.0) (λ h. inr h.0) here
@@ -175,37 +176,14 @@ module _ (ways : List Way) (index : ℕ) (left : ℤ) (within : index < length w
           ⊎_elim (λ h. omega (arith, one, two, h, at_next, early)) (λ h. omega (arith, one, two, h, at_next, early, other)) next_is)
           (λ apart. let same = others (way_at ways k).from apart in omega (arith, same, early)) (cases_eq (way_at ways k).from node)
 
-      after_here : (k : ℕ) → k ≡ index → slice_index after (way_at (with_left ways index left) k).from ≡ slice_index after node
-      after_here k e = ap (slice_index after) (same_from k ∙ (ap (λ n. (way_at ways n).from) e ∙ from_is))
+      after_here : (k : ℕ) → k ≡ index → slice_index after (way_at (with_left ways index way left) k).from ≡ slice_index after node
+      after_here k e = ap (slice_index after) (same_from k ∙ (ap (λ n. (way_at ways n).from) e ∙ is.from_is))
 
-      left_here : (k : ℕ) → k ≡ index → (way_at (with_left ways index left) k).left ≡ left
-      left_here k e = ap (λ n. (way_at (with_left ways index left) n).left) e ∙ ap (λ (w : Way). w.left) with_left-here
+      left_here : (k : ℕ) → k ≡ index → (way_at (with_left ways index way left) k).left ≡ left
+      left_here k e = ap (λ n. (way_at (with_left ways index way left) n).left) e ∙ ap (λ (w : Way). w.left) with_left-here
 
-      left_there : (k : ℕ) → k ≢ index → (way_at (with_left ways index left) k).left ≡ (way_at ways k).left
+      left_there : (k : ℕ) → k ≢ index → (way_at (with_left ways index way left) k).left ≡ (way_at ways k).left
       left_there k other = ap (λ (w : Way). w.left) (with_left-other k other)
-
--- the same for the way as it is read
-pub carried_open : (ways : List Way) (next after : List ℕ) (node index : ℕ) (way : Way) (left : ℤ) → AreOpen ways next → IsNext ways node index
-    → slice_index next node ≡ index → way_at ways index ≡ way → length after ≡ length next → ((u : ℕ) → u ≢ node → slice_index after u ≡ slice_index next u)
-    → ((slice_index after node ≡ index) × (pos 0 <ℤ left)) ⊎ ((slice_index after node ≡ index + 1) × (left ≡ pos 0))
-    → AreOpen (set ways index (record { from = way.from; to = way.to; left = left })) after
-carried_open ways next after node index way left are_open is at_next read long others here =
-    subst (λ (w : Way). AreOpen (set ways index (record { from = w.from; to = w.to; left = left })) after) read
-    (AreOpen-carried ways index left is.within next after node are_open at_next is.from_is long others here)
-
-pub carried_part : (ways : List Way) (node index : ℕ) (most : ℤ) (way : Way) (left heat : ℤ) → IsNext ways node index → way_at ways index ≡ way → pos 0 <ℤ heat
-    → heat ≤ℤ most → heat ≤ℤ way.left → left ≡ way.left -ℤ heat
-    → IsCarried ways (set ways index (record { from = way.from; to = way.to; left = left })) node most (record { from = way.from; to = way.to; left = heat })
-carried_part ways node index most way left heat is read positive limited spared left_is = record {
-  index = index;
-  within = is.within;
-  from_is = is.from_is;
-  to_is = ap (λ (w : Way). w.to) read;
-  positive = positive;
-  limited = limited;
-  spared = subst (λ (w : Way). heat ≤ℤ w.left) (sym read) spared;
-  is = ap₂ (λ (w : Way) z. set ways index (record { from = w.from; to = w.to; left = z })) (sym read) (left_is ∙ ap (λ (w : Way). w.left -ℤ heat) (sym read));
-}
 
 -- the heat that a way carries, as the code reads it
 pub record IsHeatOfWay (most left heat : ℤ) : Type 0 where
@@ -220,6 +198,21 @@ heat_of_way most left heat most_fits left_fits heat_fits some_most some_left is 
     let most_is = to_z-of_z w64 most most_fits in let left_is = to_z-of_z w64 left left_fits in let heat_is = to_z-of_z w64 heat heat_fits in
     let upto : to_z w64 (of_z w64 heat) ≤ℤ most = omega (arith, ints, clamps) in
     record { positive = omega (arith, ints, clamps); limited = upto; spared = omega (arith, ints, clamps); kept = omega (arith, ints, clamps) }
+
+pub carried_part : (ways : List Way) (node index : ℕ) (most : ℤ) (way : Way) (heat : ℤ) → IsNext ways node index → way_at ways index ≡ way
+    → IsHeatOfWay most way.left heat
+    → IsCarried ways (with_left ways index way (to_z w64 (of_z w64 (to_z w64 (of_z w64 way.left) -ℤ to_z w64 (of_z w64 heat))))) node most
+    (record { from = way.from; to = way.to; left = to_z w64 (of_z w64 heat) })
+carried_part ways node index most way heat is read h = record {
+  index = index;
+  within = is.within;
+  from_is = is.from_is;
+  to_is = ap (λ (w : Way). w.to) read;
+  positive = h.positive;
+  limited = h.limited;
+  spared = subst (λ (w : Way). to_z w64 (of_z w64 heat) ≤ℤ w.left) (sym read) h.spared;
+  is = ap₂ (with_left ways index) (sym read) (h.kept ∙ ap (λ (w : Way). w.left -ℤ to_z w64 (of_z w64 heat)) (sym read));
+}
 
 -- The heat of the links, set out as shares and ways.
 

@@ -1,4 +1,4 @@
--- The heat of streams below an actual temperature, and the ends of a side's streams.
+-- The heat of streams below an actual temperature, the ends of a side's streams, and curves, temperature after temperature.
 use Rattle.curves.proofs.Words.{Cold, HasLength-sensible, Hot, IsLatent, IsLength, IsSensible, IsSensibleHeat, IsStreamHeat, IsValidStream, Point, Side, Stream}
 use Rattle.curves.proofs.Words.{clamps, counts_above, filter-append, flat_map-append, heat-between, heat_under, higher_temperature, if_between, if_zero, ints}
 use Rattle.curves.proofs.Words.{is_hot, length_below, load_under, lower_temperature, same_side, sensible_below, take_more, temperatures_of}

@@ -1,4 +1,5 @@
--- The arcs of a net, and what an amount sent along an arc, or along a path, keeps and changes.
+-- The arcs of a net, and what an amount sent along an arc, or along a path, keeps and changes; what stands while it is routed; and the paths of searches
+-- and level graphs.
 use Rattle.flow_net.proofs.Words.{All, All-cons, All-head, All-nil, All-permutation, All-tail, All-weaker, Arc, AreApart, AreOpenings, AreProofOfLeast}
 use Rattle.flow_net.proofs.Words.{CanCarry, HasArrived, IsArc, IsBottleneck, IsCost, IsFreeArc, IsFreePath, IsOpening, IsPermutation-reverse, IsPermutation-sym}
 use Rattle.flow_net.proofs.Words.{IsPotential, IsPriced, IsProblem, IsResidualArc, IsStanding, IsTree, IsTreeArc, IsTreePath, IsWalk, IsWithinLimits}

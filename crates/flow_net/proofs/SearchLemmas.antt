@@ -1,4 +1,4 @@
--- A search as it begins, as a node is reached, and as a label is given.
+-- A search as it begins, as a node is reached, and as a label is given; its queue; the potentials that it raises; and the cut that it leaves where it is stuck.
 use Rattle.flow_net.proofs.Words.{All, All-append, All-cons, All-contains, All-head, All-map, All-nil, All-permutation, All-tail, All-weaker, Arc, AreBounded}
 use Rattle.flow_net.proofs.Words.{AreProofOfLeast, Contains, Contains-append_right, Contains-cons, Contains-permutation, HasArrived, HasQueue, Improves, IsArc}
 use Rattle.flow_net.proofs.Words.{IsAt, IsClosedAt, IsCutBelow, IsFreeArc, IsNext, IsPermutation, IsPermutation-append_right, IsPermutation-middle}

@@ -1,4 +1,4 @@
--- Parts as views see them: which views a part stands above, and the last view that it does not.
+-- What parts and their uses are worth at step prices: the views that a part stands above, worths of heat, the step prices of cold parts, and sums by sources.
 use Rattle.price_floor.proofs.Words.{All-cons, All-contains, All-contains_itself, All-enumerated, All-head, All-nil, All-slice_get, All-tail, All-weaker}
 use Rattle.price_floor.proofs.Words.{AllPairs-cons_if, AllPairs-head, AllPairs-nil, AllPairs-tail, AreAtMost, AreFalling, AreOrderedPrices, Case}
 use Rattle.price_floor.proofs.Words.{Contains-append_right, Contains-cons, Decides-int_eq, FallTo, HoldsPlaces, IsAtMost, IsInterval, IsSourceOf, IsValidStream}

@@ -1,4 +1,4 @@
--- The heat of a stream over a shifted temperature, against its whole heat.
+-- The heat of a stream over a shifted temperature, against its whole heat; deficits and targets; pinches; and the place of the reference.
 use Rattle.problem_table.proofs.Words.{*ℤ-zero, *ℤ-≤ℤ_left, All-contains, All-push, All-weaker, AreEnds-IsValidStream, AreSensible, AreStreams, Cold}
 use Rattle.problem_table.proofs.Words.{Contains-append_left, Contains-append_right, Contains-get_or, CountsFromItself, Decides, Decides-not, FindsHighestTight}
 use Rattle.problem_table.proofs.Words.{HasTightDeficit, HasValidStreams, Hot, IsBetween, IsLatent, IsPinch, IsReferencePlace, IsSensible, IsStreamsHeat}

@@ -23,9 +23,9 @@ here c most fits =
 
 pub add_share-requires : goal.add_share-requires
 add_share-requires c =
-    let items = c.deref-share-items.result.now in let i = c.loop-share.share-index in
+    let items = c.deref-share-items.result.now in let i = c.loop-share.share-index in let transfers = c.loop-share.transfers.items in
     let at = here (goal.at.add_share-requires c).In-loop-share _ c.requires.fits in
-    let fits = room_for_it c.args.hots _ items i (get_or items i no_share) at c.loop-share.transfers.items c.loop-share.transfers.items c.loop-share.invariant in
+    let fits = room_for_it c.args.hots _ items i (get_or items i no_share) at transfers transfers c.loop-share.invariant in
     record { at_cold = at.at_cold; positive = at.some; fits = fits }
 
 pub loop-share-preserved : goal.loop-share-preserved
