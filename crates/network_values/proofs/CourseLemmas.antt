@@ -1,10 +1,10 @@
 -- Heights and shares of mixes, and on the course of a stream.
 use Rattle.network_values.proofs.Words.{Between, BranchValue, Course, HasDuty, IsAtMost, IsBelow, IsBetweenValues, IsMix, Latent, Level, MixesLoseHeight}
 use Rattle.network_values.proofs.Words.{PassesTakeShares, Rational, Sensible, SharesRise, SideRun, at_most-minus_minus, at_most-plus_plus, at_most-times_left}
-use Rattle.network_values.proofs.Words.{at_most_from_below, at_most_from_same, at_most_refl, height, height_above, height_on, high_of, is_above, low_of, minus}
+use Rattle.network_values.proofs.Words.{at_most_from_below, at_most_from_same, at_most_refl, height, height_above, height_on, high_of, low_of, minus}
 use Rattle.network_values.proofs.Words.{minus-interchange, minus-minus_same, minus-self, not_negative-plus, not_negative-times, plus, plus-times, plus-zero}
 use Rattle.network_values.proofs.Words.{positive-plus, positive_part, rational_zero, seen_from, share, side_on, subst₂, times, times-minus}
-use Rattle.std.proofs.Common.{Bool, ap, ap₂, arith, false, if◌then◌else◌, refl, subst, sym, true, ◌∙◌, ◌≡◌}
+use Rattle.std.proofs.Common.{Bool, ap, ap₂, arith, false, subst, sym, true, ◌∙◌, ◌≡◌}
 use Rattle.network_values.proofs.HeightLemmas.{at_most-positive_part, not_negative-positive_part, positive_part-least, times-positive_part}
 use Rattle.network_values.proofs.ShareLemmas.{HasDuty-seen, high_of-seen, hot_share_at_least, is_above-itself, low_of-seen}
 
@@ -42,22 +42,14 @@ has_duty-on (Latent distance) duty low high between = tt
 takes-on : (from_itself : Bool) (course : Course) (duty : Rational) (low high : BranchValue) → IsBetweenValues duty low high
     → minus (height_on from_itself course high) (height_on from_itself course low) ≡ share from_itself duty (side_on course low high)
 takes-on from_itself (Sensible base) duty low high between = ap (λ f. minus (height high.cp (minus high.t base)) (height f (minus low.t base))) between.size
-takes-on from_itself (Latent distance) duty low high between = by (is_above from_itself distance)
-  where
-    by : (b : Bool) → minus (if b then times high.cp high.t else rational_zero)
-        (if b then times low.cp low.t else rational_zero) ≡ (if b then duty else rational_zero)
-    by true = ap (λ f. minus (times high.cp high.t) (times f low.t)) between.size ∙ sym (times-minus high.cp high.t low.t) ∙ between.gives
-    by false = minus-self rational_zero
+takes-on from_itself (Latent distance) duty low high between =
+    grind (arith, between.size, times-minus high.cp high.t low.t, between.gives, minus-self rational_zero)
 
 pub height_on-mixed : (from_itself : Bool) (course : Course) (first second to : BranchValue) → IsBelow rational_zero first.cp → IsBelow rational_zero second.cp
     → IsMix first second to → IsAtMost (height_on from_itself course to) (plus (height_on from_itself course first) (height_on from_itself course second))
 height_on-mixed from_itself (Sensible base) first second to some other mix = mixes_lose.mixes base first second to some other mix
-height_on-mixed from_itself (Latent distance) first second to some other mix = by (is_above from_itself distance)
-  where
-    by : (b : Bool) → IsAtMost (if b then times to.cp to.t else rational_zero)
-        (plus (if b then times first.cp first.t else rational_zero) (if b then times second.cp second.t else rational_zero))
-    by true = at_most_from_same (times to.cp to.t) (plus (times first.cp first.t) (times second.cp second.t)) mix.heat
-    by false = at_most_from_same rational_zero (plus rational_zero rational_zero) (sym (plus-zero rational_zero))
+height_on-mixed from_itself (Latent distance) first second to some other mix =
+    grind (arith, at_most_from_same, at_most_refl, mix.heat, plus-zero rational_zero)
 
 pub height_on-additive : (from_itself : Bool) (course : Course) (f g t : Rational)
     → height_on from_itself course (record { cp = plus f g; t = t }) ≡ plus (height_on from_itself course (record { cp = f; t = t }))
@@ -83,15 +75,8 @@ share-lower from_itself place other duty side positive has lower =
 
 share-itself : (duty : Rational) (side : SideRun) → IsBelow rational_zero duty → IsAtMost (share false duty side) (share true duty side)
 share-itself duty (Between size low high) positive = at_most_refl (share false duty (Between size low high))
-share-itself duty (Level at) positive = by (is_above false at) refl
-  where
-    by : (b : Bool) → is_above false at ≡ b → IsAtMost (if b then duty else rational_zero) (share true duty (Level at))
-    by true above = at_most_from_same duty (share true duty (Level at)) (ap (λ b. if b then duty else rational_zero) (sym (is_above-itself at above)))
-    by false other = either (is_above true at)
-      where
-        either : (c : Bool) → IsAtMost rational_zero (if c then duty else rational_zero)
-        either true = at_most_from_below rational_zero duty positive
-        either false = at_most_refl rational_zero
+share-itself duty (Level at) positive =
+    grind (arith, is_above-itself at, at_most_refl, at_most_from_below rational_zero duty positive)
 
 pub shares_rise : SharesRise
 shares_rise = record { lower = share-lower; itself = share-itself }

@@ -1,7 +1,7 @@
 -- The positive part of a number.
 use Rattle.network_values.proofs.Words.{IsAtMost, IsBelow, Rational, at_most-times_left, at_most_antisymm, at_most_from_below, at_most_refl, at_most_trans}
 use Rattle.network_values.proofs.Words.{below_or_at_most, is_below-ranks, not_negative-times, positive_part, rational_zero, times, times-zero}
-use Rattle.std.proofs.Common.{ap, arith, inl, inr, subst, sym, ⊎_elim, ◌∙◌, ◌≡◌, ◌⊎◌}
+use Rattle.std.proofs.Common.{arith, subst, sym, ⊎_elim, ◌∙◌, ◌≡◌}
 
 -- of what is above 0 it is all, and of what is below 0 nothing
 pub positive_part-above : (x : Rational) → IsAtMost rational_zero x → positive_part x ≡ x
@@ -34,10 +34,7 @@ positive_part-at_most x y more = positive_part-least x (positive_part y) (not_ne
 
 -- a factor that is not negative goes into it
 pub times-positive_part : (f x : Rational) → IsAtMost rational_zero f → times f (positive_part x) ≡ positive_part (times f x)
-times-positive_part f x some = by (below_or_at_most rational_zero x)
-  where
-    by : IsBelow rational_zero x ⊎ IsAtMost x rational_zero → times f (positive_part x) ≡ positive_part (times f x)
-    by (inl above) = let at_least = at_most_from_below rational_zero x above in
-        ap (times f) (positive_part-above x at_least) ∙ sym (positive_part-above (times f x) (not_negative-times f x some at_least))
-    by (inr less) = ap (times f) (positive_part-below x less) ∙ times-zero f ∙ sym (positive_part-below (times f x)
-        (subst (IsAtMost (times f x)) (times-zero f) (at_most-times_left f x rational_zero some less)))
+times-positive_part f x some = positive_part-cases (λ y. times f y ≡ positive_part (times f x)) x
+    (λ above. sym (positive_part-above (times f x) (not_negative-times f x some (at_most_from_below rational_zero x above))))
+    (λ less. times-zero f ∙ sym (positive_part-below (times f x) (subst (IsAtMost (times f x)) (times-zero f)
+    (at_most-times_left f x rational_zero some less))))

@@ -6,8 +6,8 @@ use Rattle.network_values.proofs.Words.{count-passages, declared_parts, enumerat
 use Rattle.network_values.proofs.Words.{option_map_or, outlet_height, pass_loss, pass_of, plus, plus-zero, range_with_len, rational_sum_by, rational_zero}
 use Rattle.network_values.proofs.Words.{same_Some, side_of, slice_get-append, slice_get-get_or, slice_get_within, stands_at, stream_at, zero-plus}
 use Rattle.network_values.proofs.WholeLemmas.{All-range}
-use Rattle.std.proofs.Common.{Bool, Option, Some, ap, ap₂, arith, count_by, drop, eq-eqb, false, find, get_or, if◌then◌else◌, inl, inr, length, ne_eqb}
-use Rattle.std.proofs.Common.{refl, slice_get, subst, suc, sym, take, true, ℕ, ◌&&◌, ◌++◌, ◌<◌, ◌==◌, ◌∙◌, ◌∷◌, ◌≡◌, ◌≢◌, ◌⊎◌}
+use Rattle.std.proofs.Common.{Option, Some, ap, ap₂, arith, count_by, drop, eq-eqb, false, find, get_or, if◌then◌else◌, inl, inr, length, ne_eqb}
+use Rattle.std.proofs.Common.{refl, slice_get, subst, suc, sym, take, ℕ, ◌&&◌, ◌++◌, ◌<◌, ◌==◌, ◌∙◌, ◌∷◌, ◌≡◌, ◌≢◌, ◌⊎◌}
 use Rattle.networks.specs.declared.network.Line.TheVariants as line
 use Rattle.stream_case.specs.declared.source.Side.TheVariants as side
 use Rattle.stream_case.specs.declared.source.Source.TheVariants as source
@@ -15,13 +15,9 @@ use Rattle.stream_case.specs.declared.source.Source.TheVariants as source
 -- a sum with one term that is not 0
 sum-single : (c : Rational) (k n : ℕ) → k < n → rational_sum_by (λ i. if i == k then c else rational_zero) (range_with_len 0 n) ≡ c
 sum-single c k n within = let f = λ (i : ℕ). if i == k then c else rational_zero in
-    let others : (i : ℕ) → i < n → but_at f k i ≡ rational_zero = λ i inside. other i (i == k) in
+    let others : (i : ℕ) → i < n → but_at f k i ≡ rational_zero = λ i inside. grind arith in
     one_taken f k 0 n (omega arith) (omega (arith, within)) ∙ ap₂ plus (ap (λ b. if b then c else rational_zero) (eq-eqb k k refl))
     (rational_sum_by-zero (but_at f k) (range_with_len 0 n) (All-range (λ i. but_at f k i ≡ rational_zero) n others)) ∙ plus-zero c
-  where
-    other : (i : ℕ) (b : Bool) → (if b then rational_zero else (if b then c else rational_zero)) ≡ rational_zero
-    other i true = refl
-    other i false = refl
 
 -- the two sides of an exchanger are two sources
 sides_differ : (case : Case) (e : Exchanger) → IsExchanger case e → (i : ℕ) → e.hot ≡ source.Stream i → e.cold ≡ source.Stream i → ⊥

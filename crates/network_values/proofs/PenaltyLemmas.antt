@@ -12,10 +12,10 @@ use Rattle.network_values.proofs.PassLemmas.{passes_by_side, side_taken, sides_t
 use Rattle.network_values.proofs.StreamStates.{full_size-latent, full_size-sensible}
 use Rattle.network_values.proofs.WeightLemmas.{weight_balance}
 use Rattle.network_values.proofs.WholeHeights.{height_lost, level_counts}
-use Rattle.network_values.specs.Penalties.{IsReferenceView, PenaltiesAddUp, PenaltiesAreTheExcess, StreamsGiveTheirHeat, absorbed_heat, base_of, course_of}
+use Rattle.network_values.specs.Penalties.{IsReferenceView, PenaltiesAddUp, PenaltiesAreTheExcess, StreamsGiveTheirHeat, absorbed_heat, base_of}
 use Rattle.network_values.specs.Penalties.{given_by, height_at, heights, hot_duty, hot_heat, mix_penalties, penalty, released_heat, stream_height}
 use Rattle.network_values.specs.Penalties.{utility_part}
-use Rattle.std.proofs.Common.{Bool, List, None, Option, Some, ap, ap₂, arith, false, if◌then◌else◌, inl, inr, pos, refl, slice_get, sym, true, ℕ, ℤ, ⊎_elim}
+use Rattle.std.proofs.Common.{Bool, List, ap, ap₂, arith, false, if◌then◌else◌, inl, inr, pos, refl, sym, true, ℕ, ℤ, ⊎_elim}
 use Rattle.std.proofs.Common.{◌*ℤ◌, ◌+ℤ◌, ◌-ℤ◌, ◌↔◌, ◌∙◌, ◌≡◌}
 use Rattle.stream_case.specs.Stream.{AreStreams, heat_over, load_over, sensible_above}
 use Rattle.stream_case.specs.declared.source.Side.TheVariants as side
@@ -89,12 +89,7 @@ streams_given case view streams = let hot = heat_beside side.Hot view in let col
 
 pub heights-additive : (case : Case) (view : View) → IsAdditive (heights case view)
 unfolding heights
-heights-additive case view i f g t = by (slice_get case.streams i)
-  where
-    by : (o : Option Stream) → stream_height view o (record { cp = plus f g; t = t })
-        ≡ plus (stream_height view o (record { cp = f; t = t })) (stream_height view o (record { cp = g; t = t }))
-    by None = sym (plus-zero rational_zero)
-    by (Some s) = height_on-additive view.from_itself (course_of view.place s) f g t
+heights-additive case view i f g t = grind (arith, plus-zero rational_zero, height_on-additive)
 
 -- ---- penalties by the two sides
 

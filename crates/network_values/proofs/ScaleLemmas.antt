@@ -43,18 +43,15 @@ unshifted-once : (on : Side) (place c : ℤ) → place +ℤ unshifted on (pos 0)
 unshifted-once side.Hot place c = omega (arith, ints)
 unshifted-once side.Cold place c = omega (arith, ints)
 
+seen_at : (on : Side) (place c : ℤ) (t : Rational) → minus (minus t (whole (unshifted on (pos 0) c))) (whole place) ≡ minus t (whole (unshifted on place c))
+seen_at on place c t = minus_twice t (whole (unshifted on (pos 0) c)) (whole place)
+    ∙ ap (minus t) (whole-plus place (unshifted on (pos 0) c) ∙ ap whole (unshifted-once on place c))
+
 -- from a place of the shifted scale a source is seen less the place unshifted
 seen-again : (on : Side) (place c : ℤ) (run : SideRun)
     → seen_from (whole place) (seen_from (whole (unshifted on (pos 0) c)) run) ≡ seen_from (whole (unshifted on place c)) run
-seen-again on place c run = by run
-  where
-    at : (t : Rational) → minus (minus t (whole (unshifted on (pos 0) c))) (whole place) ≡ minus t (whole (unshifted on place c))
-    at t = minus_twice t (whole (unshifted on (pos 0) c)) (whole place)
-        ∙ ap (minus t) (whole-plus place (unshifted on (pos 0) c) ∙ ap whole (unshifted-once on place c))
-
-    by : (run : SideRun) → seen_from (whole place) (seen_from (whole (unshifted on (pos 0) c)) run) ≡ seen_from (whole (unshifted on place c)) run
-    by (Between size low high) = ap₂ (λ a b. Between size a b) (at low) (at high)
-    by (Level t) = ap Level (at t)
+seen-again on place c (Between size low high) = ap₂ (λ a b. Between size a b) (seen_at on place c low) (seen_at on place c high)
+seen-again on place c (Level t) = ap Level (seen_at on place c t)
 
 -- ---- the values before and behind a pass
 

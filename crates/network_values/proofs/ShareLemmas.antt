@@ -2,14 +2,14 @@
 use Rattle.network_values.proofs.Words.{All-weaker, Between, Decides-is_below, Decides-is_le, HasDuty, IsAtMost, IsBelow, Level, Rational, SideRun}
 use Rattle.network_values.proofs.Words.{at_most-minus_minus, at_most-plus_plus, at_most-times, at_most-times_left, at_most_from_below, at_most_from_not_below}
 use Rattle.network_values.proofs.Words.{at_most_from_same, at_most_refl, at_most_trans, below_at_most_trans, below_from_positive, below_not_at_most}
-use Rattle.network_values.proofs.Words.{below_not_same, below_or_at_most, false≢true, height, high_of, is_above, is_below, low_of, minus, minus-minus_same}
+use Rattle.network_values.proofs.Words.{below_not_same, below_or_at_most, false≢true, height, high_of, is_above, low_of, minus, minus-minus_same}
 use Rattle.network_values.proofs.Words.{minus-self, minus-zero, not_negative-minus, plus, plus-minus, positive-minus, positive-nonzero, positive_factor}
 use Rattle.network_values.proofs.Words.{rational_zero, seen_from, share, subst₂, times, times-minus, times-turned, times-zero, times_swap}
 use Rattle.fractions.proofs.Products.{over_from_times}
 use Rattle.fractions.proofs.RationalSums.{at_most-rational_sum_by}
 use Rattle.network_values.proofs.HeightLemmas.{positive_part-above, positive_part-at_most, positive_part-below}
 use Rattle.network_values.specs.Heights.{HotSharesAreAtLeastColdShares, IsNowhereBelow, IsPart, PricedSharesAreOrdered, SharesAreParts}
-use Rattle.std.proofs.Common.{Bool, ap, ap₂, false, if◌then◌else◌, inl, inr, refl, subst, sym, true, ◌∙◌, ◌≡◌, ◌⊎◌}
+use Rattle.std.proofs.Common.{Bool, ap, ap₂, arith, false, if◌then◌else◌, inl, inr, refl, subst, sym, true, ◌∙◌, ◌≡◌, ◌⊎◌}
 
 -- ---- flows: above the place, below it, and across it
 
@@ -67,11 +67,7 @@ is_above-false : (from_itself : Bool) (at : Rational) → is_above from_itself a
 is_above-false from_itself at fails = at_most_from_not_below rational_zero at (λ above. false≢true (sym fails ∙ is_above-above from_itself at above))
 
 is_above-below : (from_itself : Bool) (at : Rational) → IsBelow at rational_zero → is_above from_itself at ≡ false
-is_above-below from_itself at below = by (is_above from_itself at) refl
-  where
-    by : (b : Bool) → is_above from_itself at ≡ b → b ≡ false
-    by true passes = absurd (below_not_at_most at rational_zero below (is_above-true from_itself at passes))
-    by false fails = refl
+is_above-below from_itself at below = grind (arith, is_above-true from_itself at, below_not_at_most at rational_zero below)
 
 pub is_above-higher : (from_itself : Bool) (at other : Rational) → IsAtMost at other → is_above from_itself at ≡ true → is_above from_itself other ≡ true
 is_above-higher true at other more passes = (Decides-is_le rational_zero other).1
@@ -86,11 +82,7 @@ is_above-itself at passes = is_above-above true at ((Decides-is_below rational_z
 -- a level at the place itself
 is_above-at : (from_itself : Bool) (at : Rational) → at ≡ rational_zero → is_above from_itself at ≡ from_itself
 is_above-at true at same = (Decides-is_le rational_zero at).1 (at_most_from_same rational_zero at (sym same))
-is_above-at false at same = by (is_below rational_zero at) refl
-  where
-    by : (b : Bool) → is_below rational_zero at ≡ b → b ≡ false
-    by true passes = absurd (below_not_same rational_zero at ((Decides-is_below rational_zero at).0 passes) (sym same))
-    by false fails = refl
+is_above-at false at same = grind (arith, Decides-is_below rational_zero at, below_not_same rational_zero at)
 
 -- ---- shares of a duty, by distances
 
@@ -114,13 +106,9 @@ module _ (from_itself : Bool) (duty : Rational) (positive : IsBelow rational_zer
     below = λ upto other. ap (λ b. if b then duty else rational_zero) (is_above-below from_itself at other);
     across = λ upto other. absurd (below_not_at_most rational_zero at other upto);
     itself = λ here other. ap (λ b. if b then duty else rational_zero) (is_above-at from_itself at here);
-    least = (bounds (is_above from_itself at)).0;
-    most = (bounds (is_above from_itself at)).1;
+    least = grind (arith, at_most_refl rational_zero, at_most_from_below rational_zero duty positive);
+    most = grind (arith, at_most_refl duty, at_most_from_below rational_zero duty positive);
   }
-    where
-      bounds : (b : Bool) → IsAtMost rational_zero (if b then duty else rational_zero) × IsAtMost (if b then duty else rational_zero) duty
-      bounds true = (at_most_from_below rational_zero duty positive, at_most_refl duty)
-      bounds false = (at_most_refl rational_zero, at_most_from_below rational_zero duty positive)
 
   -- all of the duty on the hot side, or nothing on the cold one
   whole_or_nothing : (hot cold : SideRun) → HasDuty duty hot → HasDuty duty cold
@@ -190,12 +178,8 @@ module _ (from_itself : Bool) (duty : Rational) (positive : IsBelow rational_zer
           whole_or_nothing (Level at) (Between h cold_low cold_high) of_hot of_cold
           (inr (flow-below h cold_low cold_high (at_most_trans cold_low at rational_zero order.low upto)
           (at_most_trans cold_high at rational_zero order.high upto)))
-  hot_share_at_least (Level at) (Level other) of_hot of_cold order = by (is_above from_itself other) refl
-    where
-      by : (b : Bool) → is_above from_itself other ≡ b → IsAtMost (share from_itself duty (Level other)) (share from_itself duty (Level at))
-      by true passes = whole_or_nothing (Level at) (Level other) of_hot of_cold
-          (inl (ap (λ b. if b then duty else rational_zero) (is_above-higher from_itself other at order.high passes)))
-      by false fails = whole_or_nothing (Level at) (Level other) of_hot of_cold (inr (ap (λ b. if b then duty else rational_zero) fails))
+  hot_share_at_least (Level at) (Level other) of_hot of_cold order =
+      grind (arith, is_above-higher from_itself other at order.high, at_most_refl, at_most_from_below rational_zero duty positive)
 
 -- ---- the same at every place
 

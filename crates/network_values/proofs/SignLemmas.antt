@@ -1,5 +1,5 @@
 -- No penalty is negative, and the targets are met.
-use Rattle.network_values.proofs.Words.{All-append, All-map, Case, Exchanger, HasShape, IsAtMost, IsBelow, IsExchanger, IsOfOneStream, IsWholeValuation}
+use Rattle.network_values.proofs.Words.{All-append, All-map, Case, Exchanger, HasShape, IsAtMost, IsBelow, IsOfOneStream, IsWholeValuation}
 use Rattle.network_values.proofs.Words.{KeepApproaches, KeepsApproach, Line, Network, Rational, RunsOnOneScale, Solves, Source, Valuation, View}
 use Rattle.network_values.proofs.Words.{at_most_from_below, at_most_from_not_negative, at_most_from_same, at_most_refl, at_most_trans, deficit_over}
 use Rattle.network_values.proofs.Words.{end_deficits, exchangers_of, fold-int_max_reached, hot_target, mix_loss, not_negative-minus, not_negative-plus, plus}
@@ -77,16 +77,12 @@ deficits_met case network values view streams shape whole_values ended apart =
 
 -- ---- the targets
 
-hot_heat-least : (case : Case) (network : Network) → HasShape case network → IsAtMost rational_zero (hot_heat network)
-hot_heat-least case network shape = not_negative-rational_sum_by hot_duty (exchangers_of network.lines)
-    (λ k d within. of_source (get_or (exchangers_of network.lines) k d) (shape.exchangers.each k d within))
-  where
-    by : (duty : Rational) → IsBelow rational_zero duty → (s : Source) → IsAtMost rational_zero (utility_part duty s)
-    by duty positive (source.Stream i) = at_most_refl rational_zero
-    by duty positive (source.Utility i) = at_most_from_below rational_zero duty positive
+utility_part-least : (duty : Rational) → IsBelow rational_zero duty → (s : Source) → IsAtMost rational_zero (utility_part duty s)
+utility_part-least duty positive s = grind (arith, at_most_refl, at_most_from_below rational_zero duty positive)
 
-    of_source : (e : Exchanger) → IsExchanger case e → IsAtMost rational_zero (hot_duty e)
-    of_source e valid = by e.duty (positive-is e.duty valid.duty.above) e.hot
+hot_heat-least : (case : Case) (network : Network) → HasShape case network → IsAtMost rational_zero (hot_heat network)
+hot_heat-least case network shape = not_negative-rational_sum_by hot_duty (exchangers_of network.lines) (λ k d within.
+    let e = get_or (exchangers_of network.lines) k d in utility_part-least e.duty (positive-is e.duty (shape.exchangers.each k d within).duty.above) e.hot)
 
 -- the hot target is 0, or one of both deficits at some end
 pub targets_met : TargetsAreMet

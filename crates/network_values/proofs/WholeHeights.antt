@@ -1,11 +1,11 @@
 -- Heights of whole numbers, and levels that count as above a place.
 use Rattle.network_values.proofs.Words.{*ℤ--ℤ, Decides-is_below, Decides-is_le, IsLatent, Side, Stream, at_most-whole, at_most_from_not_negative, below-whole}
 use Rattle.network_values.proofs.Words.{below_from_positive, by_lt_z, clamps, counts_above, height, high_end, int_le-from, int_le-true, int_lt-from}
-use Rattle.network_values.proofs.Words.{int_lt-true, int_max, ints, is_above, is_below, is_hot, is_le, minus, not_negative-minus, positive-minus}
+use Rattle.network_values.proofs.Words.{int_lt-true, int_max, ints, is_above, is_below, is_le, minus, not_negative-minus, positive-minus}
 use Rattle.network_values.proofs.Words.{positive_part, rational_cmp, rational_zero, same_from_decides, shifted, times, whole, whole-minus, whole-times}
 use Rattle.network_values.proofs.HeightLemmas.{positive_part-above, positive_part-below}
 use Rattle.network_values.specs.Penalties.{base_of, unshifted}
-use Rattle.std.proofs.Common.{Bool, ap, ap₂, arith, false, if◌then◌else◌, int_le, int_lt, pos, refl, sym, true, ℤ, ◌*ℤ◌, ◌-ℤ◌, ◌∙◌, ◌≡◌}
+use Rattle.std.proofs.Common.{Bool, ap, ap₂, arith, false, int_le, int_lt, pos, sym, true, ℤ, ◌*ℤ◌, ◌-ℤ◌, ◌∙◌, ◌≡◌}
 use Rattle.stream_case.specs.declared.source.Side.TheVariants as side
 
 whole_positive_part : (n : ℤ) → positive_part (whole n) ≡ whole (int_max n (pos 0))
@@ -45,11 +45,7 @@ counts_above-unshifted true side.Hot place level c = grind (arith, ints)
 counts_above-unshifted from_itself on place level c = grind (arith, ints)
 
 high_end-latent : (s : Stream) → IsLatent s → shifted s.side s.supply s.contribution ≡ high_end s
-high_end-latent s h = by s.side
-  where
-    by : (on : Side) → shifted on s.supply s.contribution ≡ shifted on (if is_hot on then s.supply else s.target) s.contribution
-    by side.Hot = refl
-    by side.Cold = ap (λ t. shifted side.Cold t s.contribution) h.level
+high_end-latent s h = grind (arith, h.level)
 
 -- the level of a latent stream, by its distance and by its shifted temperature
 pub level_counts : (from_itself : Bool) (place : ℤ) (s : Stream) → IsLatent s
