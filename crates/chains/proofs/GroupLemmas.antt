@@ -1,4 +1,4 @@
--- Lists of exactly the values that meet a predicate, each once: one value more, and what a loop over such a list keeps; so the sources of a side, and the groups.
+-- Lists of exactly the values that meet a predicate, each once: one value more, and what a loop over such a list keeps; the sources of a side, and groups.
 use Rattle.chains.proofs.Words.{ALL_UTILITIES, All, All-append, All-cons_if, All-contains, All-enumerated, All-flat_map, All-nil, All-push, All-slice_get}
 use Rattle.chains.proofs.Words.{All-weaker, AllPairs, AllPairs-append, AllPairs-before, AllPairs-cons_if, AllPairs-nil, Any, Any-push, AreGroups, AreSources}
 use Rattle.chains.proofs.Words.{AreStreams-IsComplete, Case, Cold, Contains, Contains-append_left, Contains-append_right, Contains-flat_map, Contains-push}

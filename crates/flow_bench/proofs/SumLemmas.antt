@@ -7,11 +7,15 @@ use Rattle.std.proofs.Common.{◌<◌, ◌==◌, ◌∙◌, ◌≡◌, ◌≢◌
 
 -- what leaves node v by the first n links less what enters it by them
 abbrev pub surplus_below : List Link → List ℤ → ℕ → ℕ → ℤ
-surplus_below links flow n v = sum_below n (λ k. when ((link_at links k).from == v) (flow_on flow k)) -ℤ sum_below n (λ k. when ((link_at links k).to == v) (flow_on flow k))
+surplus_below links flow n v = sum_below n (λ k. when ((link_at links k).from == v) (flow_on flow k))
+    -ℤ sum_below n (λ k. when ((link_at links k).to == v) (flow_on flow k))
 
 -- an amount more at node i
-pub added : (surpluses : List ℤ) (i v : ℕ) (x : ℤ) → i < length surpluses → surplus_at (set surpluses i (surplus_at surpluses i +ℤ x)) v ≡ surplus_at surpluses v +ℤ when (i == v) x
-added surpluses i v x within = set_cases surpluses i (surplus_at surpluses i +ℤ x) (pos 0) within (λ u z. z ≡ surplus_at surpluses u +ℤ when (i == u) x) (rw (eq-eqb i i refl) refl) (λ u ne. rw (ne_eqb i u (λ e. ne (sym e))) (omega (arith, ints))) v
+pub added : (surpluses : List ℤ) (i v : ℕ) (x : ℤ) → i < length surpluses → surplus_at (set surpluses i (surplus_at surpluses i +ℤ x)) v
+    ≡ surplus_at surpluses v +ℤ when (i == v) x
+added surpluses i v x within =
+    set_cases surpluses i (surplus_at surpluses i +ℤ x) (pos 0) within (λ u z. z ≡ surplus_at surpluses u +ℤ when (i == u) x) (rw (eq-eqb i i refl) refl)
+    (λ u ne. rw (ne_eqb i u (λ e. ne (sym e))) (omega (arith, ints))) v
 
 -- a sum of numbers within a bound
 pub sum_within : (n m : ℕ) (f : ℕ → ℤ) → ((k : ℕ) → k < n → unsigned_abs (f k) ≤ m) → unsigned_abs (sum_below n f) ≤ n * m
@@ -22,11 +26,14 @@ sum_within (suc n) m f h =
     omega (arith, sizes, before, here)
 
 -- a link more
-pub surplus_below-more : (links : List Link) (flow : List ℤ) (n v : ℕ) → surplus_below links flow (n + 1) v ≡ surplus_below links flow n v +ℤ (when ((link_at links n).from == v) (flow_on flow n) -ℤ when ((link_at links n).to == v) (flow_on flow n))
+pub surplus_below-more : (links : List Link) (flow : List ℤ) (n v : ℕ) → surplus_below links flow (n + 1) v
+    ≡ surplus_below links flow n v +ℤ (when ((link_at links n).from == v) (flow_on flow n) -ℤ when ((link_at links n).to == v) (flow_on flow n))
 surplus_below-more links flow n v = rw add-one (omega (arith, ints))
 
 -- two amounts at the ends of a link
-pub carried : (surpluses : List ℤ) (from to v : ℕ) (x : ℤ) → from < length surpluses → to < length surpluses → let once = set surpluses from (surplus_at surpluses from +ℤ x) in surplus_at (set once to (surplus_at once to +ℤ (pos 0 -ℤ x))) v ≡ surplus_at surpluses v +ℤ (when (from == v) x -ℤ when (to == v) x)
+pub carried : (surpluses : List ℤ) (from to v : ℕ) (x : ℤ) → from < length surpluses → to < length surpluses
+    → let once = set surpluses from (surplus_at surpluses from +ℤ x) in surplus_at (set once to (surplus_at once to +ℤ (pos 0 -ℤ x))) v
+    ≡ surplus_at surpluses v +ℤ (when (from == v) x -ℤ when (to == v) x)
 carried surpluses from to v x from_in to_in =
     let once = set surpluses from (surplus_at surpluses from +ℤ x) in
     let first = added surpluses from v x from_in in
@@ -53,8 +60,10 @@ module _ (net : Net) (flow : List ℤ) (limits : IsWithinLimits net) (rooms : Is
 
   pub surplus_small : (n v : ℕ) → n ≤ length net.links → unsigned_abs (surplus_below net.links flow n v) ≤ 2 * most_flow
   surplus_small n v upto =
-      let out = sum_within n (unsigned_abs MOST_ROOM) (λ k. when ((link_at net.links k).from == v) (flow_on flow k)) (λ k l. part k ((link_at net.links k).from == v) (omega arith)) in
-      let into = sum_within n (unsigned_abs MOST_ROOM) (λ k. when ((link_at net.links k).to == v) (flow_on flow k)) (λ k l. part k ((link_at net.links k).to == v) (omega arith)) in
+      let out = sum_within n (unsigned_abs MOST_ROOM) (λ k. when ((link_at net.links k).from == v) (flow_on flow k))
+      (λ k l. part k ((link_at net.links k).from == v) (omega arith)) in
+      let into = sum_within n (unsigned_abs MOST_ROOM) (λ k. when ((link_at net.links k).to == v) (flow_on flow k))
+      (λ k l. part k ((link_at net.links k).to == v) (omega arith)) in
       let few = limits.few_links in
       let times : n * unsigned_abs MOST_ROOM ≤ most_flow = mul-le n (unsigned_abs MOST_ROOM) MOST_LINKS (unsigned_abs MOST_ROOM) (omega arith) (omega arith) in
       omega (arith, sizes, out, into, times)
@@ -68,12 +77,15 @@ module _ (net : Net) (flow : List ℤ) (limits : IsWithinLimits net) (rooms : Is
   link_cost_small k below =
       let carried = flow_small k below in
       let size = unsigned_abs-mul (link_at net.links k).cost (flow_on flow k) in
-      let times = mul-le (unsigned_abs (link_at net.links k).cost) (unsigned_abs (flow_on flow k)) MOST_COST (unsigned_abs MOST_ROOM) (limits.links k below).cost (omega (arith, sizes, carried)) in
+      let times = mul-le (unsigned_abs (link_at net.links k).cost) (unsigned_abs (flow_on flow k)) MOST_COST (unsigned_abs MOST_ROOM)
+      (limits.links k below).cost (omega (arith, sizes, carried)) in
       omega (arith, size, times)
 
-  pub cost_small : (n : ℕ) → n ≤ length net.links → unsigned_abs (sum_below n (λ k. (link_at net.links k).cost *ℤ flow_on flow k)) ≤ MOST_LINKS * (MOST_COST * unsigned_abs MOST_ROOM)
+  pub cost_small : (n : ℕ) → n ≤ length net.links → unsigned_abs (sum_below n (λ k. (link_at net.links k).cost *ℤ flow_on flow k))
+      ≤ MOST_LINKS * (MOST_COST * unsigned_abs MOST_ROOM)
   cost_small n upto =
-      let sum = sum_within n (MOST_COST * unsigned_abs MOST_ROOM) (λ k. (link_at net.links k).cost *ℤ flow_on flow k) (λ k l. link_cost_small k (omega arith)) in
+      let sum = sum_within n (MOST_COST * unsigned_abs MOST_ROOM) (λ k. (link_at net.links k).cost *ℤ flow_on flow k)
+      (λ k l. link_cost_small k (omega arith)) in
       let few = limits.few_links in
       let times = mul-le n (MOST_COST * unsigned_abs MOST_ROOM) MOST_LINKS (MOST_COST * unsigned_abs MOST_ROOM) (omega arith) (omega arith) in
       omega (arith, sum, times)
@@ -88,7 +100,9 @@ module _ (net : Net) (flow surpluses : List ℤ) (limits : IsWithinLimits net) (
       let carried = flow_small net flow limits rooms k below in
       omega (arith, sizes, at, small, carried)
 
-  pub second_fits : FitsSigned w128 (surplus_at (set surpluses (link_at net.links k).from (surplus_at surpluses (link_at net.links k).from +ℤ flow_on flow k)) (link_at net.links k).to +ℤ (pos 0 -ℤ flow_on flow k))
+  pub second_fits : FitsSigned w128
+      (surplus_at (set surpluses (link_at net.links k).from (surplus_at surpluses (link_at net.links k).from +ℤ flow_on flow k)) (link_at net.links k).to
+      +ℤ (pos 0 -ℤ flow_on flow k))
   second_fits =
       let l = link_at net.links k in
       let within = limits.links k below in

@@ -1,4 +1,4 @@
--- A network is valid exactly where no test of the walk over its statements fails: the first item that is not passed, what branches carry, and both ways of the law.
+-- A network is valid exactly where no test of the walk over its statements fails: the first item that is not passed, what branches carry, and the law.
 use Rattle.network_audit.proofs.Words.{All-append, All-back, All-cons, All-enumerated, All-flat_map, All-from_recursion, All-front, All-head, All-nil, All-tail}
 use Rattle.network_audit.proofs.Words.{AreEnded, AreStreams-IsComplete, Audit, Balance, Branch, BranchValue, Case, Decides-is_below, Decides-not_below}
 use Rattle.network_audit.proofs.Words.{Decides-rational_eq, Exchanger, Finding, Gives, HasAccepted, HasNoFinding, HasShape, IfAccepted, IsAtMost, IsComplete}

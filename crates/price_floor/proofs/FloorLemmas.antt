@@ -91,7 +91,8 @@ side_value-at_most network on parts prices within = subst₂ IsAtMost (sym (whol
 
     split : rational_sum_by (λ (e : ℕ × Part). times (whole (excess e.0 e.1)) (used_heat network e.1)) (enumerate_from 0 parts)
         ≡ excess_rational on (rational_sum_by (part_cost network) parts) (rational_sum_by (use_worth network prices) (enumerate_from 0 parts))
-    split = sum-enumerated _ _ parts (λ a p at. excess-times on p.price (price_at prices a) (used_heat network p)) ∙ excess-sum on (λ (e : ℕ × Part). part_cost network e.1) (use_worth network prices) (enumerate_from 0 parts)
+    split = sum-enumerated _ _ parts (λ a p at. excess-times on p.price (price_at prices a) (used_heat network p))
+        ∙ excess-sum on (λ (e : ℕ × Part). part_cost network e.1) (use_worth network prices) (enumerate_from 0 parts)
         ∙ ap (λ c. excess_rational on c (rational_sum_by (use_worth network prices) (enumerate_from 0 parts)))
         (sum-items (λ (e : ℕ × Part). part_cost network e.1) (part_cost network) parts (λ a p at. refl))
 

@@ -44,7 +44,8 @@ taken zero within = omega (arith, ints)
 taken (suc zero) within = omega (arith, ints)
 taken (suc (suc b)) within = absurd (omega (arith, within))
 
-pub made_heat : (hot cold : List Part) → length hot ≡ 2 → length cold ≡ 2 → All (λ p. p.most ≡ pos 100) hot → All (λ p. p.most ≡ pos 100) cold → IsHeatOf hot cold made_net made_flow
+pub made_heat : (hot cold : List Part) → length hot ≡ 2 → length cold ≡ 2 → All (λ p. p.most ≡ pos 100) hot → All (λ p. p.most ≡ pos 100) cold
+    → IsHeatOf hot cold made_net made_flow
 made_heat hot cold hots colds hot_most cold_most = record {
   rooms = rooms;
   balances = λ v from within.

@@ -19,15 +19,18 @@ add-requires-clause-fits c =
     let a = at (goal.at.add-requires-clause-fits c).In-loop-index in
     let inv = c.loop-index.invariant in
     let amount : to_z w128 (of_z w128 c.from-carried.result) ≡ flow_on c.args.flow.now c.loop-index.index = omega (arith, ints) in
-    rw (amount, a.link) (first_fits c.args.net.now c.args.flow.now c.loop-index.surpluses c.requires.net c.requires.rooms c.loop-index.index a.below inv.one_each inv.surplus)
+    rw (amount, a.link) (first_fits c.args.net.now c.args.flow.now c.loop-index.surpluses c.requires.net c.requires.rooms c.loop-index.index a.below
+    inv.one_each inv.surplus)
 
 pub add-requires-in-loop-index-clause-fits : goal.add-requires-in-loop-index-clause-fits
 add-requires-in-loop-index-clause-fits c =
     let a = at (goal.at.add-requires-in-loop-index-clause-fits c).In-loop-index in
     let inv = c.loop-index.invariant in
     let amount : to_z w128 (of_z w128 c.from-carried.result) ≡ flow_on c.args.flow.now c.loop-index.index = omega (arith, ints) in
-    let back : to_z w128 (of_z w128 (pos 0 -ℤ to_z w128 (of_z w128 c.from-carried.result))) ≡ pos 0 -ℤ flow_on c.args.flow.now c.loop-index.index = omega (arith, ints) in
-    rw (back, c.add.ensures, amount, a.link) (second_fits c.args.net.now c.args.flow.now c.loop-index.surpluses c.requires.net c.requires.rooms c.loop-index.index a.below inv.one_each inv.surplus)
+    let back : to_z w128 (of_z w128 (pos 0 -ℤ to_z w128 (of_z w128 c.from-carried.result)))
+    ≡ pos 0 -ℤ flow_on c.args.flow.now c.loop-index.index = omega (arith, ints) in
+    rw (back, c.add.ensures, amount, a.link) (second_fits c.args.net.now c.args.flow.now c.loop-index.surpluses c.requires.net c.requires.rooms
+    c.loop-index.index a.below inv.one_each inv.surplus)
 
 pub loop-index-preserved : goal.loop-index-preserved
 loop-index-preserved c =
@@ -44,7 +47,8 @@ loop-index-preserved c =
       one_each = ap length c.add-in-loop-index.ensures ∙ (length-set _ _ _ ∙ (ap length c.add.ensures ∙ (length-set _ _ _ ∙ inv.one_each)));
       surplus = λ v v_in.
           let before = inv.surplus v v_in in
-          let step = carried c.loop-index.surpluses (link_at net.links k).from (link_at net.links k).to v (flow_on flow k) (let w = within.from_in in let e = inv.one_each in omega arith) (let w = within.to_in in let e = inv.one_each in omega arith) in
+          let step = carried c.loop-index.surpluses (link_at net.links k).from (link_at net.links k).to v (flow_on flow k)
+          (let w = within.from_in in let e = inv.one_each in omega arith) (let w = within.to_in in let e = inv.one_each in omega arith) in
           let more = surplus_below-more net.links flow k v in
           rw (c.add-in-loop-index.ensures, back, c.add.ensures, amount, a.link) (omega (arith, ints, before, step, more));
     }

@@ -7,7 +7,8 @@ use Rattle.flow_bench.proofs.answer.cost_of.Goals as goal
 -- what the flow on the link costs, as the code has it
 record IsTerm (c : After-from-in-loop-index) : Type 0 where
   below : c.loop-index.index < length c.args.net.now.links
-  is : to_z w128 (of_z w128 (to_z w128 (of_z w128 c.from.result) *ℤ to_z w128 (of_z w128 c.from-in-loop-index.result))) ≡ (link_at c.args.net.now.links c.loop-index.index).cost *ℤ flow_on c.args.flow.now c.loop-index.index
+  is : to_z w128 (of_z w128 (to_z w128 (of_z w128 c.from.result) *ℤ to_z w128 (of_z w128 c.from-in-loop-index.result)))
+      ≡ (link_at c.args.net.now.links c.loop-index.index).cost *ℤ flow_on c.args.flow.now c.loop-index.index
 
 term : (c : After-from-in-loop-index) → IsTerm c
 term c =
@@ -22,7 +23,8 @@ term c =
     record { below = below; is = rw (cost, carried) (to_z-of_z w128 _ fits) }
 
 -- the sum fits
-sum_fits : (c : After-from-in-loop-index) → FitsSigned w128 (to_z w128 c.loop-index.cost-bits +ℤ to_z w128 (of_z w128 (to_z w128 (of_z w128 c.from.result) *ℤ to_z w128 (of_z w128 c.from-in-loop-index.result))))
+sum_fits : (c : After-from-in-loop-index) → FitsSigned w128
+    (to_z w128 c.loop-index.cost-bits +ℤ to_z w128 (of_z w128 (to_z w128 (of_z w128 c.from.result) *ℤ to_z w128 (of_z w128 c.from-in-loop-index.result))))
 sum_fits c =
     let t = term c in
     let below = t.below in

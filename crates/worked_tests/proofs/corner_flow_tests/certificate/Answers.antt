@@ -8,4 +8,5 @@ pub corner_prices-requires-clause-from : goal.corner_prices-requires-clause-from
 corner_prices-requires-clause-from c =
     let place = c.reference_place-place.result in
     let fits : FitsSigned w32 place = search rules in
-    subst (λ p. IsTrue c.reference_from-from.result ↔ CountsFromItself c.args.case.now.streams p) (sym (to_z-of_z w32 place fits)) (c.reference_from-from.ensures place c.reference_place-place.ensures)
+    subst (λ p. IsTrue c.reference_from-from.result ↔ CountsFromItself c.args.case.now.streams p)
+    (sym (to_z-of_z w32 place fits)) (c.reference_from-from.ensures place c.reference_place-place.ensures)

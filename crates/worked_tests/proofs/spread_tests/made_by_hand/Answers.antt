@@ -12,4 +12,5 @@ returns-clause-heat c =
     let flow : c.from_vec-4.result ≡ made_flow = c.from_vec-4.ensures ∙ c.in_ok-flow.ensures in
     subst₂ (λ l f. IsHeatOf c.from_vec-2.result c.from_vec-3.result (record { nodes = 5; links = l }) f) (sym links) (sym flow)
     (made_heat c.from_vec-2.result c.from_vec-3.result (ap length hot ∙ c.in_ok-hot.ensures.two) (ap length cold ∙ c.in_ok-cold.ensures.two)
-    (subst (All (λ (p : Part). p.most ≡ pos 100)) (sym hot) c.in_ok-hot.ensures.most) (subst (All (λ (p : Part). p.most ≡ pos 100)) (sym cold) c.in_ok-cold.ensures.most))
+    (subst (All (λ (p : Part). p.most ≡ pos 100)) (sym hot) c.in_ok-hot.ensures.most)
+    (subst (All (λ (p : Part). p.most ≡ pos 100)) (sym cold) c.in_ok-cold.ensures.most))
