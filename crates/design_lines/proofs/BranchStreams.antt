@@ -7,9 +7,6 @@ use Rattle.design_lines.specs.Values.{AreLed, IsLedStream, LedStage, courses_alo
 use Rattle.std.proofs.Common.{List, Some, [], ap, append_assoc, arith, get_or, length, length-append, map, refl, slice_get, subst, suc, sym, zero, ℕ, ◌++◌}
 use Rattle.std.proofs.Common.{◌+◌, ◌-◌, ◌<◌, ◌∙◌, ◌∷◌, ◌≡◌, ◌≤◌}
 
-pub length-own_branches : (case : Case) → length (own_branches case) ≡ length case.streams
-length-own_branches case = many_own case
-
 -- a stream's own branch is its
 pub stream_at-own : (case : Case) (more : List Branch) (number : ℕ) → number < length case.streams → stream_at (own_branches case ++ more) number ≡ number
 unfolding own_branches

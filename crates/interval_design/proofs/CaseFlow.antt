@@ -65,35 +65,6 @@ pub pairs_at : {X : Type 0} (R : X → X → Type 0) (xs : List X) (i j : ℕ) (
 pairs_at R xs i j x y pairs one other less =
     subst₂ R (get_or_from_slice_get xs i x y one) (get_or_from_slice_get xs j y y other) (pairs i j y less (slice_get_within xs j y other))
 
--- where a test keeps one numbered item alone
-none_kept : {X Y : Type 0} (h : ℕ × X → Option Y) (n : ℕ) (xs : List X) → ((i : ℕ) (x : X) → slice_get xs i ≡ Some x → h (n + i, x) ≡ None)
-    → filter_map h (enumerate_from n xs) ≡ []
-none_kept h n [] none = refl
-none_kept {X} {Y} h n (x ∷ xs) none =
-    let first : n ≡ n + 0 = omega arith in
-    let rest = none_kept h (n + 1) xs (λ i y at.
-    let next : n + 1 + i ≡ n + suc i = omega arith in
-    ap (λ (k : ℕ). h (k, y)) next ∙ none (suc i) y at) in
-    ap (λ (o : Option Y). cons_option o (filter_map h (enumerate_from (n + 1) xs))) (ap (λ (k : ℕ). h (k, x)) first ∙ none 0 x refl) ∙ rest
-
-pub one_kept : {X Y : Type 0} (h : ℕ × X → Option Y) (n : ℕ) (xs : List X) (i : ℕ) (x : X) (y : Y) → slice_get xs i ≡ Some x → h (n + i, x) ≡ Some y
-    → ((j : ℕ) (z : X) → slice_get xs j ≡ Some z → j ≢ i → h (n + j, z) ≡ None) → filter_map h (enumerate_from n xs) ≡ y ∷ []
-one_kept h n [] i x y at is none = cc at
-one_kept {X} {Y} h n (z ∷ xs) zero x y at is none =
-    let first : n ≡ n + 0 = omega arith in
-    let rest = none_kept h (n + 1) xs (λ j w there.
-    let next : n + 1 + j ≡ n + suc j = omega arith in
-    ap (λ (k : ℕ). h (k, w)) next ∙ none (suc j) w there (λ same. absurd (omega (arith, same)))) in
-    let here : h (n, z) ≡ Some y = (λ k. h (first k, same_Some z x at k)) ∙ is in
-    (λ k. cons_option (here k) (rest k))
-one_kept {X} {Y} h n (z ∷ xs) (suc i) x y at is none =
-    let first : n ≡ n + 0 = omega arith in
-    let next : (j : ℕ) → n + 1 + j ≡ n + suc j = λ j. omega arith in
-    let rest = one_kept h (n + 1) xs i x y at (ap (λ (k : ℕ). h (k, x)) (next i) ∙ is)
-    (λ j w there other. ap (λ (k : ℕ). h (k, w)) (next j) ∙ none (suc j) w there (λ same. other (omega (arith, same)))) in
-    let here : h (n, z) ≡ None = ap (λ (k : ℕ). h (k, z)) first ∙ none 0 z refl (λ same. absurd (omega (arith, same))) in
-    (λ k. cons_option (here k) (rest k))
-
 -- ---- the place of a part
 
 not_before_itself : (p : Part) → comes_before p p → ⊥

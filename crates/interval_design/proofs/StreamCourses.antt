@@ -9,14 +9,14 @@ use Rattle.interval_design.proofs.Words.{first_state, first_state-latent, first_
 use Rattle.interval_design.proofs.Words.{holds_ends, interval_below, interval_ends, interval_falls, ints, is_hot, is_latent, is_latent-latent}
 use Rattle.interval_design.proofs.Words.{is_latent-sensible, kept_hold, last_part_of_load, last_state, last_state-latent, led_course, led_piece, led_stage}
 use Rattle.interval_design.proofs.Words.{left_at, left_state, level-latent, low_end, lt-ltb, mapped_item, nat_lt, nat_tests, on_side, on_side-ap, on_the_way}
-use Rattle.interval_design.proofs.Words.{option_map_or, part_index, piece_heat, piece_of, piece_on, plus, plus-ratio_same_den, range-length, ratio}
+use Rattle.interval_design.proofs.Words.{only_item, option_map_or, part_index, piece_heat, piece_of, piece_on, plus, plus-ratio_same_den, range-length, ratio}
 use Rattle.interval_design.proofs.Words.{ratio-multiple, ratio-times_den, ratio-zero, rational_zero, reverse, reverse-append, same_Some, same_source}
 use Rattle.interval_design.proofs.Words.{same_source-same, same_source-true, share_of, shares_of, shifted, size_of, size_on, sized-whole, slice_get-get_or}
 use Rattle.interval_design.proofs.Words.{source_state, state_behind, stream_part, times, unshifted, whole, whole-minus, width_at, width_of}
 use Rattle.std.proofs.Common.{All, AllPairs, Bool, List, None, Option, Some, [], ap, arith, false, get_or, if◌then◌else◌, inl, inr, length, map, pos, refl}
 use Rattle.std.proofs.Common.{slice_get, subst, subst₂, sym, true, unsigned_abs, ℕ, ℤ, ⊎_elim, ◌&&◌, ◌*ℤ◌, ◌++◌, ◌+ℤ◌, ◌+◌, ◌-ℤ◌, ◌<ℤ◌, ◌<◌, ◌==◌, ◌∙◌, ◌∷◌}
 use Rattle.std.proofs.Common.{◌≡◌, ◌≤ℤ◌, ◌≤◌, ◌⊎◌}
-use Rattle.interval_design.proofs.CaseFlow.{IsCaseFlow, one_kept, one_place, pairs_at, part_of_stream, part_on, places, places_fall, side_parts, side_ranges}
+use Rattle.interval_design.proofs.CaseFlow.{IsCaseFlow, one_place, pairs_at, part_of_stream, part_on, places, places_fall, side_parts, side_ranges}
 use Rattle.interval_design.proofs.CaseFlow.{valid_stream}
 use Rattle.network_values.proofs.StreamStates.{first_end, first_state-unshifted, last_end, last_state-unshifted}
 use Rattle.sums.proofs.OrderLemmas.{AllPairs-head, AllPairs-tail, Contains-cons}
@@ -425,7 +425,7 @@ module _ (streams : List Stream) (utilities : List Utility) (grid : List ℤ) (o
           p,
           at,
           level_own,
-          one_kept (own_item number) 0 ps i p (i, p) at kept (λ j q there other.
+          only_item (own_item number) 0 ps i p (i, p) at kept (λ j q there other.
               ap (λ b. if b then Some (0 + j, q) else None) (false_from_ne_true (same_source q.source (source.Stream number)) (λ holds.
               let two = own_part q (All-slice_get (IsPartOf streams utilities grid of) ps j q are.each there) holds in
               other (one_place {utilities = utilities} grid of ps j i p are (there ∙ ap (λ (r : Part). Some r) (own_level q two)) at)))),

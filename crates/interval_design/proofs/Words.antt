@@ -37,7 +37,7 @@ pub use Rattle.network_values.specs.Sides.{contribution_of}
 pub use Rattle.network_values.specs.Values.{IsPartOfLoad, change, first_part_of_load, first_state, full_size, last_part_of_load, last_state}
 pub use Rattle.networks.specs.Lines.{Exchanger}
 pub use Rattle.networks.specs.Shape.{IsPositive}
-pub use Rattle.pieces.proofs.PieceStages.{filter_map-way, mapped_item, on_side-ap}
+pub use Rattle.pieces.proofs.PieceStages.{filter_map-way, mapped_item, on_side-ap, only_item}
 pub use Rattle.pieces.specs.Led.{AreApart, AreJoined, AreLedPieces, HasUtilityHeat, IsFine, IsLedNetwork, IsStreamPiece, JoinsPieces, exchange_balance}
 pub use Rattle.pieces.specs.Led.{heats_with, level_in, temperature}
 pub use Rattle.pieces.specs.Pieces.{Piece, exchangers_for, led_course, led_piece, led_stage, on_side, piece_on, share_of, size_on, source_at, sources_of}

@@ -9,7 +9,7 @@ use Rattle.pieces.proofs.Words.{courses_lines, courses_made, courses_of, courses
 use Rattle.pieces.proofs.Words.{each_ended, enters-run, enumerate_from, exchange_balance, exchangers_of, filter_map, first_state-sized, full_size-sized}
 use Rattle.pieces.proofs.Words.{grouped_utility_formed, heat-sized, heat_with, heats_with, hot_target, is_forbidden, is_latent_branch-is, leaves-run}
 use Rattle.pieces.proofs.Words.{led_course, led_courses, led_piece, length-enumerate_from, length-map, level_in, loads_kept, made_branches, make_append}
-use Rattle.pieces.proofs.Words.{network_of, no_end-declared, no_finding_from_room, on_side, own_branches, own_start, piece_on, positive-is, ratio-one}
+use Rattle.pieces.proofs.Words.{many_own, network_of, no_end-declared, no_finding_from_room, on_side, own_branches, own_start, piece_on, positive-is, ratio-one}
 use Rattle.pieces.proofs.Words.{same_Some, shares_of, side_of, size_on, sized-between, sized_change, sized_roomy, sources_of, stage_values, take_all}
 use Rattle.pieces.proofs.Words.{temperature, the_pass_of, unwrap_or, utility_items_at, utility_part, values_made}
 use Rattle.std.proofs.Common.{All, List, None, Option, Some, [], ap, append-nil, ap₂, arith, get_or, length, map, option_map, pos, refl, slice_get, subst}
@@ -18,7 +18,7 @@ use Rattle.pieces.proofs.PieceShape.{CanBeLed, HasShape-pieces, declared_here, e
 use Rattle.pieces.proofs.PieceShape.{joined-at, piece-for}
 pub use Rattle.pieces.proofs.PieceShape.{exchangers_of-network_of, length-network_of}
 use Rattle.pieces.proofs.PieceStages.{All-numbered, courses_along-led, each-share, each-stage, numbered-each, source_at-piece}
-use Rattle.design_lines.proofs.BranchStreams.{IsEachLed, are_led, length-own_branches, stream_at-own}
+use Rattle.design_lines.proofs.BranchStreams.{IsEachLed, are_led, stream_at-own}
 use Rattle.design_lines.proofs.StageSizes.{CourseHolds, IsOver, IsStageBranch, StageHolds, course_holds, courses_hold, stage_sized}
 use Rattle.fractions.specs.Rationals.{IsAtMost, IsBelow, IsWithinLimits, Rational, minus, plus, ratio, rational_sum, rational_sum_by, rational_zero, times}
 use Rattle.fractions.specs.Rationals.{whole}
@@ -93,7 +93,7 @@ module _ {case : Case} {hot cold : List Piece} {exchanges : List Exchange} (can 
   all-led =
       are_led case network_here courses_here (own_branches case) 0 (length case.streams) 0
       (ap (λ (cs : List Course). own_branches case ++ made_branches 0 0 cs) (sym (courses_along-led exchanges hot cold case)))
-      (length-own_branches case) (stream_at-own case (made_branches 0 0 (courses_of case (sources_of hot) (sources_of cold) exchanges))) each-led
+      (many_own case) (stream_at-own case (made_branches 0 0 (courses_of case (sources_of hot) (sources_of cold) exchanges))) each-led
 
   -- ---- values
 

@@ -1,13 +1,13 @@
 -- The stages of streams: pieces that exchange heat, with a share for each of their exchanges.
-use Rattle.pieces.proofs.Words.{All-cons, All-enumerated, All-head, All-map, All-nil, All-tail, AreStages, Case, Exchange, LedStage, Piece, Share, Side}
-use Rattle.pieces.proofs.Words.{Source, Stream, and_parts, append-nil, cond_some, cons_option, course_of, courses_along, courses_of, enumerate_from, eqb-true}
-use Rattle.pieces.proofs.Words.{false≢true, filter_map, filter_map-append, filter_map-enumerate_more, filter_map-push, get_or-reverse, is_of_stream, is_stage}
-use Rattle.pieces.proofs.Words.{kept_hold, led_course, led_courses, led_piece, led_stage, length-reverse, ltb-true, map-map, nat_lt, ne_eqb, numbered-item}
-use Rattle.pieces.proofs.Words.{on_side, on_the_way, option_map, option_to_list, own_share, own_shares, piece_on, reverse, reverse-append, same_Some}
-use Rattle.pieces.proofs.Words.{same_source, same_source-true, share_at, share_for, share_of, shares_along, shares_of, size_on, slice_get-map, source_at}
-use Rattle.pieces.proofs.Words.{sources_of, stage_of, stream_course, take_more, unwrap_or}
+use Rattle.pieces.proofs.Words.{All-cons, All-enumerated, All-head, All-map, All-nil, All-reverse, All-tail, AreStages, Case, Exchange, LedStage, Piece, Share}
+use Rattle.pieces.proofs.Words.{Side, Source, Stream, and_parts, append-nil, cond_some, cons_option, course_of, courses_along, courses_of, enumerate_from}
+use Rattle.pieces.proofs.Words.{eqb-true, false≢true, filter_map, filter_map-append, filter_map-enumerate_more, filter_map-push, get_or-reverse, is_of_stream}
+use Rattle.pieces.proofs.Words.{is_stage, kept_hold, led_course, led_courses, led_piece, led_stage, length-reverse, ltb-true, map-map, nat_lt, ne_eqb}
+use Rattle.pieces.proofs.Words.{numbered-item, on_side, on_the_way, option_map, option_to_list, own_share, own_shares, piece_on, reverse, reverse-append}
+use Rattle.pieces.proofs.Words.{same_Some, same_source, same_source-true, share_at, share_for, share_of, shares_along, shares_of, size_on, slice_get-map}
+use Rattle.pieces.proofs.Words.{source_at, sources_of, stage_of, stream_course, take_more, unwrap_or}
 use Rattle.std.proofs.Common.{All, Bool, List, None, Option, Some, [], ap, arith, false, get_or, if◌then◌else◌, length, map, refl, slice_get, subst, suc, sym}
-use Rattle.std.proofs.Common.{take, true, zero, ℕ, ◌++◌, ◌+◌, ◌-◌, ◌<◌, ◌==◌, ◌∙◌, ◌∷◌, ◌≡◌}
+use Rattle.std.proofs.Common.{take, true, zero, ℕ, ◌++◌, ◌+◌, ◌<◌, ◌==◌, ◌∙◌, ◌∷◌, ◌≡◌, ◌≢◌}
 use Rattle.stream_case.specs.declared.source.Side.TheVariants as side
 use Rattle.stream_case.specs.declared.source.Source.TheVariants as source
 
@@ -66,14 +66,33 @@ filter_map-way h side.Hot xs = refl
 filter_map-way h side.Cold xs = filter_map-reverse h xs
 
 -- what holds of each item that is kept holds of all of them, along the way too
-pub All-reverse : {X : Type 0} (P : X → Type 0) (xs : List X) → All P xs → All P (reverse xs)
-All-reverse P xs all k d inside =
-    let within : k < length xs = omega (arith, inside, length-reverse xs) in
-    subst P (sym (get_or-reverse xs k d within)) (all (length xs - 1 - k) d (omega (arith, within)))
-
 pub All-way : {X : Type 0} (P : X → Type 0) (of : Side) (xs : List X) → All P xs → All P (on_the_way of xs)
 All-way P side.Hot xs all = all
 All-way P side.Cold xs all = All-reverse P xs all
+
+-- nothing is kept where no item is
+pub no_items : {X Y : Type 0} (h : ℕ × X → Option Y) (b : ℕ) (xs : List X) → ((j : ℕ) (z : X) → slice_get xs j ≡ Some z → h (b + j, z) ≡ None)
+    → filter_map h (enumerate_from b xs) ≡ []
+no_items h b [] none = refl
+no_items h b (z ∷ xs) none =
+    let first : b ≡ b + 0 = omega arith in ap (λ o. cons_option o (filter_map h (enumerate_from (b + 1) xs))) (ap (λ i. h (i, z)) first ∙ none 0 z refl)
+    ∙ no_items h (b + 1) xs (λ j w at. let next : b + 1 + j ≡ b + suc j = omega arith in ap (λ i. h (i, w)) next ∙ none (suc j) w at)
+
+-- what is kept of a list of which one item alone is kept
+pub only_item : {X Y : Type 0} (h : ℕ × X → Option Y) (b : ℕ) (xs : List X) (k : ℕ) (x : X) (y : Y) → slice_get xs k ≡ Some x → h (b + k, x) ≡ Some y
+    → ((j : ℕ) (z : X) → slice_get xs j ≡ Some z → j ≢ k → h (b + j, z) ≡ None) → filter_map h (enumerate_from b xs) ≡ y ∷ []
+only_item h b [] k x y there kept others = cc there
+only_item {X} {Y} h b (z ∷ xs) zero x y there kept others =
+    ap (λ o. cons_option o (filter_map h (enumerate_from (b + 1) xs))) (own ∙ kept) ∙ ap (λ (ys : List Y). y ∷ ys)
+    (no_items h (b + 1) xs (λ j w at. let next : b + 1 + j ≡ b + suc j = omega arith in ap (λ i. h (i, w)) next ∙ others (suc j) w at (λ same. cc same)))
+  where
+    own : h (b, z) ≡ h (b + 0, x)
+    own = let none : b ≡ b + 0 = omega arith in let same : z ≡ x = cc there in λ i. h (none i, same i)
+only_item h b (z ∷ xs) (suc k) x y there kept others =
+    let none : b ≡ b + 0 = omega arith in let next : b + suc k ≡ b + 1 + k = omega arith in
+    ap (λ o. cons_option o (filter_map h (enumerate_from (b + 1) xs))) (ap (λ i. h (i, z)) none ∙ others 0 z refl (λ same. cc same))
+    ∙ only_item h (b + 1) xs k x y there (ap (λ i. h (i, x)) (sym next) ∙ kept)
+    (λ j w at other. let later : b + 1 + j ≡ b + suc j = omega arith in ap (λ i. h (i, w)) later ∙ others (suc j) w at (λ same. other (omega (arith, same))))
 
 module _ {X Y : Type 0} (P : Y → Type 0) (h : ℕ × X → Option Y) where
   one-kept : (o : Option Y) (rest : List Y) → ((y : Y) → o ≡ Some y → P y) → All P rest → All P (cons_option o rest)

@@ -33,7 +33,7 @@ pub use Rattle.network_values.proofs.LoadLemmas.{loads_kept}
 pub use Rattle.network_values.proofs.StreamStates.{is_latent_branch-is}
 pub use Rattle.network_values.specs.Penalties.{utility_part}
 pub use Rattle.networks.proofs.Lists.{all_at}
-pub use Rattle.networks.proofs.OfShape.{the_pass_of}
+pub use Rattle.networks.proofs.OfShape.{many_own, the_pass_of}
 pub use Rattle.networks.specs.Lines.{Exchanger}
 unfoldable pub use Rattle.networks.specs.Lines.{exchangers_of, own_branches}
 pub use Rattle.networks.specs.Shape.{HasShape, IsExchanger, IsOfOneStream, IsPositive, Joins}
@@ -73,4 +73,5 @@ pub use Rattle.stream_case.specs.declared.source.Source.{Source}
 pub use Rattle.stream_case.specs.declared.stream.Stream.{Stream}
 pub use Rattle.stream_case.specs.declared.utility.Utility.{Utility}
 pub use Rattle.sums.proofs.EnumerationLemmas.{All-enumerated}
+pub use Rattle.sums.proofs.OrderLemmas.{All-reverse}
 pub use denote.Enum.Bare.{true_same}

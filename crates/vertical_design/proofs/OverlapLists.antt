@@ -476,29 +476,3 @@ same_place len n m k j k_within j_within same =
     less : (a b x y : ℕ) → x < len → a < b → a * len + x ≡ b * len + y → ⊥
     less a b x y within order is =
         let next : a + 1 ≤ b = omega (arith, order) in let product = mul-le-mul_right len next in absurd (omega (arith, product, is, within))
-
--- ---- one item of a list
-
--- nothing is kept where no item is
-pub no_items : {X Y : Type 0} (h : ℕ × X → Option Y) (b : ℕ) (xs : List X) → ((j : ℕ) (z : X) → slice_get xs j ≡ Some z → h (b + j, z) ≡ None)
-    → filter_map h (enumerate_from b xs) ≡ []
-no_items h b [] none = refl
-no_items h b (z ∷ xs) none =
-    let first : b ≡ b + 0 = omega arith in ap (λ o. cons_option o (filter_map h (enumerate_from (b + 1) xs))) (ap (λ i. h (i, z)) first ∙ none 0 z refl)
-    ∙ no_items h (b + 1) xs (λ j w at. let next : b + 1 + j ≡ b + suc j = omega arith in ap (λ i. h (i, w)) next ∙ none (suc j) w at)
-
--- what is kept of a list of which one item alone is kept
-pub only_item : {X Y : Type 0} (h : ℕ × X → Option Y) (b : ℕ) (xs : List X) (k : ℕ) (x : X) (y : Y) → slice_get xs k ≡ Some x → h (b + k, x) ≡ Some y
-    → ((j : ℕ) (z : X) → slice_get xs j ≡ Some z → j ≢ k → h (b + j, z) ≡ None) → filter_map h (enumerate_from b xs) ≡ y ∷ []
-only_item h b [] k x y there kept others = cc there
-only_item {X} {Y} h b (z ∷ xs) zero x y there kept others =
-    ap (λ o. cons_option o (filter_map h (enumerate_from (b + 1) xs))) (own ∙ kept) ∙ ap (λ (ys : List Y). y ∷ ys)
-    (no_items h (b + 1) xs (λ j w at. let next : b + 1 + j ≡ b + suc j = omega arith in ap (λ i. h (i, w)) next ∙ others (suc j) w at (λ same. cc same)))
-  where
-    own : h (b, z) ≡ h (b + 0, x)
-    own = let none : b ≡ b + 0 = omega arith in let same : z ≡ x = cc there in λ i. h (none i, same i)
-only_item h b (z ∷ xs) (suc k) x y there kept others =
-    let none : b ≡ b + 0 = omega arith in let next : b + suc k ≡ b + 1 + k = omega arith in
-    ap (λ o. cons_option o (filter_map h (enumerate_from (b + 1) xs))) (ap (λ i. h (i, z)) none ∙ others 0 z refl (λ same. cc same))
-    ∙ only_item h (b + 1) xs k x y there (ap (λ i. h (i, x)) (sym next) ∙ kept)
-    (λ j w at other. let later : b + 1 + j ≡ b + suc j = omega arith in ap (λ i. h (i, w)) later ∙ others (suc j) w at (λ same. other (omega (arith, same))))

@@ -6,10 +6,10 @@ use Rattle.vertical_design.proofs.Words.{at_most_from_ratio_whole, at_most_from_
 use Rattle.vertical_design.proofs.Words.{curve_heat, enumerate_from, eq-eqb, eqb-true, false_from_ne_true, false≢true, filter_map, filter_map-way, first_end}
 use Rattle.vertical_design.proofs.Words.{flat_map, flow_in, full_size-sensible, heat_at, high_end, int_le-from, intervals_of, ints, is_latent-sensible}
 use Rattle.vertical_design.proofs.Words.{is_stage, kept_hold, last_end, led_course, led_piece, led_stage, length-map, low_end, ltb-true, minus}
-use Rattle.vertical_design.proofs.Words.{minus-minus_same, minus-plus_plus, mul-le-mul, nat_lt, nat_tests, ne_eqb, neg_ℤ-*ℤ, on_side, option_map, option_map_or}
-use Rattle.vertical_design.proofs.Words.{order-sensible, own_side, piece_on, range_with_len, ratio, reverse, reverse-append, same_Some, same_side, share_of}
-use Rattle.vertical_design.proofs.Words.{shares_of, size_of, size_on, sized-minus, sized-plus, sized-whole, slice_get-map, slice_get_within, spans_of}
-use Rattle.vertical_design.proofs.Words.{state_behind, times, unsigned_abs, whole, whole-nonzero, ◌&&◌}
+use Rattle.vertical_design.proofs.Words.{minus-minus_same, minus-plus_plus, mul-le-mul, nat_lt, nat_tests, ne_eqb, neg_ℤ-*ℤ, no_items, on_side, only_item}
+use Rattle.vertical_design.proofs.Words.{option_map, option_map_or, order-sensible, own_side, piece_on, range_with_len, ratio, reverse, reverse-append}
+use Rattle.vertical_design.proofs.Words.{same_Some, same_side, share_of, shares_of, size_of, size_on, sized-minus, sized-plus, sized-whole, slice_get-map}
+use Rattle.vertical_design.proofs.Words.{slice_get_within, spans_of, state_behind, times, unsigned_abs, whole, whole-nonzero, ◌&&◌}
 use Rattle.std.proofs.Common.{Bool, List, None, Some, [], ap, ap₂, arith, false, if◌then◌else◌, length, neg_ℤ, pos, refl, slice_get, subst, subst₂, suc, sym}
 use Rattle.std.proofs.Common.{true, zero, ℕ, ℤ, ⊎_elim, ◌*◌, ◌++◌, ◌+◌, ◌-◌, ◌<ℤ◌, ◌<◌, ◌==◌, ◌∙◌, ◌∷◌, ◌≡◌, ◌≤ℤ◌, ◌≤◌}
 use Rattle.vertical_design.proofs.CurveLemmas.{HasNoEnd, bounded, heat_rises, one_place}
@@ -17,7 +17,7 @@ use Rattle.vertical_design.proofs.Exchanges.{IsMatch, RunsSpan, are_matches, exc
 use Rattle.vertical_design.proofs.Exchanges.{piece_index, piece_of, size_match, size_piece, stream_runs}
 use Rattle.vertical_design.proofs.Intervals.{RunsIn, actual-first, actual-last, actual_at, curve_heat-whole, entered_at, found, left_at, piece_in, pieces}
 use Rattle.vertical_design.proofs.Intervals.{pieces_at, scale_at, scale_is, state_at}
-use Rattle.vertical_design.proofs.OverlapLists.{filter_map-rows, index_on, no_items, numbered-rows, only_item, other, side-within}
+use Rattle.vertical_design.proofs.OverlapLists.{filter_map-rows, index_on, numbered-rows, other, side-within}
 use Rattle.vertical_design.proofs.SpanSources.{Axis, IsSourceSpan, cut_below, cut_from_last, cut_upto_first, ends_are_cuts, flow_above, flow_at, high_at}
 use Rattle.vertical_design.proofs.SpanSources.{low_at, no_end_between, own_place, sources_differ, span_of, span_sources, spans_are, stream_place, streams_are}
 use Rattle.design_lines.specs.Ways.{on_the_way}

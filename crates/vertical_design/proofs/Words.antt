@@ -35,7 +35,7 @@ pub use Rattle.networks.proofs.Lists.{all_at}
 unfoldable pub use Rattle.networks.specs.Lines.{exchangers_of}
 pub use Rattle.networks.specs.Shape.{HasShape, IsPositive}
 pub use Rattle.networks.specs.declared.network.Network.{Network}
-pub use Rattle.pieces.proofs.PieceStages.{filter_map-way, source_at-piece}
+pub use Rattle.pieces.proofs.PieceStages.{filter_map-way, no_items, only_item, source_at-piece}
 pub use Rattle.pieces.specs.Led.{AreApart, AreJoined, AreLedPieces, HasUtilityHeat, IsFine, IsLedNetwork, IsStreamPiece, JoinsPieces, LedPiecesDrawLedNetworks}
 pub use Rattle.pieces.specs.Led.{heats_with, level_in, temperature}
 pub use Rattle.pieces.specs.Pieces.{Piece, exchanger_of, exchangers_for, is_stage, led_course, led_piece, led_stage, on_side, piece_on, share_of, size_on}

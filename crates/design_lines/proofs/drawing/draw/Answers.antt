@@ -1,6 +1,5 @@
-use Rattle.design_lines.proofs.BranchStreams.{length-own_branches}
 use Rattle.design_lines.proofs.DrawSteps.{AreCoursesLed, courses_next, courses_start, next_item}
-use Rattle.design_lines.proofs.Words.{course_branches, course_lines, numbered, own_branches}
+use Rattle.design_lines.proofs.Words.{course_branches, course_lines, many_own, numbered, own_branches}
 use Rattle.std.proofs.Common.{ap, arith, length, subst, sym, ◌++◌, ◌+◌, ◌-◌, ◌∙◌, ◌≡◌}
 use Rattle.design_lines.proofs.drawing.draw.Goals as goal
 
@@ -10,7 +9,7 @@ loop-number-init c =
     let courses = c.args.courses.now in
     let declared = c.args.declarations.items in
     subst (AreCoursesLed courses (length case.streams) declared (own_branches case) 0 declared) (sym c.in_ok-branches.ensures)
-    (courses_start courses (length case.streams) declared (own_branches case) (length-own_branches case))
+    (courses_start courses (length case.streams) declared (own_branches case) (many_own case))
 
 pub loop-number-preserved : goal.loop-number-preserved
 loop-number-preserved c =
