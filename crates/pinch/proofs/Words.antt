@@ -8,14 +8,12 @@ pub use Rattle.certify.specs.declared.report.Report.{Report}
 pub use Rattle.design_lines.specs.Drawn.{HasFewLines}
 pub use Rattle.first_fault.proofs.OneOutcome.{one_outcome}
 pub use Rattle.fractions.specs.Rationals.{IsAtMost, IsWithinLimits, Rational, fraction_text, whole}
-pub use Rattle.grid.proofs.OnGridLemmas.{parts_on_grid}
 pub use Rattle.grid.specs.Part.{AreCaseParts, IsPartOf}
 pub use Rattle.grid.specs.declared.part.Part.{Part}
 pub use Rattle.grid.specs.declared.parts.Parts.{Parts}
 pub use Rattle.heat_flow.proofs.Blanks.{blank}
 pub use Rattle.heat_flow.proofs.CostLemmas.{part_price, side_cost-transfers}
-pub use Rattle.heat_flow.proofs.PartLemmas.{HoldsOfParts-some}
-pub use Rattle.heat_flow.specs.Certificate.{IsCertified, IsLeastCostOf, heat_of_utility, utility_heat}
+pub use Rattle.heat_flow.specs.Certificate.{IsCertified, heat_of_utility, utility_heat}
 pub use Rattle.heat_flow.specs.Flow.{HaveParts, IsHeatFlow, IsLeastCost, cost_of}
 pub use Rattle.heat_flow.specs.Reach.{reach_between}
 pub use Rattle.heat_flow.specs.declared.flow.Transfer.{Transfer}
@@ -45,13 +43,13 @@ pub use Rattle.pinch.specs.Files.{FromText, IsRefused, NoFile, NoText, ReadsText
 unfoldable pub use Rattle.pinch.specs.Files.{EndsIn}
 pub use Rattle.pinch.specs.Flow.{AnswersFlow, IsCaseAnswer, shown_answer}
 pub use Rattle.pinch.specs.Format.{Format}
-pub use Rattle.pinch.specs.Network.{ShowsVerdict, network_file}
+pub use Rattle.pinch.specs.Network.{IsAccepted, IsAuditOf, ShowsVerdict, network_file}
 pub use Rattle.pinch.specs.Prices.{study_file}
 pub use Rattle.pinch.specs.Proofs.{ChecksProof, HoldsProof}
 pub use Rattle.pinch.specs.Reading.{Reading, file, ready, stop, wanted}
 unfoldable pub use Rattle.pinch.specs.Reading.{reading_of}
 pub use Rattle.pinch.specs.Report.{IsCheckOf, report_file, shown_check}
-pub use Rattle.pinch.specs.Site.{IsLeastBoiler, site_file}
+pub use Rattle.pinch.specs.Site.{IsLeastBoiler, ShowsSite, profiles_shown, site_file}
 pub use Rattle.pinch.specs.Status.{IsAnswered, number_of, status_of, status_of_site}
 pub use Rattle.pinch.specs.Stop.{IfEarly, IfEnd}
 pub use Rattle.pinch.specs.Tasks.{ShowsTask}
@@ -72,9 +70,6 @@ pub use Rattle.plants.specs.Profiles.{sink_profile, source_profile}
 pub use Rattle.plants.specs.Site.{streams_of}
 pub use Rattle.plants.specs.Table.{boiler, cooling, site_utilities}
 pub use Rattle.plants.specs.declared.table.SiteTable.{SiteTable}
-pub use Rattle.price_floor.proofs.CutLemmas.{no_cut-stands}
-pub use Rattle.price_floor.proofs.FloorLemmas.{no_network-costs_less}
-pub use Rattle.price_floor.proofs.UsesLemmas.{uses_ordered}
 pub use Rattle.problem_table.specs.Deficit.{hot_target}
 pub use Rattle.reports.proofs.DesignText.{design-statements}
 pub use Rattle.reports.proofs.ProofTexts.{proofs-pass}
@@ -95,6 +90,7 @@ pub use Rattle.std.proofs.lemmas.Iterator.Adapters.{YieldsList-from_skip, Yields
 pub use Rattle.std.proofs.lemmas.Iterator.Consumers.{YieldsList-end}
 pub use Rattle.std.proofs.lemmas.List.{map-append, map-id, take_more}
 pub use Rattle.std.proofs.lemmas.Option.{none-some, same_Some, slice_get-get_or}
+pub use Rattle.std.proofs.lemmas.Result.{IfOk-weaker}
 pub use Rattle.std.specs.Fmt.{decimal, signed_decimal}
 pub use Rattle.std.specs.Int.{w128}
 pub use Rattle.std.specs.Io.KnownBytes.{Appends}

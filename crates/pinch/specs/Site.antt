@@ -36,10 +36,14 @@ pub record IsSiteAnswer (site : Site) (parts : Parts) (answer : Answer) : Type 0
   pub target : IsSiteTarget site parts.hot parts.cold answer
   pub boiler : IfLeast answer (λ flow prices cost. IsLeastBoiler site parts flow.transfers cost)
 
+-- the profiles of a site at each place of its table, with what answers its parts
+abbrev pub profiles_shown : Site → SiteTable → Answer → Shown
+profiles_shown site table answer = SiteShown site table (map (sink_profile site) table.places) (map (source_profile site) table.places) answer
+
 -- the profiles of a site at each place of its grid, and its answer
 pub record ShowsSite (site : Site) (shown : Shown) : Type 0 where
   pub table : SiteTable
   pub answer : Answer
   pub is_table : IsSiteTable site table
   pub is_answer : IsSiteAnswer site table.parts answer
-  pub is : shown ≡ SiteShown site table (map (sink_profile site) table.places) (map (source_profile site) table.places) answer
+  pub is : shown ≡ profiles_shown site table answer

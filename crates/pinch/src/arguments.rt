@@ -37,7 +37,7 @@ pub fn run_arguments<R: Threads + Sync, S: Shelf, K: Sink>(
     let Ok(words) = collect_words(alloc, texts) else {
         return ExitCode::from(Status::OutOfMemory.number());
     };
-    ExitCode::from(run(rt, alloc, &words, shelf, sink).status)
+    ExitCode::from(run(rt, alloc, &words, shelf, sink).into_status())
 }
 
 /// The words behind the program's name, or none where an argument is no text.

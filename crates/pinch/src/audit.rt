@@ -1,22 +1,20 @@
 //! The audit of a network.
-ghost use Rattle.std.specs.Prelude.{IfOk};
+ghost use Rattle.std.specs.Prelude.{◌≡◌, IfOk};
 ghost use Rattle.stream_case.specs.Case.{IsComplete};
-ghost use Rattle.fractions.specs.Rationals.{IsAtMost, whole};
-ghost use Rattle.heat_flow.specs.Certificate.{IsLeastCostOf};
 ghost use Rattle.networks.specs.Shape.{HasShape};
-ghost use Rattle.network_audit.specs.Balance.{cost_of};
+ghost use Rattle.network_audit.specs.Audit.{HasAccepted};
+ghost use Rattle.network_audit.specs.Balance.{balance_of};
 ghost use Rattle.network_audit.specs.Valid.{IsValidNetwork};
-ghost use Rattle.pinch.specs.Network.{IsAuditOf};
+ghost use Rattle.pinch.specs.Network.{IsAccepted, IsAuditOf};
 
-use grid::case_parts;
-use network_audit::{Auditor, Verdict};
+use network_audit::{Auditor, Balance, Verdict};
 use network_text::Network;
 use penalties::penalties;
+use price_floor::cost_floor;
 use problem_table::reference_place;
 use reports::Shown;
 use std::alloc::{AllocError, Global};
 use stream_case::Case;
-use transport::{Answer, least_case};
 
 /// The verdict on a network of a completed case; of one that is accepted the floor under its cost
 /// and the penalties too. It stays accepted where they are too fine.
@@ -27,14 +25,7 @@ pub fn show_audit(alloc: Global, case: Case, network: Network) -> Result<Shown, 
 {
     let mut auditor = Auditor::new(alloc, &case, &network)?;
     match auditor.audit() {
-        Verdict::Accepted(balance) => Ok(Shown::Accepted {
-            balance,
-            place: reference_place(&case),
-            floor: cost_floor(alloc, &case, &network)?,
-            penalties: penalties(alloc, &case, &network, &auditor)?,
-            case,
-            network,
-        }),
+        Verdict::Accepted(balance) => show_accepted(alloc, case, network, balance, &auditor),
         Verdict::Rejected { place, reason } => Ok(Shown::Rejected {
             case,
             network,
@@ -50,19 +41,29 @@ pub fn show_audit(alloc: Global, case: Case, network: Network) -> Result<Shown, 
     }
 }
 
-/// The least cost of the heat flows of a completed case that has a valid network, in price units
-/// times W. Such a case has a heat flow, and the network costs no less.
-fn cost_floor(alloc: Global, case: &Case, network: &Network) -> Result<i128, AllocError>
-    requires complete { IsComplete case.now }
-    requires shape { HasShape case.now network.now }
-    requires valid { IsValidNetwork case.now network.now }
-    ensures least { IfOk result (IsLeastCostOf case.now) }
-    ensures floor { IfOk result (λ floor. IsAtMost (whole floor) (cost_of case.now network.now)) }
+/// What is shown of a network that its auditor has accepted, with this balance.
+fn show_accepted(
+    alloc: Global,
+    case: Case,
+    network: Network,
+    balance: Balance,
+    auditor: &Auditor,
+) -> Result<Shown, AllocError>
+    requires complete { IsComplete case }
+    requires shape { HasShape case network }
+    requires valid { IsValidNetwork case network }
+    requires accepted { HasAccepted auditor.now case network }
+    requires balance { balance ≡ balance_of case network }
+    ensures { IfOk result (IsAccepted case network balance) }
 {
-    let parts = case_parts(alloc, case)?;
-    match least_case(alloc, case, &parts)? {
-        Answer::Least { cost, .. } => Ok(cost),
-        // No cut stands beside a valid network.
-        Answer::Stuck(_) => unreachable!(),
-    }
+    let floor = cost_floor(alloc, &case, &network)?;
+    let penalties = penalties(alloc, &case, &network, auditor)?;
+    Ok(Shown::Accepted {
+        place: reference_place(&case),
+        case,
+        network,
+        balance,
+        floor,
+        penalties,
+    })
 }

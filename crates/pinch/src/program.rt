@@ -27,6 +27,19 @@ pub struct Done {
     pub shown: Option<Shown>,
 }
 
+impl Done {
+    /// The number of the status alone.
+    pub fn into_status(self) -> u8
+        ensures { result ≡ self.status }
+    {
+        let Done { status, shown } = self;
+        if let Some(shown) = shown {
+            shown.discard();
+        }
+        status
+    }
+}
+
 /// Does what the words say over the files of the shelf, and writes the text of what is shown to
 /// the sink. All room is taken before the first write.
 pub fn run<R: Threads + Sync, S: Shelf, K: Sink>(
@@ -62,7 +75,10 @@ pub fn run_gated<R: Threads + Sync, G: Gate + Sync, S: Shelf, K: Sink>(
             status: status.number(),
             shown: Some(shown),
         },
-        Err(AllocError) => out_of_memory(),
+        Err(AllocError) => {
+            shown.discard();
+            out_of_memory()
+        }
     }
 }
 

@@ -1,6 +1,6 @@
 //! What is asked: all files are read here, and all that is refused is refused here.
-ghost use Rattle.std.specs.Prelude.{◌↔◌, IfOk, IsTrue, Some};
-ghost use Rattle.stream_case.specs.Case.{IsValid};
+ghost use Rattle.std.specs.Prelude.{◌≡◌, ◌↔◌, IfOk, IsTrue, Some};
+ghost use Rattle.stream_case.specs.Case.{IsValid, completed};
 ghost use Rattle.stream_case.specs.Stream.{AreSensible};
 ghost use Rattle.pinch.specs.Answers.{IsRequest};
 ghost use Rattle.pinch.specs.Command.{command_of, CanDo, CanWork, IsRunnable};
@@ -18,7 +18,7 @@ use network_text::Network;
 use pinch_outside::Shelf;
 use reports::Shown;
 use site::Site;
-use std::alloc::Global;
+use std::alloc::{AllocError, Global};
 use stream_case::{Case, Items, complete, has_latent, is_standard};
 use study::Study;
 
@@ -131,11 +131,12 @@ fn request_vertical<S: Shelf>(alloc: Global, shelf: &mut S, case: &Word) -> Resu
         (EndsIn (reading_of (Some (Vertical case.now))) (S.state shelf.old) (S.state shelf.new)) }
 {
     let given = take_case(alloc, shelf, case)?;
-    let case = complete(alloc, &given)?;
+    let sensible = is_sensible(&given);
+    let case = into_completed(alloc, given)?;
     if !is_standard(&case) {
         return Err(Stop::Early(Shown::NotStandard));
     }
-    if is_sensible(&given) {
+    if sensible {
         Ok(Request::Vertical { case })
     } else {
         Err(Stop::Early(Shown::Latent))
@@ -155,7 +156,7 @@ fn request_audit<S: Shelf>(
         (S.state shelf.new)) }
 {
     let given = take_case(alloc, shelf, case)?;
-    let case = complete(alloc, &given)?;
+    let case = into_completed(alloc, given)?;
     let network = take_network(alloc, shelf, &case, network)?;
     Ok(Request::Audit { case, network })
 }
@@ -172,7 +173,7 @@ fn request_certify<S: Shelf>(
         (S.state shelf.old) (S.state shelf.new)) }
 {
     let given = take_case(alloc, shelf, case)?;
-    let case = complete(alloc, &given)?;
+    let case = into_completed(alloc, given)?;
     let report = take_report(alloc, shelf, report)?;
     Ok(Request::Certify { case, report })
 }
@@ -191,13 +192,22 @@ fn request_prices<S: Shelf>(
         (S.state shelf.old) (S.state shelf.new)) }
 {
     let given = take_case(alloc, shelf, case)?;
-    let case = complete(alloc, &given)?;
+    let case = into_completed(alloc, given)?;
     let study = take_study(alloc, shelf, &case, study)?;
     Ok(Request::Prices {
         case,
         study,
         workers,
     })
+}
+
+/// The case with the standard utilities where it has none of its own. The given one ends here, so
+/// that no path of a caller has to drop both.
+fn into_completed(alloc: Global, given: Case) -> Result<Case, AllocError>
+    requires { IsValid given }
+    ensures { IfOk result (λ case. case ≡ completed given) }
+{
+    complete(alloc, &given)
 }
 
 /// Whether the case has no latent stream.

@@ -2,12 +2,13 @@
 ghost use Rattle.std.specs.Prelude.{◌≡◌, map, IfOk};
 ghost use Rattle.plants.specs.Profiles.{sink_profile, source_profile};
 ghost use Rattle.plants.specs.Site.{IsValidSite};
-ghost use Rattle.pinch.specs.Site.{ShowsSite};
+ghost use Rattle.pinch.specs.Site.{ShowsSite, profiles_shown};
 
 use reports::Shown;
-use site::{Site, sink_profile, site_parts, source_profile, table_target};
+use site::{Site, SiteTable, sink_profile, site_parts, source_profile, table_target};
 use std::alloc::{AllocError, Global};
 use stream_case::Items;
+use transport::Answer;
 
 /// The profiles of a site at each place of its grid, and the heat flow of the least boiler heat with
 /// its certificate, or a cut where there is no heat flow.
@@ -16,9 +17,22 @@ pub fn show_site(alloc: Global, site: Site) -> Result<Shown, AllocError>
     ensures { IfOk result (ShowsSite site) }
 {
     let table = site_parts(alloc, &site)?;
+    let answer = table_target(alloc, &site, &table)?;
+    show_profiles(alloc, site, table, answer)
+}
+
+/// The profiles of a site at each place of its table, shown with what answers its parts.
+fn show_profiles(
+    alloc: Global,
+    site: Site,
+    table: SiteTable,
+    answer: Answer,
+) -> Result<Shown, AllocError>
+    requires { IsValidSite site }
+    ensures { IfOk result (λ shown. shown ≡ profiles_shown site table answer) }
+{
     let sinks = sinks_at(alloc, &site, table.places.as_slice())?;
     let sources = sources_at(alloc, &site, table.places.as_slice())?;
-    let answer = table_target(alloc, &site, &table)?;
     Ok(Shown::SiteShown {
         site,
         parts: table,

@@ -1,6 +1,6 @@
 -- The words and lemmas from elsewhere that the proofs of this crate speak in, passed on from one place. Declares nothing.
 pub use Rattle.fractions.proofs.Products.{plus-times, times-minus, times-one, times-plus, times-zero, times_comm, zero-times}
-pub use Rattle.fractions.proofs.RationalSums.{at_most-enumerated, but_at, left_of, not_negative-rational_sum_by, one_taken, rational_sum_by-minus}
+pub use Rattle.fractions.proofs.RationalSums.{at_most-enumerated, left_of, not_negative-rational_sum_by, rational_sum_by-minus}
 pub use Rattle.fractions.proofs.RationalSums.{rational_sum_by-plus, rational_sum_by-same, rational_sum_by-swap, rational_sum_by-whole, rational_sum_by-zero}
 pub use Rattle.fractions.proofs.RationalSums.{sum-enumerate, sum-enumerated, sum-filter_map, sum-items, sum-picked, sum_over_used}
 pub use Rattle.fractions.proofs.Ratios.{by_four, one_denominator}
@@ -18,7 +18,9 @@ pub use Rattle.grid.specs.Making.{covers, interval_parts, is_here, made_parts, p
 pub use Rattle.grid.specs.OnGrid.{IsOnPlaces}
 pub use Rattle.grid.specs.Part.{AreCaseParts, AreParts, IsInterval, IsPartOf, comes_before, comes_before_source, stands_above, stream_part, utility_part}
 pub use Rattle.grid.specs.declared.part.Part.{Part}
-pub use Rattle.heat_flow.specs.Certificate.{IsCutOf}
+pub use Rattle.heat_flow.proofs.PartLemmas.{HoldsOfParts-some}
+pub use Rattle.heat_flow.specs.Certificate.{IsCutOf, IsLeastCostOf}
+pub use Rattle.heat_flow.specs.Flow.{IsLeastCost}
 pub use Rattle.heat_flow.specs.Prices.{IsSupporting, excess_price, least_product, price_at, side_value, value_of}
 pub use Rattle.heat_flow.specs.Reach.{both_reach, part_reaches, passes_heat, reach_between}
 pub use Rattle.heat_flow.specs.Table.{reaches}

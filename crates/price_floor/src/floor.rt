@@ -1,22 +1,26 @@
-//! The floor of an accepted network, and the cut that never stands beside it.
+//! The floor of a valid network, and the cut that never stands beside it.
 
-ghost use Rattle.std.specs.Prelude.{◌≡◌, ◌↔◌, false, IsTrue};
+ghost use Rattle.std.specs.Prelude.{◌≡◌, ◌↔◌, false, IfOk, IsTrue};
 ghost use Rattle.stream_case.specs.Case.{IsComplete};
 ghost use Rattle.fractions.specs.Rationals.{IsAtMost, whole};
 ghost use Rattle.grid.specs.Part.{AreCaseParts};
-ghost use Rattle.heat_flow.specs.Certificate.{ArePartPrices, IsCutOf};
+ghost use Rattle.heat_flow.specs.Certificate.{ArePartPrices, IsCutOf, IsLeastCostOf};
 ghost use Rattle.heat_flow.specs.Checks.{IsSupported};
 ghost use Rattle.heat_flow.specs.Prices.{value_of};
 ghost use Rattle.heat_flow.specs.Reach.{reach_between};
 ghost use Rattle.network_audit.specs.Audit.{HasAccepted};
 ghost use Rattle.network_audit.specs.Balance.{cost_of};
+ghost use Rattle.network_audit.specs.Valid.{IsValidNetwork};
+ghost use Rattle.networks.specs.Shape.{HasShape};
 ghost use Rattle.price_floor.specs.Floor.{IsReachOf};
 
-use grid::Parts;
+use grid::{Parts, case_parts};
 use heat_flow::{Cut, Prices, Reach, is_cut, value_of};
 use network_audit::Auditor;
 use networks::Network;
+use std::alloc::{AllocError, Global};
 use stream_case::Case;
+use transport::{Answer, least_case};
 
 /// The value of prices that support the heat flows of the case: a cost that no accepted network is
 /// below, in price units times W.
@@ -63,4 +67,21 @@ pub fn cut_stands(
 {
     let _joints = auditor.joints();
     is_cut(parts, reach, cut)
+}
+
+/// The least cost of the heat flows of a completed case that has a valid network, in price units
+/// times W. Such a case has a heat flow, and the network costs no less (this project's rule).
+pub fn cost_floor(alloc: Global, case: &Case, network: &Network) -> Result<i128, AllocError>
+    requires complete { IsComplete case.now }
+    requires shape { HasShape case.now network.now }
+    requires valid { IsValidNetwork case.now network.now }
+    ensures least { IfOk result (IsLeastCostOf case.now) }
+    ensures floor { IfOk result (λ floor. IsAtMost (whole floor) (cost_of case.now network.now)) }
+{
+    let parts = case_parts(alloc, case)?;
+    match least_case(alloc, case, &parts)? {
+        Answer::Least { cost, .. } => Ok(cost),
+        // No cut stands beside a valid network.
+        Answer::Stuck(_) => unreachable!(),
+    }
 }

@@ -9,5 +9,5 @@
 mod floor;
 mod laws;
 
-pub use floor::{cut_stands, floor_of};
+pub use floor::{cost_floor, cut_stands, floor_of};
 pub use laws::{no_cut_stands, no_network_costs_less, uses_are_ordered, worths_are_ordered};

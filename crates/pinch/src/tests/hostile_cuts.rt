@@ -1,5 +1,7 @@
 //! Over every command: each file is cut at every byte. How the command ends is compared with what
 //! the grammars say of the bytes that are left.
+ghost use Rattle.std.specs.Prelude.{IfOk};
+ghost use Rattle.stream_case.specs.Case.{IsComplete};
 
 use super::hostile_orders::{Row, rows};
 use super::support::{check_end, outcome_over, shelf_of};
@@ -53,6 +55,17 @@ fn refusal_of_site<R: Abort + AllocGlobal>(
     }
 }
 
+/// The completed case of these bytes, which the grammar of cases accepts.
+fn completed_case<R: Abort + AllocGlobal>(rt: &R, bytes: &[u8]) -> Result<Case, AllocError>
+    ensures { IfOk result IsComplete }
+{
+    assert!(rt; bytes.len() <= LONGEST_FILE);
+    let Ok(case) = read_case(rt.alloc(), bytes) else {
+        return Err(AllocError);
+    };
+    complete(rt.alloc(), &case)
+}
+
 /// How the grammar of networks refuses these bytes, if it does, where it accepts the case.
 fn refusal_of_network<R: Abort + AllocGlobal>(
     rt: &R,
@@ -60,11 +73,8 @@ fn refusal_of_network<R: Abort + AllocGlobal>(
     bytes: &[u8],
 ) -> Result<Option<Refusal>, AllocError> {
     let alloc = rt.alloc();
-    assert!(rt; case.len() <= LONGEST_FILE);
-    let Ok(case) = read_case(alloc, case) else {
-        return Err(AllocError);
-    };
-    let case = complete(alloc, &case)?;
+    assert!(rt; bytes.len() <= LONGEST_FILE);
+    let case = completed_case(rt, case)?;
     match read_network(alloc, &case, bytes) {
         Ok(_) => Ok(None),
         Err(NetFault::At { line, why }) => {
@@ -97,12 +107,8 @@ fn refusal_of_study<R: Abort + AllocGlobal>(
     bytes: &[u8],
 ) -> Result<Option<Refusal>, AllocError> {
     let alloc = rt.alloc();
-    assert!(rt; case.len() <= LONGEST_FILE);
     assert!(rt; bytes.len() <= LONGEST_FILE);
-    let Ok(case) = read_case(alloc, case) else {
-        return Err(AllocError);
-    };
-    let case = complete(alloc, &case)?;
+    let case = completed_case(rt, case)?;
     match read_study(alloc, &case, bytes) {
         Ok(_) => Ok(None),
         Err(StudyFault::Row { row, why }) => {

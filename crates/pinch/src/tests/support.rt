@@ -97,7 +97,7 @@ fn status_of<R: Threads + Sync>(
     shelf: &mut MemoryShelf,
     sink: &mut MemorySink,
 ) -> u8 {
-    run(rt, alloc, words, shelf, sink).status
+    run(rt, alloc, words, shelf, sink).into_status()
 }
 
 /// The same, where workers pass this gate.
@@ -109,7 +109,7 @@ fn status_by<R: Threads + Sync, G: Gate + Sync>(
     shelf: &mut MemoryShelf,
     sink: &mut MemorySink,
 ) -> u8 {
-    run_gated(rt, alloc, gate, words, shelf, sink).status
+    run_gated(rt, alloc, gate, words, shelf, sink).into_status()
 }
 
 /// How the program ends over these words and files, where workers pass this gate.

@@ -13,15 +13,15 @@ returns-then-not-is_standard-clause-reads g c =
     by_text _ _ c.in_ok-given.ensures.case
     (inr (λ standard. let test = c.if-not-is_standard.ensures.1 (subst IsStandard (sym c.in_ok-case.ensures) standard) in cc test, refl, refl))
 
-pub returns-then-is_sensible-clause-reads : goal.returns-then-is_sensible-clause-reads
+pub returns-then-sensible-clause-reads : goal.returns-then-sensible-clause-reads
 unfolding EndsIn reading_of
-returns-then-is_sensible-clause-reads g c =
+returns-then-sensible-clause-reads g c =
     let standard = subst IsStandard c.in_ok-case.ensures (c.if-not-is_standard.ensures.0 refl) in
-    by_text _ _ c.in_ok-given.ensures.case (inl (standard, inl (c.is_sensible.ensures.0 c.if-is_sensible.true, (rw c.in_ok-case.ensures refl, refl))))
+    by_text _ _ c.in_ok-given.ensures.case (inl (standard, inl (c.is_sensible-sensible.ensures.0 c.if-sensible.true, (rw c.in_ok-case.ensures refl, refl))))
 
-pub returns-clause-reads : goal.returns-clause-reads
+pub returns-else-sensible-clause-reads : goal.returns-else-sensible-clause-reads
 unfolding EndsIn reading_of
-returns-clause-reads g c =
+returns-else-sensible-clause-reads g c =
     let standard = subst IsStandard c.in_ok-case.ensures (c.if-not-is_standard.ensures.0 refl) in
     by_text _ _ c.in_ok-given.ensures.case
-    (inl (standard, inr (λ sensible. let test = c.is_sensible.ensures.1 sensible in cc (test, c.if-is_sensible.false), refl, refl)))
+    (inl (standard, inr (λ sensible. let test = c.is_sensible-sensible.ensures.1 sensible in cc (test, c.if-sensible.false), refl, refl)))

@@ -1,6 +1,6 @@
 use Rattle.pinch.proofs.SiteCosts.{least_boiler}
-use Rattle.pinch.proofs.Words.{AreSiteParts, SiteShown, SiteTable, sink_profile, source_profile}
-use Rattle.std.proofs.Common.{ap, ap₂, map, ◌∙◌}
+use Rattle.pinch.proofs.Words.{AreSiteParts, IfOk-weaker, ShowsSite, SiteTable, profiles_shown}
+use Rattle.std.proofs.Common.{◌≡◌}
 use Rattle.pinch.proofs.site_answer.show_site.Goals as goal
 
 pub returns : goal.returns
@@ -10,13 +10,13 @@ returns c =
     let parts : AreSiteParts site table.parts.hot table.parts.cold =
     record { grid = table.places; is_grid = is.places; hot_parts = is.hot; cold_parts = is.cold } in
     -- as it is shown
-    let shown : SiteTable = record { places = table.places; parts = table.parts; reach = table.reach } in
-    record {
-      table = shown;
+    let as_shown : SiteTable = record { places = table.places; parts = table.parts; reach = table.reach } in
+    IfOk-weaker c.show_profiles.result (λ shown. shown ≡ profiles_shown site as_shown answer) (ShowsSite site)
+    (λ shown is_shown. record {
+      table = as_shown;
       answer = answer;
       is_table = record { grid = is.places; hot_parts = is.hot; cold_parts = is.cold; sizes = is.sizes; reach = is.reach };
       is_answer = record { target = target; boiler = least_boiler site table.parts answer parts target.certified target.least };
-      is = ap₂ (λ sinks sources. SiteShown site shown sinks sources answer)
-          (c.in_ok-sinks.ensures ∙ ap (map (sink_profile site)) c.as_slice.ensures)
-          (c.in_ok-sources.ensures ∙ ap (map (source_profile site)) c.as_slice-2.ensures);
-    }
+      is = is_shown;
+    })
+    c.show_profiles.ensures

@@ -1,8 +1,9 @@
-use Rattle.pinch.proofs.Words.{HoldsOfParts-some, IsAtMost, IsLeastCost, IsLeastCostOf, no_cut-stands, no_network-costs_less, parts_on_grid, reach_between}
-use Rattle.pinch.proofs.Words.{to_z-of_z, uses_ordered, w128, whole}
-use Rattle.network_audit.specs.Balance.{cost_of}
+use Rattle.price_floor.proofs.CutLemmas.{no_cut-stands}
+use Rattle.price_floor.proofs.FloorLemmas.{no_network-costs_less}
+use Rattle.price_floor.proofs.UsesLemmas.{uses_ordered}
+use Rattle.price_floor.proofs.Words.{HoldsOfParts-some, IsAtMost, IsLeastCost, IsLeastCostOf, cost_of, parts_on_grid, reach_between, to_z-of_z, w128, whole}
 use Rattle.std.proofs.Common.{FitsSigned, rules, subst, sym, ◌∙◌}
-use Rattle.pinch.proofs.audit.cost_floor.Goals as goal
+use Rattle.price_floor.proofs.floor.cost_floor.Goals as goal
 
 pub least_case-requires-clause-parts : goal.least_case-requires-clause-parts
 least_case-requires-clause-parts c = parts_on_grid c.args.case.now c.in_ok-parts.parts.hot c.in_ok-parts.parts.cold c.in_ok-parts.ensures
