@@ -1,5 +1,5 @@
 -- Reports that are what the program prints of a heat flow with its certificate, or of a cut.
-use Rattle.std.specs.Prelude.{◌≡◌, List, ℕ, Option, Some}
+use Rattle.std.specs.Prelude.{List, ℕ, Option, Some}
 use Rattle.stream_case.specs.Case.{completed}
 use Rattle.stream_case.specs.declared.case.Case.{Case}
 use Rattle.pinch_outside.specs.Shelf.{NamedFile}

@@ -29,7 +29,7 @@ pub struct Done {
 
 impl Done {
     /// The number of the status alone.
-    pub fn into_status(self) -> u8
+    pub(crate) fn into_status(self) -> u8
         ensures { result ≡ self.status }
     {
         let Done { status, shown } = self;

@@ -3,6 +3,7 @@ use super::support::{
     check_front, line_count,
 };
 use std::alloc::{AllocError, Global};
+use std::fmt::Write;
 use std::test::Fail;
 
 /// The most utilities of a file.
@@ -27,11 +28,11 @@ fn largest_case(alloc: Global, more: &str) -> Result<String, AllocError> {
         let supply = 30_000 - 100 * k;
         let target = 5 + 100 * k;
         let cp = 100_000 - 7 * k;
-        case.push_str(&format!(in alloc; "hot,H{k},{supply},{target},{cp},,\n")?)?;
+        writeln!(case, "hot,H{k},{supply},{target},{cp},,")?;
         let supply = 19 + 100 * k;
         let target = 29_903 - 100 * k;
         let cp = 90_000 + 5 * k;
-        case.push_str(&format!(in alloc; "cold,C{k},{supply},{target},{cp},,\n")?)?;
+        writeln!(case, "cold,C{k},{supply},{target},{cp},,")?;
     }
     case.push_str(more)?;
     Ok(case)
@@ -113,7 +114,7 @@ fn one_hot_stream_more_is_too_many(rt: HostRuntime) -> Result<(), Fail> {
     let alloc = rt.alloc();
     let mut case = String::from_str(alloc, "contribution,,50,,,,\nhot,H,1000,500,10,,\n")?;
     for k in 1..=30u32 {
-        case.push_str(&format!(in alloc; "hot,K{k},900,400,10,,\n")?)?;
+        writeln!(case, "hot,K{k},900,400,10,,")?;
     }
     check_answer(&rt, "targets", case.as_str(), 3, "case row 32 TooMany\n")
 }

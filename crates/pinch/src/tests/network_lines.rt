@@ -1,4 +1,5 @@
 use super::support::check_audit;
+use std::fmt::Write;
 use std::test::Fail;
 
 /// Sources H, C, HOT and COLD.
@@ -45,7 +46,7 @@ fn one_exchanger_more_is_too_many(rt: HostRuntime) -> Result<(), Fail> {
     let alloc = rt.alloc();
     let mut network = String::new(alloc);
     for number in 1..=20_001u32 {
-        network.push_str(&format!(in alloc; "exchanger E{number} H C 1\n")?)?;
+        writeln!(network, "exchanger E{number} H C 1")?;
     }
     check_audit(
         &rt,

@@ -5,6 +5,7 @@ use super::support::{
     outcome_by, outcome_of, outcome_under,
 };
 use std::alloc::{AllocError, Global};
+use std::fmt::Write;
 use std::process::Abort;
 use std::test::Fail;
 use std::thread::Threads;
@@ -197,7 +198,7 @@ const ONE_COLD: &str = "contribution,,50,,,,\ncold,C,300,700,10,,\n";
 fn scenarios_of(alloc: Global, count: u32) -> Result<String, AllocError> {
     let mut study = String::new(alloc);
     for k in 0..count {
-        study.push_str(&format!(in alloc; "scenario,S{k},,\n")?)?;
+        writeln!(study, "scenario,S{k},,")?;
     }
     Ok(study)
 }

@@ -4,6 +4,7 @@ use super::support::{
     Fails, WORDS, check_answer, check_answers, check_end, outcome_of, outcome_under,
 };
 use std::alloc::{AllocError, Global};
+use std::fmt::Write;
 use std::process::Abort;
 use std::test::Fail;
 use std::thread::Threads;
@@ -138,17 +139,17 @@ fn one_plant_has_its_own_targets(rt: HostRuntime) -> Result<(), Fail> {
 fn largest_site(alloc: Global) -> Result<String, AllocError> {
     let mut site = String::from_str(alloc, "contribution,,50,,,,\n")?;
     for level in [30_000, 14_222, 15_333, 16_444] {
-        site.push_str(&format!(in alloc; "main,M{level},{level},,,,\n")?)?;
+        writeln!(site, "main,M{level},{level},,,,")?;
     }
     for k in 0..12u32 {
         if k % 2 == 0 {
-            site.push_str(&format!(in alloc; "plant,P{k},,,,,\n")?)?;
+            writeln!(site, "plant,P{k},,,,,")?;
         }
         let (low, cp) = (3 + 400 * k, 100_000 - 74 * k);
         let high = low + 19_997;
-        site.push_str(&format!(in alloc; "hot,H{k},{high},{low},{cp},,\n")?)?;
+        writeln!(site, "hot,H{k},{high},{low},{cp},,")?;
         let (low, high, cp) = (low + 200, high + 200, cp - 37);
-        site.push_str(&format!(in alloc; "cold,C{k},{low},{high},{cp},,\n")?)?;
+        writeln!(site, "cold,C{k},{low},{high},{cp},,")?;
     }
     Ok(site)
 }

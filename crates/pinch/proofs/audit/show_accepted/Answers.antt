@@ -18,6 +18,7 @@ returns c =
       penalties = penalties;
       lists = c.in_ok-penalties.ensures.lists;
       not_negative = c.in_ok-penalties.ensures.not_negative;
-      sum = subst (λ (e : Rational). IfListed penalties (λ listed. sum_of listed ≡ e)) (sym (ap (λ (b : Balance). b.excess) sums)) c.in_ok-penalties.ensures.sum;
+      sum = subst (λ (e : Rational). IfListed penalties (λ listed. sum_of listed ≡ e))
+          (sym (ap (λ (b : Balance). b.excess) sums)) c.in_ok-penalties.ensures.sum;
       is = λ i. Accepted case network balance (to_z-of_z w32 reference fits i) (to_z-of_z w128 floor floor_fits i) penalties;
     }
