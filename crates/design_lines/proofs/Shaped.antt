@@ -1,7 +1,7 @@
 -- The network that led courses draw has the shape of a network: each part of the shape, by a walk over its lines.
 use Rattle.design_lines.proofs.Words.{All-append, All-cons, All-enumerated, All-front, All-map, All-nil, All-weaker, AllPairs-append, AllPairs-front}
 use Rattle.design_lines.proofs.Words.{AllPairs-map, AreMadeBeforeUse, AreMadeInOrder, AreNamed, ArePassedOnce, AreStages, AreUsedOnce, Branch, Case, Course}
-use Rattle.design_lines.proofs.Words.{Exchanger, HasPositiveFlow, HasShape, IsAnyName, IsComplete, IsDottedName, IsExchanger, IsName, IsOfOneStream, IsShareOf}
+use Rattle.design_lines.proofs.Words.{Exchanger, HasPositiveSize, HasShape, IsAnyName, IsComplete, IsDottedName, IsExchanger, IsName, IsOfOneStream, IsShareOf}
 use Rattle.design_lines.proofs.Words.{IsSourceOf, IsSourceOf-side, IsTrue, Joins, Line, Network, PassesDeclared, Share, StaysValid-IsComplete, Stream, Utility}
 use Rattle.design_lines.proofs.Words.{all_at, all_branches, branch_name, count-passages, count_by, count_by-cons, course_branches, courses_lines}
 use Rattle.design_lines.proofs.Words.{declared_line, drawn, enumerate_from, flat_map, flat_map-append, is_ascii_alphanumeric, is_pass_of, made_branches}
@@ -28,7 +28,7 @@ record MakeUpTo (last n : ℕ) (lines : List Line) : Type 0 where
 
 made_keep : (last : ℕ) → Simple (MakeUpTo last) (λ shares. 0 < length shares)
 made_keep last = record {
-  split = λ n from cp lines more.
+  split = λ n from size lines more.
       let further : n + 2 ≡ n + 1 + 1 = omega arith in
       let is = ap (λ ns. n ∷ (n + 1) ∷ ns) (more.is ∙ ap (λ k. range_with_len k more.count) further) in
       record { count = suc (suc more.count); is = is; all = omega (arith, more.all) };
@@ -260,7 +260,7 @@ undotted (x ∷ a) (y ∷ b) name dotted = λ same. let first : x ≡ y = cc sam
 -- what the shape asks of a line by itself
 pub record IsRightLine (branches : List Branch) (exchangers : List Exchanger) (l : Line) : Type 0 where
   pub one_stream : IsOfOneStream branches l
-  pub flow : HasPositiveFlow l
+  pub size : HasPositiveSize l
   pub declared : PassesDeclared branches exchangers l
 
 module _ (branches : List Branch) (exchangers : List Exchanger) where
@@ -272,18 +272,18 @@ module _ (branches : List Branch) (exchangers : List Exchanger) where
     keeps = λ stream. record {
       split = λ n from w all left s lines share of_from of_first of_second sum sums more.
           All-cons (IsRightLine branches exchangers) _ _
-          (record { one_stream = (of_first ∙ sym of_from, of_second ∙ sym of_from); flow = share.flow; declared = tt }) more;
+          (record { one_stream = (of_first ∙ sym of_from, of_second ∙ sym of_from); size = share.size; declared = tt }) more;
       pass = λ n from w all left s lines share of_from of_to sum sums more.
           let (e, is, joins) = share.joined in
           All-cons (IsRightLine branches exchangers) _ _
-          (record { one_stream = of_to ∙ sym of_from; flow = tt; declared = (e, is, subst (λ k. Joins e k) (sym of_from) joins) }) more;
+          (record { one_stream = of_to ∙ sym of_from; size = tt; declared = (e, is, subst (λ k. Joins e k) (sym of_from) joins) }) more;
       mix = λ n first second w all left lines of_first of_second of_to sum sums more.
           All-cons (IsRightLine branches exchangers) _ _
-          (record { one_stream = (of_second ∙ sym of_first, of_to ∙ sym of_first); flow = tt; declared = tt }) more;
+          (record { one_stream = (of_second ∙ sym of_first, of_to ∙ sym of_first); size = tt; declared = tt }) more;
       none = λ some n w all lines more. absurd (omega (arith, some));
     };
     end = λ stream n from w all lines of_from sum more. All-cons (IsRightLine branches exchangers) _ _
-        (record { one_stream = tt; flow = tt; declared = tt }) more;
+        (record { one_stream = tt; size = tt; declared = tt }) more;
   }
 
 -- How many lines lead a branch of a stream through an exchanger: as many as shares of the stream's course do.
@@ -305,7 +305,7 @@ module _ (branches : List Branch) (exchanger stream : ℕ) where
       record {
         keeps = λ of. record {
           split = λ n from w all left s lines share of_from of_first of_second sum sums more.
-              omega (arith, count_by-cons p (line.Split from n s.cp (n + 1)) lines, sum, sums, more);
+              omega (arith, count_by-cons p (line.Split from n s.size (n + 1)) lines, sum, sums, more);
           pass = λ n from w all left s lines share of_from of_to sum sums more.
               let one = one_of_both (exchanger == s.exchanger) (stream == stream_at branches from) ∙ ap (λ k. counts k s) of_from in
               omega (arith, count_by-cons p (line.Pass from s.exchanger n) lines, one, sum, sums, more);
@@ -509,8 +509,8 @@ module _ (case : Case) (exchangers : List Exchanger) (courses : List Course) (co
             (made-within (length case.streams) 0 0 courses (omega (arith, led.all)));
         one_stream = All-append (IsOfOneStream network.branches) _ _ (All-map (IsOfOneStream network.branches) declared_line exchangers (λ k d within. tt))
             (λ k d within. (right k d within).one_stream);
-        flows = All-append HasPositiveFlow _ _ (All-map HasPositiveFlow declared_line exchangers (λ k d within. tt))
-            (λ k d within. (right k d within).flow);
+        sizes = All-append HasPositiveSize _ _ (All-map HasPositiveSize declared_line exchangers (λ k d within. tt))
+            (λ k d within. (right k d within).size);
         exchangers = record {
           each = subst (All (IsExchanger case)) known led.declared;
           distinct = subst (AllPairs (λ a b. a.name ≢ b.name)) known led.distinct;

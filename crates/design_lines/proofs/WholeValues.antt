@@ -42,7 +42,7 @@ module _ (case : Case) (network : Network) (shape : HasShape case network) where
   end_stays : (l : Line) (values final : Valuation) → ((branch : ℕ) → branch < length values → value_at final branch ≡ value_at values branch)
       → All (λ b. b < length values) (uses l) → CanFollow case network values l → All (IsFullEnd case network final) (ends l)
   end_stays (line.Exchanger name hot cold duty) values final same used can = All-nil (IsFullEnd case network final)
-  end_stays (line.Split from first cp second) values final same used can = All-nil (IsFullEnd case network final)
+  end_stays (line.Split from first size second) values final same used can = All-nil (IsFullEnd case network final)
   end_stays (line.Pass from exchanger to) values final same used can = All-nil (IsFullEnd case network final)
   end_stays (line.Mix first second to) values final same used can = All-nil (IsFullEnd case network final)
   end_stays (line.End branch) values final same used can =

@@ -22,7 +22,7 @@ pub use Rattle.networks.proofs.Lists.{All-front, AllPairs-map, all_at, enumerate
 pub use Rattle.networks.proofs.OfShape.{count-passages, line_of, many_own, stream_at-get_or}
 pub use Rattle.networks.specs.Lines.{Exchanger, exchanger_of, is_pass_of, makes, own_branch, uses}
 unfoldable pub use Rattle.networks.specs.Lines.{exchangers_of, made_by, names_of, own_branches, stream_at, used_by}
-pub use Rattle.networks.specs.Shape.{AreMadeBeforeUse, AreMadeInOrder, AreNamed, ArePassedOnce, ArePassedWhenDeclared, AreUsedOnce, HasPositiveFlow, HasShape}
+pub use Rattle.networks.specs.Shape.{AreMadeBeforeUse, AreMadeInOrder, AreNamed, ArePassedOnce, ArePassedWhenDeclared, AreUsedOnce, HasPositiveSize, HasShape}
 pub use Rattle.networks.specs.Shape.{IsExchanger, IsOfOneStream, Joins, PassesDeclared}
 pub use Rattle.networks.specs.declared.network.Branch.{Branch}
 pub use Rattle.networks.specs.declared.network.Line.{Line}

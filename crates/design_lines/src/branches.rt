@@ -10,7 +10,7 @@ use std::alloc::{AllocError, Global};
 use stream_case::Case;
 
 /// The branches of the streams themselves.
-pub fn own_branches(alloc: Global, case: &Case) -> Result<Vec<Branch>, AllocError>
+pub(crate) fn own_branches(alloc: Global, case: &Case) -> Result<Vec<Branch>, AllocError>
     requires { length case.now.streams < 2 ^ 32 }
     ensures { IfOk result (λ branches. branches.items ≡ own_branches case.now) }
 {
@@ -25,7 +25,7 @@ pub fn own_branches(alloc: Global, case: &Case) -> Result<Vec<Branch>, AllocErro
 }
 
 /// Appends `count` branches of a stream, whose names count on from `first`.
-pub fn push_branches(
+pub(crate) fn push_branches(
     alloc: Global,
     branches: &mut Vec<Branch>,
     first: u32,

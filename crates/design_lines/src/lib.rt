@@ -9,9 +9,8 @@ mod limits;
 mod names;
 mod stage;
 
-pub use branches::{own_branches, push_branches};
 pub use drawing::{Course, draw};
 pub use laws::drawn_networks_have_the_shape;
 pub use limits::MOST_DRAWN_LINES;
-pub use names::{branch_name, exchanger_name};
-pub use stage::{Share, push_stage};
+pub use names::exchanger_name;
+pub use stage::Share;

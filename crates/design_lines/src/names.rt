@@ -19,7 +19,7 @@ pub fn exchanger_name(alloc: Global, number: u32) -> Result<Name, AllocError>
 
 /// The name of the branch with a number, from 0, among those that a design makes: `.1`, `.2` and
 /// so on.
-pub fn branch_name(alloc: Global, number: u32) -> Result<Name, AllocError>
+pub(crate) fn branch_name(alloc: Global, number: u32) -> Result<Name, AllocError>
     ensures { IfOk result (λ name. name ≡ branch_name number) }
 {
     let text = format!(in alloc; ".{}", u64::from(number) + 1)?;

@@ -12,8 +12,8 @@ use std::alloc::AllocError;
 pub struct Share {
     /// The number of the exchanger, from 0.
     pub exchanger: u32,
-    /// The heat-capacity flow, in 10 W/K.
-    pub cp: Frac,
+    /// The size of its branch: a heat-capacity flow in 10 W/K, or of a latent stream a load in W.
+    pub size: Frac,
 }
 
 /// Appends the splits, and answers the branch that is left for the last share.
@@ -35,7 +35,7 @@ fn push_splits(
         lines.push(Line::Split {
             from: rest,
             first: free,
-            cp: shares[index].cp,
+            size: shares[index].size,
             second,
         })?;
         rest = second;
@@ -99,7 +99,7 @@ fn push_mixes(lines: &mut Vec<Line>, behind: u32, count: u32) -> Result<(), Allo
 /// Appends the lines of a stage of one share or more: the branch `from` is divided, its shares
 /// pass their exchangers, and are joined again. New branches are numbered from `next` on; the
 /// answer is the last one.
-pub fn push_stage(
+pub(crate) fn push_stage(
     lines: &mut Vec<Line>,
     next: u32,
     from: u32,

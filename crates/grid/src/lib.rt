@@ -15,4 +15,4 @@ mod places;
 pub use making::{case_parts, parts_of, parts_on};
 pub use part::Part;
 pub use parts::Parts;
-pub use places::{Grid, grid_of, places_of};
+pub use places::{Grid, grid_of};

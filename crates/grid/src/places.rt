@@ -28,7 +28,7 @@ fn push_levels(places: &mut Vec<i32>, utilities: &[Utility]) -> Result<(), Alloc
 
 /// The shifted ends of streams and the shifted levels of utilities, in tenths of °C and in their
 /// order.
-pub fn places_of(
+pub(crate) fn places_of(
     alloc: Global,
     streams: &[Stream],
     utilities: &[Utility],

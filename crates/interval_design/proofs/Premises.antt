@@ -188,8 +188,10 @@ module _ (case : Case) (hot cold : List Part) (ts : List Transfer) (given : IsCa
         hot_side = side_of_part case grid side.Hot p hot_part;
         cold_side = side_of_part case grid side.Cold q cold_part;
         heat = record { above = positive; within = within-whole t.heat (omega (arith, ints, heat.from, heat.upto)) };
-        hot_size = size-positive t.heat hot t.hot p joined.hot_part (part_narrow case grid side.Hot p falls given.complete hot_part) positive heat;
-        cold_size = size-positive t.heat cold t.cold q joined.cold_part (part_narrow case grid side.Cold q falls given.complete cold_part) positive heat;
+        hot_size = has_size (ratio t.heat (width_at hot t.hot)) p.source
+            (size-positive t.heat hot t.hot p joined.hot_part (part_narrow case grid side.Hot p falls given.complete hot_part) positive heat);
+        cold_size = has_size (ratio t.heat (width_at cold t.cold)) q.source
+            (size-positive t.heat cold t.cold q joined.cold_part (part_narrow case grid side.Cold q falls given.complete cold_part) positive heat);
         permitted = joined.permitted;
         apart = pieces_apart p q hot_part cold_part joined.passes;
       })

@@ -4,7 +4,7 @@ use Rattle.network_audit.proofs.Words.{AreEnded, AreStreams-IsComplete, Audit, B
 use Rattle.network_audit.proofs.Words.{Decides-rational_eq, Exchanger, Finding, Gives, HasAccepted, HasNoFinding, HasShape, IfAccepted, IsAtMost, IsComplete}
 use Rattle.network_audit.proofs.Words.{IsFaultless, IsFinding, IsFullEnd, IsInRange, IsLineOf, IsPartOfLoad, IsPermitted, IsValidNetwork, IsValuation}
 use Rattle.network_audit.proofs.Words.{IsVerdict, IsWholeValuation, Item, KeepLoads, KeepsApproach, KnowsItsNetwork, Leaves, LeavesRoom, Line, Network}
-use Rattle.network_audit.proofs.Words.{PassKeepsLoad, Place, Rational, Reason, Says, SaysExactly, Solves, Step, Stream, Test, Utility, Valuation, Verdict}
+use Rattle.network_audit.proofs.Words.{PassKeepsLoad, Place, Rational, Reason, SaysExactly, Solves, Step, Stream, Test, Utility, Valuation, Verdict}
 use Rattle.network_audit.proofs.Words.{agree-take, all_at, all_made, all_solved, balance_items, branch_above, branch_side, cases_lt, cost_steps, duties_with}
 use Rattle.network_audit.proofs.Words.{duty_at, each_first, end_items, ended_by, ended_streams, ends, ends_stream, enumerate_from, enumerate_from-append}
 use Rattle.network_audit.proofs.Words.{exchanger_items, exchanger_items_at, exchangers_of, false≢true, finding_of, first-append, first-behind, first-front}
@@ -120,7 +120,7 @@ module _ (case : Case) (network : Network) where
   pub line_items-same : (values other : Valuation) (m : ℕ) (at : Place) (l : Line) → AgreeBelow values other m
       → All (λ b. b < m) (uses l) → line_items case network values at l ≡ line_items case network other at l
   line_items-same values other m at (line.Exchanger name hot cold duty) agree used = refl
-  line_items-same values other m at (line.Split from first cp second) agree used = ap (λ v. split_items at v cp)
+  line_items-same values other m at (line.Split from first size second) agree used = ap (λ v. split_items at v size)
       (agree.same from (All-head (λ b. b < m) from [] used))
   line_items-same values other m at (line.Pass from exchanger to) agree used =
       ap (λ v. pass_items at (branch_side case network from) (is_latent_branch case network from) v (duty_at network exchanger))
@@ -182,7 +182,7 @@ module _ (case : Case) (network : Network) where
 
   -- a line that is passed leaves room
   pub room-passed : (values : Valuation) (at : Place) (l : Line) → first_finding (line_items case network values at l) ≡ None → LeavesRoom values l
-  room-passed values at (line.Split from first cp second) none = (Decides-is_below cp (value_at values from).cp).0 (passed-item _ _ none)
+  room-passed values at (line.Split from first size second) none = (Decides-is_below size (value_at values from).size).0 (passed-item _ _ none)
   room-passed values at other none = tt
 
   -- the walk goes on behind a line that is passed
@@ -336,7 +336,7 @@ module _ (case : Case) (network : Network) where
 -- the state that the schoolbook gives behind an exchanger
 abbrev pub state_behind : Case → Network → Valuation → ℕ → ℕ → Rational
 state_behind case network values from exchanger =
-    let before = value_at values from in moved (branch_side case network from) before.t (over (duty_at network exchanger) before.cp)
+    let before = value_at values from in moved (branch_side case network from) before.t (over (duty_at network exchanger) before.size)
 
 module _ {case : Case} {network : Network} {values : Valuation} (shape : HasShape case network) (valuation : IsWholeValuation case network values)
     (k : ℕ) {from exchanger to : ℕ} (at : slice_get network.lines k ≡ Some (line.Pass from exchanger to)) where
@@ -481,7 +481,7 @@ full_end case network values at (line.End branch) none = All-cons (IsFullEnd cas
     full s is =
         let tests : first_finding (end_items at (value_at values branch) (Some s)) ≡ None = ap (λ o. first_finding (end_items at (value_at values branch) o))
         (sym is) ∙ none in
-        same_value (value_at values branch) (last_value s) ((Decides-rational_eq (value_at values branch).cp (full_size s)).0 (passed-item _ _ tests))
+        same_value (value_at values branch) (last_value s) ((Decides-rational_eq (value_at values branch).size (full_size s)).0 (passed-item _ _ tests))
         ((Decides-rational_eq (value_at values branch).t (last_state s)).0 (passed-item _ _ (passed-rest _ _ tests)))
 full_end case network values at other none = All-nil (IsFullEnd case network values)
 
@@ -594,21 +594,21 @@ sound-costs at before cost (a ∷ prices) =
 -- ---- the items of a valid network
 
 -- a split left room, seen from the whole valuation
-room-whole : (case : Case) (network : Network) (values : Valuation) (k from first second : ℕ) (cp : Rational) → HasShape case network
-    → IsWholeValuation case network values → slice_get network.lines k ≡ Some (line.Split from first cp second) → is_below cp (value_at values from).cp ≡ true
-room-whole case network values k from first second cp shape valuation at =
-    let n = length network.lines in let inside = slice_get_within network.lines k (line.Split from first cp second) at in
+room-whole : (case : Case) (network : Network) (values : Valuation) (k from first second : ℕ) (size : Rational) → HasShape case network
+    → IsWholeValuation case network values → slice_get network.lines k ≡ Some (line.Split from first size second) → is_below size (value_at values from).size ≡ true
+room-whole case network values k from first second size shape valuation at =
+    let n = length network.lines in let inside = slice_get_within network.lines k (line.Split from first size second) at in
     let all : k + (n - k) ≡ n = omega (arith, inside) in
     let before = valuation_front case network k (n - k) values shape (subst (λ m. IsValuation case network m values) (sym all) valuation) in
-    let room = room_left case network n values shape valuation k (line.Split from first cp second) (front case network k values) inside at before in
-    let used = (line_of shape k (line.Split from first cp second) at).numbers.used in
+    let room = room_left case network n values shape valuation k (line.Split from first size second) (front case network k values) inside at before in
+    let used = (line_of shape k (line.Split from first size second) at).numbers.used in
     let same = (agree-take values (made_before case network k)).same from (All-head (λ b. b < made_before case network k) from [] used) in
-    ap (λ v. is_below cp v.cp) same ∙ (Decides-is_below cp (value_at (front case network k values) from).cp).1 room
+    ap (λ v. is_below size v.size) same ∙ (Decides-is_below size (value_at (front case network k values) from).size).1 room
 
 sound-end : (at : Place) (value : BranchValue) (o : Option Stream) → ((s : Stream) → o ≡ Some s → value ≡ last_value s) → AreSound (end_items at value o)
 sound-end at value None full = sound-none
 sound-end at value (Some s) full = let is = full s refl in All-from_recursion IsSound (end_items at value (Some s))
-    ((Decides-rational_eq value.cp (full_size s)).1 (ap (λ v. v.cp) is), ((Decides-rational_eq value.t (last_state s)).1 (ap (λ v. v.t) is), tt))
+    ((Decides-rational_eq value.size (full_size s)).1 (ap (λ v. v.size) is), ((Decides-rational_eq value.t (last_state s)).1 (ap (λ v. v.t) is), tt))
 
 sound-load : (at : Place) (latent : Bool) (state : Rational) → (latent ≡ true → IsPartOfLoad state) → AreSound (load_items at latent state)
 sound-load at false state keeps = sound-none
@@ -620,17 +620,17 @@ module _ (case : Case) (network : Network) where
       → KeepLoads case network values → slice_get network.lines k ≡ Some l → AreSound (line_items case network values (place.Line (k + 1)) l)
   unfolding ended_by
   line_sound values k (line.Exchanger name hot cold duty) shape valuation ended loads at = sound-none
-  line_sound values k (line.Split from first cp second) shape valuation ended loads at =
-      All-from_recursion IsSound (split_items (place.Line (k + 1)) (value_at values from) cp)
-      (room-whole case network values k from first second cp shape valuation at, (tt, tt))
+  line_sound values k (line.Split from first size second) shape valuation ended loads at =
+      All-from_recursion IsSound (split_items (place.Line (k + 1)) (value_at values from) size)
+      (room-whole case network values k from first second size shape valuation at, (tt, tt))
   line_sound values k (line.Pass from exchanger to) shape valuation ended loads at =
       let here = place.Line (k + 1) in let latent = is_latent_branch case network from in let state = state_behind case network values from exchanger in
       let keeps : latent ≡ true → IsPartOfLoad state =
       λ is. subst IsPartOfLoad (behind_state shape valuation k at) (loads to (behind_there shape valuation k at) (behind_latent shape valuation k at ∙ is)) in
-      sound-step here 1 (over (duty_at network exchanger) (value_at values from).cp) (Step here 2 state ∷ load_items here latent state)
+      sound-step here 1 (over (duty_at network exchanger) (value_at values from).size) (Step here 2 state ∷ load_items here latent state)
       (sound-step here 2 state (load_items here latent state) (sound-load here latent state keeps))
   line_sound values k (line.Mix first second to) shape valuation ended loads at =
-      let one = value_at values first in let two = value_at values second in let means = mean_items (place.Line (k + 1)) one two (plus one.cp two.cp) in
+      let one = value_at values first in let two = value_at values second in let means = mean_items (place.Line (k + 1)) one two (plus one.size two.size) in
       sound-step _ _ _ _ (all-if IsSound (rational_eq one.t two.t) means (All-from_recursion IsSound means (tt, (tt, (tt, (tt, tt))))))
   line_sound values k (line.End branch) shape valuation ended loads at =
       sound-end (place.Line (k + 1)) (value_at values branch) (slice_get case.streams (stream_at network.branches branch))
@@ -686,7 +686,12 @@ one_valuation_left old new (verdict.Accepted balance) shape (kept, faultless, le
     ∙ ap Some (one_valuation old.case old.network (length old.network.lines) kept values shape faultless.valuation other)
 one_valuation_left old new other shape left = tt
 
--- what is accepted is valid, and what is rejected is not
+-- an accepted network is so, and a rejected one is not
+abbrev Says : Verdict → Type 0 → Type 0
+Says (verdict.Accepted balance) P = P
+Says (verdict.Rejected place reason) P = P → ⊥
+Says (verdict.TooFine place step) P = Unit {0}
+
 pub says_valid : (case : Case) (network : Network) (given : Verdict) → HasShape case network → IsVerdict case network given
     → Says given (IsValidNetwork case network)
 says_valid case network (verdict.Accepted balance) shape is = valid_network case network shape is.0

@@ -13,7 +13,7 @@ pub use Rattle.fractions.specs.Rationals.{rational_zero, whole}
 unfoldable pub use Rattle.fractions.specs.Rationals.{minus, over, plus, ratio, times}
 pub use Rattle.network_audit.specs.AllItems.{cost_steps, heat_on, range_items, sum_steps, utility_items_at}
 unfoldable pub use Rattle.network_audit.specs.AllItems.{balance_items, heats_on, items, items_behind, utility_items}
-pub use Rattle.network_audit.specs.Audit.{Audit, HasAccepted, IfAccepted, IsFaultless, KnowsItsNetwork, Leaves, Says, SaysExactly}
+pub use Rattle.network_audit.specs.Audit.{Audit, HasAccepted, IfAccepted, IsFaultless, KnowsItsNetwork, Leaves, SaysExactly}
 unfoldable pub use Rattle.network_audit.specs.Balance.{balance_of, cold_heat, cost_of, duties_with, duty_with, excess_of, heat_price, heat_with}
 pub use Rattle.network_audit.specs.Findings.{HasNoFinding, IsFinding, IsVerdict}
 pub use Rattle.network_audit.specs.Items.{IsFormed, Item, Step, Test, end_items, ends_of, ends_stream, exchanger_items_at, finding_of, is_passed, is_reached}

@@ -52,12 +52,6 @@ pub record KnowsItsNetwork (audit : Audit) : Type 0 where
 
 -- ---- what a verdict says
 
--- an accepted network is so, and a rejected one is not
-abbrev pub Says : Verdict → Type 0 → Type 0
-Says (verdict.Accepted balance) P = P
-Says (verdict.Rejected place reason) P = P → ⊥
-Says (verdict.TooFine place step) P = Unit {0}
-
 abbrev pub IsTooFine : Verdict → Type 0
 IsTooFine (verdict.Accepted balance) = ⊥
 IsTooFine (verdict.Rejected place reason) = ⊥

@@ -55,7 +55,7 @@ impl Model for Auditor {
 }
 
 impl Auditor {
-    ghost use Rattle.network_audit.specs.Audit.{KnowsItsNetwork, Leaves, Says, SaysExactly};
+    ghost use Rattle.network_audit.specs.Audit.{KnowsItsNetwork, Leaves, SaysExactly};
     ghost use Rattle.network_audit.specs.Joints.{joints_of};
 
     /// Takes all the room that the audits need, and copies of the case and the network.
@@ -66,7 +66,7 @@ impl Auditor {
             auditor ≡ record { case = case.now; network = network.now; values = None }) }
     {
         let none = BranchValue {
-            cp: Frac::whole(0),
+            size: Frac::whole(0),
             t: Frac::whole(0),
         };
         Ok(Auditor {
@@ -90,10 +90,8 @@ impl Auditor {
             → IsWholeValuation self.old.case self.old.network values
             → self.new.values ≡ Some values) }
 
-        // An accepted network is valid and a rejected one is not; so the verdict is too fine, or it
-        // accepts exactly the valid networks.
-        ensures valid { Says result (IsValidNetwork self.old.case self.old.network) }
-        ensures valid_exactly { SaysExactly result (IsValidNetwork self.old.case self.old.network) }
+        // The verdict is too fine, or it accepts exactly the valid networks.
+        ensures valid { SaysExactly result (IsValidNetwork self.old.case self.old.network) }
         ensures excess { IfAccepted result (λ balance. IsAtMost rational_zero balance.excess) }
         ensures again { (other : Verdict) → IsVerdict self.old.case self.old.network other
             → other ≡ result }

@@ -56,7 +56,7 @@ pub(crate) fn first_value(stream: &Stream) -> BranchValue
     ensures { result ≡ first_value stream.now }
 {
     BranchValue {
-        cp: full_size(stream),
+        size: full_size(stream),
         t: first_state(stream),
     }
 }

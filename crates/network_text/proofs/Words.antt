@@ -38,7 +38,7 @@ pub use Rattle.networks.proofs.OfShape.{passed_parts, stream_at-get_or, stream_a
 pub use Rattle.networks.specs.Lines.{Exchanger, exchanger_of, makes, members, own_branch, passage_of, same_passage, uses}
 unfoldable pub use Rattle.networks.specs.Lines.{exchangers_of, made_by, names_of, own_branches, passages_of, stream_at, used_by}
 pub use Rattle.networks.specs.Shape.{AreExchangers, AreMadeBeforeUse, AreMadeInOrder, AreNamed, ArePassedOnce, ArePassedWhenDeclared, AreUsedOnce}
-pub use Rattle.networks.specs.Shape.{HasPositiveFlow, HasShape, IsExchanger, IsOfOneStream, IsPositive, Joins, KeepsCounts, PassesDeclared, made_before, passes}
+pub use Rattle.networks.specs.Shape.{HasPositiveSize, HasShape, IsExchanger, IsOfOneStream, IsPositive, Joins, KeepsCounts, PassesDeclared, made_before, passes}
 pub use Rattle.networks.specs.declared.few.AtMostTwo.{AtMostTwo}
 pub use Rattle.networks.specs.declared.limits.TheConstants.{MOST_EXCHANGERS, MOST_STATEMENTS}
 pub use Rattle.networks.specs.declared.network.Branch.{Branch}

@@ -45,7 +45,7 @@ new_branch_checks given name =
     ∷ (not (is_some (branch_named given name)), why.SameName)
     ∷ []
 
--- ---- a duty or a heat-capacity flow
+-- ---- a duty or a size
 
 unfoldable pub fraction_checks : List ℕ → List (Check NetWhy)
 fraction_checks text =

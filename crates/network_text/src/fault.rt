@@ -10,7 +10,7 @@ pub enum NetWhy {
     UnknownWord,
     /// The statement has too many or too few fields.
     FieldCount,
-    /// A duty or a heat-capacity flow is no fraction.
+    /// A duty or a size is no fraction.
     BadNumber,
     /// The case has no source of this name, or no earlier statement declares this exchanger.
     UnknownName,
@@ -29,7 +29,7 @@ pub enum NetWhy {
     MissingPass,
     /// The statement would pass a limit of counts.
     TooMany,
-    /// A duty or a heat-capacity flow is not above 0.
+    /// A duty or a size is not above 0.
     NotPositive,
     /// Two branches of different streams are mixed.
     OtherStream,

@@ -58,7 +58,7 @@ fn bounded(numerator: i128, denominator: u128) -> Option<Frac>
     Frac::from_parts(numerator, denominator)
 }
 
-/// The fraction above 0 that a field spells: a duty or a heat-capacity flow.
+/// The fraction above 0 that a field spells: a duty in W, or the size of a branch.
 #[tactic(auto, unfolding(crate::specs::Checks::fraction_checks, crate::specs::Fractions::fraction))]
 pub fn positive_fraction(field: &[u8]) -> Result<Frac, NetWhy>
     ensures { Checked (fraction_checks field.now) (λ value. value ≡ fraction field.now) result }

@@ -54,7 +54,7 @@ abbrev worked_network : Network
 worked_network = record { branches = map branch (0 ∷ 1 ∷ 0 ∷ 0 ∷ 1 ∷ 1 ∷ 1 ∷ 1 ∷ 1 ∷ 1 ∷ []); lines = lines }
 
 abbrev value : ℤ → ℤ → BranchValue
-value cp t = record { cp = whole cp; t = whole t }
+value size t = record { size = whole size; t = whole t }
 
 -- the branches behind the two exchangers have 40 and 80 °C, and their mix has 60 °C
 abbrev worked_values : Valuation
@@ -67,8 +67,8 @@ worked_values =
 at_most_by_test : (a b : Rational) → is_le (rational_cmp a b) ≡ true → IsAtMost a b
 at_most_by_test a b passes = (Decides-is_le a b).0 passes
 
-values_positive : All (λ v. IsBelow rational_zero v.cp) worked_values
-values_positive = All-from_recursion (λ v. IsBelow rational_zero v.cp) worked_values
+values_positive : All (λ v. IsBelow rational_zero v.size) worked_values
+values_positive = All-from_recursion (λ v. IsBelow rational_zero v.size) worked_values
     (full, (half_more, (full, (full, (half, (half, (half, (half, (half_more, (half_more, tt))))))))))
   where
     full : IsBelow rational_zero (whole (pos 20))

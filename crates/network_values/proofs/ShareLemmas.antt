@@ -8,7 +8,7 @@ use Rattle.network_values.proofs.Words.{rational_zero, seen_from, share, subst�
 use Rattle.fractions.proofs.Products.{over_from_times}
 use Rattle.fractions.proofs.RationalSums.{at_most-rational_sum_by}
 use Rattle.network_values.proofs.HeightLemmas.{positive_part-above, positive_part-at_most, positive_part-below}
-use Rattle.network_values.specs.Heights.{HotSharesAreAtLeastColdShares, IsNowhereBelow, IsPart, PricedSharesAreOrdered, SharesAreParts}
+use Rattle.network_values.specs.Heights.{HotSharesAreAtLeastColdShares, IsBelowAtNoEnd, IsPart, PricedSharesAreOrdered, SharesAreParts}
 use Rattle.std.proofs.Common.{Bool, ap, ap₂, arith, false, if◌then◌else◌, inl, inr, refl, subst, sym, true, ◌∙◌, ◌≡◌, ◌⊎◌}
 
 -- ---- flows: above the place, below it, and across it
@@ -157,7 +157,7 @@ module _ (from_itself : Bool) (duty : Rational) (positive : IsBelow rational_zer
       (sym (flow-across f hot_low hot_high hot_below hot_above)) (flows-across f h hot_low hot_high cold_low cold_high
       (at_most_from_below rational_zero h of_cold.0) hot_below hot_above high low (of_hot.1 ∙ sym of_cold.1))
 
-  pub hot_share_at_least : (hot cold : SideRun) → HasDuty duty hot → HasDuty duty cold → IsNowhereBelow hot cold
+  pub hot_share_at_least : (hot cold : SideRun) → HasDuty duty hot → HasDuty duty cold → IsBelowAtNoEnd hot cold
       → IsAtMost (share from_itself duty cold) (share from_itself duty hot)
   hot_share_at_least (Between f hot_low hot_high) (Between h cold_low cold_high) of_hot of_cold order =
       flows f hot_low hot_high h cold_low cold_high of_hot of_cold order.high order.low (below_or_at_most hot_low rational_zero)

@@ -35,7 +35,7 @@ pub use Rattle.networks.proofs.OfShape.{HasNumbers, all_made, count-passages, de
 pub use Rattle.networks.proofs.OfShape.{stream_within, streams_first, the_pass_of, used_there, used_within}
 pub use Rattle.networks.specs.Lines.{Exchanger, is_pass_of, makes, uses}
 unfoldable pub use Rattle.networks.specs.Lines.{exchangers_of, made_by, pass_of, stream_at, used_by}
-pub use Rattle.networks.specs.Shape.{AreMadeInOrder, HasPositiveFlow, HasShape, IsExchanger, IsOfOneStream, Joins, made_before}
+pub use Rattle.networks.specs.Shape.{AreMadeInOrder, HasPositiveSize, HasShape, IsExchanger, IsOfOneStream, Joins, made_before}
 pub use Rattle.networks.specs.declared.network.Branch.{Branch}
 pub use Rattle.networks.specs.declared.network.Line.{Line}
 pub use Rattle.networks.specs.declared.network.Network.{Network}

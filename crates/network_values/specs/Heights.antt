@@ -46,16 +46,16 @@ share_in view duty side = share view.from_itself duty (seen_from (whole view.pla
 -- ---- the fact on one exchanger
 
 -- at neither end is the hot side below the cold one
-pub record IsNowhereBelow (hot cold : SideRun) : Type 0 where
+pub record IsBelowAtNoEnd (hot cold : SideRun) : Type 0 where
   pub high : IsAtMost (high_of cold) (high_of hot)
   pub low : IsAtMost (low_of cold) (low_of hot)
 
--- of two sides that have the duty, on one scale, the hot side nowhere below the cold one: above every place the hot
--- side has at least the share of the cold one
+-- of two sides that have the duty, on one scale, the hot side at neither end below the cold one: above every place
+-- the hot side has at least the share of the cold one
 abbrev pub HotSharesAreAtLeastColdShares : Type 0
 HotSharesAreAtLeastColdShares =
     (from_itself : Bool) (place duty : Rational) (hot cold : SideRun) → IsBelow rational_zero duty → HasDuty duty hot → HasDuty duty cold
-    → IsNowhereBelow hot cold
+    → IsBelowAtNoEnd hot cold
     → IsAtMost (share from_itself duty (seen_from place cold)) (share from_itself duty (seen_from place hot))
 
 -- the same with prices that rise at some places: shares times rises add up to no less on the hot side
@@ -71,7 +71,7 @@ share_worth duty side rises = rational_sum_by (λ r. times r.rise (share r.from_
 abbrev pub PricedSharesAreOrdered : Type 0
 PricedSharesAreOrdered =
     (duty : Rational) (hot cold : SideRun) (rises : List PriceRise) → IsBelow rational_zero duty → HasDuty duty hot → HasDuty duty cold
-    → IsNowhereBelow hot cold → All (λ r. IsAtMost rational_zero r.rise) rises
+    → IsBelowAtNoEnd hot cold → All (λ r. IsAtMost rational_zero r.rise) rises
     → IsAtMost (share_worth duty cold rises) (share_worth duty hot rises)
 
 -- ---- what a share is

@@ -6,7 +6,7 @@ use Rattle.networks.proofs.Counts.{IsOnly, found_once}
 use Rattle.networks.proofs.Lists.{All-flat_map, all_at, slice_get-take}
 use Rattle.networks.specs.Lines.{Exchanger, exchanger_of, exchangers_of, is_pass_of, made_by, makes, own_branch, own_branches, pass_of, passage_of, passages_of}
 use Rattle.networks.specs.Lines.{same_passage, stream_at, used_by, uses}
-use Rattle.networks.specs.Shape.{AreMadeBeforeUse, AreMadeInOrder, HasPositiveFlow, HasShape, IsExchanger, IsOfOneStream, Joins, NamesKnown, PassesDeclared}
+use Rattle.networks.specs.Shape.{AreMadeBeforeUse, AreMadeInOrder, HasPositiveSize, HasShape, IsExchanger, IsOfOneStream, Joins, NamesKnown, PassesDeclared}
 use Rattle.networks.specs.Shape.{made_before}
 use Rattle.std.proofs.Common.{All, List, Some, [], ap, arith, cond, count_by, drop, filter_map, flat_map, get_or, get_or-append-add, is_some, length}
 use Rattle.std.proofs.Common.{length-append, length-take, map, option_map, refl, slice_get, suc, sym, take, take-append-drop, take-take, true, unwrap_or, zero}
@@ -231,7 +231,7 @@ pub names-known : (case : Case) (network : Network) → HasShape case network �
     → NamesKnown case network l
 names-known case network shape index (line.Exchanger name hot cold duty) here =
     let e = own_exchanger shape index name hot cold duty here in (IsSourceOf-side case hot (ap is_some e.hot), IsSourceOf-side case cold (ap is_some e.cold))
-names-known case network shape index (line.Split from first cp second) here = let at = stands_at network.lines index (line.Split from first cp second) here in
+names-known case network shape index (line.Split from first size second) here = let at = stands_at network.lines index (line.Split from first size second) here in
     (used_known shape at 0 (omega arith), made_known shape at 0 (omega arith), made_known shape at 1 (omega arith))
 names-known case network shape index (line.Pass from exchanger to) here = let at = stands_at network.lines index (line.Pass from exchanger to) here in
     (used_known shape at 0 (omega arith), exchanger_known shape at, made_known shape at 0 (omega arith))
@@ -246,7 +246,7 @@ pub record IsLineOf (case : Case) (network : Network) (index : ℕ) (l : Line) :
   pub numbers : HasNumbers case network index l
   pub known : NamesKnown case network l
   pub one_stream : IsOfOneStream network.branches l
-  pub flow : HasPositiveFlow l
+  pub size : HasPositiveSize l
   pub declared : PassesDeclared network.branches (exchangers_of (take index network.lines)) l
 
 pub line_of : {case : Case} {network : Network} → HasShape case network → (index : ℕ) (l : Line) → slice_get network.lines index ≡ Some l
@@ -256,7 +256,7 @@ line_of {case} {network} shape index l here = let at = stands_at network.lines i
   numbers = numbers_at shape at;
   known = names-known case network shape index l here;
   one_stream = all_at (IsOfOneStream network.branches) network.lines index l shape.one_stream here;
-  flow = all_at HasPositiveFlow network.lines index l shape.flows here;
+  size = all_at HasPositiveSize network.lines index l shape.sizes here;
   declared = shape.declared_first index l here;
 }
 

@@ -41,7 +41,7 @@ pub record AreNamed (network : Network) : Type 0 where
 -- the branches of one line are branches of one stream
 abbrev pub IsOfOneStream : List Branch → Line → Type 0
 IsOfOneStream branches (line.Exchanger name hot cold duty) = Unit {0}
-IsOfOneStream branches (line.Split from first cp second) = (stream_at branches first ≡ stream_at branches from)
+IsOfOneStream branches (line.Split from first size second) = (stream_at branches first ≡ stream_at branches from)
     × (stream_at branches second ≡ stream_at branches from)
 IsOfOneStream branches (line.Pass from exchanger to) = stream_at branches to ≡ stream_at branches from
 IsOfOneStream branches (line.Mix first second to) = (stream_at branches second ≡ stream_at branches first) × (stream_at branches to ≡ stream_at branches first)
@@ -49,7 +49,7 @@ IsOfOneStream branches (line.End branch) = Unit {0}
 
 -- ---- exchangers
 
--- a duty or a heat-capacity flow: a fraction above 0
+-- a duty or a size: a fraction above 0
 pub record IsPositive (a : Rational) : Type 0 where
   pub above : pos 0 <ℤ a.num
   pub within : IsWithinLimits a
@@ -65,12 +65,12 @@ pub record AreExchangers (case : Case) (network : Network) : Type 0 where
   pub each : All (IsExchanger case) (exchangers_of network.lines)
   pub distinct : AllPairs (λ a b. a.name ≢ b.name) (exchangers_of network.lines)
 
-abbrev pub HasPositiveFlow : Line → Type 0
-HasPositiveFlow (line.Exchanger name hot cold duty) = Unit {0}
-HasPositiveFlow (line.Split from first cp second) = IsPositive cp
-HasPositiveFlow (line.Pass from exchanger to) = Unit {0}
-HasPositiveFlow (line.Mix first second to) = Unit {0}
-HasPositiveFlow (line.End branch) = Unit {0}
+abbrev pub HasPositiveSize : Line → Type 0
+HasPositiveSize (line.Exchanger name hot cold duty) = Unit {0}
+HasPositiveSize (line.Split from first size second) = IsPositive size
+HasPositiveSize (line.Pass from exchanger to) = Unit {0}
+HasPositiveSize (line.Mix first second to) = Unit {0}
+HasPositiveSize (line.End branch) = Unit {0}
 
 -- ---- passes
 
@@ -81,7 +81,7 @@ Joins exchanger stream = (exchanger.hot ≡ source.Stream stream) ⊎ (exchanger
 -- a branch passes an exchanger that was declared before, on the side of its stream
 abbrev pub PassesDeclared : List Branch → List Exchanger → Line → Type 0
 PassesDeclared branches declared (line.Exchanger name hot cold duty) = Unit {0}
-PassesDeclared branches declared (line.Split from first cp second) = Unit {0}
+PassesDeclared branches declared (line.Split from first size second) = Unit {0}
 PassesDeclared branches declared (line.Pass from exchanger to) = (e : Exchanger) × (slice_get declared exchanger ≡ Some e) × Joins e (stream_at branches from)
 PassesDeclared branches declared (line.Mix first second to) = Unit {0}
 PassesDeclared branches declared (line.End branch) = Unit {0}
@@ -104,7 +104,7 @@ ArePassedOnce network = (number stream : ℕ) (e : Exchanger) → slice_get (exc
 -- the sources, branches and exchangers of a line are there
 abbrev pub NamesKnown : Case → Network → Line → Type 0
 NamesKnown case network (line.Exchanger name hot cold duty) = IsSourceOf case hot × IsSourceOf case cold
-NamesKnown case network (line.Split from first cp second) = (from < length network.branches) × (first < length network.branches)
+NamesKnown case network (line.Split from first size second) = (from < length network.branches) × (first < length network.branches)
     × (second < length network.branches)
 NamesKnown case network (line.Pass from exchanger to) = (from < length network.branches) × (exchanger < length (exchangers_of network.lines))
     × (to < length network.branches)
@@ -121,7 +121,7 @@ pub record HasShape (case : Case) (network : Network) : Type 0 where
   pub named : AreNamed network
   pub streams : All (λ b. b.stream < length case.streams) network.branches
   pub one_stream : All (IsOfOneStream network.branches) network.lines
-  pub flows : All HasPositiveFlow network.lines
+  pub sizes : All HasPositiveSize network.lines
   pub exchangers : AreExchangers case network
   pub declared_first : ArePassedWhenDeclared network
   pub passed_once : ArePassedOnce network

@@ -34,12 +34,12 @@ pub enum Line {
         cold: Source,
         duty: Frac,
     },
-    /// A branch is divided in two: the first has this heat-capacity flow, in 10 W/K, and the
-    /// second has the rest.
+    /// A branch is divided in two: the first has this size, a heat-capacity flow in 10 W/K or of
+    /// a latent stream a load in W, and the second has the rest.
     Split {
         from: u32,
         first: u32,
-        cp: Frac,
+        size: Frac,
         second: u32,
     },
     /// A branch passes an exchanger, on the side of its stream; behind it, it is the branch `to`.

@@ -15,7 +15,7 @@ use Rattle.pieces.proofs.Words.{temperature, the_pass_of, unwrap_or, utility_ite
 use Rattle.std.proofs.Common.{All, List, None, Option, Some, [], ap, append-nil, ap₂, arith, get_or, length, map, option_map, pos, refl, slice_get, subst}
 use Rattle.std.proofs.Common.{subst₂, sym, unsigned_abs, ℕ, ℤ, ⊎_elim, ◌*◌, ◌++◌, ◌+◌, ◌<◌, ◌∙◌, ◌≡◌, ◌≤◌}
 use Rattle.pieces.proofs.PieceShape.{CanBeLed, HasShape-pieces, declared_here, exchanger-at, exchanger-joins, exchanger_for, exchangers_of-network_of}
-use Rattle.pieces.proofs.PieceShape.{joined-at, piece-for}
+use Rattle.pieces.proofs.PieceShape.{joined-at, piece-for, size-for}
 pub use Rattle.pieces.proofs.PieceShape.{exchangers_of-network_of, length-network_of}
 use Rattle.pieces.proofs.PieceStages.{All-numbered, courses_along-led, each-share, each-stage, numbered-each, source_at-piece}
 use Rattle.design_lines.proofs.BranchStreams.{IsEachLed, are_led, stream_at-own}
@@ -53,25 +53,33 @@ module _ {case : Case} {hot cold : List Piece} {exchanges : List Exchange} (can 
       ap (λ (xs : List Exchanger). duty_of (slice_get xs number)) (exchangers_of-network_of case (sources_of hot) (sources_of cold) exchanges)
       ∙ ap duty_of (exchanger-at can number e at)
 
-  pub stage-led : (s : Stream) (index : ℕ) (p : Piece) → 0 < length (shares_of s.side index exchanges) → IsStreamPiece s.side exchanges index p s
+  -- a piece of a stream that exchanges heat
+  pub record IsOwnPiece (stream : ℕ) (s : Stream) (index : ℕ) (p : Piece) : Type 0 where
+    pub there : slice_get (on_side s.side hot cold) index ≡ Some p
+    pub own : p.source ≡ source.Stream stream
+    pub some : 0 < length (shares_of s.side index exchanges)
+    pub is : IsStreamPiece s.side exchanges index p s
+
+  pub stage-led : (stream : ℕ) (s : Stream) (index : ℕ) (p : Piece) → IsOwnPiece stream s index p
       → IsLedStage network_here s.side (full_size s) (led_piece s.side exchanges (index, p))
-  stage-led s index p some is = record {
-    some = some;
-    positive = each-share exchanges (λ a. IsBelow rational_zero a.cp) s.side index
-        (λ number e at on. positive-is (size_on s.side e) (piece-for can s.side number e at).size.above);
-    sizes = is.sizes;
-    duties = each-share exchanges (λ a. times a.cp (change s.side p.before p.after) ≡ duty_at network_here a.exchanger) s.side index
-        (λ number e at on. is.heats number e at on ∙ sym (duty-is number e at));
+  stage-led stream s index p piece = record {
+    some = piece.some;
+    positive = each-share exchanges (λ a. IsBelow rational_zero a.size) s.side index (λ number e at on.
+    let there = ap (slice_get (on_side s.side hot cold)) on ∙ piece.there in
+    positive-is (size_on s.side e) (size-for can s.side number e p stream at there piece.own).above);
+    sizes = piece.is.sizes;
+    duties = each-share exchanges (λ a. times a.size (change s.side p.before p.after) ≡ duty_at network_here a.exchanger) s.side index
+        (λ number e at on. piece.is.heats number e at on ∙ sym (duty-is number e at));
   }
 
   -- what holds of each piece of a stream that exchanges heat holds of each stage of its course
   pub each-piece : (P : LedStage → Type 0) (stream : ℕ) (s : Stream) → slice_get case.streams stream ≡ Some s
-      → ((index : ℕ) (p : Piece) → slice_get (on_side s.side hot cold) index ≡ Some p → 0 < length (shares_of s.side index exchanges)
-      → IsStreamPiece s.side exchanges index p s → P (led_piece s.side exchanges (index, p)))
+      → ((index : ℕ) (p : Piece) → IsOwnPiece stream s index p → P (led_piece s.side exchanges (index, p)))
       → All P (led_course hot cold exchanges (stream, s))
   each-piece P stream s here each =
       each-stage exchanges P s.side (on_side s.side hot cold) stream
-      (λ index p there own some. each index p there some (can.led.pieces stream s index p here there own some))
+      (λ index p there own some.
+      each index p (record { there = there; own = own; some = some; is = can.led.pieces stream s index p here there own some }))
 
   each-led : IsEachLed case network_here 0 courses_here
   each-led =
@@ -82,7 +90,7 @@ module _ {case : Case} {hot cold : List Piece} {exchanges : List Exchange} (can 
         s,
         ap (slice_get case.streams) (sym number) ∙ here,
         record {
-          led = each-piece (IsLedStage network_here s.side (full_size s)) k s here (λ index p at some piece. stage-led s index p some piece);
+          led = each-piece (IsLedStage network_here s.side (full_size s)) k s here (λ index p piece. stage-led k s index p piece);
           joined = joined.meet;
           ends = joined.ends;
         },
@@ -137,15 +145,15 @@ module _ {case : Case} {hot cold : List Piece} {exchanges : List Exchange} (can 
       let Runs = λ (k : ℕ). StageRuns case network_here IsRun (0 + k) in
       numbered-each (led_course hot cold exchanges) case.streams (λ k. All (Runs k)) (λ k s here.
       let number : k ≡ 0 + k = omega arith in
-      each-piece (Runs k) k s here (λ index p found some piece.
+      each-piece (Runs k) k s here (λ index p piece.
       each-share exchanges (λ a. IsRun (0 + k) a.exchanger p.before p.after) s.side index (λ i e at on. record {
         s = s;
         here = ap (slice_get case.streams) (sym number) ∙ here;
         e = e;
         at = at;
         p = p;
-        there = ap (slice_get (on_side s.side hot cold)) on ∙ found;
-        is = subst (λ j. IsStreamPiece s.side exchanges j p s) (sym on) piece;
+        there = ap (slice_get (on_side s.side hot cold)) on ∙ piece.there;
+        is = subst (λ j. IsStreamPiece s.side exchanges j p s) (sym on) piece.is;
         before_is = refl;
         after_is = refl;
       })))
@@ -276,19 +284,19 @@ module _ {case : Case} {hot cold : List Piece} {exchanges : List Exchange} (can 
   -- ---- room
 
   -- each branch of a stage leaves room, as a stream's own does
-  stage-roomy : (s : Stream) (index : ℕ) (p : Piece) → 0 < length (shares_of s.side index exchanges) → IsStreamPiece s.side exchanges index p s
+  stage-roomy : (stream : ℕ) (s : Stream) (index : ℕ) (p : Piece) → IsOwnPiece can stream s index p
       → StageHolds IsRoomy (led_piece s.side exchanges (index, p))
-  stage-roomy s index p some is =
-      let fine = is.fine in let full = full_size s in
+  stage-roomy stream s index p piece =
+      let fine = piece.is.fine in let full = full_size s in
       let d = fine.size_den in let m = fine.most_size in let e = fine.state_den in let n = fine.most_state in
       let shares = shares_of s.side index exchanges in
-      let IsRatio = λ (a : Share). (num : ℤ) × (a.cp ≡ ratio num d) in
-      let over = All-weaker IsRatio (λ (a : Share). IsOver d a.cp) (λ a (num, same). record { num = num; is = same }) shares fine.sizes in
+      let IsRatio = λ (a : Share). (num : ℤ) × (a.size ≡ ratio num d) in
+      let over = All-weaker IsRatio (λ (a : Share). IsOver d a.size) (λ a (num, same). record { num = num; is = same }) shares fine.sizes in
       All-weaker (IsStageBranch d full p.before p.after) IsRoomy (λ v branch.
-      let most = at_most_trans v.cp full (whole (pos m)) branch.most fine.most in
-      sized_roomy d m e n v fine.small (sized-between d m v.cp branch.over.num fine.small.size_den branch.over.is branch.least most)
+      let most = at_most_trans v.size full (whole (pos m)) branch.most fine.most in
+      sized_roomy d m e n v fine.small (sized-between d m v.size branch.over.num fine.small.size_den branch.over.is branch.least most)
       (⊎_elim (λ same. subst (IsSized e n) (sym same) fine.before) (λ same. subst (IsSized e n) (sym same) fine.after) branch.state))
-      (stage_values p.before p.after shares) (stage_sized d full p.before p.after shares over (stage-led can s index p some is).positive is.sizes)
+      (stage_values p.before p.after shares) (stage_sized d full p.before p.after shares over (stage-led can stream s index p piece).positive piece.is.sizes)
 
   branches-roomy : All IsRoomy values
   branches-roomy =
@@ -297,7 +305,7 @@ module _ {case : Case} {hot cold : List Piece} {exchanges : List Exchange} (can 
       (All-map IsRoomy first_value case.streams (λ k s inside. first-roomy (get_or case.streams k s) (valid k s inside)))
       (courses_hold IsRoomy (courses_here can) (All-numbered (led_course hot cold exchanges) case.streams (CourseHolds IsRoomy) (λ k s here.
       course_holds IsRoomy (led_course hot cold exchanges (k, s))
-      (each-piece can (StageHolds IsRoomy) k s here (λ index p there some is. stage-roomy s index p some is)))))
+      (each-piece can (StageHolds IsRoomy) k s here (λ index p piece. stage-roomy k s index p piece)))))
 
   has-room : HasRoom case network values
   has-room = record {
@@ -314,7 +322,7 @@ module _ {case : Case} {hot cold : List Piece} {exchanges : List Exchange} (can 
 
   line-keeps : (l : Line) → RunsAs case network (IsRun can) values l → IsOfOneStream network.branches l → PassKeepsLoad case network values l
   line-keeps (line.Exchanger name one other duty) run one_stream = tt
-  line-keeps (line.Split from first cp second) run one_stream = tt
+  line-keeps (line.Split from first size second) run one_stream = tt
   line-keeps (line.Pass from exchanger to) run one_stream = λ latent.
       let is_latent = is_latent_branch-is case network to run.s (ap (slice_get case.streams) one_stream ∙ run.here) in
       subst IsPartOfLoad (sym run.after_is) (run.is.load (sym is_latent ∙ latent))

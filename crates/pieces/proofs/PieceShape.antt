@@ -1,6 +1,6 @@
 -- An exchange has one share in the course of each of its streams, so the shares of all courses are few, and the network of pieces has the shape of a network.
 use Rattle.pieces.proofs.Words.{All-head, All-map, All-tail, AreLedPieces, AreStages, Case, Course, Exchange, Exchanger, HasShape, HasShape-drawn, IsComplete}
-use Rattle.pieces.proofs.Words.{IsCourseOf, IsExchanger, IsName-exchanger_name, IsPositive, IsShareOf, Joins, JoinsPieces, MOST_LINES, Piece, Share, Side}
+use Rattle.pieces.proofs.Words.{HasSize, IsCourseOf, IsExchanger, IsName-exchanger_name, IsPositive, IsShareOf, Joins, JoinsPieces, MOST_LINES, Piece, Rational, Share, Side}
 use Rattle.pieces.proofs.Words.{Source, Stream, all_at, all_branches, cond-false, cond-true, cons_option, course_branches, course_of, courses_lines, courses_of}
 use Rattle.pieces.proofs.Words.{declared_line, enumerate_from, eq-eqb, exchanger_of, exchangers_for, exchangers_of, exchangers_of-drawn, few-courses}
 use Rattle.pieces.proofs.Words.{filter_map, is_stage, led_course, length-enumerate_from, length-map, lt-ltb, nat_lt, ne_eqb, network_of, numbered_names-differ}
@@ -245,7 +245,14 @@ pub record HasPiece (case : Case) (of : Side) (pieces : List Piece) (e : Exchang
   pub piece : Piece
   pub there : slice_get pieces (piece_on of e) ≡ Some piece
   pub on : side_of case piece.source ≡ Some of
-  pub size : IsPositive (size_on of e)
+  pub size : HasSize piece.source (size_on of e)
+
+stream_size : (size : Rational) (stream : ℕ) (a : Source) → a ≡ source.Stream stream → HasSize a size → IsPositive size
+stream_size size stream a own has = subst (λ b. HasSize b size) own has
+
+pub has_size : (size : Rational) (a : Source) → IsPositive size → HasSize a size
+has_size size (source.Stream stream) is = is
+has_size size (source.Utility number) is = tt
 
 joins-on : (of : Side) (x : Exchanger) (stream : ℕ) → source_on of x ≡ source.Stream stream → Joins x stream
 joins-on side.Hot x stream is = inl is
@@ -273,6 +280,14 @@ module _ {case : Case} {hot cold : List Piece} {exchanges : List Exchange} (can 
       let j = joined-at number e at in record { piece = j.hot_piece; there = j.hot_there; on = j.hot_side; size = j.hot_size }
   piece-for side.Cold number e at =
       let j = joined-at number e at in record { piece = j.cold_piece; there = j.cold_there; on = j.cold_side; size = j.cold_size }
+
+  -- the branch of a stream's piece has a size above 0
+  pub size-for : (of : Side) (number : ℕ) (e : Exchange) (p : Piece) (stream : ℕ) → slice_get exchanges number ≡ Some e
+      → slice_get (on_side of hot cold) (piece_on of e) ≡ Some p → p.source ≡ source.Stream stream → IsPositive (size_on of e)
+  size-for of number e p stream at there own =
+      let has = piece-for of number e at in
+      let same : has.piece ≡ p = same_Some has.piece p (sym has.there ∙ there) in
+      stream_size (size_on of e) stream has.piece.source (ap (λ (q : Piece). q.source) same ∙ own) has.size
 
   -- the exchanger of an exchange has the source of its piece
   exchanger-source : (of : Side) (number : ℕ) (e : Exchange) (p : Piece) → slice_get (on_side of hot cold) (piece_on of e) ≡ Some p
@@ -308,7 +323,7 @@ module _ {case : Case} {hot cold : List Piece} {exchanges : List Exchange} (can 
       let used = each-stage exchanges (λ stage. IsUsed stage.shares) s.side pieces stream (λ index p there own some. some) in
       let owned = each-stage exchanges (λ stage. IsOwn stage.shares) s.side pieces stream (λ index p there own some.
       each-share exchanges (IsShareOf declared_here stream) s.side index (λ number e at on. record {
-        flow = (piece-for s.side number e at).size;
+        size = size-for s.side number e p stream at (ap (slice_get pieces) on ∙ there) own;
         joined = (exchanger_for (number, e), exchanger-at number e at, exchanger-joins s.side number e p stream (ap (slice_get pieces) on ∙ there) own);
       })) in
       subst (IsCourseOf declared_here stream) (shares_along-course exchanges hot cold stream s)

@@ -40,7 +40,7 @@ pub use Rattle.networks.specs.Shape.{HasShape, IsExchanger, IsOfOneStream, IsPos
 pub use Rattle.networks.specs.declared.limits.TheConstants.{MOST_LINES}
 pub use Rattle.networks.specs.declared.network.Line.{Line}
 pub use Rattle.networks.specs.declared.network.Network.{Network}
-pub use Rattle.pieces.specs.Led.{AreLedPieces, HasUtilityHeat, IsLedNetwork, IsStreamPiece, JoinsPieces, RunsThrough, exchange_balance, heats_with, level_in}
+pub use Rattle.pieces.specs.Led.{AreLedPieces, HasSize, HasUtilityHeat, IsLedNetwork, IsStreamPiece, JoinsPieces, RunsThrough, exchange_balance, heats_with, level_in}
 pub use Rattle.pieces.specs.Led.{temperature}
 pub use Rattle.pieces.specs.Pieces.{Piece, course_of, courses_of, exchanger_of, exchangers_for, is_of_stream, is_stage, led_course, led_courses, led_piece}
 pub use Rattle.pieces.specs.Pieces.{led_stage, on_side, own_share, piece_on, share_at, share_for, share_of, size_on, source_at, sources_of, stage_of}

@@ -45,6 +45,11 @@ pub record AreApart (case : Case) (p q : Piece) : Type 0 where
       (plus (temperature case q.source q.before) (whole (approach_of case p.source q.source)))
       (temperature case p.source p.after)
 
+-- the branch of a stream has a size above 0; a utility has no branch
+abbrev pub HasSize : Source → Rational → Type 0
+HasSize (source.Stream stream) size = IsPositive size
+HasSize (source.Utility number) size = Unit {0}
+
 -- an exchange joins a hot and a cold piece that may meet
 pub record JoinsPieces (case : Case) (hot cold : List Piece) (e : Exchange) : Type 0 where
   pub hot_piece : Piece
@@ -54,8 +59,8 @@ pub record JoinsPieces (case : Case) (hot cold : List Piece) (e : Exchange) : Ty
   pub hot_side : side_of case hot_piece.source ≡ Some side.Hot
   pub cold_side : side_of case cold_piece.source ≡ Some side.Cold
   pub heat : IsPositive e.heat
-  pub hot_size : IsPositive e.hot_size
-  pub cold_size : IsPositive e.cold_size
+  pub hot_size : HasSize hot_piece.source e.hot_size
+  pub cold_size : HasSize cold_piece.source e.cold_size
   pub permitted : is_forbidden case.forbids hot_piece.source cold_piece.source ≡ false
   pub apart : AreApart case hot_piece cold_piece
 
@@ -68,7 +73,7 @@ pub record IsFine (of : Side) (exchanges : List Exchange) (index : ℕ) (p : Pie
   pub state_den : ℕ
   pub most_state : ℕ
   pub small : AreSmall size_den most_size state_den most_state
-  pub sizes : All (λ share. (num : ℤ) × (share.cp ≡ ratio num size_den)) (shares_of of index exchanges)
+  pub sizes : All (λ share. (num : ℤ) × (share.size ≡ ratio num size_den)) (shares_of of index exchanges)
   pub most : IsAtMost (full_size s) (whole (pos most_size))
   pub before : IsSized state_den most_state p.before
   pub after : IsSized state_den most_state p.after

@@ -13,9 +13,10 @@ pub struct Exchange {
     pub hot: u32,
     /// The index of the cold piece, from 0.
     pub cold: u32,
-    /// The size of the hot branch: a heat-capacity flow in 10 W/K, or a load in W.
+    /// The size of the hot branch: a heat-capacity flow in 10 W/K, or a load in W. A utility has
+    /// no branch, and its size is read nowhere.
     pub hot_size: Frac,
-    /// The size of the cold branch.
+    /// The size of the cold branch, likewise.
     pub cold_size: Frac,
     /// The heat, in W.
     pub heat: Frac,

@@ -37,7 +37,7 @@ pub fn deficit_of(streams: &[Stream], t: i32) -> i64
 }
 
 /// The same, with the latent streams at `t` itself if `from`.
-pub fn deficit_over(streams: &[Stream], from: bool, t: i32) -> i64
+pub(crate) fn deficit_over(streams: &[Stream], from: bool, t: i32) -> i64
     requires { AreStreams streams.now }
     ensures value { result ≡ deficit_over from streams.now t }
     ensures range { IsDeficit result }

@@ -7,7 +7,7 @@ mod pinch;
 mod reference;
 mod target;
 
-pub use deficit::{deficit_above, deficit_from, deficit_of, deficit_over};
-pub use pinch::{pinches, pinches_of};
-pub use reference::{reference_from, reference_from_of, reference_place, reference_place_of};
-pub use target::{Target, targets, targets_of};
+pub use deficit::{deficit_above, deficit_from, deficit_of};
+pub use pinch::pinches;
+pub use reference::{reference_from, reference_place};
+pub use target::{Target, targets};

@@ -20,7 +20,7 @@ pub fn pinches(alloc: Global, case: &Case) -> Result<Items<i32>, AllocError>
 /// The pinches of streams, in tenths of °C on the shifted scale, each once and from the highest
 /// down: the stream ends strictly between the greatest and the least at which one of the deficits
 /// is the hot target (Linnhoff and Flower 1978).
-pub fn pinches_of(alloc: Global, streams: &[Stream]) -> Result<Items<i32>, AllocError>
+pub(crate) fn pinches_of(alloc: Global, streams: &[Stream]) -> Result<Items<i32>, AllocError>
     requires { AreStreams streams.now }
     ensures { IfOk result (λ places. ListsFalling (IsPinch streams.now) places) }
 {

@@ -26,7 +26,7 @@ pub fn reference_from(case: &Case) -> bool
 
 /// Whether the deficit above the reference place isn't the hot target, so that a latent stream at
 /// the place itself counts as above it.
-pub fn reference_from_of(streams: &[Stream]) -> bool
+pub(crate) fn reference_from_of(streams: &[Stream]) -> bool
     requires { HasValidStreams streams.now }
     ensures { (place : ℤ) → IsReferencePlace streams.now place
         → (IsTrue result ↔ CountsFromItself streams.now place) }
@@ -37,7 +37,7 @@ pub fn reference_from_of(streams: &[Stream]) -> bool
 
 /// The highest shifted stream end at which one of the deficits is the hot target, in tenths of °C
 /// (this project's rule). There always is one.
-pub fn reference_place_of(streams: &[Stream]) -> i32
+pub(crate) fn reference_place_of(streams: &[Stream]) -> i32
     requires { HasValidStreams streams.now }
     ensures { IsReferencePlace streams.now result }
 {

@@ -29,7 +29,7 @@ pub fn targets(case: &Case) -> Target
 /// The targets of streams. The hot target is the greatest of both deficits over the shifted stream
 /// ends, and at least 0. The cold target is the hot target plus all hot heat less all cold heat
 /// (Linnhoff and Flower 1978).
-pub fn targets_of(streams: &[Stream]) -> Target
+pub(crate) fn targets_of(streams: &[Stream]) -> Target
     requires { AreStreams streams.now }
     ensures hot { result.hot ≡ hot_target streams.now }
     ensures cold { result.cold ≡ cold_target streams.now }

@@ -90,7 +90,7 @@ pub fn flow_rate_beside<Cause: Drop>(
 }
 
 /// A number that is the load of a latent stream, in W, or the cause for one outside the limits.
-pub fn load<Cause: Drop>(n: i64, outside: Cause) -> Result<i64, Cause>
+pub(crate) fn load<Cause: Drop>(n: i64, outside: Cause) -> Result<i64, Cause>
     ensures { Checked ((is_load n, outside) ∷ []) (λ load. load ≡ n) result }
 {
     within(1, MOST_LOAD, n, outside)

@@ -14,7 +14,7 @@ use stream_case::Case;
 /// just the two standard ones, and which forbids neither of them a match. It has a heat flow:
 /// `HOT` may heat each cold part and `COLD` may cool each hot one, and each has more heat than all
 /// streams of a case.
-pub fn supplied_cost(alloc: Global, case: &Case, targets: Target) -> Result<i128, AllocError>
+pub(crate) fn supplied_cost(alloc: Global, case: &Case, targets: Target) -> Result<i128, AllocError>
     requires complete { IsComplete case.now }
     requires supplied { IsSupplied case.now }
     requires hot_target { targets.hot ≡ hot_target case.now.streams }

@@ -332,8 +332,8 @@ module _ (axis : Axis) where
         hot_side = hot_side;
         cold_side = cold_side;
         heat = positive.heat;
-        hot_size = positive.hot_size;
-        cold_size = positive.cold_size;
+        hot_size = has_size e.hot_size one.span.source positive.hot_size;
+        cold_size = has_size e.cold_size other.span.source positive.cold_size;
         permitted = ap (λ fs. is_forbidden fs one.span.source other.span.source) axis.standard.free;
         apart = faced_apart axis.case (HasValidStreams-IsComplete axis.case axis.complete.complete) axis.complete.sensible axis.standard
             (own_piece side.Hot e m) (own_piece side.Cold e m)

@@ -33,8 +33,8 @@ module _ {case : Case} {network : Network} (valid : StaysValid case) (shape : Ha
   statement_plain {index} (line.Exchanger name hot cold duty) of =
       let e = own_exchanger shape index name hot cold duty of.at.here in plain_statement _ _ (word_plain (codes "exchanger") (omega arith) refl) refl
       (name_plain name e.name, (source_plain hot of.known.0, (source_plain cold of.known.1, (fraction_plain duty e.duty.within, tt))))
-  statement_plain (line.Split from first cp second) of = plain_statement _ _ (word_plain (codes "split") (omega arith) refl) refl
-      (branch_plain from of.known.0, (branch_plain first of.known.1, (fraction_plain cp of.flow.within, (branch_plain second of.known.2, tt))))
+  statement_plain (line.Split from first size second) of = plain_statement _ _ (word_plain (codes "split") (omega arith) refl) refl
+      (branch_plain from of.known.0, (branch_plain first of.known.1, (fraction_plain size of.size.within, (branch_plain second of.known.2, tt))))
   statement_plain (line.Pass from exchanger to) of = plain_statement _ _ (word_plain (codes "pass") (omega arith) refl) refl
       (branch_plain from of.known.0, (exchanger_plain exchanger of.known.1, (branch_plain to of.known.2, tt)))
   statement_plain (line.Mix first second to) of = plain_statement _ _ (word_plain (codes "mix") (omega arith) refl) refl

@@ -31,7 +31,7 @@ passes_of case given s k room is passes =
 
 -- ---- fields
 
--- a duty or a flow
+-- a duty or a size
 record IsRead (a : Rational) : Type 0 where
   some : is_some (fraction_in (fraction_text a)) ≡ true
   value : fraction (fraction_text a) ≡ a
@@ -80,21 +80,21 @@ module _ {case : Case} {network : Network} (readable : IsReadable case network) 
         gives = λ i. Some (record { line = line.Exchanger name (given_hot.at i) (given_cold.at i) (heat.value i); names = few.Nothing });
       }
 
-  split_says : (from first : ℕ) (cp : Rational) (second : ℕ) → IsLineOf case network index (line.Split from first cp second)
-      → Says case (front case network index) (statement_of case network (line.Split from first cp second)) (entry_of network (line.Split from first cp second))
+  split_says : (from first : ℕ) (size : Rational) (second : ℕ) → IsLineOf case network index (line.Split from first size second)
+      → Says case (front case network index) (statement_of case network (line.Split from first size second)) (entry_of network (line.Split from first size second))
   unfolding entry_in kind_checks split_checks used_branch_checks new_branch_checks fraction_checks branch_name
-  split_says from first cp second of =
+  split_says from first size second of =
       let given = front case network index in let from_used = used readable of 0 (omega arith) in let one = new readable of 0 (omega arith) in
       let two = new readable of 1 (omega arith) in let number = made_number readable of 0 (omega arith) in
-      let number_two = made_number readable of 1 (omega arith) in let flow = is_read cp of.flow in
+      let number_two = made_number readable of 1 (omega arith) in let read = is_read size of.size in
       let before : first < second = omega (arith, number, number_two) in
       let within : second < length (names_of network.branches) = omega (arith, made_known readable of 1 (omega arith), many_names network) in
       let apart = other_name (branch_name network second) (branch_name network first) (readable.shape.named.distinct first second [] before within) in
       let first_is : length given.branches ≡ first = omega (arith, number) in record {
-        passes = passes_of case given (statement_of case network (line.Split from first cp second)) kind.Split (room readable of) refl
-            (refl, (from_used.known, (found_unused from_used, (one.is, (one.free, (flow.some, (flow.above, (two.is, (two.free, (ap not apart, tt))))))))));
+        passes = passes_of case given (statement_of case network (line.Split from first size second)) kind.Split (room readable of) refl
+            (refl, (from_used.known, (found_unused from_used, (one.is, (one.free, (read.some, (read.above, (two.is, (two.free, (ap not apart, tt))))))))));
         gives = λ i. Some (record {
-          line = line.Split (from_used.at i) (first_is i) (flow.value i) (number_two i);
+          line = line.Split (from_used.at i) (first_is i) (read.value i) (number_two i);
           names = few.Two (branch_name network first) (branch_name network second);
         });
       }
@@ -141,7 +141,7 @@ module _ {case : Case} {network : Network} (readable : IsReadable case network) 
 
   says : (l : Line) → IsLineOf case network index l → Says case (front case network index) (statement_of case network l) (entry_of network l)
   says (line.Exchanger name hot cold duty) of = exchanger_says name hot cold duty of
-  says (line.Split from first cp second) of = split_says from first cp second of
+  says (line.Split from first size second) of = split_says from first size second of
   says (line.Pass from exchanger to) of = pass_says from exchanger to of
   says (line.Mix first second to) of = mix_says first second to of
   says (line.End branch) of = end_says branch of

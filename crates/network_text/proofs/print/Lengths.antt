@@ -148,12 +148,12 @@ module _ {case : Case} {network : Network} (valid : StaysValid case) (shape : Ha
         source_short cold of.known.1,
         fraction_short duty e.duty,
       )
-  line_short (line.Split from first cp second) of = omega (
+  line_short (line.Split from first size second) of = omega (
     arith,
-    statement_length (codes "split") (branch_name network from ∷ branch_name network first ∷ fraction_text cp ∷ branch_name network second ∷ []),
+    statement_length (codes "split") (branch_name network from ∷ branch_name network first ∷ fraction_text size ∷ branch_name network second ∷ []),
     branch_short from of.known.0,
     branch_short first of.known.1,
-    fraction_short cp of.flow,
+    fraction_short size of.size,
     branch_short second of.known.2,
   )
   line_short (line.Pass from exchanger to) of = omega (

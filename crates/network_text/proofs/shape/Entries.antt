@@ -1,6 +1,6 @@
 -- The shape of the network so far, and what an entry adds to it.
 use Rattle.network_text.proofs.Words.{All-from_recursion, All-nil, AreExchangers, AreMadeBeforeUse, AreMadeInOrder, AreNamed, ArePassedWhenDeclared}
-use Rattle.network_text.proofs.Words.{AreUsedOnce, Branch, Case, Decides-is_below, Decides-is_within_limits, Entry, Exchanger, ForSome, HasPositiveFlow}
+use Rattle.network_text.proofs.Words.{AreUsedOnce, Branch, Case, Decides-is_below, Decides-is_within_limits, Entry, Exchanger, ForSome, HasPositiveSize}
 use Rattle.network_text.proofs.Words.{IsAnyName, IsExchanger, IsFresh, IsOfOneStream, IsPositive, IsWithinLimits, Joins, Kind, Network, Passage, Passes}
 use Rattle.network_text.proofs.Words.{PassesDeclared, Rational, Side, Source, Statement, all_pairs_push, and_parts, bounded_ratio, branch_at, branch_named}
 use Rattle.network_text.proofs.Words.{bytes_decides, checks, cond_some, end_checks, end_entry, entry_by, entry_in, eqb-false, exchanger_at, exchanger_checks}
@@ -26,19 +26,19 @@ pub record HasShapeSoFar (case : Case) (network : Network) : Type 0 where
   pub named : AreNamed network
   pub streams : All (λ b. b.stream < length case.streams) network.branches
   pub one_stream : All (IsOfOneStream network.branches) network.lines
-  pub flows : All HasPositiveFlow network.lines
+  pub sizes : All HasPositiveSize network.lines
   pub exchangers : AreExchangers case network
   pub declared_first : ArePassedWhenDeclared network
   pub at_most_once : (exchanger stream : ℕ) → passes network exchanger stream ≤ 1
 
 -- a fresh entry whose branches take the next numbers, of branches of one stream,
--- with an exchanger of the case, a flow above 0, and a side of a declared exchanger
+-- with an exchanger of the case, a size above 0, and a side of a declared exchanger
 pub record Adds (case : Case) (given : Network) (entry : Entry) : Type 0 where
   pub fresh : IsFresh given entry
   pub numbers : makes entry.line ≡ range_with_len (length given.branches) (length (members entry.names))
   pub one_stream : All (λ b. stream_at given.branches b ≡ first_stream given.branches (uses entry.line)) (uses entry.line)
   pub exchanger : ForSome (exchanger_of entry.line) (IsExchanger case)
-  pub flow : HasPositiveFlow entry.line
+  pub size : HasPositiveSize entry.line
   pub declared : PassesDeclared given.branches (exchangers_of given.lines) entry.line
 
 -- What the checks of fields say where they hold.
@@ -168,15 +168,15 @@ exchanger_adds case given s shape passes =
       numbers = refl;
       one_stream = All-nil (λ b. stream_at given.branches b ≡ 0);
       exchanger = λ x at. subst (IsExchanger case) (same_Some e x at) sound;
-      flow = tt;
+      size = tt;
       declared = tt;
     }
 
 split_adds : (case : Case) (given : Network) (s : Statement) → HasShapeSoFar case given → Passes (split_checks given s) → Adds case given (split_entry given s)
 unfolding split_checks used_branch_checks new_branch_checks fraction_checks
 split_adds case given s shape passes =
-    let from = branch_at given (field s 1) in let used = passes.1 in let made = used.1.1 in let flow = made.1.1 in
-    let last = flow.1.1 in let apart = not-true (bytes_eq (field s 4) (field s 2)) last.1.1.0 in
+    let from = branch_at given (field s 1) in let used = passes.1 in let made = used.1.1 in let size = made.1.1 in
+    let last = size.1.1 in let apart = not-true (bytes_eq (field s 4) (field s 2)) last.1.1.0 in
     let differ : field s 2 ≢ field s 4 = λ e. false≢true (sym apart ∙ (bytes_decides (field s 4) (field s 2)).1 (sym e)) in record {
       fresh = record {
         known = All-from_recursion (λ b. b < length given.branches) (from ∷ []) (branch_within given (field s 1) used.0, tt);
@@ -191,7 +191,7 @@ split_adds case given s shape passes =
       numbers = refl;
       one_stream = All-from_recursion (λ b. stream_at given.branches b ≡ stream_at given.branches from) (from ∷ []) (refl, tt);
       exchanger = λ x at. cc at;
-      flow = fraction_sound (field s 3) flow.0 flow.1.0;
+      size = fraction_sound (field s 3) size.0 size.1.0;
       declared = tt;
     }
 
@@ -214,7 +214,7 @@ pass_adds case given s shape passes =
       numbers = refl;
       one_stream = All-from_recursion (λ b. stream_at given.branches b ≡ stream) (from ∷ []) (refl, tt);
       exchanger = λ x at. cc at;
-      flow = tt;
+      size = tt;
       declared = joined given exchanger stream side.0;
     }
 
@@ -239,7 +239,7 @@ mix_adds case given s shape passes =
       numbers = refl;
       one_stream = All-from_recursion (λ b. stream_at given.branches b ≡ stream_at given.branches first) (first ∷ second ∷ []) (refl, (same, tt));
       exchanger = λ x at. cc at;
-      flow = tt;
+      size = tt;
       declared = tt;
     }
 
@@ -259,7 +259,7 @@ end_adds case given s shape passes =
       numbers = refl;
       one_stream = All-from_recursion (λ b. stream_at given.branches b ≡ stream_at given.branches branch) (branch ∷ []) (refl, tt);
       exchanger = λ x at. cc at;
-      flow = tt;
+      size = tt;
       declared = tt;
     }
 

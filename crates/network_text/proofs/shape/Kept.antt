@@ -1,6 +1,6 @@
 -- The shape so far is kept by each statement that is not at fault.
 use Rattle.network_text.proofs.Words.{All-append, All-cons, All-nil, All-push, AllPairs-nil, AreExchangers, Case, Entry, Exchanger, ForSome, Give}
-use Rattle.network_text.proofs.Words.{HasPositiveFlow, IsExchanger, IsOfOneStream, Network, Passes, Statement, StaysValid, checks, entry_in, exchanger_of}
+use Rattle.network_text.proofs.Words.{HasPositiveSize, IsExchanger, IsOfOneStream, Network, Passes, Statement, StaysValid, checks, entry_in, exchanger_of}
 use Rattle.network_text.proofs.Words.{exchangers_of, exchangers_of-push, given_has, grammar, next, option_to_list, own_branches, passages_of, same_Some, start}
 use Rattle.network_text.proofs.Words.{used_by, with_any, with_entry}
 use Rattle.network_text.proofs.shape.Entries.{Adds, HasShapeSoFar, added}
@@ -21,9 +21,9 @@ exchangers_kept {case} {given} {e} shape adds =
       distinct = subst (AllPairs (λ (a b : Exchanger). a.name ≢ b.name)) all adds.fresh.new_exchanger;
     }
 
-flows_kept : {case : Case} {given : Network} {e : Entry} → HasShapeSoFar case given → Adds case given e → All HasPositiveFlow (with_entry given e).lines
+sizes_kept : {case : Case} {given : Network} {e : Entry} → HasShapeSoFar case given → Adds case given e → All HasPositiveSize (with_entry given e).lines
 unfolding with_entry
-flows_kept {case} {given} {e} shape adds = All-push HasPositiveFlow given.lines e.line shape.flows adds.flow
+sizes_kept {case} {given} {e} shape adds = All-push HasPositiveSize given.lines e.line shape.sizes adds.size
 
 kept : {case : Case} {given : Network} {e : Entry} → HasShapeSoFar case given → Adds case given e → HasShapeSoFar case (with_entry given e)
 kept shape adds = record {
@@ -33,7 +33,7 @@ kept shape adds = record {
   named = branches.named shape adds;
   streams = branches.streams shape adds;
   one_stream = branches.one_stream shape adds;
-  flows = flows_kept shape adds;
+  sizes = sizes_kept shape adds;
   exchangers = exchangers_kept shape adds;
   declared_first = branches.declared_first shape adds;
   at_most_once = branches.at_most_once shape adds;
@@ -48,7 +48,7 @@ shape_first case valid = record {
   named = branches.named_first case valid;
   streams = branches.streams_own case;
   one_stream = All-nil (IsOfOneStream (own_branches case));
-  flows = All-nil HasPositiveFlow;
+  sizes = All-nil HasPositiveSize;
   exchangers = record { each = All-nil (IsExchanger case); distinct = AllPairs-nil (λ (a b : Exchanger). a.name ≢ b.name) };
   declared_first = λ index l at. cc at;
   at_most_once = λ exchanger stream. omega arith;

@@ -10,7 +10,7 @@ returns-in-Accepted c =
     (λ shown shows. record {
       verdict = verdict;
       is_verdict = subst (λ a. IsVerdict a.case a.network verdict) c.in_ok-auditor.ensures c.in-Accepted.ensures.verdict;
-      valid = subst (λ a. SaysExactly verdict (IsValidNetwork a.case a.network)) c.in_ok-auditor.ensures c.in-Accepted.ensures.valid_exactly;
+      valid = subst (λ a. SaysExactly verdict (IsValidNetwork a.case a.network)) c.in_ok-auditor.ensures c.in-Accepted.ensures.valid;
       excess = c.in-Accepted.ensures.excess;
       shows = shows;
     })

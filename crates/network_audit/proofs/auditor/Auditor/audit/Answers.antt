@@ -5,10 +5,9 @@ pub returns-clause-only : goal.returns-clause-only
 returns-clause-only c = one_valuation_left c.args.self.now c.audited.new.self c.audited.result c.audited.ensures.shape c.audited.ensures.after
 
 pub returns-clause-valid : goal.returns-clause-valid
-returns-clause-valid c = says_valid c.args.self.now.case c.args.self.now.network c.audited.result c.audited.ensures.shape c.audited.ensures.verdict
-
-pub returns-clause-valid_exactly : goal.returns-clause-valid_exactly
-returns-clause-valid_exactly c = says_exactly _ c.audited.result (returns-clause-valid c)
+returns-clause-valid c =
+    says_exactly _ c.audited.result
+    (says_valid c.args.self.now.case c.args.self.now.network c.audited.result c.audited.ensures.shape c.audited.ensures.verdict)
 
 pub returns-clause-excess : goal.returns-clause-excess
 returns-clause-excess c =
