@@ -3,7 +3,8 @@ use Rattle.design_lines.proofs.Walks.{Follow}
 use Rattle.design_lines.proofs.Words.{Branch, Case, Course, Network, Stream, branch_name, course_branches, enumerate_from, get_or-append-add}
 use Rattle.design_lines.proofs.Words.{get_or-map-range_with_len, get_or_append_left, length-map, length-map-range_with_len, made_branches, many_own, numbered}
 use Rattle.design_lines.proofs.Words.{own_branch, own_branches, slice_get-get_or, slice_get_within, stream_at, stream_at-get_or}
-use Rattle.design_lines.specs.Values.{AreLed, IsLedStream, LedStage, courses_along, shares_along}
+use Rattle.design_lines.specs.LedStages.{LedStage}
+use Rattle.design_lines.proofs.StageValues.{AreLedFrom, IsLedStream, courses_along, shares_along}
 use Rattle.std.proofs.Common.{List, Some, [], ap, append_assoc, arith, get_or, length, length-append, map, refl, slice_get, subst, suc, sym, zero, ℕ, ◌++◌}
 use Rattle.std.proofs.Common.{◌+◌, ◌-◌, ◌<◌, ◌∙◌, ◌∷◌, ◌≡◌, ◌≤◌}
 
@@ -71,7 +72,7 @@ IsEachLed case network stream courses = (k : ℕ) (course : List LedStage) → s
     × (slice_get case.streams (stream + k) ≡ Some s) × IsLedStream network s course
 
 led_of_streams : (case : Case) (network : Network) (courses : List (List LedStage)) (next stream : ℕ)
-    → AreOfStreams network.branches next stream (courses_along courses) → IsEachLed case network stream courses → AreLed case network next stream courses
+    → AreOfStreams network.branches next stream (courses_along courses) → IsEachLed case network stream courses → AreLedFrom case network next stream courses
 led_of_streams case network [] next stream own each = tt
 led_of_streams case network (course ∷ courses) next stream own each =
     let last = next + course_branches (shares_along course) in
@@ -86,7 +87,7 @@ led_of_streams case network (course ∷ courses) next stream own each =
 pub are_led : (case : Case) (network : Network) (courses : List (List LedStage)) (before : List Branch) (first next stream : ℕ)
     → network.branches ≡ before ++ made_branches first stream (courses_along courses) → length before ≡ next
     → ((number : ℕ) → number < length case.streams → stream_at network.branches number ≡ number) → IsEachLed case network stream courses
-    → AreLed case network next stream courses
+    → AreLedFrom case network next stream courses
 are_led case network courses before first next stream are long own each =
     led_of_streams case network courses next stream (are_of_streams network.branches before next first stream (courses_along courses) are long (λ i inside.
     let within : i < length courses = omega (arith, inside, length-map courses shares_along) in

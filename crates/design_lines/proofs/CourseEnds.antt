@@ -2,7 +2,8 @@
 use Rattle.design_lines.proofs.Walks.{Keeps, walk_course}
 use Rattle.design_lines.proofs.Words.{Case, Contains, Course, Exchanger, Line, Network, Share, course_branches, course_lines, courses_lines, declared_line}
 use Rattle.design_lines.proofs.Words.{ended_by, ended_streams, ends, flat_map, flat_map-append, range_with_len, stream_at, sum_by}
-use Rattle.design_lines.specs.Values.{AreLed, AreOfStream, LedStage, courses_along, shares_along}
+use Rattle.design_lines.specs.LedStages.{LedStage}
+use Rattle.design_lines.proofs.StageValues.{AreLedFrom, AreOfStream, courses_along, shares_along}
 use Rattle.std.proofs.Common.{List, [], ap, arith, get_or, length, map, refl, ℕ, ◌++◌, ◌+◌, ◌<◌, ◌∙◌, ◌∷◌, ◌≡◌}
 use Rattle.std.proofs.lemmas.List.FromFn.{get_or-range_with_len, length-range_with_len}
 
@@ -36,7 +37,7 @@ course_ends network stream course lines next own others =
     (0 + (sum_by (λ shares. sum_by (λ (s : Share). 0) shares) course + 0)) course lines (λ k d within. tt)
     (λ k d within j e inside. tt) (omega arith) (omega arith) (λ n low high. own) (omega arith) (λ b of_b. ap (λ k. k ∷ streams_of network lines) of_b)
 
-courses_end : (case : Case) (network : Network) (courses : List (List LedStage)) (next stream : ℕ) → AreLed case network next stream courses
+courses_end : (case : Case) (network : Network) (courses : List (List LedStage)) (next stream : ℕ) → AreLedFrom case network next stream courses
     → streams_of network (courses_lines next stream (courses_along courses)) ≡ range_with_len stream (length courses)
 courses_end case network [] next stream led = refl
 courses_end case network (course ∷ courses) next stream led =
@@ -47,7 +48,7 @@ courses_end case network (course ∷ courses) next stream led =
 
 -- the lines of a network are declarations and the courses of all its streams
 pub each_ended : (case : Case) (network : Network) (declared : List Line) (courses : List (List LedStage)) (next : ℕ) → flat_map ends declared ≡ []
-    → network.lines ≡ declared ++ courses_lines next 0 (courses_along courses) → AreLed case network next 0 courses
+    → network.lines ≡ declared ++ courses_lines next 0 (courses_along courses) → AreLedFrom case network next 0 courses
     → (stream : ℕ) → stream < length courses → Contains (ended_streams network) stream
 unfolding ended_streams ended_by
 each_ended case network declared courses next none lines_are led stream within =

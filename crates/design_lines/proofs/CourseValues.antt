@@ -8,8 +8,10 @@ use Rattle.std.proofs.Common.{◌+◌, ◌-◌, ◌<◌, ◌∙◌, ◌∷◌, �
 use Rattle.design_lines.proofs.ValueSteps.{Carries, MakeAndRun, StageRuns, carries_more, carries_new, first_positive, mixes_make, others_positive, passes_make}
 use Rattle.design_lines.proofs.ValueSteps.{run_append, run_line, run_none, share_value, splits_make}
 use Rattle.design_lines.proofs.Walks.{branches_hold}
-use Rattle.design_lines.specs.Values.{AreLed, AreOfStream, IsLedStage, LedStage, Make, Meet, course_values, courses_along, courses_values, mix_values}
-use Rattle.design_lines.specs.Values.{pass_values, shares_along, size_of, split_values, stage_values, state_behind}
+use Rattle.design_lines.specs.LedStages.{LedStage, Meet}
+use Rattle.design_lines.proofs.StageValues.{AreLedFrom, AreOfStream, IsLedStage, Make, course_values, courses_along, courses_values, mix_values}
+use Rattle.design_lines.specs.LedStages.{size_of, state_behind}
+use Rattle.design_lines.proofs.StageValues.{pass_values, shares_along, split_values, stage_values}
 use Rattle.stream_case.specs.declared.source.Side.TheVariants as side
 use Rattle.stream_case.specs.declared.source.Source.TheVariants as source
 use Rattle.networks.specs.declared.network.Line.TheVariants as line
@@ -190,7 +192,7 @@ module _ (case : Case) (network : Network) (R : ℕ → ℕ → Rational → Rat
   EachRuns stream courses = (k : ℕ) (course : List LedStage) → slice_get courses k ≡ Some course → All (StageRuns case network R (stream + k)) course
 
   pub made_courses : (courses : List (List LedStage)) (values : Valuation) (next stream : ℕ) → next ≡ length values → HaveOwn case values
-      → AreLed case network next stream courses → EachRuns stream courses
+      → AreLedFrom case network next stream courses → EachRuns stream courses
       → MakeAndRun case network R values (courses_lines next stream (courses_along courses)) (courses_values courses)
   made_courses [] values next stream start own led runs = run_none case network R values
   made_courses (course ∷ courses) values next stream start own led runs =
@@ -213,7 +215,7 @@ module _ (case : Case) (network : Network) (R : ℕ → ℕ → Rational → Rat
       run_append case network R values (course_lines next stream (shares_along course)) later_lines made (courses_values courses) one.made rest
 
 pub courses_made : (case : Case) (network : Network) (courses : List (List LedStage)) (values : Valuation) (next stream : ℕ) → next ≡ length values
-    → HaveOwn case values → AreLed case network next stream courses
+    → HaveOwn case values → AreLedFrom case network next stream courses
     → Make case network values (courses_lines next stream (courses_along courses)) (courses_values courses)
 courses_made case network courses values next stream start own led =
     (made_courses case network (λ k exchanger before after. Unit {0}) courses values next stream start own led

@@ -15,3 +15,4 @@ pub mod NumberedItems
 pub mod SensibleStreams
 pub mod Shaped
 pub mod Words
+pub mod StageValues

@@ -1,6 +1,7 @@
 -- The branches of a stage whose shares have one denominator: sizes over it, at most the whole size, in the state before the stage or in that after it.
 use Rattle.design_lines.proofs.ValueSteps.{ArePositive, first_positive, others_positive, share_value, size_not_negative}
-use Rattle.design_lines.specs.Values.{LedStage, course_values, courses_values, joined_values, mix_values, pass_values, size_of, split_values, stage_values}
+use Rattle.design_lines.specs.LedStages.{LedStage, size_of}
+use Rattle.design_lines.proofs.StageValues.{course_values, courses_values, joined_values, mix_values, pass_values, split_values, stage_values}
 use Rattle.design_lines.proofs.Words.{All-append, All-cons, All-head, All-nil, All-tail, BranchValue, IsAtMost, Rational, Share, plus, plus-ratio_same_den}
 use Rattle.design_lines.proofs.Words.{plus_assoc, ratio, ratio-zero, rational_zero}
 use Rattle.fractions.proofs.Comparisons.{at_most-plus_left, at_most-plus_right, at_most_from_below, at_most_from_same, at_most_trans, not_negative-plus}

@@ -4,7 +4,8 @@ use Rattle.design_lines.proofs.Words.{Rational, Share, Side, Valuation, branch_s
 use Rattle.design_lines.proofs.Words.{made_values, minus, minus-plus, mix_determined, mixed_positive, mixed_value, mixes, no_value, pass_determined}
 use Rattle.design_lines.proofs.Words.{passed_value, passes, plus, plus-times, plus-zero, plus_comm, range_with_len, rational_zero, rest_branch, second_part}
 use Rattle.design_lines.proofs.Words.{share_branches, splits, stream_at, times, value_at, zero-plus}
-use Rattle.design_lines.specs.Values.{AllCanFollow, CanFollow, LedStage, Make, mix_values, pass_values, size_of, split_values, values_after}
+use Rattle.design_lines.specs.LedStages.{LedStage, size_of}
+use Rattle.design_lines.proofs.StageValues.{AllCanFollow, CanFollow, Make, mix_values, pass_values, split_values, values_after}
 use Rattle.fractions.proofs.Comparisons.{at_most_from_below, at_most_refl, below-plus, not_negative-plus, positive-plus}
 use Rattle.std.proofs.Common.{All, List, [], ap, append-nil, append_assoc, arith, get_or, length, length-append, refl, subst, suc, sym, zero, ℕ, ◌++◌, ◌+◌}
 use Rattle.std.proofs.Common.{◌<◌, ◌∙◌, ◌∷◌, ◌≡◌}

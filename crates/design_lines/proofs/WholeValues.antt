@@ -5,7 +5,7 @@ use Rattle.design_lines.proofs.Words.{All-append, All-cons, All-nil, BranchValue
 use Rattle.design_lines.proofs.Words.{IsWholeValuation, LeavesRoom, Line, Network, Valuation, declared_line, ended_by, ends, first_value, flat_map}
 use Rattle.design_lines.proofs.Words.{get_or-append-add, get_or_append_left, get_or_from_slice_get, length-map, line_of, made_values, no_value, option_map}
 use Rattle.design_lines.proofs.Words.{slice_get-get_or, slice_get-map, slice_get_within, uses, valuation_more, valuation_start, value_at}
-use Rattle.design_lines.specs.Values.{AllCanFollow, CanFollow, Make, values_after}
+use Rattle.design_lines.proofs.StageValues.{AllCanFollow, CanFollow, Make, values_after}
 use Rattle.std.proofs.Common.{All, List, Some, [], ap, append-nil, append_assoc, arith, get_or, length, length-append, map, refl, subst, sym, ℕ, ◌++◌, ◌<◌}
 use Rattle.std.proofs.Common.{◌∙◌, ◌∷◌, ◌≡◌}
 use Rattle.networks.specs.declared.network.Line.TheVariants as line

@@ -1,6 +1,6 @@
 pub mod Names
 pub mod Stages
 pub mod Drawn
-pub mod Values
+pub mod LedStages
 pub mod Led
 pub mod Ways

@@ -1,11 +1,11 @@
 -- The parts of a side above a place add up to the heat of its streams above it; so do those from a place on.
-use Rattle.grid.proofs.MakingLemmas.{holds_ends, holds_levels, is_latent-true}
+use Rattle.grid.proofs.MakingLemmas.{holds_ends, holds_levels, has_latent_heat-true}
 use Rattle.grid.proofs.RunLemmas.{latent_run, latent_run-is, latent_run-none, latent_run-other, level_run, level_run-is, stream_run, stream_run-latent}
 use Rattle.grid.proofs.RunLemmas.{stream_run-other, sum-made}
 use Rattle.grid.proofs.Words.{*ℤ--ℤ, *ℤ-zero, All, All-contains, AllPairs, AllPairs-head, AllPairs-tail, Contains, Contains-cons, HoldsPlaces, IsLatent}
 use Rattle.grid.proofs.Words.{int_lt-false, IsSensible, IsValidStream, Part, Side, Stream, Utility, cases_Bool, clamps, counts_above, heat_over}
 use Rattle.grid.proofs.Words.{heat_over-latent, heat_over-sensible, high_end, if◌then◌else◌, int_le, int_le-false, int_le-from, int_lt-from, int_max}
-use Rattle.grid.proofs.Words.{int_sum_by, int_sum_by-same, ints, false_from_ne_true, is_latent, is_stream, length_above, low_end, made_parts, order-sensible}
+use Rattle.grid.proofs.Words.{int_sum_by, int_sum_by-same, ints, false_from_ne_true, has_latent_heat, is_stream, length_above, low_end, made_parts, order-sensible}
 use Rattle.grid.proofs.Words.{piece_heat, pos, same_side, sensible_above, stands_above, ℤ, ◌*ℤ◌, ◌+ℤ◌, ◌-ℤ◌, ◌<ℤ◌, ◌≤ℤ◌}
 use Rattle.std.proofs.Common.{Bool, List, [], ap, ap₂, arith, false, get_or, inl, inr, refl, sym, true, ⊎_elim, ◌&&◌, ◌∙◌, ◌∷◌, ◌≡◌, ◌⊎◌}
 
@@ -80,8 +80,8 @@ module _ (from : Bool) (at : ℤ) (side : Side) (s : Stream) (same : same_side s
       ∙ *ℤ--ℤ s.cp (above (int_max at l)) (above (int_max at g)) in
       omega (arith, ints)
 
-is_latent-sensible : (s : Stream) → IsSensible s → is_latent s ≡ false
-is_latent-sensible s h = false_from_ne_true (is_latent s) (λ e. let load = (is_latent-true s e).load in let none = h.load in omega (arith, ints))
+has_latent_heat-sensible : (s : Stream) → IsSensible s → has_latent_heat s ≡ false
+has_latent_heat-sensible s h = false_from_ne_true (has_latent_heat s) (λ e. let load = (has_latent_heat-true s e).load in let none = h.load in omega (arith, ints))
 
 -- on places that hold the ends of a sensible stream and the place, the parts above the place add up to the heat above it
 stream_run-is : (from : Bool) (place : ℤ) (side : Side) (s : Stream) (places : List ℤ) → IsSensible s → same_side s.side side ≡ true
@@ -122,7 +122,7 @@ runs-are from place side s places heat falls low high at =
     own : same_side s.side side ≡ true → IsSensible s ⊎ IsLatent s
         → latent_run (piece_above from place) side s places +ℤ stream_run (piece_above from place) side s places ≡ heat_over from place s
     own same (inl sensible) =
-        let none = latent_run-none (piece_above from place) side s places (is_latent-sensible s sensible) in
+        let none = latent_run-none (piece_above from place) side s places (has_latent_heat-sensible s sensible) in
         let run = stream_run-is from place side s places sensible same falls low high at in let whole = heat_over-sensible from place s sensible in
         omega (arith, ints)
     own same (inr latent) =

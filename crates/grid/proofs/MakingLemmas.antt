@@ -4,7 +4,7 @@ use Rattle.grid.proofs.Words.{AllPairs-head, AllPairs-nil, AllPairs-tail, ArePar
 use Rattle.grid.proofs.Words.{Contains-get_or, Decides-int_eq, HoldsPlaces, IsGrid, IsInterval, IsLatent, IsPartOf, IsPiece, Lists-unique, ListsFalling}
 use Rattle.grid.proofs.Words.{MOST_LOAD, Part, Side, Source, Stream, Utility, and_from, and_parts, append-nil, comes_before, comes_before_source, cons_if}
 use Rattle.grid.proofs.Words.{covers, drop_all, drop_more, each_end, false_from_ne_true, get_or-map, get_or_from_slice_get, high_end, int_eq, int_le}
-use Rattle.grid.proofs.Words.{int_le-from, int_le-true, interval_parts, ints, is_here, is_latent, length-map, level-latent, level_parts, low_end, made_parts}
+use Rattle.grid.proofs.Words.{int_le-from, int_le-true, interval_parts, ints, is_here, has_latent_heat, length-map, level-latent, level_parts, low_end, made_parts}
 use Rattle.grid.proofs.Words.{map, none-some, own_side, picked, places_of, pos, same_Some, same_side, same_side-true, shifted_level, slice_get}
 use Rattle.grid.proofs.Words.{slice_get-get_or, slice_get_within, stands_at, stream_ends, stream_part, take_more, utility_part, ℤ, ◌<ℤ◌, ◌≤ℤ◌}
 use Rattle.std.proofs.Common.{Bool, List, Some, [], add-zero, ap, append_assoc, arith, drop, false, get_or, inl, inr, length, length-take, refl, subst, suc}
@@ -72,8 +72,8 @@ module _ {X : Type 0} (test : X → Bool) (make : ℕ → X → Part) where
 
 -- ---- the tests
 
-pub is_latent-true : (s : Stream) → is_latent s ≡ true → IsLatent s
-is_latent-true s h =
+pub has_latent_heat-true : (s : Stream) → has_latent_heat s ≡ true → IsLatent s
+has_latent_heat-true s h =
     let level = and_parts (int_eq s.supply s.target) (int_eq s.cp (pos 0) && (int_le (pos 1) s.load && int_le s.load MOST_LOAD)) h in
     let cp = and_parts (int_eq s.cp (pos 0)) (int_le (pos 1) s.load && int_le s.load MOST_LOAD) level.1 in
     let load = and_parts (int_le (pos 1) s.load) (int_le s.load MOST_LOAD) cp.1 in
@@ -83,8 +83,8 @@ is_latent-true s h =
       load = record { from = int_le-true (pos 1) s.load load.0; upto = int_le-true s.load MOST_LOAD load.1 };
     }
 
-pub is_latent-from : (s : Stream) → IsLatent s → is_latent s ≡ true
-is_latent-from s h = and_from (int_eq s.supply s.target) (int_eq s.cp (pos 0) && (int_le (pos 1) s.load && int_le s.load MOST_LOAD))
+pub has_latent_heat-from : (s : Stream) → IsLatent s → has_latent_heat s ≡ true
+has_latent_heat-from s h = and_from (int_eq s.supply s.target) (int_eq s.cp (pos 0) && (int_le (pos 1) s.load && int_le s.load MOST_LOAD))
     ((Decides-int_eq s.supply s.target).1 h.level)
     (and_from (int_eq s.cp (pos 0)) (int_le (pos 1) s.load && int_le s.load MOST_LOAD) ((Decides-int_eq s.cp (pos 0)).1 h.cp)
     (and_from (int_le (pos 1) s.load) (int_le s.load MOST_LOAD) (int_le-from (pos 1) s.load h.load.from) (int_le-from s.load MOST_LOAD h.load.upto)))
@@ -97,8 +97,8 @@ pub record StandsAt (side : Side) (place : ℤ) (s : Stream) : Type 0 where
 
 pub stands_at-true : (side : Side) (place : ℤ) (s : Stream) → stands_at side place s ≡ true → StandsAt side place s
 stands_at-true side place s h =
-    let parts = and_parts (same_side s.side side) (is_latent s && int_eq (high_end s) place) h in
-    let level = and_parts (is_latent s) (int_eq (high_end s) place) parts.1 in let latent = is_latent-true s level.0 in
+    let parts = and_parts (same_side s.side side) (has_latent_heat s && int_eq (high_end s) place) h in
+    let level = and_parts (has_latent_heat s) (int_eq (high_end s) place) parts.1 in let latent = has_latent_heat-true s level.0 in
     let high = (Decides-int_eq (high_end s) place).0 level.1 in
     record { side_is = same_side-true s.side side parts.0; latent = latent; high = high; low = sym (level-latent s latent) ∙ high }
 
@@ -114,8 +114,8 @@ pub same_side-from : (a b : Side) → a ≡ b → same_side a b ≡ true
 same_side-from a b e = ap (λ s. same_side s b) e ∙ own_side b
 
 pub stands_at-from : (side : Side) (place : ℤ) (s : Stream) → s.side ≡ side → IsLatent s → high_end s ≡ place → stands_at side place s ≡ true
-stands_at-from side place s h latent level = and_from (same_side s.side side) (is_latent s && int_eq (high_end s) place) (same_side-from s.side side h)
-    (and_from (is_latent s) (int_eq (high_end s) place) (is_latent-from s latent) ((Decides-int_eq (high_end s) place).1 level))
+stands_at-from side place s h latent level = and_from (same_side s.side side) (has_latent_heat s && int_eq (high_end s) place) (same_side-from s.side side h)
+    (and_from (has_latent_heat s) (int_eq (high_end s) place) (has_latent_heat-from s latent) ((Decides-int_eq (high_end s) place).1 level))
 
 is_here-from : (side : Side) (place : ℤ) (u : Utility) → u.side ≡ side → shifted_level u ≡ place → is_here side place u ≡ true
 is_here-from side place u h k =

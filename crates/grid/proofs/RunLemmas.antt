@@ -3,7 +3,7 @@ use Rattle.grid.proofs.MakingLemmas.{covers-latent, is_here-true, stands_at-from
 use Rattle.grid.proofs.Words.{All, All-contains, All-head, All-tail, All-weaker, AllPairs, AllPairs-head, AllPairs-tail, Contains, Contains-cons}
 use Rattle.grid.proofs.Words.{Decides-int_eq, IsLatent, Part, Side, Stream, Utility, and_from, and_left, and_right, cases_Bool, cons_if, covers}
 use Rattle.grid.proofs.Words.{false_from_ne_true, high_end, if◌then◌else◌, int_eq, int_le, int_sum_by, int_sum_by-add, int_sum_by-append, int_sum_by-zero}
-use Rattle.grid.proofs.Words.{interval_parts, ints, is_here, is_latent, low_end, made_parts, picked, pos, same_side, same_side-true, shifted_level, stands_at}
+use Rattle.grid.proofs.Words.{interval_parts, ints, is_here, has_latent_heat, low_end, made_parts, picked, pos, same_side, same_side-true, shifted_level, stands_at}
 use Rattle.grid.proofs.Words.{stream_part, utility_part, ℤ, ◌+ℤ◌, ◌<ℤ◌}
 use Rattle.std.proofs.Common.{Bool, List, [], ap, ap₂, arith, false, get_or, refl, suc, sym, true, ℕ, ⊎_elim, ◌&&◌, ◌++◌, ◌∙◌, ◌∷◌, ◌≡◌}
 
@@ -110,9 +110,9 @@ latent_run-is v side s places latent same falls found = passed_run-one (λ g. st
     (stands_at-from side (high_end s) s (same_side-true s.side side same) latent refl) (λ g passes. sym (stands_at-true side g s passes).high) falls found
 
 -- no other stream has a part at a place
-pub latent_run-none : (v : ℤ → ℤ → Stream → ℤ) (side : Side) (s : Stream) (places : List ℤ) → is_latent s ≡ false → latent_run v side s places ≡ pos 0
+pub latent_run-none : (v : ℤ → ℤ → Stream → ℤ) (side : Side) (s : Stream) (places : List ℤ) → has_latent_heat s ≡ false → latent_run v side s places ≡ pos 0
 latent_run-none v side s places sensible = passed_run-none (λ g. stands_at side g s) (λ g. v g g s) places (none_pass (λ g. stands_at side g s) places
-    (λ g. and_right (same_side s.side side) (is_latent s && int_eq (high_end s) g) (and_left (is_latent s) (int_eq (high_end s) g) sensible)))
+    (λ g. and_right (same_side s.side side) (has_latent_heat s && int_eq (high_end s) g) (and_left (has_latent_heat s) (int_eq (high_end s) g) sensible)))
 
 -- and a latent one has none on an interval
 pub stream_run-latent : (v : ℤ → ℤ → Stream → ℤ) (side : Side) (s : Stream) (places : List ℤ) → IsLatent s → AllPairs (λ a b. b <ℤ a) places
@@ -141,4 +141,4 @@ stream_run-other v side s (g ∷ low ∷ places) other =
 pub latent_run-other : (v : ℤ → ℤ → Stream → ℤ) (side : Side) (s : Stream) (places : List ℤ) → same_side s.side side ≡ false
     → latent_run v side s places ≡ pos 0
 latent_run-other v side s places other = passed_run-none (λ g. stands_at side g s) (λ g. v g g s) places
-    (none_pass (λ g. stands_at side g s) places (λ g. and_left (same_side s.side side) (is_latent s && int_eq (high_end s) g) other))
+    (none_pass (λ g. stands_at side g s) places (λ g. and_left (same_side s.side side) (has_latent_heat s && int_eq (high_end s) g) other))

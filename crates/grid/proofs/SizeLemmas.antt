@@ -1,5 +1,5 @@
 -- How many places a grid has, how many parts a side has, and what each part keeps.
-use Rattle.grid.proofs.MakingLemmas.{holds_levels, is_latent-true, made_parts-AreParts}
+use Rattle.grid.proofs.MakingLemmas.{holds_levels, has_latent_heat-true, made_parts-AreParts}
 use Rattle.grid.proofs.PlaceLemmas.{interval_falls}
 use Rattle.grid.proofs.RunLemmas.{latent_run, latent_run-none, latent_run-other, level_run, level_run-is, stream_run, stream_run-latent, stream_run-other}
 use Rattle.grid.proofs.RunLemmas.{sum-made}
@@ -7,7 +7,7 @@ use Rattle.grid.specs.Bounds.{IsBounded}
 use Rattle.grid.proofs.Words.{ALL_UTILITIES, All, All-contains, All-weaker, AllPairs, AreParts, AreStreams, AreStreams-IsComplete, Case, Contains, HoldsPlaces}
 use Rattle.grid.proofs.Words.{IsComplete, IsGrid, IsHeat, IsLength, IsPartOf, IsPiece, IsPlaced, IsValidStream, MOST_PARTS, MOST_PLACES, Part, Side, Stream}
 use Rattle.grid.proofs.Words.{Utility, cases_Bool, count_by-cons, count_on, covers, get_or_from_slice_get, heat-between, high_end, if◌then◌else◌, int_sum_by}
-use Rattle.grid.proofs.Words.{int_sum_by-at_most, ints, is_latent, length-AreStreams, length-append, length-le_falling, length-map, length-stream_ends}
+use Rattle.grid.proofs.Words.{int_sum_by-at_most, ints, has_latent_heat, length-AreStreams, length-append, length-le_falling, length-map, length-stream_ends}
 use Rattle.grid.proofs.Words.{length-utilities, load-between, low_end, made_parts, map, mul-le-mul, piece_heat, places_of, pos, range-length, same_side}
 use Rattle.grid.proofs.Words.{shifted_level, slice_get_within, stands_at, stream_ends, stream_part, utility_part, ℤ, ◌+ℤ◌, ◌-ℤ◌, ◌<ℤ◌, ◌≤ℤ◌}
 use Rattle.std.proofs.Common.{Bool, List, [], ap, arith, cond, false, get_or, inl, inr, length, refl, subst, sym, true, ℕ, ⊎_elim, ◌*◌, ◌+◌, ◌∙◌, ◌∷◌, ◌≡◌, ◌≤◌}
@@ -49,10 +49,10 @@ latent_run-at_most side s (g ∷ places) = let rest = latent_run-at_most side s 
 runs-at_most : (side : Side) (places : List ℤ) → AllPairs (λ a b. b <ℤ a) places → (s : Stream)
     → (latent_run (λ high low x. pos 1) side s places +ℤ stream_run (λ high low x. pos 1) side s places) ≤ℤ pos (length places)
 runs-at_most side places falls s = ⊎_elim (λ latent.
-    let none = stream_run-latent (λ high low x. pos 1) side s places (is_latent-true s latent) falls in let most = latent_run-at_most side s places in
+    let none = stream_run-latent (λ high low x. pos 1) side s places (has_latent_heat-true s latent) falls in let most = latent_run-at_most side s places in
     omega (arith, ints)) (λ sensible.
     let none = latent_run-none (λ high low x. pos 1) side s places sensible in let most = stream_run-at_most side s places in
-    omega (arith, ints)) (cases_Bool (is_latent s))
+    omega (arith, ints)) (cases_Bool (has_latent_heat s))
 
 runs-other : (side : Side) (places : List ℤ) (s : Stream) → same_side s.side side ≡ false
     → latent_run (λ high low x. pos 1) side s places +ℤ stream_run (λ high low x. pos 1) side s places ≡ pos 0

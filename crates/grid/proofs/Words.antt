@@ -1,6 +1,6 @@
 -- The words and lemmas from elsewhere that the proofs of this crate speak in, passed on from one place. Declares nothing.
 pub use Rattle.grid.specs.Grid.{HoldsPlaces, IsGrid, places_of}
-pub use Rattle.grid.specs.Making.{covers, interval_parts, is_here, is_latent, level_parts, made_parts, picked, stands_at}
+pub use Rattle.grid.specs.Making.{covers, interval_parts, is_here, has_latent_heat, level_parts, made_parts, picked, stands_at}
 pub use Rattle.grid.specs.OnGrid.{AreOnGrid, IsOnPlaces}
 pub use Rattle.grid.specs.Part.{AreCaseParts, AreParts, IsInterval, IsPartOf, IsPiece, comes_before, comes_before_source, piece_heat, stands_above, stream_part}
 pub use Rattle.grid.specs.Part.{utility_part}

@@ -18,13 +18,13 @@ abbrev pub picked : {X : Type 0} → (X → Bool) → (ℕ → X → Part) → �
 picked test make n [] = []
 picked test make n (x ∷ xs) = cons_if (test x) (make n x) (picked test make (suc n) xs)
 
--- a stream of latent heat
-abbrev pub is_latent : Stream → Bool
-is_latent s = int_eq s.supply s.target && (int_eq s.cp (pos 0) && (int_le (pos 1) s.load && int_le s.load MOST_LOAD))
+-- it gives or takes latent heat: at one temperature, by a load within its limits
+abbrev pub has_latent_heat : Stream → Bool
+has_latent_heat s = int_eq s.supply s.target && (int_eq s.cp (pos 0) && (int_le (pos 1) s.load && int_le s.load MOST_LOAD))
 
 -- one of this side at this place
 abbrev pub stands_at : Side → ℤ → Stream → Bool
-stands_at side place s = same_side s.side side && (is_latent s && int_eq (high_end s) place)
+stands_at side place s = same_side s.side side && (has_latent_heat s && int_eq (high_end s) place)
 
 -- a utility of this side at this place
 abbrev pub is_here : Side → ℤ → Utility → Bool

@@ -1,5 +1,5 @@
 -- Where there is a cut there is no heat flow.
-use Rattle.heat_flow.proofs.Words.{All, AllPairs, AllPairs-head, AllPairs-tail, ArePositive, Cold, CutsRefuseFlows, HaveParts, Hot, KeepsRanges, Part, Side}
+use Rattle.heat_flow.proofs.Words.{All, AllPairs, AllPairs-head, AllPairs-tail, ArePositive, Cold, HasNoFlow, HaveParts, Hot, IsCut, KeepsRanges, Part, Side}
 use Rattle.heat_flow.proofs.Words.{Transfer, cases_lt, eqb-true, heat_at, if◌then◌else◌, int_sum_by, int_sum_by-add, int_sum_by-le, int_sum_by-not_negative}
 use Rattle.heat_flow.proofs.Words.{int_sum_from-grouped, int_sum_from-le_each, ints, joins, least_at, list_any, meets, ne_eqb, need_of, offer_of, opposite}
 use Rattle.heat_flow.proofs.Words.{part_index, pos, slice_get-get_or, slice_get_past, true≢false, ℤ, ◌*ℤ◌, ◌+ℤ◌, ◌<ℤ◌, ◌==◌, ◌≤ℤ◌}
@@ -74,7 +74,8 @@ need_le_offer side reach parts others members ts ordered positive indexes joined
     let least = int_sum_by-le (least_at parts) (heat_at side ts) members (λ k d within. least_le side parts ts (get_or members k d) own positive) in
     let given = members_heat side members ts ordered in let taken = offered side reach others members ts positive indexes joined ranges in omega (arith, ints)
 
-pub cuts_refuse_flows : (reach : ℕ → ℕ → Bool) (hot cold : List Part) → CutsRefuseFlows reach hot cold
+pub cuts_refuse_flows : (reach : ℕ → ℕ → Bool) (hot cold : List Part) (side : Side) (members : List ℕ) → IsCut side reach hot cold members
+    → HasNoFlow reach hot cold
 cuts_refuse_flows reach hot cold Hot members cut ts flow =
     let le = need_le_offer Hot reach hot cold members ts cut.ordered flow.positive flow.cold_indexes flow.joined flow.hot_ranges flow.cold_ranges in
     let short = cut.short in omega (arith, ints)

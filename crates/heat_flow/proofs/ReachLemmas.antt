@@ -1,9 +1,9 @@
 -- The table of the pairs of a case's parts.
 use Rattle.heat_flow.proofs.Words.{All, All-weaker, AreParts, Case, IsComplete, IsPartOf, IsSourceOf, IsSourceOf-side, IsValidForbid, Part, Side}
-use Rattle.heat_flow.proofs.Words.{StaysValid-IsComplete, both_reach, cases_lt, cell_rows, get_or-flat_map, get_or-map, is_some, length-map, length-take-le}
+use Rattle.heat_flow.proofs.Words.{StaysValid-IsComplete, both_reach, cases_lt, flat_map, get_or-flat_map, get_or-map, is_some, length-map, length-take-le}
 use Rattle.heat_flow.proofs.Words.{nat_lt, nat_tests, part_reaches, reach_between, side_of_part, slice_get-get_or, slice_get_past, ℤ}
 use Rattle.heat_flow.proofs.Blanks.{blank}
-use Rattle.std.proofs.Common.{List, None, Option, Some, [], ap, arith, false, get_or, length, length-append, map, refl, sym, take, true, ℕ, ⊎_elim, ◌&&◌, ◌*◌}
+use Rattle.std.proofs.Common.{Bool, List, None, Option, Some, [], ap, arith, false, get_or, length, length-append, map, refl, sym, take, true, ℕ, ⊎_elim, ◌&&◌, ◌*◌}
 use Rattle.std.proofs.Common.{◌+◌, ◌<◌, ◌∙◌, ◌∷◌, ◌≡◌}
 
 -- ---- permissions of a hot source
@@ -19,6 +19,10 @@ both_parts c (Some p) None h = cc
 both_parts c (Some p) (Some q) h = (p, q, refl, refl, h)
 
 -- ---- the cells
+
+-- the truth values of the table, row by row over the hot parts
+abbrev pub cell_rows : Case → List Part → List Part → List Bool
+cell_rows c hot cold = flat_map (λ p. map (part_reaches c p) cold) hot
 
 pub length-cell_rows : (c : Case) (hot cold : List Part) → length (cell_rows c hot cold) ≡ length hot * length cold
 length-cell_rows c [] cold = omega arith

@@ -4,10 +4,10 @@ pub use Rattle.grid.proofs.PartsExist.{one_side}
 pub use Rattle.grid.specs.Bounds.{IsBounded}
 pub use Rattle.grid.specs.Part.{AreCaseParts, AreParts, IsPartOf}
 pub use Rattle.grid.specs.declared.part.Part.{Part}
-pub use Rattle.heat_flow.specs.Cells.{ArePermissions, cell_rows}
+pub use Rattle.heat_flow.specs.Cells.{ArePermissions}
 pub use Rattle.heat_flow.specs.Certificate.{HoldsOfParts, heat_of_utility}
 pub use Rattle.heat_flow.specs.Checks.{HasCost, IsCutOver}
-pub use Rattle.heat_flow.specs.Cuts.{CutsRefuseFlows, cut_side, joins, least_at, meets, need_of, offer_of, opposite, parts_of}
+pub use Rattle.heat_flow.specs.Cuts.{HasNoFlow, IsCut, cut_side, joins, least_at, meets, need_of, offer_of, opposite, parts_of}
 pub use Rattle.heat_flow.specs.Flow.{ArePositive, HaveParts, IsHeatFlow, KeepsRanges, heat_at, part_index, precedes, side_cost}
 pub use Rattle.heat_flow.specs.Prices.{IsLeastProduct, IsSupporting, WeakDuality, excess_price, least_product, price_at, side_value}
 pub use Rattle.heat_flow.specs.Ranges.{IsWithin, most_excess, most_part_value}

@@ -55,7 +55,3 @@ pub record IsCut (side : Side) (reach : ℕ → ℕ → Bool) (hot cold : List P
 -- these parts have no heat flow
 abbrev pub HasNoFlow : (ℕ → ℕ → Bool) → List Part → List Part → Type 0
 HasNoFlow reach hot cold = (transfers : List Transfer) → IsHeatFlow reach hot cold transfers → ⊥
-
--- with a cut there is none
-abbrev pub CutsRefuseFlows : (ℕ → ℕ → Bool) → List Part → List Part → Type 0
-CutsRefuseFlows reach hot cold = (side : Side) (members : List ℕ) → IsCut side reach hot cold members → HasNoFlow reach hot cold

@@ -3,3 +3,4 @@ pub mod CaseFlow
 pub mod Premises
 pub mod StreamCourses
 pub mod Words
+pub mod PartPieces

@@ -2,7 +2,8 @@
 use Rattle.interval_design.proofs.Words.{All-map, All-slice_get, AreApart, AreLedPieces, AreStreams-IsComplete, Case, Decides-int_eq, Exchange, HasUtilityHeat}
 use Rattle.interval_design.proofs.Words.{HaveParts, IsAtMost, IsComplete, IsHeat, IsPartOf, IsPositive, IsStreamPart, IsStreamPiece, IsTrue, IsValidStream}
 use Rattle.interval_design.proofs.Words.{JoinsPieces, Part, Piece, Rational, Side, Source, Stream, Transfer, Utility, and_parts, at_most-whole, both_reach}
-use Rattle.interval_design.proofs.Words.{contribution_of, entered_at, entered_state, exchange_of, fixed_level-latent, fixed_level-sensible, int_eq, int_le}
+use Rattle.interval_design.proofs.Words.{contribution_of, entered_at, entered_state, exchange_of, fixed_level-latent, fixed_level-sensible, has_size}
+use Rattle.interval_design.proofs.Words.{int_eq, int_le}
 use Rattle.interval_design.proofs.Words.{int_le-true, ints, is_forbidden, left_at, left_state, length-map, level_in, map-map, mapped_item, not, on_side}
 use Rattle.interval_design.proofs.Words.{on_side-ap, option_map, option_map_or, or_cases, part_index, part_reaches, part_sources, passes_heat, piece_of}
 use Rattle.interval_design.proofs.Words.{piece_on, plus, positive-ratio, positive_num, ratio, reach_between, shifted, side_of_part, slice_get-map, sources_of}

@@ -1,6 +1,6 @@
 -- The words and lemmas from elsewhere that the proofs of this crate speak in, passed on from one place. Declares nothing.
 pub use Rattle.design_lines.proofs.ListLemmas.{kept_hold}
-pub use Rattle.design_lines.specs.Values.{LedStage, Meet, size_of, state_behind}
+pub use Rattle.design_lines.specs.LedStages.{LedStage, Meet, size_of, state_behind}
 pub use Rattle.design_lines.specs.Ways.{on_the_way}
 pub use Rattle.design_lines.specs.declared.stage.Share.{Share}
 pub use Rattle.fractions.proofs.Comparisons.{at_most-whole, positive-ratio, positive_num}
@@ -25,7 +25,7 @@ pub use Rattle.heat_flow.specs.Reach.{both_reach, part_reaches, passes_heat, rea
 pub use Rattle.heat_flow.specs.declared.flow.Transfer.{Transfer}
 pub use Rattle.interval_design.specs.Balance.{flow_balance, utilities_heat}
 pub use Rattle.interval_design.specs.Courses.{exchange_of, exchanger_of, part_sources, width_at, width_of}
-pub use Rattle.interval_design.specs.Values.{entered_at, entered_state, left_at, left_state, piece_of, source_state}
+pub use Rattle.interval_design.proofs.PartPieces.{entered_at, entered_state, left_at, left_state, piece_of, source_state}
 pub use Rattle.network_audit.proofs.Sized.{sized-whole}
 pub use Rattle.network_audit.proofs.StreamSizes.{first_state-sized, full_size-most}
 pub use Rattle.network_audit.specs.Balance.{duty_with}
@@ -37,6 +37,7 @@ pub use Rattle.network_values.specs.Sides.{contribution_of}
 pub use Rattle.network_values.specs.Values.{IsPartOfLoad, change, first_part_of_load, first_state, full_size, last_part_of_load, last_state}
 pub use Rattle.networks.specs.Lines.{Exchanger}
 pub use Rattle.networks.specs.Shape.{IsPositive}
+pub use Rattle.pieces.proofs.PieceShape.{has_size}
 pub use Rattle.pieces.proofs.PieceStages.{filter_map-way, mapped_item, on_side-ap, only_item}
 pub use Rattle.pieces.specs.Led.{AreApart, AreJoined, AreLedPieces, HasUtilityHeat, IsFine, IsLedNetwork, IsStreamPiece, JoinsPieces, exchange_balance}
 pub use Rattle.pieces.specs.Led.{heats_with, level_in, temperature}

@@ -1,3 +1,2 @@
 pub mod Courses
-pub mod Values
 pub mod Balance

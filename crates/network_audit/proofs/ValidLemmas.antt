@@ -687,7 +687,7 @@ one_valuation_left old new (verdict.Accepted balance) shape (kept, faultless, le
 one_valuation_left old new other shape left = tt
 
 -- an accepted network is so, and a rejected one is not
-abbrev Says : Verdict → Type 0 → Type 0
+abbrev pub Says : Verdict → Type 0 → Type 0
 Says (verdict.Accepted balance) P = P
 Says (verdict.Rejected place reason) P = P → ⊥
 Says (verdict.TooFine place step) P = Unit {0}

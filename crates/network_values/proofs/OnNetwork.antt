@@ -1,9 +1,9 @@
 -- The definitions compute on a worked network: a cold stream is split, overheated beside an exchanger, and mixed again.
 use Rattle.network_values.proofs.Words.{All, All-from_recursion, AreEnded, Branch, BranchValue, Case, Contains, Decides-is_le, IsAtMost, IsBelow, IsFullEnd}
-use Rattle.network_values.proofs.Words.{IsWholeValuation, KeepApproaches, KeepsApproach, Line, Network, Rational, Solves, Stream, Utility, Valuation}
+use Rattle.network_values.proofs.Words.{IsWholeValuation, KeepApproaches, KeepsApproach, Line, Network, Rational, Solves, Stream, Utility, Valuation, View}
 use Rattle.network_values.proofs.Words.{below-whole, branch_side, codes, duty_at, ended_by, ended_streams, enumerate_from, exchangers_of, gcd, hot_target}
 use Rattle.network_values.proofs.Words.{ints, is_le, last_remainder, last_value, lowest_form, made_by, minus, pass_of, plus, positive_part, ratio}
-use Rattle.network_values.proofs.Words.{rational_cmp, rational_zero, same_Some, same_from_fields, side_run, stream_at, times, view_above, whole}
+use Rattle.network_values.proofs.Words.{rational_cmp, rational_zero, same_Some, same_from_fields, side_run, stream_at, times, whole}
 use Rattle.network_values.specs.Penalties.{height_at, heights, hot_heat, mix_penalties, penalty}
 use Rattle.std.proofs.Common.{List, [], ap, arith, map, pos, refl, subst, suc, true, zero, ℕ, ℤ, ◌<◌, ◌∷◌, ◌≡◌}
 use Rattle.networks.specs.declared.network.Line.TheVariants as line
@@ -55,6 +55,10 @@ worked_network = record { branches = map branch (0 ∷ 1 ∷ 0 ∷ 0 ∷ 1 ∷ 1
 
 abbrev value : ℤ → ℤ → BranchValue
 value size t = record { size = whole size; t = whole t }
+
+-- above 55 °C of the shifted scale
+abbrev view : View
+view = record { place = pos 550; from_itself = false }
 
 -- the branches behind the two exchangers have 40 and 80 °C, and their mix has 60 °C
 abbrev worked_values : Valuation
@@ -127,11 +131,11 @@ unfolding exchangers_of plus ratio lowest_form gcd last_remainder
 used = refl
 
 -- above 55 °C, the pinch: the heater of 2500 W works below it for 1000 W, and the mix loses 500 W
-exchangers : map (λ p. numbers (penalty (height_at worked_case (view_above (pos 550)) worked_network worked_values) worked_network p))
+exchangers : map (λ p. numbers (penalty (height_at worked_case view worked_network worked_values) worked_network p))
     (enumerate_from 0 (exchangers_of worked_network.lines)) ≡ (pos 0, 1) ∷ (pos 1000, 1) ∷ (pos 0, 1) ∷ (pos 0, 1) ∷ []
 unfolding exchangers_of pass_of stream_at heights positive_part plus minus times rational_cmp ratio lowest_form gcd last_remainder
 exchangers = refl
 
-mixes : numbers (mix_penalties worked_case (view_above (pos 550)) worked_network worked_values) ≡ (pos 500, 1)
+mixes : numbers (mix_penalties worked_case view worked_network worked_values) ≡ (pos 500, 1)
 unfolding exchangers_of pass_of stream_at heights positive_part plus minus times rational_cmp ratio lowest_form gcd last_remainder
 mixes = refl

@@ -15,7 +15,7 @@ pub use Rattle.fractions.specs.LowestForms.{same_from_fields}
 pub use Rattle.fractions.specs.Rationals.{IsAtMost, IsBelow, Rational, is_below, rational_sum_by, rational_zero, whole}
 unfoldable pub use Rattle.fractions.specs.Rationals.{lowest_form, minus, over, plus, ratio, rational_cmp, times}
 pub use Rattle.network_values.specs.Courses.{Course, IsBetweenValues, Latent, PassesTakeShares, Sensible, SharesRise, height_on, side_on}
-pub use Rattle.network_values.specs.Heights.{HasDuty, View, height, is_above, share, share_in, view_above}
+pub use Rattle.network_values.specs.Heights.{HasDuty, View, height, is_above, share, share_in}
 unfoldable pub use Rattle.network_values.specs.Heights.{positive_part}
 pub use Rattle.network_values.specs.Made.{LeaveRoom, LeavesRoom, first_part, front, heat_of_both, made_values, mixed_value, moved, passed_value, second_part}
 pub use Rattle.network_values.specs.Mixes.{MixesLoseHeight, height_above}

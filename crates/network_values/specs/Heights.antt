@@ -36,9 +36,6 @@ pub record View : Type 0 where
   pub place : ℤ
   pub from_itself : Bool
 
-abbrev pub view_above : ℤ → View
-view_above place = record { place = place; from_itself = false }
-
 -- the share of a side whose temperatures are on the shifted scale
 abbrev pub share_in : View → Rational → SideRun → Rational
 share_in view duty side = share view.from_itself duty (seen_from (whole view.place) side)

@@ -1,6 +1,6 @@
 -- The network of pieces carries the states of its pieces, each stream from its first state to its last; so where the pieces are led it is valid, and its
 -- audit has no finding.
-use Rattle.pieces.proofs.Words.{All-append, All-map, All-weaker, AreFormed, AreLed, AreLedPieces, AreSmall, AreStreams-IsComplete, AreValues, Case, Contains}
+use Rattle.pieces.proofs.Words.{All-append, All-map, All-weaker, AreFormed, AreLedFrom, AreLedPieces, AreSmall, AreStreams-IsComplete, AreValues, Case, Contains}
 use Rattle.pieces.proofs.Words.{Course, EachRuns, Exchange, Exchanger, HIGHEST_LEVEL, HasRoom, HasShape, HasUtilityHeat, HaveWholeHeats, IsComplete, IsInRange}
 use Rattle.pieces.proofs.Words.{IsLedNetwork, IsLedStage, IsLedStream, IsOfOneStream, IsPermitted, IsPlaced, IsPlaced-IsComplete, IsRoomy, IsSized}
 use Rattle.pieces.proofs.Words.{IsStreamPiece, IsValidNetwork, IsValidStream, LedStage, Line, MOST_LINES, MOST_LOAD, Make, Network, Piece, RunsAs, RunsThrough}
@@ -8,7 +8,7 @@ use Rattle.pieces.proofs.Words.{Share, Side, Source, StageRuns, Stream, Utility,
 use Rattle.pieces.proofs.Words.{courses_lines, courses_made, courses_of, courses_run, courses_values, declared_line, declared_make, duties_with, duty_with}
 use Rattle.pieces.proofs.Words.{each_ended, enters-run, enumerate_from, exchange_balance, exchangers_of, filter_map, first_state-sized, full_size-sized}
 use Rattle.pieces.proofs.Words.{grouped_utility_formed, heat-sized, heat_with, heats_with, hot_target, is_forbidden, is_latent_branch-is, leaves-run}
-use Rattle.pieces.proofs.Words.{led_course, led_courses, led_piece, length-enumerate_from, length-map, level_in, loads_kept, made_branches, make_append}
+use Rattle.pieces.proofs.Words.{led_course, led_piece, length-enumerate_from, length-map, level_in, loads_kept, made_branches, make_append}
 use Rattle.pieces.proofs.Words.{many_own, network_of, no_end-declared, no_finding_from_room, on_side, own_branches, own_start, piece_on, positive-is, ratio-one}
 use Rattle.pieces.proofs.Words.{same_Some, shares_of, side_of, size_on, sized-between, sized_change, sized_roomy, sources_of, stage_values, take_all}
 use Rattle.pieces.proofs.Words.{temperature, the_pass_of, unwrap_or, utility_items_at, utility_part, values_made}
@@ -17,7 +17,7 @@ use Rattle.std.proofs.Common.{subst₂, sym, unsigned_abs, ℕ, ℤ, ⊎_elim, �
 use Rattle.pieces.proofs.PieceShape.{CanBeLed, HasShape-pieces, declared_here, exchanger-at, exchanger-joins, exchanger_for, exchangers_of-network_of}
 use Rattle.pieces.proofs.PieceShape.{joined-at, piece-for, size-for}
 pub use Rattle.pieces.proofs.PieceShape.{exchangers_of-network_of, length-network_of}
-use Rattle.pieces.proofs.PieceStages.{All-numbered, courses_along-led, each-share, each-stage, numbered-each, source_at-piece}
+use Rattle.pieces.proofs.PieceStages.{All-numbered, courses_along-led, led_courses, each-share, each-stage, numbered-each, source_at-piece}
 use Rattle.design_lines.proofs.BranchStreams.{IsEachLed, are_led, stream_at-own}
 use Rattle.design_lines.proofs.StageSizes.{CourseHolds, IsOver, IsStageBranch, StageHolds, course_holds, courses_hold, stage_sized}
 use Rattle.fractions.specs.Rationals.{IsAtMost, IsBelow, IsWithinLimits, Rational, minus, plus, ratio, rational_sum, rational_sum_by, rational_zero, times}
@@ -35,7 +35,7 @@ module _ {case : Case} {hot cold : List Piece} {exchanges : List Exchange} (can 
   network_here = network_of case (sources_of hot) (sources_of cold) exchanges
 
   abbrev pub courses_here : List (List LedStage)
-  courses_here = led_courses case hot cold exchanges
+  courses_here = led_courses exchanges hot cold case
 
   abbrev pub values_here : Valuation
   values_here = map first_value case.streams ++ courses_values courses_here
@@ -96,7 +96,7 @@ module _ {case : Case} {hot cold : List Piece} {exchanges : List Exchange} (can 
         },
       ))
 
-  all-led : AreLed case network_here (length case.streams) 0 courses_here
+  all-led : AreLedFrom case network_here (length case.streams) 0 courses_here
   unfolding network_of
   all-led =
       are_led case network_here courses_here (own_branches case) 0 (length case.streams) 0

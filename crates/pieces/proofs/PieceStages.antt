@@ -2,7 +2,7 @@
 use Rattle.pieces.proofs.Words.{All-cons, All-enumerated, All-head, All-map, All-nil, All-reverse, All-tail, AreStages, Case, Exchange, LedStage, Piece, Share}
 use Rattle.pieces.proofs.Words.{Side, Source, Stream, and_parts, append-nil, cond_some, cons_option, course_of, courses_along, courses_of, enumerate_from}
 use Rattle.pieces.proofs.Words.{eqb-true, false≢true, filter_map, filter_map-append, filter_map-enumerate_more, filter_map-push, get_or-reverse, is_of_stream}
-use Rattle.pieces.proofs.Words.{is_stage, kept_hold, led_course, led_courses, led_piece, led_stage, length-reverse, ltb-true, map-map, nat_lt, ne_eqb}
+use Rattle.pieces.proofs.Words.{is_stage, kept_hold, led_course, led_piece, led_stage, length-reverse, ltb-true, map-map, nat_lt, ne_eqb}
 use Rattle.pieces.proofs.Words.{numbered-item, on_side, on_the_way, option_map, option_to_list, own_share, own_shares, piece_on, reverse, reverse-append}
 use Rattle.pieces.proofs.Words.{same_Some, same_source, same_source-true, share_at, share_for, share_of, shares_along, shares_of, size_on, slice_get-map}
 use Rattle.pieces.proofs.Words.{source_at, sources_of, stage_of, stream_course, take_more, unwrap_or}
@@ -212,7 +212,10 @@ module _ (exchanges : List Exchange) where
     shares_along-course stream s =
         shares_along-led s.side (on_side s.side hot cold) stream ∙ ap (λ ss. course_of s.side ss exchanges stream) (sym (on_side-ap s.side sources_of hot cold))
 
-    pub courses_along-led : (case : Case) → courses_along (led_courses case hot cold exchanges) ≡ courses_of case (sources_of hot) (sources_of cold) exchanges
+    abbrev pub led_courses : Case → List (List LedStage)
+    led_courses case = map (led_course hot cold exchanges) (enumerate_from 0 case.streams)
+
+    pub courses_along-led : (case : Case) → courses_along (led_courses case) ≡ courses_of case (sources_of hot) (sources_of cold) exchanges
     courses_along-led case =
         let es = enumerate_from 0 case.streams in
         map-map shares_along (led_course hot cold exchanges) es ∙ (λ i. map (λ e. shares_along-course e.0 e.1 i) es)

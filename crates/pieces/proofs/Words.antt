@@ -12,11 +12,13 @@ pub use Rattle.design_lines.proofs.ValueSteps.{make_append}
 pub use Rattle.design_lines.proofs.WholeValues.{AreValues, declared_make, own_start, values_made}
 pub use Rattle.design_lines.specs.Drawn.{Course, all_branches, course_branches, courses_lines, declared_line, made_branches}
 pub use Rattle.design_lines.specs.Led.{AreStages, IsCourseOf, IsShareOf, turns}
-pub use Rattle.design_lines.specs.Values.{AreLed, IsLedStage, IsLedStream, LedStage, Make, courses_along, courses_values, shares_along, stage_values}
+pub use Rattle.design_lines.specs.LedStages.{LedStage}
+pub use Rattle.design_lines.proofs.StageValues.{AreLedFrom, IsLedStage, IsLedStream, Make, courses_along, courses_values, shares_along, stage_values}
 pub use Rattle.design_lines.specs.Ways.{on_the_way}
 pub use Rattle.design_lines.specs.declared.stage.Share.{Share}
 pub use Rattle.fractions.proofs.Comparisons.{at_most-whole, at_most_trans, positive-is}
 pub use Rattle.fractions.proofs.Ratios.{ratio-one}
+pub use Rattle.fractions.specs.Rationals.{Rational}
 pub use Rattle.network_audit.proofs.FormedLemmas.{AreFormed}
 pub use Rattle.network_audit.proofs.GroupSums.{grouped_utility_formed}
 pub use Rattle.network_audit.proofs.HeatLemmas.{source_on}
@@ -42,7 +44,7 @@ pub use Rattle.networks.specs.declared.network.Line.{Line}
 pub use Rattle.networks.specs.declared.network.Network.{Network}
 pub use Rattle.pieces.specs.Led.{AreLedPieces, HasSize, HasUtilityHeat, IsLedNetwork, IsStreamPiece, JoinsPieces, RunsThrough, exchange_balance, heats_with, level_in}
 pub use Rattle.pieces.specs.Led.{temperature}
-pub use Rattle.pieces.specs.Pieces.{Piece, course_of, courses_of, exchanger_of, exchangers_for, is_of_stream, is_stage, led_course, led_courses, led_piece}
+pub use Rattle.pieces.specs.Pieces.{Piece, course_of, courses_of, exchanger_of, exchangers_for, is_of_stream, is_stage, led_course, led_piece}
 pub use Rattle.pieces.specs.Pieces.{led_stage, on_side, own_share, piece_on, share_at, share_for, share_of, size_on, source_at, sources_of, stage_of}
 pub use Rattle.pieces.specs.Pieces.{stream_course}
 unfoldable pub use Rattle.pieces.specs.Pieces.{network_of, own_shares, shares_of}

@@ -22,7 +22,7 @@ use Rattle.network_audit.specs.Findings.{HasNoFinding}
 use Rattle.network_audit.specs.Sized.{AreSmall, IsSized, IsWholeGroup, count_of, most_den, most_num, numbers_of}
 use Rattle.network_audit.specs.Valid.{IsValidNetwork}
 use Rattle.network_audit.specs.declared.verdict.Balance.{Balance}
-use Rattle.design_lines.specs.Values.{LedStage, Meet, size_of, state_behind}
+use Rattle.design_lines.specs.LedStages.{LedStage, Meet, size_of, state_behind}
 use Rattle.pieces.specs.Pieces.{Piece, exchangers_for, led_course, on_side, piece_on, shares_of, size_on, sources_of}
 use Rattle.pieces.specs.declared.exchange.Exchange.{Exchange}
 

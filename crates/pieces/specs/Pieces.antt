@@ -14,7 +14,7 @@ use Rattle.networks.specs.Lines.{Exchanger}
 use Rattle.networks.specs.declared.network.Network.{Network}
 use Rattle.design_lines.specs.Drawn.{Course, drawn}
 use Rattle.design_lines.specs.Names.{exchanger_name}
-use Rattle.design_lines.specs.Values.{LedStage}
+use Rattle.design_lines.specs.LedStages.{LedStage}
 use Rattle.design_lines.specs.Ways.{on_the_way}
 use Rattle.design_lines.specs.declared.stage.Share.{Share}
 use Rattle.pieces.specs.declared.exchange.Exchange.{Exchange}
@@ -116,6 +116,3 @@ led_stage of exchanges stream (index, p) = if is_stage of exchanges stream index
 -- a stream on its way through its pieces
 abbrev pub led_course : List Piece → List Piece → List Exchange → ℕ × Stream → List LedStage
 led_course hot cold exchanges (number, s) = filter_map (led_stage s.side exchanges number) (on_the_way s.side (enumerate_from 0 (on_side s.side hot cold)))
-
-abbrev pub led_courses : Case → List Piece → List Piece → List Exchange → List (List LedStage)
-led_courses case hot cold exchanges = map (led_course hot cold exchanges) (enumerate_from 0 case.streams)

@@ -4,3 +4,5 @@ pub mod CutLemmas
 pub mod NetworkWorth
 pub mod StepsOfParts
 pub mod Words
+pub mod PartPrices
+pub mod PlaceViews

@@ -54,10 +54,11 @@ pub use Rattle.networks.specs.Shape.{HasShape, IsExchanger, IsOfOneStream}
 pub use Rattle.networks.specs.declared.network.Line.{Line}
 pub use Rattle.networks.specs.declared.network.Network.{Network}
 pub use Rattle.price_floor.specs.Floor.{NoCutStands, NoNetworkCostsLess}
-pub use Rattle.price_floor.specs.PartPrices.{counts_for, greatest_price, price_steps}
+pub use Rattle.price_floor.proofs.PartPrices.{counts_for, greatest_price, price_steps}
 pub use Rattle.price_floor.specs.Steps.{AreAtMost, AreFalling, AreOrderedPrices, FallTo, StepPrices, last_price, rise_worth, step_worth}
 unfoldable pub use Rattle.price_floor.specs.Uses.{UsesAreOrdered, use_worth, used_by, used_heat, worth_of_uses}
-pub use Rattle.price_floor.specs.Views.{comes_below, views_of}
+pub use Rattle.price_floor.specs.Views.{comes_below}
+pub use Rattle.price_floor.proofs.PlaceViews.{views_of}
 unfoldable pub use Rattle.price_floor.specs.Worths.{WorthsAreOrdered, branch_worth, cold_worth, hot_worth, utility_worth, value_worth}
 pub use Rattle.std.proofs.lemmas.Bool.{cases_Bool, cases_eq, cases_lt, eqb-true, false_from_ne_true, true≢false}
 pub use Rattle.std.proofs.lemmas.Bool.Decides.{Decides-int_eq}

@@ -5,7 +5,7 @@ use Rattle.vertical_design.proofs.Words.{IsVerticalAt, IsWholeGroup, JoinsPieces
 use Rattle.vertical_design.proofs.Words.{Pair, Piece, Rational, Side, Source, Span, Utility, all_at, balance_of, clamps, cold_heat-is, cold_target, cons_option}
 use Rattle.vertical_design.proofs.Words.{contribution_of, cost_of, count_of, duties_with, duty_with, entry, enumerate_from, eqb-true, excess_of, exchanger_of}
 use Rattle.vertical_design.proofs.Words.{exchangers_for, exchangers_of, exchanges_at, exit, false_from_ne_true, filter, filter_map, flat_map, flat_map-map}
-use Rattle.vertical_design.proofs.Words.{heat_price, heat_with, heats_with, hot_heat-is, hot_target, int_le, int_sum_by, intervals_of, ints, is_forbidden}
+use Rattle.vertical_design.proofs.Words.{has_size, heat_price, heat_with, heats_with, hot_heat-is, hot_target, int_le, int_sum_by, intervals_of, ints, is_forbidden}
 use Rattle.vertical_design.proofs.Words.{length-AreStreams, length-map, length-numbers, matches_in, minus, minus-self, mul-le-mul, mul-le-mul_right, network_of}
 use Rattle.vertical_design.proofs.Words.{none-some, numbered-item, on_scale, one_times, or-false, piece_on, plus, plus-zero, range_with_len, ratio}
 use Rattle.vertical_design.proofs.Words.{ratio-multiple, ratio-zero, rational_sum, rational_sum_by, rational_sum_by-append, rational_zero, same_Some}

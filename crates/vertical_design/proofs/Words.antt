@@ -5,7 +5,7 @@ pub use Rattle.design_lines.proofs.NumberedItems.{numbered-item}
 pub use Rattle.design_lines.proofs.SensibleStreams.{AreSensibleStreams, AreSensibleStreams-both, AreSensibleStreams-case, IsSensibleCase, IsSensibleCase-both}
 pub use Rattle.design_lines.proofs.SensibleStreams.{IsSensibleStream}
 pub use Rattle.design_lines.proofs.StageSizes.{IsOver}
-pub use Rattle.design_lines.specs.Values.{LedStage, Meet, size_of, state_behind}
+pub use Rattle.design_lines.specs.LedStages.{LedStage, Meet, size_of, state_behind}
 pub use Rattle.design_lines.specs.declared.stage.Share.{Share}
 pub use Rattle.fractions.proofs.Comparisons.{at_most-ratio_whole, at_most-whole, at_most-whole_ratio, at_most_below_trans, at_most_from_below}
 pub use Rattle.fractions.proofs.Comparisons.{at_most_from_minus_right, at_most_from_ratio, at_most_from_ratio_whole, at_most_from_whole_ratio, at_most_trans}
@@ -35,6 +35,7 @@ pub use Rattle.networks.proofs.Lists.{all_at}
 unfoldable pub use Rattle.networks.specs.Lines.{exchangers_of}
 pub use Rattle.networks.specs.Shape.{HasShape, IsPositive}
 pub use Rattle.networks.specs.declared.network.Network.{Network}
+pub use Rattle.pieces.proofs.PieceShape.{has_size}
 pub use Rattle.pieces.proofs.PieceStages.{filter_map-way, no_items, only_item, source_at-piece}
 pub use Rattle.pieces.specs.Led.{AreApart, AreJoined, AreLedPieces, HasUtilityHeat, IsFine, IsLedNetwork, IsStreamPiece, JoinsPieces, LedPiecesDrawLedNetworks}
 pub use Rattle.pieces.specs.Led.{heats_with, level_in, temperature}

@@ -1,5 +1,5 @@
-use Rattle.heat_flow.proofs.ReachLemmas.{cell_rows-reach, length-cell_rows}
-use Rattle.heat_flow.proofs.Words.{cell_rows, take_all}
+use Rattle.heat_flow.proofs.ReachLemmas.{cell_rows, cell_rows-reach, length-cell_rows}
+use Rattle.heat_flow.proofs.Words.{take_all}
 use Rattle.std.proofs.Common.{ap, ap₂, arith, length, sym, ◌*◌, ◌∙◌, ◌≡◌}
 use Rattle.heat_flow.proofs.cells.reach_of.Goals as goal
 

@@ -1,4 +1,4 @@
-use Rattle.heat_flow.proofs.Words.{cell_rows}
+use Rattle.heat_flow.proofs.ReachLemmas.{cell_rows}
 use Rattle.std.proofs.Common.{take, ◌≡◌}
 use Rattle.heat_flow.proofs.cells.reach_of.Given as goal
 

@@ -12,13 +12,10 @@ use Rattle.network_values.specs.Made.{made_values}
 use Rattle.network_values.specs.Values.{IsFullEnd, Valuation, change, duty_at, first_state, full_size, last_state, value_at}
 use Rattle.network_values.specs.declared.values.BranchValue.{BranchValue}
 use Rattle.design_lines.specs.Drawn.{Course, course_branches}
+use Rattle.design_lines.specs.LedStages.{LedStage, Meet, size_of, state_behind}
 use Rattle.design_lines.specs.declared.stage.Share.{Share}
 
 -- ---- a stage
-
--- the size of shares together
-abbrev pub size_of : List Share → Rational
-size_of shares = rational_sum_by (λ s. s.size) shares
 
 -- the splits make each share, and what is left for those behind it
 abbrev pub split_values : Rational → List Share → List BranchValue
@@ -43,12 +40,6 @@ joined_values after (s ∷ shares) = mix_values after s.size shares
 abbrev pub stage_values : Rational → Rational → List Share → List BranchValue
 stage_values before after shares = split_values before shares ++ (pass_values after shares ++ joined_values after shares)
 
--- the shares of a stage, and the states before it and after it
-pub record LedStage : Type 0 where
-  pub before : Rational
-  pub after : Rational
-  pub shares : List Share
-
 -- the shares have sizes that are the full size together, and the duty of each one's exchanger brings it from the one state to the other
 pub record IsLedStage (network : Network) (of : Side) (full : Rational) (stage : LedStage) : Type 0 where
   pub some : 0 < length stage.shares
@@ -64,16 +55,6 @@ shares_along stages = map (λ stage. stage.shares) stages
 abbrev pub course_values : List LedStage → List BranchValue
 course_values [] = []
 course_values (stage ∷ stages) = stage_values stage.before stage.after stage.shares ++ course_values stages
-
--- the first stage begins in this state, and each other one in that in which the one before it ends
-abbrev pub Meet : Rational → List LedStage → Type 0
-Meet t [] = Unit {0}
-Meet t (stage ∷ stages) = (stage.before ≡ t) × Meet stage.after stages
-
--- the state behind the last stage
-abbrev pub state_behind : Rational → List LedStage → Rational
-state_behind t [] = t
-state_behind t (stage ∷ stages) = state_behind stage.after stages
 
 -- a stream is led from its first state to its last
 pub record IsLedStream (network : Network) (s : Stream) (stages : List LedStage) : Type 0 where
@@ -95,13 +76,13 @@ abbrev pub AreOfStream : Network → ℕ → ℕ → ℕ → Type 0
 AreOfStream network stream first count = (branch : ℕ) → first ≤ branch → branch < first + count → stream_at network.branches branch ≡ stream
 
 -- the streams from number `stream` on are led, each by the branches of its course, which are numbered from `next` on
-abbrev pub AreLed : Case → Network → ℕ → ℕ → List (List LedStage) → Type 0
-AreLed case network next stream [] = Unit {0}
-AreLed case network next stream (course ∷ courses) =
+abbrev pub AreLedFrom : Case → Network → ℕ → ℕ → List (List LedStage) → Type 0
+AreLedFrom case network next stream [] = Unit {0}
+AreLedFrom case network next stream (course ∷ courses) =
     ((s : Stream) × (slice_get case.streams stream ≡ Some s) × IsLedStream network s course)
     × (stream_at network.branches stream ≡ stream)
     × AreOfStream network stream next (course_branches (shares_along course))
-    × AreLed case network (next + course_branches (shares_along course)) (stream + 1) courses
+    × AreLedFrom case network (next + course_branches (shares_along course)) (stream + 1) courses
 
 -- ---- lines
 
