@@ -22,7 +22,7 @@ pub use Rattle.std.proofs.lemmas.List.Concat.{get_or-flat_map}
 pub use Rattle.std.proofs.lemmas.List.Elements.{All-head, All-set, All-tail, All-weaker}
 pub use Rattle.std.proofs.lemmas.Option.{get_or_from_slice_get, slice_get-get_or, slice_get_past}
 pub use Rattle.std.specs.Int.{w128}
-pub use Rattle.std.specs.List.{list_any}
+pub use Rattle.std.specs.List.{flat_map, list_any}
 pub use Rattle.std.specs.Prelude.{All, AllPairs, IsTrue, if◌then◌else◌, is_some, nat_lt, neg_ℤ, negsuc, pos, slice_get, ℤ, ◌*ℤ◌, ◌+ℤ◌, ◌<ℤ◌, ◌==◌, ◌≤ℤ◌}
 pub use Rattle.stream_case.proofs.CaseLemmas.{IsSourceOf-side, length-AreStreams}
 pub use Rattle.stream_case.proofs.CompleteLemmas.{AreStreams-IsComplete, StaysValid-IsComplete, length-utilities}

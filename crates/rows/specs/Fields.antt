@@ -12,7 +12,7 @@ field row index = slice_index_or row index []
 unfoldable pub are_empty : Row → List ℕ → Bool
 are_empty row indexes = list_all (λ index. length (field row index) == 0) indexes
 
--- the seven fields are empty, or the first one begins with `#` (35)
+-- its fields, of which there are at most seven, are empty, or the first one begins with `#` (35)
 unfoldable pub is_passed_over : Row → Bool
 is_passed_over row = are_empty row (0 ∷ 1 ∷ 2 ∷ 3 ∷ 4 ∷ 5 ∷ 6 ∷ []) || (slice_index (field row 0) 0 == 35)
 

@@ -25,8 +25,8 @@ pub fn are_empty(row: &ByteRecord, indexes: &[usize]) -> bool
     indexes.iter().all(|index| field(row, *index).is_empty())
 }
 
-/// Whether a row of seven fields is passed over: its fields are empty, or the first one begins
-/// with `#`.
+/// Whether a row of at most seven fields is passed over: its fields are empty, or the first one
+/// begins with `#`.
 #[tactic(auto, unfolding(crate::specs::Fields::is_passed_over))]
 pub fn is_passed_over(row: &ByteRecord) -> bool
     ensures { result ≡ is_passed_over (fields_of row.now) }
