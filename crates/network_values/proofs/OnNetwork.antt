@@ -5,7 +5,7 @@ use Rattle.network_values.proofs.Words.{below-whole, branch_side, codes, duty_at
 use Rattle.network_values.proofs.Words.{ints, is_le, last_remainder, last_value, lowest_form, made_by, minus, pass_of, plus, positive_part, ratio}
 use Rattle.network_values.proofs.Words.{rational_cmp, rational_zero, same_Some, same_from_fields, side_run, stream_at, times, whole}
 use Rattle.network_values.specs.Penalties.{height_at, heights, hot_heat, mix_penalties, penalty}
-use Rattle.std.proofs.Common.{List, [], ap, arith, map, pos, refl, subst, suc, true, zero, ℕ, ℤ, ◌<◌, ◌∷◌, ◌≡◌}
+use Rattle.std.proofs.Common.{List, [], ap, arith, false, map, pos, refl, subst, suc, true, zero, ℕ, ℤ, ◌<◌, ◌∷◌, ◌≡◌}
 use Rattle.networks.specs.declared.network.Line.TheVariants as line
 use Rattle.stream_case.specs.declared.source.Side.TheVariants as side
 use Rattle.stream_case.specs.declared.source.Source.TheVariants as source

@@ -5,9 +5,9 @@ ghost use Rattle.network_values.specs.Heights.{HotSharesAreAtLeastColdShares, Pr
 ghost use Rattle.network_values.specs.Mixes.{MixesLoseHeight};
 ghost use Rattle.network_values.specs.OneScale.{ExchangersRunOnOneScale};
 
-/// Along an exchanger whose hot side is at neither end below its cold side, the hot side has at least as
-/// much of the duty above any place as the cold side. A side runs between two temperatures or
-/// stays at one level.
+/// Along an exchanger whose hot side is at neither end below its cold side, the hot side has at
+/// least as much of the duty above any place as the cold side. A side runs between two temperatures
+/// or stays at one level.
 pub fn hot_shares_are_at_least_cold_shares()
     ensures { HotSharesAreAtLeastColdShares }
 {}
@@ -43,8 +43,8 @@ pub fn passes_take_shares()
 {}
 
 /// On the shifted scale both sides of an exchanger of a network have its duty. Where its approach is
-/// kept, the hot side is at neither end below the cold one. In each view the height that a stream loses or
-/// gains at the exchanger is its side's share of the duty.
+/// kept, the hot side is at neither end below the cold one. In each view the height that a stream
+/// loses or gains at the exchanger is its side's share of the duty.
 pub fn exchangers_run_on_one_scale()
     ensures { ExchangersRunOnOneScale }
 {}
