@@ -18,7 +18,7 @@ use Rattle.networks.specs.declared.network.Line.TheVariants as line
 
 -- a branch of some size and state
 abbrev pub value_of : Rational → Rational → BranchValue
-value_of size t = record { size = size; t = t }
+value_of size t = record { cp = size; t = t }
 
 -- ---- the branches of the shares
 
@@ -37,12 +37,12 @@ mixes_end after size [] values first end carries none some =
     subst (λ k. Carries (values ++ []) k (value_of (plus size rational_zero) after)) (sym same)
     (subst (λ a. Carries (values ++ []) first (value_of a after)) (sym (plus-zero size)) (carries_more values [] first (value_of size after) carries))
 mixes_end after size (s ∷ shares) values first end carries none some =
-    let both = plus size s.size in
+    let both = plus size s.cp in
     let one : List BranchValue = value_of both after ∷ [] in
     let number : end + 1 ≡ length values + (length shares + 1) = omega (arith, some (omega arith)) in
     let rest = mixes_end after both shares (values ++ one) (length values) end (carries_new values one 0 (length values) (omega arith) (omega arith))
     (λ last. omega (arith, number, last)) (λ more. omega (arith, number, length-append values one)) in
-    subst (λ a. Carries (values ++ value_of both after ∷ mix_values after both shares) end (value_of a after)) (plus_assoc size s.size (size_of shares))
+    subst (λ a. Carries (values ++ value_of both after ∷ mix_values after both shares) end (value_of a after)) (plus_assoc size s.cp (size_of shares))
     (subst (λ vs. Carries vs end (value_of (plus both (size_of shares)) after)) (append_assoc values one (mix_values after both shares)) rest)
 
 -- ---- a stage
@@ -80,7 +80,7 @@ module _ (case : Case) (network : Network) (R : ℕ → ℕ → Rational → Rat
       let behind = behind_splits next all in
       let divided = split_values before all in
       let passed = pass_values after all in
-      let mixed = mix_values after first.size shares in
+      let mixed = mix_values after first.cp shares in
       let branches = share_branches next (rest_branch next from all) all in
       let ps = passes behind branches all in
       let ms = mixes (length all - 1) (behind + length all) behind (behind + 1) in
@@ -93,10 +93,10 @@ module _ (case : Case) (network : Network) (R : ℕ → ℕ → Rational → Rat
       let from_there = pass_makes.1 in
       let mixed_from : behind + length all ≡ length ((values ++ divided) ++ passed) =
       omega (arith, behind_is, length-append (values ++ divided) passed, length-map all (λ (a : Share). share_value after a)) in
-      let mix_makes = mixes_make case network R after (length all - 1) (behind + length all) behind (behind + 1) first.size shares ((values ++ divided) ++ passed)
+      let mix_makes = mixes_make case network R after (length all - 1) (behind + length all) behind (behind + 1) first.cp shares ((values ++ divided) ++ passed)
       (omega arith) mixed_from from_there.0 from_there.1 (first_positive first shares led.positive) (others_positive first shares led.positive) in
       let end = stage_end next all in
-      let last = mixes_end after first.size shares ((values ++ divided) ++ passed) behind end from_there.0 (λ none. omega (arith, none))
+      let last = mixes_end after first.cp shares ((values ++ divided) ++ passed) behind end from_there.0 (λ none. omega (arith, none))
       (λ some. omega (arith, mixed_from, some)) in
       let joined : ((values ++ divided) ++ passed) ++ mixed ≡ values ++ (divided ++ (passed ++ mixed)) = append_assoc (values ++ divided) passed mixed
       ∙ append_assoc values divided (passed ++ mixed) in
@@ -105,12 +105,12 @@ module _ (case : Case) (network : Network) (R : ℕ → ℕ → Rational → Rat
             (run_append case network R (values ++ divided) ps ms passed mixed pass_makes.0 mix_makes);
         ends = subst (λ vs. Carries vs end (value_of (full_size s) after)) joined
             (subst (λ a. Carries (((values ++ divided) ++ passed) ++ mixed) end (value_of a after)) led.sizes last);
-        next_is = omega (arith, mixed_from, length-append ((values ++ divided) ++ passed) mixed, length-mix_values after first.size shares) ∙ ap length joined;
+        next_is = omega (arith, mixed_from, length-append ((values ++ divided) ++ passed) mixed, length-mix_values after first.cp shares) ∙ ap length joined;
       }
     where
       length-mix_values : (t size : Rational) (ss : List Share) → length (mix_values t size ss) ≡ length ss
       length-mix_values t size [] = refl
-      length-mix_values t size (a ∷ ss) = let rest = length-mix_values t (plus size a.size) ss in omega (arith, rest)
+      length-mix_values t size (a ∷ ss) = let rest = length-mix_values t (plus size a.cp) ss in omega (arith, rest)
 
   pub stage_made : (stage : LedStage) (values : Valuation) (next from : ℕ) → IsBefore values next from stage → IsStageMade values next from stage
   stage_made stage values next from is = made_stage stage.before stage.after stage.shares values next from is

@@ -10,7 +10,7 @@ use Rattle.networks.specs.declared.network.Line.TheVariants as line
 courses_none : (next stream : ℕ) (courses : List Course) → filter_map exchanger_of (courses_lines next stream courses) ≡ []
 courses_none next stream courses =
     let none : Simple (λ n lines. filter_map exchanger_of lines ≡ []) (λ shares. Unit {0}) = record {
-      split = λ n from size lines more. more;
+      split = λ n from cp lines more. more;
       pass = λ n from exchanger lines more. more;
       mix = λ n first second lines more. more;
       end = λ n from lines more. more;
@@ -44,7 +44,7 @@ declared_then branches before [] lines none each index l at =
     none_before ls zero is = refl
     none_before [] (suc i) is = refl
     none_before (line.Exchanger name hot cold duty ∷ ls) (suc i) is = cc is
-    none_before (line.Split from first size second ∷ ls) (suc i) is = none_before ls i is
+    none_before (line.Split from first cp second ∷ ls) (suc i) is = none_before ls i is
     none_before (line.Pass from exchanger to ∷ ls) (suc i) is = none_before ls i is
     none_before (line.Mix first second to ∷ ls) (suc i) is = none_before ls i is
     none_before (line.End branch ∷ ls) (suc i) is = none_before ls i is

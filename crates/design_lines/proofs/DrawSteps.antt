@@ -9,7 +9,7 @@ use Rattle.networks.specs.declared.network.Line.TheVariants as line
 
 -- nothing, of which no rule speaks
 no_share : Share
-no_share = record { exchanger = 0; size = rational_zero }
+no_share = record { exchanger = 0; cp = rational_zero }
 
 one_left : (shares : List Share) (i : ℕ) (d : Share) → suc i ≡ length shares → drop i shares ≡ get_or shares i d ∷ []
 one_left shares i d last = drop-cons shares i d (omega (arith, last)) ∙ ap (λ ss. get_or shares i d ∷ ss) (drop_all (suc i) shares (omega (arith, last)))

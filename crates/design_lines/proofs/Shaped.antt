@@ -305,7 +305,7 @@ module _ (branches : List Branch) (exchanger stream : ℕ) where
       record {
         keeps = λ of. record {
           split = λ n from w all left s lines share of_from of_first of_second sum sums more.
-              omega (arith, count_by-cons p (line.Split from n s.size (n + 1)) lines, sum, sums, more);
+              omega (arith, count_by-cons p (line.Split from n s.cp (n + 1)) lines, sum, sums, more);
           pass = λ n from w all left s lines share of_from of_to sum sums more.
               let one = one_of_both (exchanger == s.exchanger) (stream == stream_at branches from) ∙ ap (λ k. counts k s) of_from in
               omega (arith, count_by-cons p (line.Pass from s.exchanger n) lines, one, sum, sums, more);

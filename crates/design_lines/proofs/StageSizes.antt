@@ -16,18 +16,18 @@ over-plus : (d : ℕ) (a b : Rational) → IsOver d a → IsOver d b → IsOver 
 over-plus d a b one two = record { num = one.num +ℤ two.num; is = ap₂ plus one.is two.is ∙ plus-ratio_same_den one.num two.num d }
 
 abbrev pub AreOver : ℕ → List Share → Type 0
-AreOver d shares = All (λ s. IsOver d s.size) shares
+AreOver d shares = All (λ s. IsOver d s.cp) shares
 
 over-size : (d : ℕ) (shares : List Share) → AreOver d shares → IsOver d (size_of shares)
 over-size d [] over = record { num = pos 0; is = sym (ratio-zero d) }
-over-size d (s ∷ shares) over = over-plus d s.size (size_of shares) (All-head (λ (a : Share). IsOver d a.size) s shares over)
-    (over-size d shares (All-tail (λ (a : Share). IsOver d a.size) s shares over))
+over-size d (s ∷ shares) over = over-plus d s.cp (size_of shares) (All-head (λ (a : Share). IsOver d a.cp) s shares over)
+    (over-size d shares (All-tail (λ (a : Share). IsOver d a.cp) s shares over))
 
 -- a branch that a stage makes
 pub record IsStageBranch (d : ℕ) (full before after : Rational) (v : BranchValue) : Type 0 where
-  pub over : IsOver d v.size
-  pub least : IsAtMost rational_zero v.size
-  pub most : IsAtMost v.size full
+  pub over : IsOver d v.cp
+  pub least : IsAtMost rational_zero v.cp
+  pub most : IsAtMost v.cp full
   pub state : (v.t ≡ before) ⊎ (v.t ≡ after)
 
 module _ (d : ℕ) (full before after : Rational) where
@@ -36,9 +36,9 @@ module _ (d : ℕ) (full before after : Rational) where
 
   -- of shares that are at most the whole: the first one, and the others
   record IsFirst (s : Share) (shares : List Share) : Type 0 where
-    first_over : IsOver d s.size
-    first_least : IsAtMost rational_zero s.size
-    first_most : IsAtMost s.size full
+    first_over : IsOver d s.cp
+    first_least : IsAtMost rational_zero s.cp
+    first_most : IsAtMost s.cp full
     rest_over : AreOver d shares
     rest_positive : ArePositive shares
     rest_least : IsAtMost rational_zero (size_of shares)
@@ -46,16 +46,16 @@ module _ (d : ℕ) (full before after : Rational) where
 
   is_first : (s : Share) (shares : List Share) → AreOver d (s ∷ shares) → ArePositive (s ∷ shares) → IsAtMost (size_of (s ∷ shares)) full → IsFirst s shares
   is_first s shares over positive most =
-      let least = at_most_from_below rational_zero s.size (first_positive s shares positive) in
+      let least = at_most_from_below rational_zero s.cp (first_positive s shares positive) in
       let later = size_not_negative shares (others_positive s shares positive) in
       record {
-        first_over = All-head (λ (a : Share). IsOver d a.size) s shares over;
+        first_over = All-head (λ (a : Share). IsOver d a.cp) s shares over;
         first_least = least;
-        first_most = at_most_trans s.size (plus s.size (size_of shares)) full (at_most-plus_right s.size (size_of shares) later) most;
-        rest_over = All-tail (λ (a : Share). IsOver d a.size) s shares over;
+        first_most = at_most_trans s.cp (plus s.cp (size_of shares)) full (at_most-plus_right s.cp (size_of shares) later) most;
+        rest_over = All-tail (λ (a : Share). IsOver d a.cp) s shares over;
         rest_positive = others_positive s shares positive;
         rest_least = later;
-        rest_most = at_most_trans (size_of shares) (plus s.size (size_of shares)) full (at_most-plus_left s.size (size_of shares) least) most;
+        rest_most = at_most_trans (size_of shares) (plus s.cp (size_of shares)) full (at_most-plus_left s.cp (size_of shares) least) most;
       }
 
   splits_sized : (shares : List Share) → AreOver d shares → ArePositive shares → IsAtMost (size_of shares) full → AreBranches (split_values before shares)
@@ -64,7 +64,7 @@ module _ (d : ℕ) (full before after : Rational) where
   splits_sized (s ∷ t ∷ shares) over positive most =
       let rest = t ∷ shares in
       let is = is_first s rest over positive most in
-      let left : BranchValue = record { size = size_of rest; t = before } in
+      let left : BranchValue = record { cp = size_of rest; t = before } in
       All-cons (IsStageBranch d full before after) (share_value before s) (left ∷ split_values before rest)
       (record { over = is.first_over; least = is.first_least; most = is.first_most; state = inl refl }) (All-cons (IsStageBranch d full before after) _ _
       (record { over = over-size d rest is.rest_over; least = is.rest_least; most = is.rest_most; state = inl refl })
@@ -81,19 +81,19 @@ module _ (d : ℕ) (full before after : Rational) where
       → IsAtMost (plus size (size_of shares)) full → AreBranches (mix_values after size shares)
   mixes_sized size [] size_over least over positive most = All-nil (IsStageBranch d full before after)
   mixes_sized size (s ∷ shares) size_over least over positive most =
-      let both = plus size s.size in
-      let mixed : BranchValue = record { size = both; t = after } in
+      let both = plus size s.cp in
+      let mixed : BranchValue = record { cp = both; t = after } in
       let later = size_not_negative shares (others_positive s shares positive) in
-      let both_over = over-plus d size s.size size_over (All-head (λ (a : Share). IsOver d a.size) s shares over) in
-      let both_least = not_negative-plus size s.size least (at_most_from_below rational_zero s.size (first_positive s shares positive)) in
-      let all_most = subst (λ a. IsAtMost a full) (sym (plus_assoc size s.size (size_of shares))) most in
+      let both_over = over-plus d size s.cp size_over (All-head (λ (a : Share). IsOver d a.cp) s shares over) in
+      let both_least = not_negative-plus size s.cp least (at_most_from_below rational_zero s.cp (first_positive s shares positive)) in
+      let all_most = subst (λ a. IsAtMost a full) (sym (plus_assoc size s.cp (size_of shares))) most in
       let both_most = at_most_trans both (plus both (size_of shares)) full (at_most-plus_right both (size_of shares) later) all_most in
       All-cons (IsStageBranch d full before after) _ _ (record { over = both_over; least = both_least; most = both_most; state = inr refl })
-      (mixes_sized both shares both_over both_least (All-tail (λ (a : Share). IsOver d a.size) s shares over) (others_positive s shares positive) all_most)
+      (mixes_sized both shares both_over both_least (All-tail (λ (a : Share). IsOver d a.cp) s shares over) (others_positive s shares positive) all_most)
 
   joins_sized : (shares : List Share) → AreOver d shares → ArePositive shares → IsAtMost (size_of shares) full → AreBranches (joined_values after shares)
   joins_sized [] over positive most = All-nil (IsStageBranch d full before after)
-  joins_sized (s ∷ shares) over positive most = let is = is_first s shares over positive most in mixes_sized s.size shares is.first_over is.first_least
+  joins_sized (s ∷ shares) over positive most = let is = is_first s shares over positive most in mixes_sized s.cp shares is.first_over is.first_least
       is.rest_over is.rest_positive most
 
   -- the branches of a stage that is led

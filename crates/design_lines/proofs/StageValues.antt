@@ -21,21 +21,21 @@ use Rattle.design_lines.specs.declared.stage.Share.{Share}
 abbrev pub split_values : Rational → List Share → List BranchValue
 split_values before [] = []
 split_values before (s ∷ []) = []
-split_values before (s ∷ t ∷ shares) = record { size = s.size; t = before } ∷ record { size = size_of (t ∷ shares); t = before } ∷ split_values before (t ∷ shares)
+split_values before (s ∷ t ∷ shares) = record { cp = s.cp; t = before } ∷ record { cp = size_of (t ∷ shares); t = before } ∷ split_values before (t ∷ shares)
 
 -- the passes make each share, in the state behind its exchanger
 abbrev pub pass_values : Rational → List Share → List BranchValue
-pass_values after shares = map (λ s. record { size = s.size; t = after }) shares
+pass_values after shares = map (λ s. record { cp = s.cp; t = after }) shares
 
 -- the mixes join a branch of some size with each share in turn
 abbrev pub mix_values : Rational → Rational → List Share → List BranchValue
 mix_values after size [] = []
-mix_values after size (s ∷ shares) = record { size = plus size s.size; t = after } ∷ mix_values after (plus size s.size) shares
+mix_values after size (s ∷ shares) = record { cp = plus size s.cp; t = after } ∷ mix_values after (plus size s.cp) shares
 
 -- the first share with all others
 abbrev pub joined_values : Rational → List Share → List BranchValue
 joined_values after [] = []
-joined_values after (s ∷ shares) = mix_values after s.size shares
+joined_values after (s ∷ shares) = mix_values after s.cp shares
 
 abbrev pub stage_values : Rational → Rational → List Share → List BranchValue
 stage_values before after shares = split_values before shares ++ (pass_values after shares ++ joined_values after shares)
@@ -43,9 +43,9 @@ stage_values before after shares = split_values before shares ++ (pass_values af
 -- the shares have sizes that are the full size together, and the duty of each one's exchanger brings it from the one state to the other
 pub record IsLedStage (network : Network) (of : Side) (full : Rational) (stage : LedStage) : Type 0 where
   pub some : 0 < length stage.shares
-  pub positive : All (λ s. IsBelow rational_zero s.size) stage.shares
+  pub positive : All (λ s. IsBelow rational_zero s.cp) stage.shares
   pub sizes : size_of stage.shares ≡ full
-  pub duties : All (λ s. times s.size (change of stage.before stage.after) ≡ duty_at network s.exchanger) stage.shares
+  pub duties : All (λ s. times s.cp (change of stage.before stage.after) ≡ duty_at network s.exchanger) stage.shares
 
 -- ---- a course
 
@@ -89,7 +89,7 @@ AreLedFrom case network next stream (course ∷ courses) =
 -- a split leaves something of its branch, and an end has the whole stream in its last state
 abbrev pub CanFollow : Case → Network → Valuation → Line → Type 0
 CanFollow case network values (line.Exchanger name hot cold duty) = Unit {0}
-CanFollow case network values (line.Split from first size second) = IsBelow size (value_at values from).size
+CanFollow case network values (line.Split from first size second) = IsBelow size (value_at values from).cp
 CanFollow case network values (line.Pass from exchanger to) = Unit {0}
 CanFollow case network values (line.Mix first second to) = Unit {0}
 CanFollow case network values (line.End branch) = IsFullEnd case network values branch

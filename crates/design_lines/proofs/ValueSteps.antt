@@ -30,7 +30,7 @@ carries_new values more k branch number inside =
 
 -- a share in some state
 abbrev pub share_value : Rational → Share → BranchValue
-share_value t s = record { size = s.size; t = t }
+share_value t s = record { cp = s.cp; t = t }
 
 -- each branch carries its share
 abbrev pub CarryShares : Valuation → Rational → List ℕ → List Share → Type 0
@@ -54,22 +54,22 @@ CarryFrom values t branch shares = CarryShares values t (range_with_len branch (
 -- ---- sizes
 
 abbrev pub ArePositive : List Share → Type 0
-ArePositive shares = All (λ s. IsBelow rational_zero s.size) shares
+ArePositive shares = All (λ s. IsBelow rational_zero s.cp) shares
 
-pub first_positive : (s : Share) (shares : List Share) → ArePositive (s ∷ shares) → IsBelow rational_zero s.size
-first_positive s shares positive = All-head (λ (a : Share). IsBelow rational_zero a.size) s shares positive
+pub first_positive : (s : Share) (shares : List Share) → ArePositive (s ∷ shares) → IsBelow rational_zero s.cp
+first_positive s shares positive = All-head (λ (a : Share). IsBelow rational_zero a.cp) s shares positive
 
 pub others_positive : (s : Share) (shares : List Share) → ArePositive (s ∷ shares) → ArePositive shares
-others_positive s shares positive = All-tail (λ (a : Share). IsBelow rational_zero a.size) s shares positive
+others_positive s shares positive = All-tail (λ (a : Share). IsBelow rational_zero a.cp) s shares positive
 
 pub size_not_negative : (shares : List Share) → ArePositive shares → IsAtMost rational_zero (size_of shares)
 size_not_negative [] positive = at_most_refl rational_zero
 size_not_negative (s ∷ shares) positive =
-    not_negative-plus s.size (size_of shares) (at_most_from_below rational_zero s.size (first_positive s shares positive))
+    not_negative-plus s.cp (size_of shares) (at_most_from_below rational_zero s.cp (first_positive s shares positive))
     (size_not_negative shares (others_positive s shares positive))
 
 size_positive : (s : Share) (shares : List Share) → ArePositive (s ∷ shares) → IsBelow rational_zero (size_of (s ∷ shares))
-size_positive s shares positive = positive-plus s.size (size_of shares) (first_positive s shares positive)
+size_positive s shares positive = positive-plus s.cp (size_of shares) (first_positive s shares positive)
     (size_not_negative shares (others_positive s shares positive))
 
 less_than_both : (a b : Rational) → IsBelow rational_zero b → IsBelow a (plus a b)
@@ -156,28 +156,28 @@ module _ (case : Case) (network : Network) (R : ℕ → ℕ → Rational → Rat
 
   -- splits, behind which each branch carries its share
   pub splits_make : (before : Rational) (shares : List Share) (values : Valuation) (next from : ℕ) → next ≡ length values
-      → Carries values from (record { size = size_of shares; t = before }) → ArePositive shares
+      → Carries values from (record { cp = size_of shares; t = before }) → ArePositive shares
       → MakeAndRun values (splits next from shares) (split_values before shares)
       × CarryShares (values ++ split_values before shares) before (share_branches next (rest_branch next from shares) shares) shares
   splits_make before [] values next from start carries positive = (run_none values, tt)
   splits_make before (s ∷ []) values next from start carries positive =
-      let V : Rational → BranchValue = λ a. record { size = a; t = before } in
-      (run_none values, (carries_more values [] from (share_value before s) (subst (λ a. Carries values from (V a)) (plus-zero s.size) carries), tt))
+      let V : Rational → BranchValue = λ a. record { cp = a; t = before } in
+      (run_none values, (carries_more values [] from (share_value before s) (subst (λ a. Carries values from (V a)) (plus-zero s.cp) carries), tt))
   splits_make before (s ∷ t ∷ shares) values next from start carries positive =
       let rest = size_of (t ∷ shares) in
       let more = split_values before (t ∷ shares) in
-      let left : BranchValue = record { size = rest; t = before } in
+      let left : BranchValue = record { cp = rest; t = before } in
       let both : List BranchValue = share_value before s ∷ left ∷ [] in
-      let divided : made_values case network values (line.Split from next s.size (next + 1)) ≡ both =
-      ap (λ (v : BranchValue). first_part v s.size ∷ second_part v s.size ∷ []) carries.is
-      ∙ ap (λ (a : Rational). share_value before s ∷ record { size = a; t = before } ∷ []) (rest_left s.size rest) in
-      let room = subst (λ (v : BranchValue). IsBelow s.size v.size) (sym carries.is)
-      (less_than_both s.size rest (size_positive t shares (others_positive s (t ∷ shares) positive))) in
+      let divided : made_values case network values (line.Split from next s.cp (next + 1)) ≡ both =
+      ap (λ (v : BranchValue). first_part v s.cp ∷ second_part v s.cp ∷ []) carries.is
+      ∙ ap (λ (a : Rational). share_value before s ∷ record { cp = a; t = before } ∷ []) (rest_left s.cp rest) in
+      let room = subst (λ (v : BranchValue). IsBelow s.cp v.cp) (sym carries.is)
+      (less_than_both s.cp rest (size_positive t shares (others_positive s (t ∷ shares) positive))) in
       let later = splits_make before (t ∷ shares) (values ++ both) (next + 2) (next + 1) (omega (arith, start, length-append values both))
       (carries_new values both 1 (next + 1) (omega (arith, start)) (omega arith)) (others_positive s (t ∷ shares) positive) in
       let branches = share_branches (next + 2) (rest_branch (next + 2) (next + 1) (t ∷ shares)) (t ∷ shares) in
       let rests = subst (λ vs. CarryShares vs before branches (t ∷ shares)) (append_assoc values both more) later.1 in
-      let made = run_line values (line.Split from next s.size (next + 1)) (splits (next + 2) (next + 1) (t ∷ shares)) both more divided room
+      let made = run_line values (line.Split from next s.cp (next + 1)) (splits (next + 2) (next + 1) (t ∷ shares)) both more divided room
       (λ final more is. tt) later.0 in
       (made, (carries_new values (share_value before s ∷ left ∷ more) 0 next (omega (arith, start)) (omega arith), rests))
 
@@ -186,13 +186,13 @@ module _ (case : Case) (network : Network) (R : ℕ → ℕ → Rational → Rat
   pub passes_make : (stream : ℕ) (of : Side) (before after : Rational) (to : ℕ) (branches : List ℕ) (shares : List Share) (values : Valuation)
       → to ≡ length values → CarryShares values before branches shares → All (λ b. stream_at network.branches b ≡ stream) branches
       → ((b : ℕ) → stream_at network.branches b ≡ stream → branch_side case network b ≡ of) → ArePositive shares
-      → All (λ s. times s.size (change of before after) ≡ duty_at network s.exchanger) shares → All (λ a. R stream a.exchanger before after) shares
+      → All (λ s. times s.cp (change of before after) ≡ duty_at network s.exchanger) shares → All (λ a. R stream a.exchanger before after) shares
       → MakeAndRun values (passes to branches shares) (pass_values after shares) × CarryFrom (values ++ pass_values after shares) after to shares
   passes_make stream of before after to [] [] values start carry own side_is positive duties runs = (run_none values, tt)
   passes_make stream of before after to [] (s ∷ shares) values start carry own side_is positive duties runs = absurd carry
   passes_make stream of before after to (branch ∷ branches) [] values start carry own side_is positive duties runs = absurd carry
   passes_make stream of before after to (branch ∷ branches) (s ∷ shares) values start carry own side_is positive duties runs =
-      let D : Share → Type 0 = λ a. times a.size (change of before after) ≡ duty_at network a.exchanger in
+      let D : Share → Type 0 = λ a. times a.cp (change of before after) ≡ duty_at network a.exchanger in
       let S : ℕ → Type 0 = λ b. stream_at network.branches b ≡ stream in
       let Q : Share → Type 0 = λ a. R stream a.exchanger before after in
       let behind = share_value after s in
@@ -220,21 +220,21 @@ module _ (case : Case) (network : Network) (R : ℕ → ℕ → Rational → Rat
   -- ---- mixes
 
   pub mixes_make : (after : Rational) (n to first second : ℕ) (size : Rational) (shares : List Share) (values : Valuation) → n ≡ length shares
-      → to ≡ length values → Carries values first (record { size = size; t = after }) → CarryFrom values after second shares → IsBelow rational_zero size
+      → to ≡ length values → Carries values first (record { cp = size; t = after }) → CarryFrom values after second shares → IsBelow rational_zero size
       → ArePositive shares → MakeAndRun values (mixes n to first second) (mix_values after size shares)
   mixes_make after zero to first second size [] values many start one others above positive = run_none values
   mixes_make after zero to first second size (s ∷ shares) values many start one others above positive = absurd (omega (arith, many))
   mixes_make after (suc n) to first second size [] values many start one others above positive = absurd (omega (arith, many))
   mixes_make after (suc n) to first second size (s ∷ shares) values many start one others above positive =
-      let branch : BranchValue = record { size = size; t = after } in
-      let both : BranchValue = record { size = plus size s.size; t = after } in
+      let branch : BranchValue = record { cp = size; t = after } in
+      let both : BranchValue = record { cp = plus size s.cp; t = after } in
       let above_both = mixed_positive branch (share_value after s) above (first_positive s shares positive) in
-      let mix : IsMix branch (share_value after s) both = record { size = refl; heat = plus-times size s.size after } in
+      let mix : IsMix branch (share_value after s) both = record { size = refl; heat = plus-times size s.cp after } in
       let made : mixed_value (value_at values first) (value_at values second) ≡ both =
       ap (λ v. mixed_value v (value_at values second)) one.is ∙ ap (mixed_value branch) others.0.is
       ∙ sym (mix_determined branch (share_value after s) both above_both mix) in
-      run_line values (line.Mix first second to) (mixes n (to + 1) to (second + 1)) (both ∷ []) (mix_values after (plus size s.size) shares)
+      run_line values (line.Mix first second to) (mixes n (to + 1) to (second + 1)) (both ∷ []) (mix_values after (plus size s.cp) shares)
       (ap (λ (v : BranchValue). v ∷ []) made) tt (λ final more is. tt)
-      (mixes_make after n (to + 1) to (second + 1) (plus size s.size) shares (values ++ both ∷ []) (omega (arith, many))
+      (mixes_make after n (to + 1) to (second + 1) (plus size s.cp) shares (values ++ both ∷ []) (omega (arith, many))
       (omega (arith, start, length-append values (both ∷ []))) (carries_new values (both ∷ []) 0 to (omega (arith, start)) (omega arith))
       (carry_more values (both ∷ []) after (range_with_len (second + 1) (length shares)) shares others.1) above_both (others_positive s shares positive))

@@ -42,7 +42,7 @@ module _ (B : ℕ → ℕ → Type 0) where
 -- are still to pass, by `v`. `B n b` is said of a branch b there, `F` of a share, and `E` of a stage
 pub record Keeps (S : ℕ → ℕ → List Line → Type 0) (B : ℕ → ℕ → Type 0) (F : Share → Type 0) (u : ℕ → ℕ) (v : Share → ℕ) (E : List Share → Type 0) : Type 0 where
   pub split : (n from w all more : ℕ) (s : Share) (lines : List Line) → F s → B n from → B (n + 2) n → B (n + 2) (n + 1) → all ≡ u from + w
-      → more ≡ u n + u (n + 1) + w → S (n + 2) more lines → S n all (line.Split from n s.size (n + 1) ∷ lines)
+      → more ≡ u n + u (n + 1) + w → S (n + 2) more lines → S n all (line.Split from n s.cp (n + 1) ∷ lines)
   pub pass : (n from w all more : ℕ) (s : Share) (lines : List Line) → F s → B n from → B (n + 1) n → all ≡ u from + v s + w → more ≡ u n + w
       → S (n + 1) more lines → S n all (line.Pass from s.exchanger n ∷ lines)
   pub mix : (n first second w all more : ℕ) (lines : List Line) → B n first → B n second → B (n + 1) n → all ≡ u first + u second + w → more ≡ u n + w
@@ -212,7 +212,7 @@ module _ (S : ℕ → ℕ → List Line → Type 0) (B : ℕ → ℕ → ℕ →
 -- the simple case: `S` is kept, whatever the branches and the shares
 module _ (S : ℕ → List Line → Type 0) (E : List Share → Type 0) where
   pub record Simple : Type 0 where
-    pub split : (n from : ℕ) (size : Rational) (lines : List Line) → S (n + 2) lines → S n (line.Split from n size (n + 1) ∷ lines)
+    pub split : (n from : ℕ) (cp : Rational) (lines : List Line) → S (n + 2) lines → S n (line.Split from n cp (n + 1) ∷ lines)
     pub pass : (n from exchanger : ℕ) (lines : List Line) → S (n + 1) lines → S n (line.Pass from exchanger n ∷ lines)
     pub mix : (n first second : ℕ) (lines : List Line) → S (n + 1) lines → S n (line.Mix first second n ∷ lines)
     pub end : (n from : ℕ) (lines : List Line) → S n lines → S n (line.End from ∷ lines)
@@ -223,7 +223,7 @@ module _ (S : ℕ → List Line → Type 0) (E : List Share → Type 0) where
   walk_simply keep next stream courses may after =
       walk_courses (λ n w lines. S n lines) (λ k n b. Unit {0}) (λ k s. Unit {0}) (λ b. 0) (λ k s. 0) E (record {
         keeps = λ k. record {
-          split = λ n from w all left s lines share of_from of_first of_second sum sums more. keep.split n from s.size lines more;
+          split = λ n from w all left s lines share of_from of_first of_second sum sums more. keep.split n from s.cp lines more;
           pass = λ n from w all left s lines share of_from of_to sum sums more. keep.pass n from s.exchanger lines more;
           mix = λ n first second w all left lines of_first of_second of_to sum sums more. keep.mix n first second lines more;
           none = λ is n w all lines more. keep.none is n lines more;

@@ -13,7 +13,7 @@ AreStages course = All (λ shares. 0 < length shares) course
 
 -- a share of the stream has a size above 0, and passes an exchanger that has a side of the stream
 pub record IsShareOf (exchangers : List Exchanger) (stream : ℕ) (share : Share) : Type 0 where
-  pub size : IsPositive share.size
+  pub size : IsPositive share.cp
   pub joined : (e : Exchanger) × (slice_get exchangers share.exchanger ≡ Some e) × Joins e stream
 
 -- a course of the stream

@@ -8,7 +8,7 @@ use Rattle.design_lines.specs.declared.stage.Share.{Share}
 abbrev pub splits : ℕ → ℕ → List Share → List Line
 splits next from [] = []
 splits next from (s ∷ []) = []
-splits next from (s ∷ t ∷ shares) = line.Split from next s.size (next + 1) ∷ splits (next + 2) (next + 1) (t ∷ shares)
+splits next from (s ∷ t ∷ shares) = line.Split from next s.cp (next + 1) ∷ splits (next + 2) (next + 1) (t ∷ shares)
 
 -- what is left for the last share
 abbrev pub rest_branch : ℕ → ℕ → List Share → ℕ

@@ -13,7 +13,7 @@ pub struct Share {
     /// The number of the exchanger, from 0.
     pub exchanger: u32,
     /// The size of its branch: a heat-capacity flow in 10 W/K, or of a latent stream a load in W.
-    pub size: Frac,
+    pub cp: Frac,
 }
 
 /// Appends the splits, and answers the branch that is left for the last share.
@@ -35,7 +35,7 @@ fn push_splits(
         lines.push(Line::Split {
             from: rest,
             first: free,
-            size: shares[index].size,
+            cp: shares[index].cp,
             second,
         })?;
         rest = second;

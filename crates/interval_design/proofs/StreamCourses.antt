@@ -145,15 +145,15 @@ fits places s p valid falls is = by (lies places s p valid falls is)
 
 -- the share of an own transfer, over the width of the part
 abbrev pub own_share : Side → ℕ → ℕ → ℕ × Transfer → Option Share
-own_share of index width (number, t) = if part_index of t == index then Some (record { exchanger = number; size = ratio t.heat width }) else None
+own_share of index width (number, t) = if part_index of t == index then Some (record { exchanger = number; cp = ratio t.heat width }) else None
 
 share_over : (size : ℕ → Rational) (k index n : ℕ)
-    → ◌≡◌ {A = Option Share} (if k == index then Some (record { exchanger = n; size = size k }) else None)
-    (if k == index then Some (record { exchanger = n; size = size index }) else None)
+    → ◌≡◌ {A = Option Share} (if k == index then Some (record { exchanger = n; cp = size k }) else None)
+    (if k == index then Some (record { exchanger = n; cp = size index }) else None)
 share_over size k index n = by (k == index) refl
   where
     share : ℕ → Option Share
-    share j = Some (record { exchanger = n; size = size j })
+    share j = Some (record { exchanger = n; cp = size j })
 
     by : (b : Bool) → (k == index) ≡ b → (if b then share k else None) ≡ (if b then share index else None)
     by true own = let same : k ≡ index = grind (arith, nat_tests) in ap share same
@@ -171,7 +171,7 @@ shares-are hot cold of index n [] = refl
 shares-are hot cold of index n (t ∷ ts) = λ i. cons_option (share-is hot cold of index n t i) (shares-are hot cold of index (n + 1) ts i)
 
 one_size : (b : Bool) (number width : ℕ) (heat others : ℤ) (rest : List Share) → size_of rest ≡ ratio others width
-    → size_of (cons_option (if b then Some (record { exchanger = number; size = ratio heat width }) else None) rest)
+    → size_of (cons_option (if b then Some (record { exchanger = number; cp = ratio heat width }) else None) rest)
     ≡ ratio ((if b then heat else pos 0) +ℤ others) width
 one_size true number width heat others rest is = ap (plus (ratio heat width)) is ∙ plus-ratio_same_den heat others width
 one_size false number width heat others rest is = let same : others ≡ pos 0 +ℤ others = omega (arith, ints) in is ∙ ap (λ h. ratio h width) same
@@ -312,7 +312,7 @@ module _ (case : Case) (hot cold : List Part) (ts : List Transfer) (number : ℕ
       let target = valid.target in let least = target.from in let most = target.upto in
       let last = either_sized (is_latent s) (last_part_of_load s.side) (whole s.target) (last_part-sized s.side)
       (sized-whole 1 highest s.target (omega arith) (omega (arith, ints))) in
-      let Over : Share → Type 0 = λ share. (num : ℤ) × (share.size ≡ ratio num (width_of p)) in
+      let Over : Share → Type 0 = λ share. (num : ℤ) × (share.cp ≡ ratio num (width_of p)) in
       record {
         size_den = width_of p;
         most_size = unsigned_abs MOST_LOAD;
@@ -321,7 +321,7 @@ module _ (case : Case) (hot cold : List Part) (ts : List Transfer) (number : ℕ
         small = small (width_of p) wide own.fits.narrow;
         sizes = subst (All Over) (sym (shares-are hot cold s.side index 0 ts))
             (kept_hold (λ (t : Transfer). part_index s.side t == index) (own_share s.side index width)
-            (λ (k : ℕ) (t : Transfer). record { exchanger = k; size = ratio t.heat width }) (λ k t. refl) Over 0 ts
+            (λ (k : ℕ) (t : Transfer). record { exchanger = k; cp = ratio t.heat width }) (λ k t. refl) Over 0 ts
             (λ k t there is. (t.heat, ap (ratio t.heat) width_is)));
         most = full_size-most s valid;
         before = subst (IsSized 1 highest) (sym before_is) (either_sized (is_latent s) (first_state s) (own_temperature s (entered_at s.side p))

@@ -309,11 +309,11 @@ heats-more joints utilities n d within =
 -- What the code reads for a statement is what its items and equations speak of.
 
 -- two branches with one state have it together
-pub even_mix : (first second : BranchValue) → IsBelow rational_zero (plus first.size second.size) → first.t ≡ second.t
-    → first.t ≡ over (heat_of_both first second) (plus first.size second.size)
+pub even_mix : (first second : BranchValue) → IsBelow rational_zero (plus first.cp second.cp) → first.t ≡ second.t
+    → first.t ≡ over (heat_of_both first second) (plus first.cp second.cp)
 even_mix first second positive same =
-    over_from_times first.t (heat_of_both first second) (plus first.size second.size) (positive-nonzero (plus first.size second.size) positive)
-    (times-plus first.t first.size second.size ∙ ap₂ plus (times_comm first.t first.size) (times_comm first.t second.size ∙ ap (times second.size) same))
+    over_from_times first.t (heat_of_both first second) (plus first.cp second.cp) (positive-nonzero (plus first.cp second.cp) positive)
+    (times-plus first.t first.cp second.cp ∙ ap₂ plus (times_comm first.t first.cp) (times_comm first.t second.cp ∙ ap (times second.cp) same))
 
 -- a value that is read by index
 pub value-read : (values : Valuation) (branch : ℕ) (v : BranchValue) → branch < length values → v ≡ get_or values branch v → v ≡ value_at values branch

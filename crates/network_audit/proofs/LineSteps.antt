@@ -28,9 +28,9 @@ IsApproach approach = IsBetween (pos 0) (MOST_CONTRIBUTION +ℤ MOST_CONTRIBUTIO
 
 -- a size, a state, their product, and the state with an approach added are within the limits
 pub record IsRoomy (v : BranchValue) : Type 0 where
-  pub size : IsWithinLimits v.size
+  pub size : IsWithinLimits v.cp
   pub state : IsWithinLimits v.t
-  pub heat : IsWithinLimits (times v.size v.t)
+  pub heat : IsWithinLimits (times v.cp v.t)
   pub wanted : (approach : ℤ) → IsApproach approach → IsWithinLimits (plus v.t (whole approach))
 
 pub within-zero : IsWithinLimits rational_zero
@@ -50,12 +50,12 @@ factors d e most some_d some_e both =
     (omega (arith, one, both), omega (arith, other, both))
 
 -- they leave room
-pub sized_roomy : (d m e n : ℕ) (v : BranchValue) → AreSmall d m e n → IsSized d m v.size → IsSized e n v.t → IsRoomy v
+pub sized_roomy : (d m e n : ℕ) (v : BranchValue) → AreSmall d m e n → IsSized d m v.cp → IsSized e n v.t → IsRoomy v
 sized_roomy d m e n v small size state = let dens = factors d e (most_den) small.size_den small.state_den small.dens in let most = small.state in record {
-  size = sized-within d m v.size small.size_den dens.0 small.size size;
+  size = sized-within d m v.cp small.size_den dens.0 small.size size;
   state = sized-within e n v.t small.state_den dens.1 (omega (arith, most)) state;
-  heat = sized-within (d * e) (m * n) (times v.size v.t) (mul-pos small.size_den small.state_den) small.dens small.heat
-      (sized-times d e m n v.size v.t small.size_den small.state_den size state);
+  heat = sized-within (d * e) (m * n) (times v.cp v.t) (mul-pos small.size_den small.state_den) small.dens small.heat
+      (sized-times d e m n v.cp v.t small.size_den small.state_den size state);
   wanted = λ approach asked. let from = asked.from in let upto = asked.upto in let added = sized-plus e n most_approach v.t (whole approach) state
       (sized-whole e most_approach approach small.state_den (omega (arith, ints, from, upto))) in
       sized-within e (n + most_approach) (plus v.t (whole approach)) small.state_den dens.1 (omega (arith, most)) added;
@@ -89,30 +89,30 @@ pub record HasRoom (case : Case) (network : Network) (values : Valuation) : Type
 -- ---- statements
 
 -- the rest of a split is the size of its second branch
-pub split_formed : (at : Place) (from first second : BranchValue) (size : Rational) → IsSplit from first second size → IsRoomy second
-    → AreFormed (split_items at from size)
-split_formed at from first second size split roomy = let rest = ap (λ (v : BranchValue). v.size) (split_determined from first second size split).second_is in
-    All-from_recursion IsFormed (split_items at from size) (tt, (subst IsWithinLimits rest roomy.size, tt))
+pub split_formed : (at : Place) (from first second : BranchValue) (cp : Rational) → IsSplit from first second cp → IsRoomy second
+    → AreFormed (split_items at from cp)
+split_formed at from first second cp split roomy = let rest = ap (λ (v : BranchValue). v.cp) (split_determined from first second cp split).second_is in
+    All-from_recursion IsFormed (split_items at from cp) (tt, (subst IsWithinLimits rest roomy.size, tt))
 
 load_formed : (at : Place) (latent : Bool) (state : Rational) → AreFormed (load_items at latent state)
 load_formed at false state = formed-none
 load_formed at true state = All-from_recursion IsFormed (load_items at true state) (tt, (tt, tt))
 
 -- a pass forms the change of the state, and the state behind it
-pub pass_formed : (at : Place) (of : Side) (latent : Bool) (duty : Rational) (from to : BranchValue) → IsBelow rational_zero from.size → IsPass of duty from to
+pub pass_formed : (at : Place) (of : Side) (latent : Bool) (duty : Rational) (from to : BranchValue) → IsBelow rational_zero from.cp → IsPass of duty from to
     → IsRoomy to → IsWithinLimits (change of from.t to.t) → AreFormed (pass_items at of latent from duty)
-pass_formed at of latent duty from to positive pass roomy change_within = let by = change of from.t to.t in let after = moved of from.t (over duty from.size) in
-    let over_size = over_from_times by duty from.size (positive-nonzero from.size positive) (times_comm by from.size ∙ pass.heat) in
+pass_formed at of latent duty from to positive pass roomy change_within = let by = change of from.t to.t in let after = moved of from.t (over duty from.cp) in
+    let over_size = over_from_times by duty from.cp (positive-nonzero from.cp positive) (times_comm by from.cp ∙ pass.heat) in
     let state = ap (λ (v : BranchValue). v.t) (pass_determined of from to duty positive pass) in
-    formed-step at 1 (over duty from.size) (Step at 2 after ∷ load_items at latent after) (subst IsWithinLimits over_size change_within)
+    formed-step at 1 (over duty from.cp) (Step at 2 after ∷ load_items at latent after) (subst IsWithinLimits over_size change_within)
     (formed-step at 2 after (load_items at latent after) (subst IsWithinLimits state roomy.state) (load_formed at latent after))
 
 -- a mix forms the size, the two products, that of the mixed branch, and its state
-pub mix_formed : (at : Place) (first second to : BranchValue) → IsBelow rational_zero (plus first.size second.size) → IsMix first second to → IsRoomy first
+pub mix_formed : (at : Place) (first second to : BranchValue) → IsBelow rational_zero (plus first.cp second.cp) → IsMix first second to → IsRoomy first
     → IsRoomy second → IsRoomy to → AreFormed (mix_items at first second)
 mix_formed at first second to positive mix one two both =
     let state = subst IsWithinLimits (ap (λ (v : BranchValue). v.t) (mix_determined first second to positive mix)) both.state in
-    let means = mean_items at first second (plus first.size second.size) in
+    let means = mean_items at first second (plus first.cp second.cp) in
     let rest : AreFormed means = All-from_recursion IsFormed means (one.heat, (two.heat, ((subst IsWithinLimits mix.heat both.heat), (state, tt)))) in
     formed-step _ _ _ _ (subst IsWithinLimits mix.size both.size) (all-if IsFormed (rational_eq first.t second.t) means rest)
 
@@ -123,9 +123,9 @@ end_formed at value (Some s) = All-from_recursion IsFormed (end_items at value (
 pub lines_formed : (case : Case) (network : Network) (values : Valuation) → HasShape case network → IsWholeValuation case network values
     → HasRoom case network values → (k : ℕ) (l : Line) → slice_get network.lines k ≡ Some l → AreFormed (line_items case network values (place.Line (k + 1)) l)
 lines_formed case network values shape valuation room k (line.Exchanger name hot cold duty) here = formed-none
-lines_formed case network values shape valuation room k (line.Split from first size second) here =
-    split_formed (place.Line (k + 1)) (value_at values from) (value_at values first) (value_at values second) size
-    (all_at (Solves case network values) network.lines k (line.Split from first size second) (all_solved valuation) here) (roomy_at values room.branches second)
+lines_formed case network values shape valuation room k (line.Split from first cp second) here =
+    split_formed (place.Line (k + 1)) (value_at values from) (value_at values first) (value_at values second) cp
+    (all_at (Solves case network values) network.lines k (line.Split from first cp second) (all_solved valuation) here) (roomy_at values room.branches second)
 lines_formed case network values shape valuation room k (line.Pass from exchanger to) here =
     let known = names-known case network shape k (line.Pass from exchanger to) here in
     pass_formed (place.Line (k + 1)) (branch_side case network from) (is_latent_branch case network from) (duty_at network exchanger)

@@ -182,7 +182,7 @@ module _ (case : Case) (network : Network) where
 
   -- a line that is passed leaves room
   pub room-passed : (values : Valuation) (at : Place) (l : Line) → first_finding (line_items case network values at l) ≡ None → LeavesRoom values l
-  room-passed values at (line.Split from first size second) none = (Decides-is_below size (value_at values from).size).0 (passed-item _ _ none)
+  room-passed values at (line.Split from first size second) none = (Decides-is_below size (value_at values from).cp).0 (passed-item _ _ none)
   room-passed values at other none = tt
 
   -- the walk goes on behind a line that is passed
@@ -336,7 +336,7 @@ module _ (case : Case) (network : Network) where
 -- the state that the schoolbook gives behind an exchanger
 abbrev pub state_behind : Case → Network → Valuation → ℕ → ℕ → Rational
 state_behind case network values from exchanger =
-    let before = value_at values from in moved (branch_side case network from) before.t (over (duty_at network exchanger) before.size)
+    let before = value_at values from in moved (branch_side case network from) before.t (over (duty_at network exchanger) before.cp)
 
 module _ {case : Case} {network : Network} {values : Valuation} (shape : HasShape case network) (valuation : IsWholeValuation case network values)
     (k : ℕ) {from exchanger to : ℕ} (at : slice_get network.lines k ≡ Some (line.Pass from exchanger to)) where
@@ -481,7 +481,7 @@ full_end case network values at (line.End branch) none = All-cons (IsFullEnd cas
     full s is =
         let tests : first_finding (end_items at (value_at values branch) (Some s)) ≡ None = ap (λ o. first_finding (end_items at (value_at values branch) o))
         (sym is) ∙ none in
-        same_value (value_at values branch) (last_value s) ((Decides-rational_eq (value_at values branch).size (full_size s)).0 (passed-item _ _ tests))
+        same_value (value_at values branch) (last_value s) ((Decides-rational_eq (value_at values branch).cp (full_size s)).0 (passed-item _ _ tests))
         ((Decides-rational_eq (value_at values branch).t (last_state s)).0 (passed-item _ _ (passed-rest _ _ tests)))
 full_end case network values at other none = All-nil (IsFullEnd case network values)
 
@@ -595,7 +595,7 @@ sound-costs at before cost (a ∷ prices) =
 
 -- a split left room, seen from the whole valuation
 room-whole : (case : Case) (network : Network) (values : Valuation) (k from first second : ℕ) (size : Rational) → HasShape case network
-    → IsWholeValuation case network values → slice_get network.lines k ≡ Some (line.Split from first size second) → is_below size (value_at values from).size ≡ true
+    → IsWholeValuation case network values → slice_get network.lines k ≡ Some (line.Split from first size second) → is_below size (value_at values from).cp ≡ true
 room-whole case network values k from first second size shape valuation at =
     let n = length network.lines in let inside = slice_get_within network.lines k (line.Split from first size second) at in
     let all : k + (n - k) ≡ n = omega (arith, inside) in
@@ -603,12 +603,12 @@ room-whole case network values k from first second size shape valuation at =
     let room = room_left case network n values shape valuation k (line.Split from first size second) (front case network k values) inside at before in
     let used = (line_of shape k (line.Split from first size second) at).numbers.used in
     let same = (agree-take values (made_before case network k)).same from (All-head (λ b. b < made_before case network k) from [] used) in
-    ap (λ v. is_below size v.size) same ∙ (Decides-is_below size (value_at (front case network k values) from).size).1 room
+    ap (λ v. is_below size v.cp) same ∙ (Decides-is_below size (value_at (front case network k values) from).cp).1 room
 
 sound-end : (at : Place) (value : BranchValue) (o : Option Stream) → ((s : Stream) → o ≡ Some s → value ≡ last_value s) → AreSound (end_items at value o)
 sound-end at value None full = sound-none
 sound-end at value (Some s) full = let is = full s refl in All-from_recursion IsSound (end_items at value (Some s))
-    ((Decides-rational_eq value.size (full_size s)).1 (ap (λ v. v.size) is), ((Decides-rational_eq value.t (last_state s)).1 (ap (λ v. v.t) is), tt))
+    ((Decides-rational_eq value.cp (full_size s)).1 (ap (λ v. v.cp) is), ((Decides-rational_eq value.t (last_state s)).1 (ap (λ v. v.t) is), tt))
 
 sound-load : (at : Place) (latent : Bool) (state : Rational) → (latent ≡ true → IsPartOfLoad state) → AreSound (load_items at latent state)
 sound-load at false state keeps = sound-none
@@ -627,10 +627,10 @@ module _ (case : Case) (network : Network) where
       let here = place.Line (k + 1) in let latent = is_latent_branch case network from in let state = state_behind case network values from exchanger in
       let keeps : latent ≡ true → IsPartOfLoad state =
       λ is. subst IsPartOfLoad (behind_state shape valuation k at) (loads to (behind_there shape valuation k at) (behind_latent shape valuation k at ∙ is)) in
-      sound-step here 1 (over (duty_at network exchanger) (value_at values from).size) (Step here 2 state ∷ load_items here latent state)
+      sound-step here 1 (over (duty_at network exchanger) (value_at values from).cp) (Step here 2 state ∷ load_items here latent state)
       (sound-step here 2 state (load_items here latent state) (sound-load here latent state keeps))
   line_sound values k (line.Mix first second to) shape valuation ended loads at =
-      let one = value_at values first in let two = value_at values second in let means = mean_items (place.Line (k + 1)) one two (plus one.size two.size) in
+      let one = value_at values first in let two = value_at values second in let means = mean_items (place.Line (k + 1)) one two (plus one.cp two.cp) in
       sound-step _ _ _ _ (all-if IsSound (rational_eq one.t two.t) means (All-from_recursion IsSound means (tt, (tt, (tt, (tt, tt))))))
   line_sound values k (line.End branch) shape valuation ended loads at =
       sound-end (place.Line (k + 1)) (value_at values branch) (slice_get case.streams (stream_at network.branches branch))

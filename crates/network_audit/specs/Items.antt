@@ -56,7 +56,7 @@ is_reached found wanted = not (is_below found wanted)
 
 -- a split has to leave something of its branch, and the rest is formed
 abbrev pub split_items : Place → BranchValue → Rational → List Item
-split_items at from size = Test at (is_below size from.size) (reason.Overdrawn size from.size) ∷ Step at 1 (minus from.size size) ∷ []
+split_items at from cp = Test at (is_below cp from.cp) (reason.Overdrawn cp from.cp) ∷ Step at 1 (minus from.cp cp) ∷ []
 
 -- the state of a latent branch is from 0 to 1
 abbrev pub load_items : Place → Bool → Rational → List Item
@@ -69,36 +69,36 @@ load_items at true state =
 -- the change of the state, and the state behind the exchanger
 abbrev pub pass_items : Place → Side → Bool → BranchValue → Rational → List Item
 pass_items at side latent from duty =
-    Step at 1 (over duty from.size)
-    ∷ Step at 2 (moved side from.t (over duty from.size))
-    ∷ load_items at latent (moved side from.t (over duty from.size))
+    Step at 1 (over duty from.cp)
+    ∷ Step at 2 (moved side from.t (over duty from.cp))
+    ∷ load_items at latent (moved side from.t (over duty from.cp))
 
 -- the size of two branches together; two equal states are that of the mix, and else it is their mean
 abbrev pub mean_items : Place → BranchValue → BranchValue → Rational → List Item
 mean_items at first second size =
-    Step at 2 (times first.size first.t)
-    ∷ Step at 3 (times second.size second.t)
+    Step at 2 (times first.cp first.t)
+    ∷ Step at 3 (times second.cp second.t)
     ∷ Step at 4 (heat_of_both first second)
     ∷ Step at 5 (over (heat_of_both first second) size)
     ∷ []
 
 abbrev pub mix_items : Place → BranchValue → BranchValue → List Item
 mix_items at first second =
-    Step at 1 (plus first.size second.size)
-    ∷ (if rational_eq first.t second.t then [] else mean_items at first second (plus first.size second.size))
+    Step at 1 (plus first.cp second.cp)
+    ∷ (if rational_eq first.t second.t then [] else mean_items at first second (plus first.cp second.cp))
 
 -- a branch that ends carries its whole stream, at the stream's last state
 abbrev pub end_items : Place → BranchValue → Option Stream → List Item
 end_items at value None = []
 end_items at value (Some s) =
-    Test at (rational_eq value.size (full_size s)) (reason.Unfinished value.size (full_size s))
+    Test at (rational_eq value.cp (full_size s)) (reason.Unfinished value.cp (full_size s))
     ∷ Test at (rational_eq value.t (last_state s)) (reason.MissedTarget value.t (last_state s))
     ∷ []
 
 -- the items of a statement, by what the branches carry that it uses
 abbrev pub line_items : Case → Network → Valuation → Place → Line → List Item
 line_items case network values at (line.Exchanger name hot cold duty) = []
-line_items case network values at (line.Split from first size second) = split_items at (value_at values from) size
+line_items case network values at (line.Split from first cp second) = split_items at (value_at values from) cp
 line_items case network values at (line.Pass from exchanger to) =
     pass_items at (branch_side case network from) (is_latent_branch case network from) (value_at values from) (duty_at network exchanger)
 line_items case network values at (line.Mix first second to) = mix_items at (value_at values first) (value_at values second)
@@ -117,7 +117,7 @@ items_before case network values n = flat_map (statement_items case network valu
 -- a statement ends a branch of a stream
 abbrev pub ends_stream : List Branch → ℕ → Line → Bool
 ends_stream branches stream (line.Exchanger name hot cold duty) = false
-ends_stream branches stream (line.Split from first size second) = false
+ends_stream branches stream (line.Split from first cp second) = false
 ends_stream branches stream (line.Pass from exchanger to) = false
 ends_stream branches stream (line.Mix first second to) = false
 ends_stream branches stream (line.End branch) = stream_at branches branch == stream

@@ -16,7 +16,7 @@ use Rattle.network_audit.specs.declared.joints.Joint.{Joint}
 abbrev pub crossing_by : Option Line → Option Crossing
 crossing_by None = None
 crossing_by (Some (line.Exchanger name hot cold duty)) = None
-crossing_by (Some (line.Split from first size second)) = None
+crossing_by (Some (line.Split from first cp second)) = None
 crossing_by (Some (line.Pass from exchanger to)) = Some (record { from = from; to = to })
 crossing_by (Some (line.Mix first second to)) = None
 crossing_by (Some (line.End branch)) = None
@@ -50,7 +50,7 @@ joints_of network = joints_among network.branches network.lines (exchangers_of n
 -- the exchanger that a line passes has a number below n
 abbrev pub PassesBelow : ℕ → Line → Type 0
 PassesBelow n (line.Exchanger name hot cold duty) = Unit {0}
-PassesBelow n (line.Split from first size second) = Unit {0}
+PassesBelow n (line.Split from first cp second) = Unit {0}
 PassesBelow n (line.Pass from exchanger to) = exchanger < n
 PassesBelow n (line.Mix first second to) = Unit {0}
 PassesBelow n (line.End branch) = Unit {0}

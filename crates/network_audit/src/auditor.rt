@@ -66,7 +66,7 @@ impl Auditor {
             auditor ≡ record { case = case.now; network = network.now; values = None }) }
     {
         let none = BranchValue {
-            size: Frac::whole(0),
+            cp: Frac::whole(0),
             t: Frac::whole(0),
         };
         Ok(Auditor {

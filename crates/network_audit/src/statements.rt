@@ -25,27 +25,27 @@ use stream_case::{Case, Side, Source, Stream};
 pub(crate) fn split_rest(
     place: Place,
     from: &BranchValue,
-    size: &Frac,
+    cp: &Frac,
 ) -> Result<BranchValue, Finding>
     ensures { Judged
-        (split_items place from.now size.now)
-        (λ rest. rest ≡ second_part from.now size.now)
+        (split_items place from.now cp.now)
+        (λ rest. rest ≡ second_part from.now cp.now)
         result }
 {
-    if !size.is_below(&from.size) {
+    if !cp.is_below(&from.cp) {
         return Err(Finding::Failed {
             place,
             reason: Reason::Overdrawn {
-                found: *size,
-                wanted: from.size,
+                found: *cp,
+                wanted: from.cp,
             },
         });
     }
-    let Some(rest) = from.size.minus(size) else {
+    let Some(rest) = from.cp.minus(cp) else {
         return Err(Finding::TooFine { place, step: 1 });
     };
     Ok(BranchValue {
-        size: rest,
+        cp: rest,
         t: from.t,
     })
 }
@@ -58,20 +58,20 @@ pub(crate) fn passed(
     from: &BranchValue,
     duty: &Frac,
 ) -> Result<BranchValue, Finding>
-    requires { IsBelow rational_zero from.now.size }
+    requires { IsBelow rational_zero from.now.cp }
     ensures { Judged
         (pass_items place side is_latent from.now duty.now)
         (λ to. to ≡ passed_value side from.now duty.now)
         result }
 {
-    let Some(change) = duty.over(&from.size) else {
+    let Some(change) = duty.over(&from.cp) else {
         return Err(Finding::TooFine { place, step: 1 });
     };
     let Some(t) = moved(side, &from.t, &change) else {
         return Err(Finding::TooFine { place, step: 2 });
     };
     match keeps_load(is_latent, &t) {
-        Ok(()) => Ok(BranchValue { size: from.size, t }),
+        Ok(()) => Ok(BranchValue { cp: from.cp, t }),
         Err(reason) => Err(Finding::Failed { place, reason }),
     }
 }
@@ -113,42 +113,42 @@ fn moved(side: Side, t: &Frac, change: &Frac) -> Option<Frac>
 
 /// Two branches together, or the number of the step that is too fine.
 pub(crate) fn mixed(first: &BranchValue, second: &BranchValue) -> Result<BranchValue, u32>
-    requires first { IsBelow rational_zero first.now.size }
-    requires second { IsBelow rational_zero second.now.size }
+    requires first { IsBelow rational_zero first.now.cp }
+    requires second { IsBelow rational_zero second.now.cp }
     ensures { Formed
         (λ at. mix_items at first.now second.now)
         (λ to. to ≡ mixed_value first.now second.now)
         result }
 {
-    let Some(size) = first.size.plus(&second.size) else {
+    let Some(cp) = first.cp.plus(&second.cp) else {
         return Err(1);
     };
     if first.t == second.t {
-        return Ok(BranchValue { size, t: first.t });
+        return Ok(BranchValue { cp, t: first.t });
     }
-    let t = mean(first, second, &size)?;
-    Ok(BranchValue { size, t })
+    let t = mean(first, second, &cp)?;
+    Ok(BranchValue { cp, t })
 }
 
 /// The state of two branches together, which have this size, or the number of the step that is too
 /// fine: the mean of their states by their sizes.
-fn mean(first: &BranchValue, second: &BranchValue, size: &Frac) -> Result<Frac, u32>
-    requires { IsBelow rational_zero size.now }
+fn mean(first: &BranchValue, second: &BranchValue, cp: &Frac) -> Result<Frac, u32>
+    requires { IsBelow rational_zero cp.now }
     ensures { Formed
-        (λ at. mean_items at first.now second.now size.now)
-        (λ t. t ≡ over (heat_of_both first.now second.now) size.now)
+        (λ at. mean_items at first.now second.now cp.now)
+        (λ t. t ≡ over (heat_of_both first.now second.now) cp.now)
         result }
 {
-    let Some(one) = first.size.times(&first.t) else {
+    let Some(one) = first.cp.times(&first.t) else {
         return Err(2);
     };
-    let Some(other) = second.size.times(&second.t) else {
+    let Some(other) = second.cp.times(&second.t) else {
         return Err(3);
     };
     let Some(both) = one.plus(&other) else {
         return Err(4);
     };
-    let Some(t) = both.over(size) else {
+    let Some(t) = both.over(cp) else {
         return Err(5);
     };
     Ok(t)
@@ -160,9 +160,9 @@ pub(crate) fn ended(value: &BranchValue, stream: &Stream) -> Result<(), Reason>
     ensures { Tested (λ at. end_items at value.now (Some stream.now)) (λ _. Unit {0}) result }
 {
     let size = full_size(stream);
-    if value.size != size {
+    if value.cp != size {
         return Err(Reason::Unfinished {
-            found: value.size,
+            found: value.cp,
             wanted: size,
         });
     }
@@ -208,7 +208,7 @@ pub(crate) fn made_by(
     requires joints { joints.now ≡ joints_of network.now }
     requires known { NamesKnown case.now network.now line.now }
     requires used { All (λ b. b < length values.now) (uses line.now) }
-    requires positive { All (λ v. IsBelow rational_zero v.size) values.now }
+    requires positive { All (λ v. IsBelow rational_zero v.cp) values.now }
     ensures { Judged
         (line_items case.now network.now values.now place line.now)
         (λ made. members made ≡ made_values case.now network.now values.now line.now)
@@ -216,10 +216,10 @@ pub(crate) fn made_by(
 {
     match *line {
         Line::Exchanger { .. } => Ok(AtMostTwo::Nothing),
-        Line::Split { from, size, .. } => {
+        Line::Split { from, cp, .. } => {
             let from = &values[from as usize];
-            let rest = split_rest(place, from, &size)?;
-            Ok(AtMostTwo::Two(BranchValue { size, t: from.t }, rest))
+            let rest = split_rest(place, from, &cp)?;
+            Ok(AtMostTwo::Two(BranchValue { cp, t: from.t }, rest))
         }
         Line::Pass {
             from,

@@ -56,7 +56,7 @@ pub(crate) fn first_value(stream: &Stream) -> BranchValue
     ensures { result ≡ first_value stream.now }
 {
     BranchValue {
-        size: full_size(stream),
+        cp: full_size(stream),
         t: first_state(stream),
     }
 }

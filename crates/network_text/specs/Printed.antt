@@ -35,8 +35,8 @@ exchanger_statement case name hot cold duty =
     codes "exchanger" ∷ name ∷ source_name case hot ∷ source_name case cold ∷ fraction_text duty ∷ []
 
 abbrev pub split_statement : Network → ℕ → ℕ → Rational → ℕ → Statement
-split_statement network from first size second =
-    codes "split" ∷ branch_name network from ∷ branch_name network first ∷ fraction_text size ∷ branch_name network second ∷ []
+split_statement network from first cp second =
+    codes "split" ∷ branch_name network from ∷ branch_name network first ∷ fraction_text cp ∷ branch_name network second ∷ []
 
 -- by the name of the exchanger
 abbrev pub pass_statement : Network → ℕ → List ℕ → ℕ → Statement
@@ -52,7 +52,7 @@ end_statement network branch = codes "end" ∷ branch_name network branch ∷ []
 -- a line as a statement, with names in place of numbers
 abbrev pub statement_of : Case → Network → Line → Statement
 statement_of case network (line.Exchanger name hot cold duty) = exchanger_statement case name hot cold duty
-statement_of case network (line.Split from first size second) = split_statement network from first size second
+statement_of case network (line.Split from first cp second) = split_statement network from first cp second
 statement_of case network (line.Pass from exchanger to) = pass_statement network from (exchanger_name network exchanger) to
 statement_of case network (line.Mix first second to) = mix_statement network first second to
 statement_of case network (line.End branch) = end_statement network branch

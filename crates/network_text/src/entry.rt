@@ -79,7 +79,7 @@ fn split_entry(builder: &NetworkBuilder, s: &Statement<'_>) -> Result<Entry, Net
     }
     let from = used_branch(builder, s.field(1))?;
     let first = new_branch(builder, s.field(2))?;
-    let size = positive_fraction(s.field(3))?;
+    let cp = positive_fraction(s.field(3))?;
     let second = new_branch(builder, s.field(4))?;
     if second == first {
         return Err(NetWhy::SameName);
@@ -89,7 +89,7 @@ fn split_entry(builder: &NetworkBuilder, s: &Statement<'_>) -> Result<Entry, Net
         line: Line::Split {
             from,
             first: number,
-            size,
+            cp,
             second: number + 1,
         },
         names: AtMostTwo::Two(first, second),

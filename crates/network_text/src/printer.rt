@@ -76,19 +76,19 @@ fn split_line(
     network: &Network,
     from: u32,
     first: u32,
-    size: Frac,
+    cp: Frac,
     second: u32,
 ) -> Result<String, AllocError>
     requires from { from < length network.now.branches }
     requires first { first < length network.now.branches }
     requires second { second < length network.now.branches }
     ensures { IfOk result (λ line.
-        string_bytes line ≡ statement_text (split_statement network.now from first size second)) }
+        string_bytes line ≡ statement_text (split_statement network.now from first cp second)) }
 {
     let from = branch_name(network, from);
     let first = branch_name(network, first);
     let second = branch_name(network, second);
-    format!(in alloc; "split {from} {first} {size} {second}\n")
+    format!(in alloc; "split {from} {first} {cp} {second}\n")
 }
 
 /// The line that leads a branch through an exchanger.
@@ -165,9 +165,9 @@ fn statement_line(
         Line::Split {
             from,
             first,
-            size,
+            cp,
             second,
-        } => split_line(alloc, network, from, first, size, second),
+        } => split_line(alloc, network, from, first, cp, second),
         Line::Pass {
             from,
             exchanger,

@@ -17,18 +17,18 @@ parts-lose f g u v some other = positive_part-least (plus (times f u) (times g v
 
 -- sizes times distances add up
 mixed-distance : (base : Rational) (first second to : BranchValue) → IsMix first second to
-    → times to.size (minus to.t base) ≡ plus (times first.size (minus first.t base)) (times second.size (minus second.t base))
-mixed-distance base first second to mix = times-minus to.size to.t base ∙ ap₂ minus mix.heat (ap (λ x. times x base) mix.size
-    ∙ plus-times first.size second.size base) ∙ minus-interchange (times first.size first.t) (times second.size second.t) (times first.size base) (times second.size base)
-    ∙ ap₂ plus (sym (times-minus first.size first.t base)) (sym (times-minus second.size second.t base))
+    → times to.cp (minus to.t base) ≡ plus (times first.cp (minus first.t base)) (times second.cp (minus second.t base))
+mixed-distance base first second to mix = times-minus to.cp to.t base ∙ ap₂ minus mix.heat (ap (λ x. times x base) mix.size
+    ∙ plus-times first.cp second.cp base) ∙ minus-interchange (times first.cp first.t) (times second.cp second.t) (times first.cp base) (times second.cp base)
+    ∙ ap₂ plus (sym (times-minus first.cp first.t base)) (sym (times-minus second.cp second.t base))
 
-mix-loses : (base : Rational) (first second to : BranchValue) → IsBelow rational_zero first.size → IsBelow rational_zero second.size → IsMix first second to
+mix-loses : (base : Rational) (first second to : BranchValue) → IsBelow rational_zero first.cp → IsBelow rational_zero second.cp → IsMix first second to
     → IsAtMost (height_above base to) (plus (height_above base first) (height_above base second))
-mix-loses base first second to some other mix = let two = at_most_from_below rational_zero second.size other in
-    let both = at_most_from_below rational_zero to.size (subst (IsBelow rational_zero) (sym mix.size) (positive-plus first.size second.size some two)) in
+mix-loses base first second to some other mix = let two = at_most_from_below rational_zero second.cp other in
+    let both = at_most_from_below rational_zero to.cp (subst (IsBelow rational_zero) (sym mix.size) (positive-plus first.cp second.cp some two)) in
     subst (λ x. IsAtMost x (plus (height_above base first) (height_above base second)))
-    (ap positive_part (sym (mixed-distance base first second to mix)) ∙ sym (times-positive_part to.size (minus to.t base) both))
-    (parts-lose first.size second.size (minus first.t base) (minus second.t base) (at_most_from_below rational_zero first.size some) two)
+    (ap positive_part (sym (mixed-distance base first second to mix)) ∙ sym (times-positive_part to.cp (minus to.t base) both))
+    (parts-lose first.cp second.cp (minus first.t base) (minus second.t base) (at_most_from_below rational_zero first.cp some) two)
 
 pub mixes_lose : MixesLoseHeight
 mixes_lose = record { parts = parts-lose; mixes = mix-loses }
@@ -36,24 +36,24 @@ mixes_lose = record { parts = parts-lose; mixes = mix-loses }
 -- Heights and shares on the course of a stream.
 
 has_duty-on : (course : Course) (duty : Rational) (low high : BranchValue) → IsBetweenValues duty low high → HasDuty duty (side_on course low high)
-has_duty-on (Sensible base) duty low high between = (between.some, ap (times high.size) (minus-minus_same high.t low.t base) ∙ between.gives)
+has_duty-on (Sensible base) duty low high between = (between.some, ap (times high.cp) (minus-minus_same high.t low.t base) ∙ between.gives)
 has_duty-on (Latent distance) duty low high between = tt
 
 takes-on : (from_itself : Bool) (course : Course) (duty : Rational) (low high : BranchValue) → IsBetweenValues duty low high
     → minus (height_on from_itself course high) (height_on from_itself course low) ≡ share from_itself duty (side_on course low high)
-takes-on from_itself (Sensible base) duty low high between = ap (λ f. minus (height high.size (minus high.t base)) (height f (minus low.t base))) between.size
+takes-on from_itself (Sensible base) duty low high between = ap (λ f. minus (height high.cp (minus high.t base)) (height f (minus low.t base))) between.size
 takes-on from_itself (Latent distance) duty low high between =
-    grind (arith, between.size, times-minus high.size high.t low.t, between.gives, minus-self rational_zero)
+    grind (arith, between.size, times-minus high.cp high.t low.t, between.gives, minus-self rational_zero)
 
-pub height_on-mixed : (from_itself : Bool) (course : Course) (first second to : BranchValue) → IsBelow rational_zero first.size → IsBelow rational_zero second.size
+pub height_on-mixed : (from_itself : Bool) (course : Course) (first second to : BranchValue) → IsBelow rational_zero first.cp → IsBelow rational_zero second.cp
     → IsMix first second to → IsAtMost (height_on from_itself course to) (plus (height_on from_itself course first) (height_on from_itself course second))
 height_on-mixed from_itself (Sensible base) first second to some other mix = mixes_lose.mixes base first second to some other mix
 height_on-mixed from_itself (Latent distance) first second to some other mix =
     grind (arith, at_most_from_same, at_most_refl, mix.heat, plus-zero rational_zero)
 
 pub height_on-additive : (from_itself : Bool) (course : Course) (f g t : Rational)
-    → height_on from_itself course (record { size = plus f g; t = t }) ≡ plus (height_on from_itself course (record { size = f; t = t }))
-    (height_on from_itself course (record { size = g; t = t }))
+    → height_on from_itself course (record { cp = plus f g; t = t }) ≡ plus (height_on from_itself course (record { cp = f; t = t }))
+    (height_on from_itself course (record { cp = g; t = t }))
 height_on-additive from_itself (Sensible base) f g t = plus-times f g (positive_part (minus t base))
 height_on-additive from_itself (Latent distance) f g t = grind (arith, plus-times, plus-zero)
 

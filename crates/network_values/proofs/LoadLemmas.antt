@@ -29,29 +29,29 @@ at_most_from_times c a b some h = at_most_from_not_negative a b
     (not_negative_factor c (minus b a) some (subst (IsAtMost rational_zero) (sym (times-minus c b a)) (not_negative-minus (times c a) (times c b) h)))
 
 -- the state of a mix is at most, and at least, what both states are
-module _ (first second to : BranchValue) (some : IsBelow rational_zero first.size) (other : IsBelow rational_zero second.size) (mix : IsMix first second to)
+module _ (first second to : BranchValue) (some : IsBelow rational_zero first.cp) (other : IsBelow rational_zero second.cp) (mix : IsMix first second to)
   where
-    size : IsBelow rational_zero to.size
+    size : IsBelow rational_zero to.cp
     size = subst (IsBelow rational_zero) (sym mix.size) (mixed_positive first second some other)
 
-    parts : (x : Rational) → times to.size x ≡ plus (times first.size x) (times second.size x)
-    parts x = ap (λ c. times c x) mix.size ∙ plus-times first.size second.size x
+    parts : (x : Rational) → times to.cp x ≡ plus (times first.cp x) (times second.cp x)
+    parts x = ap (λ c. times c x) mix.size ∙ plus-times first.cp second.cp x
 
-    one_size : IsAtMost rational_zero first.size
-    one_size = at_most_from_below rational_zero first.size some
+    one_size : IsAtMost rational_zero first.cp
+    one_size = at_most_from_below rational_zero first.cp some
 
-    other_size : IsAtMost rational_zero second.size
-    other_size = at_most_from_below rational_zero second.size other
+    other_size : IsAtMost rational_zero second.cp
+    other_size = at_most_from_below rational_zero second.cp other
 
     mixed_at_most : (x : Rational) → IsAtMost first.t x → IsAtMost second.t x → IsAtMost to.t x
-    mixed_at_most x one two = let both = at_most-plus_plus (times first.size first.t) (times first.size x) (times second.size second.t) (times second.size x)
-        (at_most-times_left first.size first.t x one_size one) (at_most-times_left second.size second.t x other_size two) in
-        at_most_from_times to.size to.t x size (subst₂ IsAtMost (sym mix.heat) (sym (parts x)) both)
+    mixed_at_most x one two = let both = at_most-plus_plus (times first.cp first.t) (times first.cp x) (times second.cp second.t) (times second.cp x)
+        (at_most-times_left first.cp first.t x one_size one) (at_most-times_left second.cp second.t x other_size two) in
+        at_most_from_times to.cp to.t x size (subst₂ IsAtMost (sym mix.heat) (sym (parts x)) both)
 
     mixed_at_least : (x : Rational) → IsAtMost x first.t → IsAtMost x second.t → IsAtMost x to.t
-    mixed_at_least x one two = let both = at_most-plus_plus (times first.size x) (times first.size first.t) (times second.size x) (times second.size second.t)
-        (at_most-times_left first.size x first.t one_size one) (at_most-times_left second.size x second.t other_size two) in
-        at_most_from_times to.size x to.t size (subst₂ IsAtMost (sym (parts x)) (sym mix.heat) both)
+    mixed_at_least x one two = let both = at_most-plus_plus (times first.cp x) (times first.cp first.t) (times second.cp x) (times second.cp second.t)
+        (at_most-times_left first.cp x first.t one_size one) (at_most-times_left second.cp x second.t other_size two) in
+        at_most_from_times to.cp x to.t size (subst₂ IsAtMost (sym (parts x)) (sym mix.heat) both)
 
     mixed_part : IsPartOfLoad first.t → IsPartOfLoad second.t → IsPartOfLoad to.t
     mixed_part one two = record { least = mixed_at_least rational_zero one.least two.least; most = mixed_at_most (whole (pos 1)) one.most two.most }
@@ -92,13 +92,13 @@ module _ (case : Case) (network : Network) (n : ℕ) (values : Valuation) (shape
   -- the branches that the line at an index makes, where those before it have such states
   made_kept : (index : ℕ) (l : Line) → KeptBefore index → index < n → IsOfOneStream network.branches l → HasNumbers case network index l
       → Solves case network values l → PassKeepsLoad case network values l → All Kept (makes l)
-  made_kept index (line.Split from first size second) before early one_stream numbers solved passes = let kept = before from (numbers.used 0 0 (omega arith)) in
+  made_kept index (line.Split from first cp second) before early one_stream numbers solved passes = let kept = before from (numbers.used 0 0 (omega arith)) in
       All-cons Kept first (second ∷ []) (kept_as first from one_stream.0 solved.first_state kept)
       (All-cons Kept second [] (kept_as second from one_stream.1 solved.second_state kept) (All-nil Kept))
   made_kept index (line.Pass from exchanger to) before early one_stream numbers solved passes = All-cons Kept to [] passes (All-nil Kept)
   made_kept index (line.Mix first second to) before early one_stream numbers solved passes =
       let one = numbers.used 0 0 (omega arith) in let two = numbers.used 1 0 (omega arith) in
-      let above : (branch : ℕ) → branch < made_before case network index → IsBelow rational_zero (value_at values branch).size = λ branch known.
+      let above : (branch : ℕ) → branch < made_before case network index → IsBelow rational_zero (value_at values branch).cp = λ branch known.
       branch_positive case network n values is branch (omega (arith, known, made_fewer case network index n (omega (arith, early)))) in
       All-cons Kept to [] (λ latent.
       let of_first = sym (same_latent case network to first one_stream.1) ∙ latent in

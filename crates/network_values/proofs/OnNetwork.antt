@@ -54,7 +54,7 @@ abbrev worked_network : Network
 worked_network = record { branches = map branch (0 ∷ 1 ∷ 0 ∷ 0 ∷ 1 ∷ 1 ∷ 1 ∷ 1 ∷ 1 ∷ 1 ∷ []); lines = lines }
 
 abbrev value : ℤ → ℤ → BranchValue
-value size t = record { size = whole size; t = whole t }
+value size t = record { cp = whole size; t = whole t }
 
 -- above 55 °C of the shifted scale
 abbrev view : View
@@ -71,8 +71,8 @@ worked_values =
 at_most_by_test : (a b : Rational) → is_le (rational_cmp a b) ≡ true → IsAtMost a b
 at_most_by_test a b passes = (Decides-is_le a b).0 passes
 
-values_positive : All (λ v. IsBelow rational_zero v.size) worked_values
-values_positive = All-from_recursion (λ v. IsBelow rational_zero v.size) worked_values
+values_positive : All (λ v. IsBelow rational_zero v.cp) worked_values
+values_positive = All-from_recursion (λ v. IsBelow rational_zero v.cp) worked_values
     (full, (half_more, (full, (full, (half, (half, (half, (half, (half_more, (half_more, tt))))))))))
   where
     full : IsBelow rational_zero (whole (pos 20))

@@ -26,15 +26,15 @@ use Rattle.stream_case.specs.declared.source.Source.TheVariants as source
 -- by whether it is latent, and by its size
 abbrev given_back : View → Stream → Bool → Rational → Rational
 given_back view s latent size = let course = if latent then Latent (minus (whole s.supply) (base_of view.place s)) else Sensible (base_of view.place s) in
-    minus (height_on view.from_itself course (record { size = size; t = if latent then first_part_of_load s.side else whole s.supply }))
-    (height_on view.from_itself course (record { size = size; t = if latent then last_part_of_load s.side else whole s.target }))
+    minus (height_on view.from_itself course (record { cp = size; t = if latent then first_part_of_load s.side else whole s.supply }))
+    (height_on view.from_itself course (record { cp = size; t = if latent then last_part_of_load s.side else whole s.target }))
 
 -- a flow's heat between two distances, as far as they are above 0
 abbrev lost : ℤ → ℤ → ℤ → ℤ
-lost size x y = size *ℤ (int_max x (pos 0) -ℤ int_max y (pos 0))
+lost cp x y = cp *ℤ (int_max x (pos 0) -ℤ int_max y (pos 0))
 
-lost_turned : (size x y : ℤ) → lost size x y ≡ pos 0 -ℤ lost size y x
-lost_turned size x y = omega (arith, ints, *ℤ--ℤ size (int_max x (pos 0)) (int_max y (pos 0)), *ℤ--ℤ size (int_max y (pos 0)) (int_max x (pos 0)))
+lost_turned : (cp x y : ℤ) → lost cp x y ≡ pos 0 -ℤ lost cp y x
+lost_turned cp x y = omega (arith, ints, *ℤ--ℤ cp (int_max x (pos 0)) (int_max y (pos 0)), *ℤ--ℤ cp (int_max y (pos 0)) (int_max x (pos 0)))
 
 sensible_given : (view : View) (s : Stream) → given_back view s false (whole s.cp) ≡ whole (given_by s.side (sensible_above view.place s))
 sensible_given view s = by s.side

@@ -65,21 +65,21 @@ higher side.Hot from to = from
 higher side.Cold from to = to
 
 abbrev between_both : Side → BranchValue → BranchValue → SideRun
-between_both on from to = Between (higher on from to).size (lower on from to).t (higher on from to).t
+between_both on from to = Between (higher on from to).cp (lower on from to).t (higher on from to).t
 
-values_between : (on : Side) (duty : Rational) (from to : BranchValue) → IsBelow rational_zero from.size → to.size ≡ from.size
-    → times from.size (change on from.t to.t) ≡ duty → IsBetweenValues duty (lower on from to) (higher on from to)
+values_between : (on : Side) (duty : Rational) (from to : BranchValue) → IsBelow rational_zero from.cp → to.cp ≡ from.cp
+    → times from.cp (change on from.t to.t) ≡ duty → IsBetweenValues duty (lower on from to) (higher on from to)
 values_between side.Hot duty from to some size heat = record { some = some; size = size; gives = heat }
 values_between side.Cold duty from to some size heat =
     record { some = subst (IsBelow rational_zero) (sym size) some; size = sym size; gives = ap (λ f. times f (minus to.t from.t)) size ∙ heat }
 
-run_between-both : (on : Side) (from to : BranchValue) → to.size ≡ from.size → run_between on from to ≡ between_both on from to
+run_between-both : (on : Side) (from to : BranchValue) → to.cp ≡ from.cp → run_between on from to ≡ between_both on from to
 run_between-both side.Hot from to size = refl
 run_between-both side.Cold from to size = ap (λ f. Between f from.t to.t) (sym size)
 
 -- the level of a latent stream, or else the range between the states, less the base
 level_or-seen : (base : Rational) (level : ℤ) (low high : BranchValue) (latent : Bool)
-    → seen_from base (level_or (Between high.size low.t high.t) (if latent then Some level else None))
+    → seen_from base (level_or (Between high.cp low.t high.t) (if latent then Some level else None))
     ≡ side_on (if latent then Latent (minus (whole level) base) else Sensible base) low high
 level_or-seen base level low high true = refl
 level_or-seen base level low high false = refl
@@ -97,8 +97,8 @@ module _ {case : Case} {network : Network} {values : Valuation} (shape : HasShap
     pub of_from : stream_at network.branches from ≡ i
     pub of_to : stream_at network.branches to ≡ i
     pub found : pass_of network number i ≡ Some (line.Pass from number to)
-    pub size : (value_at values to).size ≡ (value_at values from).size
-    pub heat : times (value_at values from).size (change on (value_at values from).t (value_at values to).t) ≡ duty
+    pub size : (value_at values to).cp ≡ (value_at values from).cp
+    pub heat : times (value_at values from).cp (change on (value_at values from).t (value_at values to).t) ≡ duty
     between : IsBetweenValues duty (lower on (value_at values from) (value_at values to)) (higher on (value_at values from) (value_at values to))
     run : side_run case network values number (source.Stream i) ≡ level_or (between_both on (value_at values from) (value_at values to)) (stream_level (Some s))
 
@@ -111,7 +111,7 @@ module _ {case : Case} {network : Network} {values : Valuation} (shape : HasShap
       let of_side : branch_side case network from ≡ on = ap (λ n. unwrap_or (side_of case (source.Stream n)) side.Hot) pass.of_stream
       ∙ ap (λ o. unwrap_or o side.Hot) is in let duty : duty_at network number ≡ e.duty = ap duty_of at in
       let some = branch_above whole_values shape from (used 0 0 (omega arith)) in
-      let heat = ap (λ o. times (value_at values from).size (change o (value_at values from).t (value_at values to).t)) (sym of_side) ∙ solves.heat ∙ duty in
+      let heat = ap (λ o. times (value_at values from).cp (change o (value_at values from).t (value_at values to).t)) (sym of_side) ∙ solves.heat ∙ duty in
       let passed = ap (pass_run case network values) pass.found ∙ ap (λ o. run_between o (value_at values from) (value_at values to)) of_side in (
         s,
         from,

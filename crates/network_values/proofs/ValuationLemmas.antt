@@ -79,7 +79,7 @@ valuation_less case network n values shape is = let m = made_before case network
       within = omega (arith, is.within);
       count = length-take m values ∙ omega (arith, fewer);
       own = take-take (length case.streams) m values (omega arith) ∙ is.own;
-      positive = All-take (λ v. IsBelow rational_zero v.size) m values is.positive;
+      positive = All-take (λ v. IsBelow rational_zero v.cp) m values is.positive;
       solved = each_first (Solves case network (take m values)) network.lines n (λ k l early here.
           let below = line_below case network k m l ((line_of shape k l here).numbers) (made_fewer case network (suc k) n (omega (arith, early))) in
           let solved = first_each (Solves case network values) network.lines (suc n) is.solved k l (omega (arith, early)) here in
@@ -90,7 +90,7 @@ valuation_less case network n values shape is = let m = made_before case network
 
 -- a branch that the first lines have made has a size above 0
 pub branch_positive : (case : Case) (network : Network) (n : ℕ) (values : Valuation) → IsValuation case network n values → (branch : ℕ)
-    → branch < made_before case network n → IsBelow rational_zero (value_at values branch).size
+    → branch < made_before case network n → IsBelow rational_zero (value_at values branch).cp
 branch_positive case network n values is branch early = is.positive branch no_value (omega (arith, early, is.count))
 
 pub length-made_values : (case : Case) (network : Network) (values : Valuation) (l : Line) → length (made_values case network values l) ≡ length (makes l)
@@ -98,20 +98,20 @@ length-made_values case network values l = grind arith
 
 -- what a line makes has sizes above 0
 made_positive : (case : Case) (network : Network) (n : ℕ) (values : Valuation) (l : Line) → IsValuation case network n values → HasNumbers case network n l
-    → HasPositiveSize l → LeavesRoom values l → All (λ v. IsBelow rational_zero v.size) (made_values case network values l)
-made_positive case network n values (line.Split from first size second) is numbers positive room = let P : BranchValue → Type 0 = λ v. IsBelow rational_zero v.size in
+    → HasPositiveSize l → LeavesRoom values l → All (λ v. IsBelow rational_zero v.cp) (made_values case network values l)
+made_positive case network n values (line.Split from first size second) is numbers positive room = let P : BranchValue → Type 0 = λ v. IsBelow rational_zero v.cp in
     let v = value_at values from in
     All-cons P (first_part v size) (second_part v size ∷ []) (positive-is size positive.above)
-    (All-cons P (second_part v size) [] (positive-minus size v.size room) (All-nil P))
-made_positive case network n values (line.Pass from exchanger to) is numbers positive room = let P : BranchValue → Type 0 = λ v. IsBelow rational_zero v.size in
+    (All-cons P (second_part v size) [] (positive-minus size v.cp room) (All-nil P))
+made_positive case network n values (line.Pass from exchanger to) is numbers positive room = let P : BranchValue → Type 0 = λ v. IsBelow rational_zero v.cp in
     All-cons P (passed_value (branch_side case network from) (value_at values from) (duty_at network exchanger)) []
     (branch_positive case network n values is from (numbers.used 0 0 (omega arith))) (All-nil P)
-made_positive case network n values (line.Mix first second to) is numbers positive room = let P : BranchValue → Type 0 = λ v. IsBelow rational_zero v.size in
+made_positive case network n values (line.Mix first second to) is numbers positive room = let P : BranchValue → Type 0 = λ v. IsBelow rational_zero v.cp in
     let one = branch_positive case network n values is first (numbers.used 0 0 (omega arith)) in
     let two = branch_positive case network n values is second (numbers.used 1 0 (omega arith)) in
     All-cons P (mixed_value (value_at values first) (value_at values second)) [] (mixed_positive (value_at values first) (value_at values second) one two)
     (All-nil P)
-made_positive case network n values l is numbers positive room = All-nil (λ v. IsBelow rational_zero v.size)
+made_positive case network n values l is numbers positive room = All-nil (λ v. IsBelow rational_zero v.cp)
 
 -- it is found behind the values before it
 made_found : (case : Case) (network : Network) (n : ℕ) (values : Valuation) (l : Line) → IsValuation case network n values → HasNumbers case network n l
@@ -154,7 +154,7 @@ valuation_more case network n values l shape here is room = let of = line_of sha
       within = of.at.within;
       count = omega (arith, length-append values made, many, numbers.next, is.count);
       own = take-append-le (length case.streams) values made (omega (arith, is.count)) ∙ is.own;
-      positive = All-append (λ v. IsBelow rational_zero v.size) _ _ is.positive (made_positive case network n values l is numbers of.size room);
+      positive = All-append (λ v. IsBelow rational_zero v.cp) _ _ is.positive (made_positive case network n values l is numbers of.size room);
       solved = subst (All (Solves case network (values ++ made))) (sym of.at.more) (All-push (Solves case network (values ++ made)) (take n network.lines) l
           (each_first (Solves case network (values ++ made)) network.lines n (λ k other early at.
           let numbers = (line_of shape k other at).numbers in
@@ -177,8 +177,8 @@ record IsDetermined (case : Case) (network : Network) (values before : Valuation
   room : LeavesRoom before l
 
 line_determined : (case : Case) (network : Network) (values before : Valuation) (l : Line) → AgreeBelow values before (length before)
-    → All (λ b. b < length before) (uses l) → AreBelow (length values) l → All (λ v. IsBelow rational_zero v.size) before
-    → All (λ v. IsBelow rational_zero v.size) values → Solves case network values l → IsDetermined case network values before l
+    → All (λ b. b < length before) (uses l) → AreBelow (length values) l → All (λ v. IsBelow rational_zero v.cp) before
+    → All (λ v. IsBelow rational_zero v.cp) values → Solves case network values l → IsDetermined case network values before l
 line_determined case network values before (line.Split from first size second) agree used below early positive solved =
     let split = rw (agree.same from (used 0 0 (omega arith))) at solved in
     let parts = split_determined (value_at before from) (value_at values first) (value_at values second) size split in
@@ -219,7 +219,7 @@ valuation_start case network complete = let many = length-map case.streams first
       within = omega arith;
       count = omega (arith, many);
       own = take_all (length case.streams) (map first_value case.streams) (omega (arith, many));
-      positive = All-map (λ v. IsBelow rational_zero v.size) first_value case.streams
+      positive = All-map (λ v. IsBelow rational_zero v.cp) first_value case.streams
           (All-weaker IsValidStream (λ s. IsBelow rational_zero (full_size s)) full_size-positive case.streams (AreStreams-IsComplete case complete).each);
       solved = All-nil (Solves case network (map first_value case.streams));
     }

@@ -18,7 +18,7 @@ use Rattle.networks.specs.declared.network.Line.TheVariants as line
 
 module _ (weight : ℕ → Rational) where
   abbrev pub IsEven : Line → Type 0
-  IsEven (line.Split from first size second) = weight from ≡ plus (weight first) (weight second)
+  IsEven (line.Split from first cp second) = weight from ≡ plus (weight first) (weight second)
   IsEven l = Unit {0}
 
   -- what a line takes, beside what it makes
@@ -31,7 +31,7 @@ module _ (weight : ℕ → Rational) where
 
   line_balance : (l : Line) → IsEven l → rational_sum_by weight (uses l) ≡ plus (rational_sum_by weight (makes l)) (taken l)
   line_balance (line.Exchanger name hot cold duty) even = simp plus-zero refl
-  line_balance (line.Split from first size second) even = simp plus-zero even
+  line_balance (line.Split from first cp second) even = simp plus-zero even
   line_balance (line.Pass from exchanger to) even = simp plus-zero (put_back (weight from) (weight to))
   line_balance (line.Mix first second to) even = simp (plus-zero, zero-plus) (put_back (plus (weight first) (weight second)) (weight to))
   line_balance (line.End branch) even = simp (plus-zero, zero-plus) refl
@@ -76,12 +76,12 @@ module _ (weight : ℕ → Rational) where
 
 pub even : (weight : Weight) → IsAdditive weight → (case : Case) (network : Network) (values : Valuation) (l : Line) → IsOfOneStream network.branches l
     → Solves case network values l → IsEven (weight_at weight network values) l
-even weight additive case network values (line.Split from first size second) one solves =
+even weight additive case network values (line.Split from first cp second) one solves =
     let i = stream_at network.branches from in let whole = value_at values from in
     let part : (b : ℕ) → stream_at network.branches b ≡ i → (value_at values b).t ≡ whole.t → weight i
-    (record { size = (value_at values b).size; t = whole.t }) ≡ weight_at weight network values b =
-    λ b of_stream state. ap₂ (λ n t. weight n (record { size = (value_at values b).size; t = t })) (sym of_stream) (sym state) in
-    ap (λ f. weight i (record { size = f; t = whole.t })) (sym solves.sizes) ∙ additive i (value_at values first).size (value_at values second).size whole.t
+    (record { cp = (value_at values b).cp; t = whole.t }) ≡ weight_at weight network values b =
+    λ b of_stream state. ap₂ (λ n t. weight n (record { cp = (value_at values b).cp; t = t })) (sym of_stream) (sym state) in
+    ap (λ f. weight i (record { cp = f; t = whole.t })) (sym solves.sizes) ∙ additive i (value_at values first).cp (value_at values second).cp whole.t
     ∙ ap₂ plus (part first one.0 solves.first_state) (part second one.1 solves.second_state)
 even weight additive case network values l one solves = tt
 
@@ -106,26 +106,26 @@ ended_within {case} {network} shape =
 
 -- the sizes of the branches of one stream
 unfoldable pub sizes : ℕ → Weight
-sizes i stream value = if i == stream then value.size else rational_zero
+sizes i stream value = if i == stream then value.cp else rational_zero
 
 sizes-additive : (i : ℕ) → IsAdditive (sizes i)
 unfolding sizes
 sizes-additive i stream f g t = grind (arith, plus-zero)
 
-sizes-own : (i : ℕ) (value : BranchValue) → sizes i i value ≡ value.size
+sizes-own : (i : ℕ) (value : BranchValue) → sizes i i value ≡ value.cp
 unfolding sizes
-sizes-own i value = ap (λ b. if b then value.size else rational_zero) (eq-eqb i i refl)
+sizes-own i value = ap (λ b. if b then value.cp else rational_zero) (eq-eqb i i refl)
 
 sizes-other : (i stream : ℕ) (value : BranchValue) → i ≢ stream → sizes i stream value ≡ rational_zero
 unfolding sizes
-sizes-other i stream value other = ap (λ b. if b then value.size else rational_zero) (ne_eqb i stream other)
+sizes-other i stream value other = ap (λ b. if b then value.cp else rational_zero) (ne_eqb i stream other)
 
-sizes-above : (i stream : ℕ) (value : BranchValue) → IsBelow rational_zero value.size → IsAtMost rational_zero (sizes i stream value)
+sizes-above : (i stream : ℕ) (value : BranchValue) → IsBelow rational_zero value.cp → IsAtMost rational_zero (sizes i stream value)
 unfolding sizes
 sizes-above i stream value above = grind (arith, at_most_from_below, at_most_refl)
 
 -- two branches of one size
-sizes-same : (i stream other : ℕ) (a b : BranchValue) → stream ≡ other → a.size ≡ b.size → sizes i stream a ≡ sizes i other b
+sizes-same : (i stream other : ℕ) (a b : BranchValue) → stream ≡ other → a.cp ≡ b.cp → sizes i stream a ≡ sizes i other b
 unfolding sizes
 sizes-same i stream other a b same size = ap₂ (λ s f. if i == s then f else rational_zero) same size
 
@@ -169,19 +169,19 @@ module _ {case : Case} {network : Network} {values : Valuation} (shape : HasShap
 
   mix_loss-none : (i : ℕ) (l : Line) → IsOfOneStream network.branches l → Solves case network values l → mix_loss (of i) l ≡ rational_zero
   mix_loss-none i (line.Mix first second to) one solves = let s = stream_at network.branches first in
-      let both : BranchValue = record { size = plus (value_at values first).size (value_at values second).size; t = rational_zero } in
-      let one_first = sizes-same i s s (value_at values first) (record { size = (value_at values first).size; t = rational_zero }) refl refl in
+      let both : BranchValue = record { cp = plus (value_at values first).cp (value_at values second).cp; t = rational_zero } in
+      let one_first = sizes-same i s s (value_at values first) (record { cp = (value_at values first).cp; t = rational_zero }) refl refl in
       let one_second = sizes-same i (stream_at network.branches second) s (value_at values second)
-      (record { size = (value_at values second).size; t = rational_zero }) one.0 refl in
-      ap₂ minus (ap₂ plus one_first one_second ∙ sym (sizes-additive i s (value_at values first).size (value_at values second).size rational_zero))
+      (record { cp = (value_at values second).cp; t = rational_zero }) one.0 refl in
+      ap₂ minus (ap₂ plus one_first one_second ∙ sym (sizes-additive i s (value_at values first).cp (value_at values second).cp rational_zero))
       (sizes-same i (stream_at network.branches to) s (value_at values to) both one.1 solves.size) ∙ minus-self (sizes i s both)
   mix_loss-none i l one solves = refl
 
   -- a stream's own branch is the only one of them that is of the stream
-  own_size : (i : ℕ) → i < length case.streams → rational_sum_by (of i) (range_with_len 0 (length case.streams)) ≡ (value_at values i).size
+  own_size : (i : ℕ) → i < length case.streams → rational_sum_by (of i) (range_with_len 0 (length case.streams)) ≡ (value_at values i).cp
   own_size i within = one_taken (of i) i 0 (length case.streams) (omega arith) (omega (arith, within)) ∙ ap₂ plus (ap (λ s. sizes i s (value_at values i))
       (own_stream shape.made_once i within) ∙ sizes-own i (value_at values i)) (rational_sum_by-zero (but_at (of i) i) (range_with_len 0 (length case.streams))
-      (All-range (λ k. but_at (of i) i k ≡ rational_zero) (length case.streams) others)) ∙ plus-zero (value_at values i).size
+      (All-range (λ k. but_at (of i) i k ≡ rational_zero) (length case.streams) others)) ∙ plus-zero (value_at values i).cp
     where
       others : (k : ℕ) → k < length case.streams → but_at (of i) i k ≡ rational_zero
       others k inside = by (cases_eq k i)
@@ -192,7 +192,7 @@ module _ {case : Case} {network : Network} {values : Valuation} (shape : HasShap
               (own_stream shape.made_once k inside) ∙ sizes-other i k (value_at values k) (λ same. other (sym same))
 
   -- so the size of a stream is that of its ended branches, and of those that are left over
-  sizes_balance : (i : ℕ) → i < length case.streams → (value_at values i).size ≡ plus (all_ended i) (left i)
+  sizes_balance : (i : ℕ) → i < length case.streams → (value_at values i).cp ≡ plus (all_ended i) (left i)
   sizes_balance i within = sym (own_size i within) ∙ flow_balance (of i) shape (all_even shape whole (sizes i) (sizes-additive i)) ∙ ap (λ x. plus x (left i))
       (ap (λ x. plus x (all_ended i)) (ap₂ plus passes mixes ∙ plus-zero rational_zero) ∙ zero-plus (all_ended i))
     where
@@ -216,9 +216,9 @@ module _ {case : Case} {network : Network} {values : Valuation} (shape : HasShap
 
   -- an end of a stream has all of its size
   end_size : (i : ℕ) → i < length case.streams → (k : ℕ) → k < length (ended_by network.lines)
-      → stream_at network.branches (get_or (ended_by network.lines) k 0) ≡ i → of i (get_or (ended_by network.lines) k 0) ≡ (value_at values i).size
+      → stream_at network.branches (get_or (ended_by network.lines) k 0) ≡ i → of i (get_or (ended_by network.lines) k 0) ≡ (value_at values i).cp
   end_size i within k inside same = let (s, at) = item_at case.streams i within in let full = ended.full k 0 inside s (ap (slice_get case.streams) same ∙ at) in
-      ap₂ (sizes i) same full ∙ sizes-own i (last_value s) ∙ ap (λ (v : BranchValue). v.size) (sym (own_value whole i s at))
+      ap₂ (sizes i) same full ∙ sizes-own i (last_value s) ∙ ap (λ (v : BranchValue). v.cp) (sym (own_value whole i s at))
 
   some_end : (i : ℕ) → Contains (ended_streams network) i
       → (k : ℕ) × (k < length (ended_by network.lines)) × (stream_at network.branches (get_or (ended_by network.lines) k 0) ≡ i)
@@ -246,7 +246,7 @@ module _ {case : Case} {network : Network} {values : Valuation} (shape : HasShap
           let here = left_of-unused (of i) (used_by network.lines) branch apart ∙ sizes-own i (value_at values branch) in
           let term = term-at_most (left_of (of i) (used_by network.lines)) (range_with_len 0 (length network.branches)) branch (all_left-least i)
           (Contains-range (length network.branches) branch within) in
-          absurd (below_not_at_most rational_zero (value_at values branch).size (branch_above whole shape branch within)
+          absurd (below_not_at_most rational_zero (value_at values branch).cp (branch_above whole shape branch within)
           (at_most_trans _ (left i) rational_zero (subst (λ x. IsAtMost x (left i)) here term) (nothing_left i (stream_within shape branch within))))
 
   ends_differ : AllPairs (λ a b. a ≢ b) (ended_streams network)
@@ -256,7 +256,7 @@ module _ {case : Case} {network : Network} {values : Valuation} (shape : HasShap
       let first : j < length all = omega (arith, before, second) in let i = stream_at network.branches (get_or all j 0) in
       let other : stream_at network.branches (get_or all k 0) ≡ i = sym (get_or-map (stream_at network.branches) all k 0 d second) ∙ sym same
       ∙ get_or-map (stream_at network.branches) all j 0 d first in
-      let inside = stream_within shape (get_or all j 0) (ended_within shape j 0 first) in let size = (value_at values i).size in
+      let inside = stream_within shape (get_or all j 0) (ended_within shape j 0 first) in let size = (value_at values i).cp in
       let few = subst (IsAtMost (all_ended i)) (sym (sizes_balance i inside)) (at_most-plus_right (all_ended i) (left i)
       (not_negative-rational_sum_by (left_of (of i) (used_by network.lines)) (range_with_len 0 (length network.branches)) (all_left-least i))) in
       no_two (of i) size (branch_above whole shape i (omega (arith, inside, streams_first shape.made_once))) all (all_ended-least i) few j k 0 before second

@@ -12,16 +12,16 @@ whole_positive_part : (n : ℤ) → positive_part (whole n) ≡ whole (int_max n
 whole_positive_part n = by_lt_z (pos 0) n (λ above. positive_part-above (whole n) (at_most-whole (pos 0) n (omega (arith, ints, above))) ∙ ap whole
     (omega (arith, ints, clamps, above))) (λ upto. positive_part-below (whole n) (at_most-whole n (pos 0) upto) ∙ ap whole (omega (arith, ints, clamps, upto)))
 
-whole_height : (size t base : ℤ) → height (whole size) (minus (whole t) (whole base)) ≡ whole (size *ℤ int_max (t -ℤ base) (pos 0))
-whole_height size t base = ap (λ x. times (whole size) (positive_part x)) (whole-minus t base) ∙ ap (times (whole size)) (whole_positive_part (t -ℤ base))
-    ∙ whole-times size (int_max (t -ℤ base) (pos 0))
+whole_height : (cp t base : ℤ) → height (whole cp) (minus (whole t) (whole base)) ≡ whole (cp *ℤ int_max (t -ℤ base) (pos 0))
+whole_height cp t base = ap (λ x. times (whole cp) (positive_part x)) (whole-minus t base) ∙ ap (times (whole cp)) (whole_positive_part (t -ℤ base))
+    ∙ whole-times cp (int_max (t -ℤ base) (pos 0))
 
 -- the height that is lost from t to u
-pub height_lost : (size t u base : ℤ) → minus (height (whole size) (minus (whole t) (whole base))) (height (whole size) (minus (whole u) (whole base)))
-    ≡ whole (size *ℤ (int_max (t -ℤ base) (pos 0) -ℤ int_max (u -ℤ base) (pos 0)))
-height_lost size t u base =
-    ap₂ minus (whole_height size t base) (whole_height size u base) ∙ whole-minus (size *ℤ int_max (t -ℤ base) (pos 0)) (size *ℤ int_max (u -ℤ base) (pos 0))
-    ∙ ap whole (sym (*ℤ--ℤ size (int_max (t -ℤ base) (pos 0)) (int_max (u -ℤ base) (pos 0))))
+pub height_lost : (cp t u base : ℤ) → minus (height (whole cp) (minus (whole t) (whole base))) (height (whole cp) (minus (whole u) (whole base)))
+    ≡ whole (cp *ℤ (int_max (t -ℤ base) (pos 0) -ℤ int_max (u -ℤ base) (pos 0)))
+height_lost cp t u base =
+    ap₂ minus (whole_height cp t base) (whole_height cp u base) ∙ whole-minus (cp *ℤ int_max (t -ℤ base) (pos 0)) (cp *ℤ int_max (u -ℤ base) (pos 0))
+    ∙ ap whole (sym (*ℤ--ℤ cp (int_max (t -ℤ base) (pos 0)) (int_max (u -ℤ base) (pos 0))))
 
 -- ---- levels
 

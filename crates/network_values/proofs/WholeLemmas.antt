@@ -35,6 +35,6 @@ module _ {case : Case} {network : Network} {values : Valuation} (whole : IsWhole
   pub all_solved : All (Solves case network values) network.lines
   all_solved = subst (All (Solves case network values)) (take-length network.lines) whole.solved
 
-  pub branch_above : HasShape case network → (branch : ℕ) → branch < length network.branches → IsBelow rational_zero (value_at values branch).size
+  pub branch_above : HasShape case network → (branch : ℕ) → branch < length network.branches → IsBelow rational_zero (value_at values branch).cp
   branch_above shape branch within = let lines = ap (λ ls. length (made_by ls)) (take-length network.lines) in
       branch_positive case network (length network.lines) values whole branch (omega (arith, within, all_made shape.made_once, lines))

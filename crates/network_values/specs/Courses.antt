@@ -16,18 +16,18 @@ pub data Course : Type 0 where
 -- the height of a branch; of a latent one, whose state is the part that it still has to give or has taken, all or nothing
 abbrev pub height_on : Bool → Course → BranchValue → Rational
 height_on from_itself (Sensible base) value = height_above base value
-height_on from_itself (Latent distance) value = if is_above from_itself distance then times value.size value.t else rational_zero
+height_on from_itself (Latent distance) value = if is_above from_itself distance then times value.cp value.t else rational_zero
 
 -- the side of an exchanger that a branch passes between a lower and a higher state, as distances
 abbrev pub side_on : Course → BranchValue → BranchValue → SideRun
-side_on (Sensible base) low high = Between high.size (minus low.t base) (minus high.t base)
+side_on (Sensible base) low high = Between high.cp (minus low.t base) (minus high.t base)
 side_on (Latent distance) low high = Level distance
 
 -- the size stays, and the size times the change is the duty
 pub record IsBetweenValues (duty : Rational) (low high : BranchValue) : Type 0 where
-  pub some : IsBelow rational_zero high.size
-  pub size : low.size ≡ high.size
-  pub gives : times high.size (minus high.t low.t) ≡ duty
+  pub some : IsBelow rational_zero high.cp
+  pub size : low.cp ≡ high.cp
+  pub gives : times high.cp (minus high.t low.t) ≡ duty
 
 pub record PassesTakeShares : Type 0 where
   pub has_duty : (course : Course) (duty : Rational) (low high : BranchValue) → IsBetweenValues duty low high → HasDuty duty (side_on course low high)
@@ -35,12 +35,12 @@ pub record PassesTakeShares : Type 0 where
   pub takes : (from_itself : Bool) (course : Course) (duty : Rational) (low high : BranchValue) → IsBetweenValues duty low high
       → minus (height_on from_itself course high) (height_on from_itself course low) ≡ share from_itself duty (side_on course low high)
   -- a mix raises no height, and a height is additive in the size
-  pub mixes : (from_itself : Bool) (course : Course) (first second to : BranchValue) → IsBelow rational_zero first.size → IsBelow rational_zero second.size
+  pub mixes : (from_itself : Bool) (course : Course) (first second to : BranchValue) → IsBelow rational_zero first.cp → IsBelow rational_zero second.cp
       → IsMix first second to
       → IsAtMost (height_on from_itself course to) (plus (height_on from_itself course first) (height_on from_itself course second))
   pub additive : (from_itself : Bool) (course : Course) (f g t : Rational)
-      → height_on from_itself course (record { size = plus f g; t = t })
-      ≡ plus (height_on from_itself course (record { size = f; t = t })) (height_on from_itself course (record { size = g; t = t }))
+      → height_on from_itself course (record { cp = plus f g; t = t })
+      ≡ plus (height_on from_itself course (record { cp = f; t = t })) (height_on from_itself course (record { cp = g; t = t }))
 
 -- a share is no less from a lower place, and from the place itself no less than above it
 pub record SharesRise : Type 0 where

@@ -58,7 +58,7 @@ height_at case view network values = weight_at (heights case view) network value
 abbrev pub inlet_height : (ℕ → Rational) → Option Line → Rational
 inlet_height height None = rational_zero
 inlet_height height (Some (line.Exchanger name hot cold duty)) = rational_zero
-inlet_height height (Some (line.Split from first size second)) = rational_zero
+inlet_height height (Some (line.Split from first cp second)) = rational_zero
 inlet_height height (Some (line.Pass from exchanger to)) = height from
 inlet_height height (Some (line.Mix first second to)) = rational_zero
 inlet_height height (Some (line.End branch)) = rational_zero
@@ -66,7 +66,7 @@ inlet_height height (Some (line.End branch)) = rational_zero
 abbrev pub outlet_height : (ℕ → Rational) → Option Line → Rational
 outlet_height height None = rational_zero
 outlet_height height (Some (line.Exchanger name hot cold duty)) = rational_zero
-outlet_height height (Some (line.Split from first size second)) = rational_zero
+outlet_height height (Some (line.Split from first cp second)) = rational_zero
 outlet_height height (Some (line.Pass from exchanger to)) = height to
 outlet_height height (Some (line.Mix first second to)) = rational_zero
 outlet_height height (Some (line.End branch)) = rational_zero

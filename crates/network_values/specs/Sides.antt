@@ -47,12 +47,12 @@ seen_from base (Level at) = Level (minus at base)
 
 -- the run of a branch to the branch behind an exchanger
 abbrev pub run_between : Side → BranchValue → BranchValue → SideRun
-run_between side.Hot from to = Between from.size to.t from.t
-run_between side.Cold from to = Between from.size from.t to.t
+run_between side.Hot from to = Between from.cp to.t from.t
+run_between side.Cold from to = Between from.cp from.t to.t
 
 abbrev pub pass_run : Case → Network → Valuation → Option Line → SideRun
 pass_run case network values (Some (line.Exchanger name hot cold duty)) = Level rational_zero
-pass_run case network values (Some (line.Split from first size second)) = Level rational_zero
+pass_run case network values (Some (line.Split from first cp second)) = Level rational_zero
 pass_run case network values (Some (line.Pass from exchanger to)) = run_between (branch_side case network from) (value_at values from) (value_at values to)
 pass_run case network values (Some (line.Mix first second to)) = Level rational_zero
 pass_run case network values (Some (line.End branch)) = Level rational_zero

@@ -41,10 +41,10 @@ last_state s = if is_latent s then last_part_of_load s.side else whole s.target
 
 -- what its own branch carries, and what it carries where it ends
 abbrev pub first_value : Stream → BranchValue
-first_value s = record { size = full_size s; t = first_state s }
+first_value s = record { cp = full_size s; t = first_state s }
 
 abbrev pub last_value : Stream → BranchValue
-last_value s = record { size = full_size s; t = last_state s }
+last_value s = record { cp = full_size s; t = last_state s }
 
 -- ---- valuations
 
@@ -54,7 +54,7 @@ Valuation = List BranchValue
 
 -- nothing, of which no rule speaks
 abbrev pub no_value : BranchValue
-no_value = record { size = rational_zero; t = rational_zero }
+no_value = record { cp = rational_zero; t = rational_zero }
 
 abbrev pub value_at : Valuation → ℕ → BranchValue
 value_at values number = slice_index_or values number no_value
@@ -81,25 +81,25 @@ change side.Hot before after = minus before after
 change side.Cold before after = minus after before
 
 -- the first part has the given size, the sizes add up, and the state stays
-pub record IsSplit (from first second : BranchValue) (size : Rational) : Type 0 where
-  pub first_size : first.size ≡ size
-  pub sizes : plus first.size second.size ≡ from.size
+pub record IsSplit (from first second : BranchValue) (cp : Rational) : Type 0 where
+  pub first_size : first.cp ≡ cp
+  pub sizes : plus first.cp second.cp ≡ from.cp
   pub first_state : first.t ≡ from.t
   pub second_state : second.t ≡ from.t
 
 -- the size stays, and size times the change of the state is the duty
 pub record IsPass (side : Side) (duty : Rational) (from to : BranchValue) : Type 0 where
-  pub size : to.size ≡ from.size
-  pub heat : times from.size (change side from.t to.t) ≡ duty
+  pub size : to.cp ≡ from.cp
+  pub heat : times from.cp (change side from.t to.t) ≡ duty
 
 -- sizes add up, and so do sizes times states
 pub record IsMix (first second to : BranchValue) : Type 0 where
-  pub size : to.size ≡ plus first.size second.size
-  pub heat : times to.size to.t ≡ plus (times first.size first.t) (times second.size second.t)
+  pub size : to.cp ≡ plus first.cp second.cp
+  pub heat : times to.cp to.t ≡ plus (times first.cp first.t) (times second.cp second.t)
 
 abbrev pub Solves : Case → Network → Valuation → Line → Type 0
 Solves case network values (line.Exchanger name hot cold duty) = Unit {0}
-Solves case network values (line.Split from first size second) = IsSplit (value_at values from) (value_at values first) (value_at values second) size
+Solves case network values (line.Split from first cp second) = IsSplit (value_at values from) (value_at values first) (value_at values second) cp
 Solves case network values (line.Pass from exchanger to) =
     IsPass (branch_side case network from) (duty_at network exchanger) (value_at values from) (value_at values to)
 Solves case network values (line.Mix first second to) = IsMix (value_at values first) (value_at values second) (value_at values to)
@@ -110,7 +110,7 @@ pub record IsValuation (case : Case) (network : Network) (n : ℕ) (values : Val
   pub within : n ≤ length network.lines
   pub count : length values ≡ made_before case network n
   pub own : take (length case.streams) values ≡ map first_value case.streams
-  pub positive : All (λ v. IsBelow rational_zero v.size) values
+  pub positive : All (λ v. IsBelow rational_zero v.cp) values
   pub solved : All (Solves case network values) (take n network.lines)
 
 -- the same of all lines
@@ -134,7 +134,7 @@ KeepLoads case network values = (branch : ℕ) → branch < length values → Ke
 -- the branch behind a pass does
 abbrev pub PassKeepsLoad : Case → Network → Valuation → Line → Type 0
 PassKeepsLoad case network values (line.Exchanger name hot cold duty) = Unit {0}
-PassKeepsLoad case network values (line.Split from first size second) = Unit {0}
+PassKeepsLoad case network values (line.Split from first cp second) = Unit {0}
 PassKeepsLoad case network values (line.Pass from exchanger to) = KeepsLoad case network values to
 PassKeepsLoad case network values (line.Mix first second to) = Unit {0}
 PassKeepsLoad case network values (line.End branch) = Unit {0}
@@ -150,7 +150,7 @@ LoadsAreKept =
 -- the branches that a line ends
 abbrev pub ends : Line → List ℕ
 ends (line.Exchanger name hot cold duty) = []
-ends (line.Split from first size second) = []
+ends (line.Split from first cp second) = []
 ends (line.Pass from exchanger to) = []
 ends (line.Mix first second to) = []
 ends (line.End branch) = branch ∷ []

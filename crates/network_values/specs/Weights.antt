@@ -33,7 +33,7 @@ Weight = ℕ → BranchValue → Rational
 -- two branches of one state weigh what both together weigh
 abbrev pub IsAdditive : Weight → Type 0
 IsAdditive weight = (stream : ℕ) (f g t : Rational)
-    → weight stream (record { size = plus f g; t = t }) ≡ plus (weight stream (record { size = f; t = t })) (weight stream (record { size = g; t = t }))
+    → weight stream (record { cp = plus f g; t = t }) ≡ plus (weight stream (record { cp = f; t = t })) (weight stream (record { cp = g; t = t }))
 
 -- the weight of the branch with a number
 abbrev pub weight_at : Weight → Network → Valuation → ℕ → Rational
@@ -42,14 +42,14 @@ weight_at weight network values branch = weight (stream_at network.branches bran
 -- what branches lose of their weight at a line: at a pass, and at a mix
 abbrev pub pass_loss : (ℕ → Rational) → Line → Rational
 pass_loss weight (line.Exchanger name hot cold duty) = rational_zero
-pass_loss weight (line.Split from first size second) = rational_zero
+pass_loss weight (line.Split from first cp second) = rational_zero
 pass_loss weight (line.Pass from exchanger to) = minus (weight from) (weight to)
 pass_loss weight (line.Mix first second to) = rational_zero
 pass_loss weight (line.End branch) = rational_zero
 
 abbrev pub mix_loss : (ℕ → Rational) → Line → Rational
 mix_loss weight (line.Exchanger name hot cold duty) = rational_zero
-mix_loss weight (line.Split from first size second) = rational_zero
+mix_loss weight (line.Split from first cp second) = rational_zero
 mix_loss weight (line.Pass from exchanger to) = rational_zero
 mix_loss weight (line.Mix first second to) = minus (plus (weight first) (weight second)) (weight to)
 mix_loss weight (line.End branch) = rational_zero

@@ -7,6 +7,6 @@ use fractions::Frac;
 /// in W and the part of it, from 0 to 1, that is still to be given (hot) or was already taken (cold).
 #[derive(Clone, Copy, Debug, PartialEq, Eq)]
 pub struct BranchValue {
-    pub size: Frac,
+    pub cp: Frac,
     pub t: Frac,
 }

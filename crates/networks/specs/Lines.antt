@@ -30,7 +30,7 @@ pub record Exchanger : Type 0 where
 
 abbrev pub exchanger_of : Line → Option Exchanger
 exchanger_of (line.Exchanger name hot cold duty) = Some (record { name = name; hot = hot; cold = cold; duty = duty })
-exchanger_of (line.Split from first size second) = None
+exchanger_of (line.Split from first cp second) = None
 exchanger_of (line.Pass from exchanger to) = None
 exchanger_of (line.Mix first second to) = None
 exchanger_of (line.End branch) = None
@@ -44,7 +44,7 @@ exchangers_of lines = filter_map exchanger_of lines
 -- the numbers of the branches that a line makes
 abbrev pub makes : Line → List ℕ
 makes (line.Exchanger name hot cold duty) = []
-makes (line.Split from first size second) = first ∷ second ∷ []
+makes (line.Split from first cp second) = first ∷ second ∷ []
 makes (line.Pass from exchanger to) = to ∷ []
 makes (line.Mix first second to) = to ∷ []
 makes (line.End branch) = []
@@ -52,7 +52,7 @@ makes (line.End branch) = []
 -- and of those that it uses
 abbrev pub uses : Line → List ℕ
 uses (line.Exchanger name hot cold duty) = []
-uses (line.Split from first size second) = from ∷ []
+uses (line.Split from first cp second) = from ∷ []
 uses (line.Pass from exchanger to) = from ∷ []
 uses (line.Mix first second to) = first ∷ second ∷ []
 uses (line.End branch) = branch ∷ []
@@ -84,7 +84,7 @@ own_branches case = map own_branch (enumerate_from 0 case.streams)
 -- which exchanger a line leads a branch through, and on the side of which stream
 abbrev pub passage_of : List Branch → Line → Option Passage
 passage_of branches (line.Exchanger name hot cold duty) = None
-passage_of branches (line.Split from first size second) = None
+passage_of branches (line.Split from first cp second) = None
 passage_of branches (line.Pass from exchanger to) = Some (record { exchanger = exchanger; stream = stream_at branches from })
 passage_of branches (line.Mix first second to) = None
 passage_of branches (line.End branch) = None
@@ -98,7 +98,7 @@ same_passage a b = (a.exchanger == b.exchanger) && (a.stream == b.stream)
 -- the line leads a branch of the stream through the exchanger
 abbrev pub is_pass_of : List Branch → ℕ → ℕ → Line → Bool
 is_pass_of branches exchanger stream (line.Exchanger name hot cold duty) = false
-is_pass_of branches exchanger stream (line.Split from first size second) = false
+is_pass_of branches exchanger stream (line.Split from first cp second) = false
 is_pass_of branches exchanger stream (line.Pass from through to) = (exchanger == through) && (stream == stream_at branches from)
 is_pass_of branches exchanger stream (line.Mix first second to) = false
 is_pass_of branches exchanger stream (line.End branch) = false

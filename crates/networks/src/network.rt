@@ -39,7 +39,7 @@ pub enum Line {
     Split {
         from: u32,
         first: u32,
-        size: Frac,
+        cp: Frac,
         second: u32,
     },
     /// A branch passes an exchanger, on the side of its stream; behind it, it is the branch `to`.

@@ -120,8 +120,8 @@ module _ (height : ℕ → Rational) where
   mixes_not_negative n [] some = All-nil IsNotNegative
   mixes_not_negative n (line.Exchanger name hot cold duty ∷ lines) some =
       mixes_not_negative (n + 1) lines (All-tail LosesSome (line.Exchanger name hot cold duty) lines some)
-  mixes_not_negative n (line.Split from first size second ∷ lines) some =
-      mixes_not_negative (n + 1) lines (All-tail LosesSome (line.Split from first size second) lines some)
+  mixes_not_negative n (line.Split from first cp second ∷ lines) some =
+      mixes_not_negative (n + 1) lines (All-tail LosesSome (line.Split from first cp second) lines some)
   mixes_not_negative n (line.Pass from exchanger to ∷ lines) some =
       mixes_not_negative (n + 1) lines (All-tail LosesSome (line.Pass from exchanger to) lines some)
   mixes_not_negative n (line.Mix first second to ∷ lines) some = All-cons IsNotNegative _ _ (All-head LosesSome (line.Mix first second to) lines some)

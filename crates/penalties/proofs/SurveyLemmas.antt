@@ -143,7 +143,7 @@ answers-sensible view s at k value r sensible answers =
 
 -- by whether the shifted level counts as above the place
 abbrev pub LevelAnswers : Bool → Place → ℕ → BranchValue → Result Rational TooFine → Type 0
-LevelAnswers counts at k value = Formed (latent_steps at k counts value) (λ h. h ≡ (if counts then times value.size value.t else rational_zero))
+LevelAnswers counts at k value = Formed (latent_steps at k counts value) (λ h. h ≡ (if counts then times value.cp value.t else rational_zero))
 
 pub answers-latent : (view : View) (s : Stream) (at : Place) (k : ℕ) (value : BranchValue) (r : Result Rational TooFine) → is_latent s ≡ true
     → LevelAnswers (counts_above view.from_itself view.place (shifted s.side s.supply s.contribution)) at k value r → Answers view at k (Some s) value r

@@ -20,7 +20,7 @@ exchanger_row height network (number, e) = record { place = place.Exchanger numb
 -- statements are counted from 1
 abbrev pub mix_row : (ℕ → Rational) → ℕ × Line → Option Penalty
 mix_row height (index, line.Exchanger name hot cold duty) = None
-mix_row height (index, line.Split from first size second) = None
+mix_row height (index, line.Split from first cp second) = None
 mix_row height (index, line.Pass from exchanger to) = None
 mix_row height (index, line.Mix first second to) =
     Some (record { place = place.Line (index + 1); value = mix_loss height (line.Mix first second to) })

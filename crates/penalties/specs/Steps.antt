@@ -49,10 +49,10 @@ sensible_steps at k size distance = step at k distance ∷ (if is_below rational
 
 -- of a latent one no distance is formed, and its height only where its level counts as above the place
 abbrev pub latent_steps : Place → ℕ → Bool → BranchValue → List Step
-latent_steps at k counts value = if counts then step at (k + 1) (times value.size value.t) ∷ [] else []
+latent_steps at k counts value = if counts then step at (k + 1) (times value.cp value.t) ∷ [] else []
 
 abbrev pub course_steps : Bool → Course → Place → ℕ → BranchValue → List Step
-course_steps from_itself (Sensible base) at k value = sensible_steps at k value.size (minus value.t base)
+course_steps from_itself (Sensible base) at k value = sensible_steps at k value.cp (minus value.t base)
 course_steps from_itself (Latent distance) at k value = latent_steps at k (is_above from_itself distance) value
 
 abbrev pub stream_steps : View → Place → ℕ → Option Stream → BranchValue → List Step
@@ -103,7 +103,7 @@ taken_steps height steps at first second to =
 -- statements are counted from 1, and only mixes have penalties
 abbrev pub line_steps : (ℕ → Rational) → (Place → ℕ → ℕ → List Step) → ℕ × Line → List Step
 line_steps height steps (index, line.Exchanger name hot cold duty) = []
-line_steps height steps (index, line.Split from first size second) = []
+line_steps height steps (index, line.Split from first cp second) = []
 line_steps height steps (index, line.Pass from exchanger to) = []
 line_steps height steps (index, line.Mix first second to) = taken_steps height steps (place.Line (index + 1)) first second to
 line_steps height steps (index, line.End branch) = []

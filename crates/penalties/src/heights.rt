@@ -60,8 +60,8 @@ fn sensible_height(
 ) -> Result<Frac, TooFine>
     requires { step + 1 < 2 ^ 32 }
     ensures { let distance = minus value.now.t base.now in Formed
-        (sensible_steps place step value.now.size distance)
-        (λ h. h ≡ height value.now.size distance)
+        (sensible_steps place step value.now.cp distance)
+        (λ h. h ≡ height value.now.cp distance)
         result }
 {
     let Some(distance) = value.t.minus(base) else {
@@ -71,7 +71,7 @@ fn sensible_height(
         return Ok(Frac::whole(0));
     }
     let step = step + 1;
-    match value.size.times(&distance) {
+    match value.cp.times(&distance) {
         Some(height) => Ok(height),
         None => Err(TooFine { place, step }),
     }
@@ -88,14 +88,14 @@ fn latent_height(
     requires { step + 1 < 2 ^ 32 }
     ensures { Formed
         (latent_steps place step counts value.now)
-        (λ h. h ≡ (if counts then times value.now.size value.now.t else rational_zero))
+        (λ h. h ≡ (if counts then times value.now.cp value.now.t else rational_zero))
         result }
 {
     if !counts {
         return Ok(Frac::whole(0));
     }
     let step = step + 1;
-    match value.size.times(&value.t) {
+    match value.cp.times(&value.t) {
         Some(height) => Ok(height),
         None => Err(TooFine { place, step }),
     }
@@ -110,7 +110,7 @@ impl<'a> Survey<'a> {
         ensures { result ≡ value_at (values_of self.now.auditor.now) branch }
     {
         let none = BranchValue {
-            size: Frac::whole(0),
+            cp: Frac::whole(0),
             t: Frac::whole(0),
         };
         self.auditor.value(branch).unwrap_or(none)

@@ -64,11 +64,11 @@ module _ {case : Case} {hot cold : List Piece} {exchanges : List Exchange} (can 
       → IsLedStage network_here s.side (full_size s) (led_piece s.side exchanges (index, p))
   stage-led stream s index p piece = record {
     some = piece.some;
-    positive = each-share exchanges (λ a. IsBelow rational_zero a.size) s.side index (λ number e at on.
+    positive = each-share exchanges (λ a. IsBelow rational_zero a.cp) s.side index (λ number e at on.
     let there = ap (slice_get (on_side s.side hot cold)) on ∙ piece.there in
     positive-is (size_on s.side e) (size-for can s.side number e p stream at there piece.own).above);
     sizes = piece.is.sizes;
-    duties = each-share exchanges (λ a. times a.size (change s.side p.before p.after) ≡ duty_at network_here a.exchanger) s.side index
+    duties = each-share exchanges (λ a. times a.cp (change s.side p.before p.after) ≡ duty_at network_here a.exchanger) s.side index
         (λ number e at on. piece.is.heats number e at on ∙ sym (duty-is number e at));
   }
 
@@ -290,11 +290,11 @@ module _ {case : Case} {hot cold : List Piece} {exchanges : List Exchange} (can 
       let fine = piece.is.fine in let full = full_size s in
       let d = fine.size_den in let m = fine.most_size in let e = fine.state_den in let n = fine.most_state in
       let shares = shares_of s.side index exchanges in
-      let IsRatio = λ (a : Share). (num : ℤ) × (a.size ≡ ratio num d) in
-      let over = All-weaker IsRatio (λ (a : Share). IsOver d a.size) (λ a (num, same). record { num = num; is = same }) shares fine.sizes in
+      let IsRatio = λ (a : Share). (num : ℤ) × (a.cp ≡ ratio num d) in
+      let over = All-weaker IsRatio (λ (a : Share). IsOver d a.cp) (λ a (num, same). record { num = num; is = same }) shares fine.sizes in
       All-weaker (IsStageBranch d full p.before p.after) IsRoomy (λ v branch.
-      let most = at_most_trans v.size full (whole (pos m)) branch.most fine.most in
-      sized_roomy d m e n v fine.small (sized-between d m v.size branch.over.num fine.small.size_den branch.over.is branch.least most)
+      let most = at_most_trans v.cp full (whole (pos m)) branch.most fine.most in
+      sized_roomy d m e n v fine.small (sized-between d m v.cp branch.over.num fine.small.size_den branch.over.is branch.least most)
       (⊎_elim (λ same. subst (IsSized e n) (sym same) fine.before) (λ same. subst (IsSized e n) (sym same) fine.after) branch.state))
       (stage_values p.before p.after shares) (stage_sized d full p.before p.after shares over (stage-led can stream s index p piece).positive piece.is.sizes)
 

@@ -147,11 +147,11 @@ module _ (pieces : List Piece) (index : ℕ) (p : Piece) (there : slice_get piec
 module _ (exchanges : List Exchange) where
   pub each-share : (P : Share → Type 0) (of : Side) (index : ℕ)
       → ((number : ℕ) (e : Exchange) → slice_get exchanges number ≡ Some e → piece_on of e ≡ index
-      → P (record { exchanger = number; size = size_on of e }))
+      → P (record { exchanger = number; cp = size_on of e }))
       → All P (shares_of of index exchanges)
   unfolding shares_of
   each-share P of index each =
-      let share : ℕ → Exchange → Share = λ k e. record { exchanger = k; size = size_on of e } in
+      let share : ℕ → Exchange → Share = λ k e. record { exchanger = k; cp = size_on of e } in
       kept_hold (λ (e : Exchange). piece_on of e == index) (share_of of index) share (λ k e. refl) P 0 exchanges (λ i e at own.
       let number : i ≡ 0 + i = omega arith in
       subst (λ k. P (share k e)) number (each i e at (eqb-true (piece_on of e) index own)))

@@ -73,7 +73,7 @@ pub record IsFine (of : Side) (exchanges : List Exchange) (index : ℕ) (p : Pie
   pub state_den : ℕ
   pub most_state : ℕ
   pub small : AreSmall size_den most_size state_den most_state
-  pub sizes : All (λ share. (num : ℤ) × (share.size ≡ ratio num size_den)) (shares_of of index exchanges)
+  pub sizes : All (λ share. (num : ℤ) × (share.cp ≡ ratio num size_den)) (shares_of of index exchanges)
   pub most : IsAtMost (full_size s) (whole (pos most_size))
   pub before : IsSized state_den most_state p.before
   pub after : IsSized state_den most_state p.after

@@ -58,7 +58,7 @@ exchangers_for hot cold exchanges = map (exchanger_of hot cold) (enumerate_from 
 
 -- the share of an exchange
 abbrev pub share_for : Side → ℕ × Exchange → Share
-share_for of (number, e) = record { exchanger = number; size = size_on of e }
+share_for of (number, e) = record { exchanger = number; cp = size_on of e }
 
 -- the shares of the piece at an index: one for each of its exchanges, in their order
 abbrev pub share_of : Side → ℕ → ℕ × Exchange → Option Share

@@ -51,7 +51,7 @@ fn own_shares(
         }
         let share = Share {
             exchanger: number as u32,
-            size: exchange.size_on(side),
+            cp: exchange.size_on(side),
         };
         own.push((index, share))?;
     }

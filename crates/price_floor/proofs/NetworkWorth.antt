@@ -35,10 +35,10 @@ module _ (case : Case) (least : ℤ) (views : List View) (prices : Side → Sour
   unfolding branch_worth
   branch_worth-additive i f g t = by (slice_get case.streams i)
     where
-      by : (o : Option Stream) → value_worth least views prices i o (record { size = plus f g; t = t })
-          ≡ plus (value_worth least views prices i o (record { size = f; t = t })) (value_worth least views prices i o (record { size = g; t = t }))
+      by : (o : Option Stream) → value_worth least views prices i o (record { cp = plus f g; t = t })
+          ≡ plus (value_worth least views prices i o (record { cp = f; t = t })) (value_worth least views prices i o (record { cp = g; t = t }))
       by None = sym (plus-zero rational_zero)
-      by (Some s) = let p = prices s.side (source.Stream i) in let height = λ (size : Rational) (v : View). height_in v s (record { size = size; t = t }) in
+      by (Some s) = let p = prices s.side (source.Stream i) in let height = λ (size : Rational) (v : View). height_in v s (record { cp = size; t = t }) in
           step_worth-same least views p _ (plus (times f t) (times g t)) _ (λ v. plus (height f v) (height g v)) (plus-times f g t)
           (λ v. height_on-additive v.from_itself (course_of v.place s) f g t) ∙ step_worth-plus least views p (times f t) (times g t) (height f) (height g)
 
@@ -50,7 +50,7 @@ module _ (case : Case) (least : ℤ) (views : List View) (prices : Side → Sour
     branch b = value_at values b
 
     abbrev heat : ℕ → Rational
-    heat b = times (branch b).size (branch b).t
+    heat b = times (branch b).cp (branch b).t
 
     abbrev height : ℕ → View → Rational
     height b v = height_at case v network values b
@@ -105,7 +105,7 @@ module _ (case : Case) (least : ℤ) (views : List View) (prices : Side → Sour
     hot_taken number i e at is on =
         let (s, from, to, pass) = run_of shape whole_values number i e side.Hot at (inl is) on in let runs = run_on_scale shape whole_values number e at in
         let gives = ap (λ size. minus (heat from) (times size (branch to).t)) pass.size
-        ∙ sym (times-minus (branch from).size (branch from).t (branch to).t) ∙ pass.heat in
+        ∙ sym (times-minus (branch from).cp (branch from).t (branch to).t) ∙ pass.heat in
         let takes = λ (v : View). sym (ap (λ o. minus (inlet_height (λ b. height b v) o) (outlet_height (λ b. height b v) o)) pass.found)
         ∙ ap (λ x. released_heat (λ b. height b v) network number e.duty x) (sym is) ∙ runs.released v i is
         ∙ ap (λ x. share_in v e.duty (shifted_run side.Hot case network values number x)) is in
@@ -119,7 +119,7 @@ module _ (case : Case) (least : ℤ) (views : List View) (prices : Side → Sour
     cold_taken number i e at is on =
         let (s, from, to, pass) = run_of shape whole_values number i e side.Cold at (inr is) on in let runs = run_on_scale shape whole_values number e at in
         let gives = ap (λ size. minus (times size (branch to).t) (heat from)) pass.size
-        ∙ sym (times-minus (branch from).size (branch to).t (branch from).t) ∙ pass.heat in
+        ∙ sym (times-minus (branch from).cp (branch to).t (branch from).t) ∙ pass.heat in
         let takes = λ (v : View). sym (ap (λ o. minus (outlet_height (λ b. height b v) o) (inlet_height (λ b. height b v) o)) pass.found)
         ∙ ap (λ x. absorbed_heat (λ b. height b v) network number x) (sym is) ∙ runs.absorbed v i is
         ∙ ap (λ x. share_in v e.duty (shifted_run side.Cold case network values number x)) is in
@@ -267,8 +267,8 @@ module _ (case : Case) (network : Network) (least : ℤ) (grid : List ℤ) (pric
   unfolding branch_worth
   loss_given under = let views = views_of grid in let q = prices s.side (source.Stream i) in let first = first_value s in let last = last_value s in
       ap (λ o. minus (value_worth least views prices i o first) (value_worth least views prices i o last)) at
-      ∙ sym (step_worth-minus least views q (times first.size first.t) (times last.size last.t) (λ v. height_in v s first) (λ v. height_in v s last))
-      ∙ step-same least views q (minus (times first.size first.t) (times last.size last.t)) (whole (given_by s.side (seen (from_place lowest))))
+      ∙ sym (step_worth-minus least views q (times first.cp first.t) (times last.cp last.t) (λ v. height_in v s first) (λ v. height_in v s last))
+      ∙ step-same least views q (minus (times first.cp first.t) (times last.cp last.t)) (whole (given_by s.side (seen (from_place lowest))))
       (λ v. minus (height_in v s first) (height_in v s last)) (λ v. whole (given_by s.side (seen v))) (change_given s lowest valid under)
       (λ k d within. stream_given (get_or views k d) s valid)
 

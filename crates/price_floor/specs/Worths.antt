@@ -26,7 +26,7 @@ use Rattle.price_floor.specs.Views.{comes_below}
 abbrev pub value_worth : ℤ → List View → (Side → Source → StepPrices) → ℕ → Option Stream → BranchValue → Rational
 value_worth least views prices i None value = rational_zero
 value_worth least views prices i (Some s) value =
-    step_worth least views (prices s.side (source.Stream i)) (times value.size value.t) (λ v. height_in v s value)
+    step_worth least views (prices s.side (source.Stream i)) (times value.cp value.t) (λ v. height_in v s value)
 
 unfoldable pub branch_worth : Case → ℤ → List View → (Side → Source → StepPrices) → Weight
 branch_worth case least views prices i value = value_worth least views prices i (slice_get case.streams i) value

@@ -63,7 +63,7 @@ module _ (number : ℕ) (low high : ℤ) (hot cold : List Span) where
 running : (low high : ℤ) (a : Span) (across : ℤ) → pos 0 <ℤ (flow_in low high a *ℤ across) → (a.from ≤ℤ low) × (high ≤ℤ a.to)
 running low high a across above = by (int_le a.from low && int_le high a.to) refl above
   where
-    by : (b : Bool) → (int_le a.from low && int_le high a.to) ≡ b → pos 0 <ℤ ((if b then a.size else pos 0) *ℤ across) → (a.from ≤ℤ low) × (high ≤ℤ a.to)
+    by : (b : Bool) → (int_le a.from low && int_le high a.to) ≡ b → pos 0 <ℤ ((if b then a.cp else pos 0) *ℤ across) → (a.from ≤ℤ low) × (high ≤ℤ a.to)
     by true is some = reaches a.from a.to low high is
     by false is some = let none = zero_times (pos 0) across refl in absurd (omega (arith, ints, some, none))
 
@@ -96,7 +96,7 @@ size_shares of index n (e ∷ es) = by (piece_on of e == index) (filter_map (sha
     (size_shares of index (n + 1) es)
   where
     by : (b : Bool) (shares : List Share) (sizes : List Rational) → size_of shares ≡ rational_sum sizes
-        → size_of (cons_option (if b then Some (record { exchanger = n; size = size_on of e }) else None) shares)
+        → size_of (cons_option (if b then Some (record { exchanger = n; cp = size_on of e }) else None) shares)
         ≡ rational_sum (cons_option (if b then Some (size_on of e) else None) sizes)
     by true shares sizes is = ap (plus (size_on of e)) is
     by false shares sizes is = is
@@ -110,7 +110,7 @@ share_there of index n (e ∷ es) some = by (piece_on of e == index) refl some (
     rest : List Share
     rest = filter_map (share_of of index) (enumerate_from (n + 1) es)
 
-    by : (b : Bool) → (piece_on of e == index) ≡ b → 0 < length (cons_option (if b then Some (record { exchanger = n; size = size_on of e }) else None) rest)
+    by : (b : Bool) → (piece_on of e == index) ≡ b → 0 < length (cons_option (if b then Some (record { exchanger = n; cp = size_on of e }) else None) rest)
         → (0 < length rest → (i : ℕ) × (x : Exchange) × (slice_get es i ≡ Some x) × (piece_on of x ≡ index))
         → (i : ℕ) × (x : Exchange) × (slice_get (e ∷ es) i ≡ Some x) × (piece_on of x ≡ index)
     by true own here on = (0, e, refl, eqb-true (piece_on of e) index own)

@@ -226,9 +226,9 @@ module _ (axis : Axis) where
             most_state = highest;
             small = small across (unsigned_abs (flow_at axis s.side number)) (omega (arith, ints, above)) (flow_few (other s.side) number)
                 (omega (arith, ints, some)) (flow_few s.side number);
-            sizes = kept_hold (λ (e : Exchange). piece_on s.side e == index) (share_of s.side index) (λ n e. record { exchanger = n; size = size_on s.side e })
+            sizes = kept_hold (λ (e : Exchange). piece_on s.side e == index) (share_of s.side index) (λ n e. record { exchanger = n; cp = size_on s.side e })
                 (λ n e. refl)
-                (λ (share : Share). (num : ℤ) × (share.size ≡ ratio num across)) 0 (exchanges axis) (λ i e at test. own_over i e at test);
+                (λ (share : Share). (num : ℤ) × (share.cp ≡ ratio num across)) 0 (exchanges axis) (λ i e at test. own_over i e at test);
             most = subst (λ x. IsAtMost x (whole (pos most_cp))) (sym (full_size-sensible s valid.sensible))
                 (at_most-whole s.cp (pos most_cp) valid.sensible.cp.upto);
             before = states.0;

@@ -41,18 +41,18 @@ fn auditor_of(alloc: Global, case: &Case, text: &[u8]) -> Result<Auditor, Fail>
 /// Compares what branches carry after the last audit.
 fn check_values(rt: &impl Abort, auditor: &Auditor, wanted: &[Carried]) {
     for (branch, carried) in wanted {
-        let found = auditor.value(*branch).map(|value| (value.size, value.t));
-        let wanted = carried.map(|(size, t)| (Frac::whole(size), Frac::whole(t)));
+        let found = auditor.value(*branch).map(|value| (value.cp, value.t));
+        let wanted = carried.map(|(cp, t)| (Frac::whole(cp), Frac::whole(t)));
         assert_same(rt, "a branch", &found, &wanted);
     }
 }
 
-fn unfinished(stream: u32, size: i64) -> Verdict {
+fn unfinished(stream: u32, cp: i64) -> Verdict {
     Verdict::Rejected {
         place: Place::Stream(stream),
         reason: Reason::Unfinished {
             found: Frac::whole(0),
-            wanted: Frac::whole(size),
+            wanted: Frac::whole(cp),
         },
     }
 }

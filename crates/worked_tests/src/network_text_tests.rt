@@ -182,7 +182,7 @@ fn statements() -> Result<[Line; 6], Fail> {
         Line::Split {
             from: 0,
             first: 2,
-            size: Frac::whole(4),
+            cp: Frac::whole(4),
             second: 3,
         },
         Line::Pass {

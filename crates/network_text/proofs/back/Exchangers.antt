@@ -41,8 +41,8 @@ front-last {case} {network} made =
 -- a line of the network, with the names of the branches that it makes
 abbrev pub entry_of : Network → Line → Entry
 entry_of network (line.Exchanger name hot cold duty) = record { line = line.Exchanger name hot cold duty; names = few.Nothing }
-entry_of network (line.Split from first size second) = record {
-  line = line.Split from first size second;
+entry_of network (line.Split from first cp second) = record {
+  line = line.Split from first cp second;
   names = few.Two (branch_name network first) (branch_name network second);
 }
 entry_of network (line.Pass from exchanger to) = record { line = line.Pass from exchanger to; names = few.One (branch_name network to) }
@@ -62,7 +62,7 @@ abbrev IsOn : Network → ℕ → ℕ → Type 0
 IsOn network stream b = stream_at network.branches b ≡ stream
 
 made_on : (network : Network) (l : Line) → IsOfOneStream network.branches l → All (IsOn network (first_stream network.branches (uses l))) (makes l)
-made_on network (line.Split from first size second) one =
+made_on network (line.Split from first cp second) one =
     All-from_recursion (IsOn network (stream_at network.branches from)) (first ∷ second ∷ []) (one.0, (one.1, tt))
 made_on network (line.Pass from exchanger to) one = All-from_recursion (IsOn network (stream_at network.branches from)) (to ∷ []) (one, tt)
 made_on network (line.Mix first second to) one = All-from_recursion (IsOn network (stream_at network.branches first)) (to ∷ []) (one.1, tt)

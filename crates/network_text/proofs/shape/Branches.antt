@@ -43,7 +43,7 @@ record AreOf (branches : List Branch) (l : Line) (stream : ℕ) : Type 0 where
   made : All (λ b. stream_at branches b ≡ stream) (makes l)
 
 one_stream_from : (branches : List Branch) (l : Line) (stream : ℕ) → AreOf branches l stream → IsOfOneStream branches l
-one_stream_from branches (line.Split from first size second) stream are =
+one_stream_from branches (line.Split from first cp second) stream are =
     let own = sym (are.used 0 0 (omega arith)) in (are.made 0 0 (omega arith) ∙ own, are.made 1 0 (omega arith) ∙ own)
 one_stream_from branches (line.Pass from exchanger to) stream are = are.made 0 0 (omega arith) ∙ sym (are.used 0 0 (omega arith))
 one_stream_from branches (line.Mix first second to) stream are =
@@ -53,7 +53,7 @@ one_stream_from branches other stream are = tt
 -- with more branches the streams of a line stay
 still_one : (branches new : List Branch) (l : Line) → All (λ b. b < length branches) (uses l) → All (λ b. b < length branches) (makes l)
     → IsOfOneStream branches l → IsOfOneStream (branches ++ new) l
-still_one branches new (line.Split from first size second) used made one =
+still_one branches new (line.Split from first cp second) used made one =
     let own = sym (stream_at-front branches new from (used 0 0 (omega arith))) in
     (stream_at-front branches new first (made 0 0 (omega arith)) ∙ one.0 ∙ own, stream_at-front branches new second (made 1 0 (omega arith)) ∙ one.1 ∙ own)
 still_one branches new (line.Pass from exchanger to) used made one = stream_at-front branches new to (made 0 0 (omega arith)) ∙ one

@@ -13,9 +13,9 @@ returns-in_default-times c = λ at. found-formed at 2 _ _ _ _ c.in-Some.is c.tim
 -- both products are formed, and so `plus` gives their sum, from which the items are left
 record IsBoth (c : After-plus) : Type 0 where
   gives : Gives c.plus.result (heat_of_both c.args.first.now c.args.second.now)
-  found : (at : Place) → first_finding (mean_items at c.args.first.now c.args.second.now c.args.size.now)
+  found : (at : Place) → first_finding (mean_items at c.args.first.now c.args.second.now c.args.cp.now)
       ≡ first_finding (Step at 4 (heat_of_both c.args.first.now c.args.second.now)
-      ∷ Step at 5 (over (heat_of_both c.args.first.now c.args.second.now) c.args.size.now) ∷ [])
+      ∷ Step at 5 (over (heat_of_both c.args.first.now c.args.second.now) c.args.cp.now) ∷ [])
 
 is_both : (c : After-plus) → IsBoth c
 is_both c = let one = value_formed _ _ _ c.in-Some.is c.times.ensures in let other = value_formed _ _ _ c.in-Some-times.is c.times-2.ensures in record {
@@ -29,13 +29,13 @@ returns-in_default-plus c =
 
 -- the sum is formed, and so `over` gives the mean, which is the last item
 record IsMean (c : After-over) : Type 0 where
-  gives : Gives c.over.result (over (heat_of_both c.args.first.now c.args.second.now) c.args.size.now)
-  found : (at : Place) → first_finding (mean_items at c.args.first.now c.args.second.now c.args.size.now)
-      ≡ first_finding (Step at 5 (over (heat_of_both c.args.first.now c.args.second.now) c.args.size.now) ∷ [])
+  gives : Gives c.over.result (over (heat_of_both c.args.first.now c.args.second.now) c.args.cp.now)
+  found : (at : Place) → first_finding (mean_items at c.args.first.now c.args.second.now c.args.cp.now)
+      ≡ first_finding (Step at 5 (over (heat_of_both c.args.first.now c.args.second.now) c.args.cp.now) ∷ [])
 
 is_mean : (c : After-over) → IsMean c
 is_mean c = let both = is_both (goal.at.After-over c).After-plus in let sum = value_formed _ _ _ c.in-Some-plus.is both.gives in record {
-  gives = subst (λ h. Gives c.over.result (over h c.args.size.now)) sum (c.over.ensures.value (positive-nonzero c.args.size.now c.requires));
+  gives = subst (λ h. Gives c.over.result (over h c.args.cp.now)) sum (c.over.ensures.value (positive-nonzero c.args.cp.now c.requires));
   found = λ at. both.found at ∙ found-formed at 4 _ _ _ _ c.in-Some-plus.is both.gives;
 }
 

@@ -5,15 +5,15 @@ use Rattle.std.proofs.Common.{ap, subst, sym, ◌∙◌, ◌≡◌}
 use Rattle.network_audit.proofs.statements.passed.Goals as goal
 
 pub returns-in_default : goal.returns-in_default
-returns-in_default c = found-not_formed _ 1 _ _ _ c.in_default.is (c.over.ensures.value (positive-nonzero c.args.from.now.size c.requires))
+returns-in_default c = found-not_formed _ 1 _ _ _ c.in_default.is (c.over.ensures.value (positive-nonzero c.args.from.now.cp c.requires))
 
 -- the change is formed, and so the state behind the exchanger is what `moved` gives
 record IsMoved (c : After-moved) : Type 0 where
-  gives : Gives c.over.result (over c.args.duty.now c.args.from.now.size)
-  next : Gives c.moved.result (moved c.args.side c.args.from.now.t (over c.args.duty.now c.args.from.now.size))
+  gives : Gives c.over.result (over c.args.duty.now c.args.from.now.cp)
+  next : Gives c.moved.result (moved c.args.side c.args.from.now.t (over c.args.duty.now c.args.from.now.cp))
 
 is_moved : (c : After-moved) → IsMoved c
-is_moved c = let gives = c.over.ensures.value (positive-nonzero c.args.from.now.size c.requires) in let change = value_formed _ _ _ c.in-Some.is gives in
+is_moved c = let gives = c.over.ensures.value (positive-nonzero c.args.from.now.cp c.requires) in let change = value_formed _ _ _ c.in-Some.is gives in
     record { gives = gives; next = subst (λ by. Gives c.moved.result (moved c.args.side c.args.from.now.t by)) change c.moved.ensures }
 
 pub returns-in_default-moved : goal.returns-in_default-moved
@@ -32,4 +32,4 @@ returns-in-Err c = load_left (goal.at.returns-in-Err c).After-keeps_load ∙ c.i
 
 pub returns-in-Ok : goal.returns-in-Ok
 returns-in-Ok c = let at = (goal.at.returns-in-Ok c).After-keeps_load in let is = is_moved (goal.at.After-keeps_load at).After-moved in
-    (load_left at ∙ c.in-Ok.ensures.0 c.args.place, λ i. record { size = c.args.from.now.size; t = value_formed _ _ _ c.in-Some-moved.is is.next i })
+    (load_left at ∙ c.in-Ok.ensures.0 c.args.place, λ i. record { cp = c.args.from.now.cp; t = value_formed _ _ _ c.in-Some-moved.is is.next i })

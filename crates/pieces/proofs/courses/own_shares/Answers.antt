@@ -20,7 +20,7 @@ loop-number-preserved c =
     let is : is_of_stream c.args.sources.now c.args.stream (piece_on c.args.side e) ≡ true =
     ap (is_of_stream c.args.sources.now c.args.stream) (sym c.piece_on-index.ensures) ∙ sym c.is_of_stream.ensures ∙ c.if-not-is_of_stream.false in
     cc c.in_ok-push.ensures.items
-    ∙ (λ i. c.loop-number.invariant i ++ (c.piece_on-index.ensures i, record { exchanger = number; size = c.size_on.ensures i }) ∷ [])
+    ∙ (λ i. c.loop-number.invariant i ++ (c.piece_on-index.ensures i, record { exchanger = number; cp = c.size_on.ensures i }) ∷ [])
     ∙ sym (kept-more own c.args.exchanges.now number e c.loop-number-test.true c.index-exchanges-number.is share
     (ap (λ b. if b then Some share else None) is))
 
