@@ -65,8 +65,8 @@ module _ {case : Case} {hot cold : List Piece} {exchanges : List Exchange} (can 
   stage-led stream s index p piece = record {
     some = piece.some;
     positive = each-share exchanges (λ a. IsBelow rational_zero a.cp) s.side index (λ number e at on.
-    let there = ap (slice_get (on_side s.side hot cold)) on ∙ piece.there in
-    positive-is (size_on s.side e) (size-for can s.side number e p stream at there piece.own).above);
+        let there = ap (slice_get (on_side s.side hot cold)) on ∙ piece.there in
+        positive-is (size_on s.side e) (size-for can s.side number e p stream at there piece.own).above);
     sizes = piece.is.sizes;
     duties = each-share exchanges (λ a. times a.cp (change s.side p.before p.after) ≡ duty_at network_here a.exchanger) s.side index
         (λ number e at on. piece.is.heats number e at on ∙ sym (duty-is number e at));

@@ -14,7 +14,7 @@ mod row_reader;
 pub use fault::RowFault;
 pub use fields::{are_empty, field, is_passed_over, name_in, number_in, optional_number_in};
 pub use numbers::{
-    contribution, flow_rate, flow_rate_beside, heat, number_of, own_contribution, own_load,
-    price, temperature,
+    contribution, flow_rate, flow_rate_beside, heat, number_of, own_contribution, own_load, price,
+    temperature,
 };
 pub use row_reader::Rows;
