@@ -5,7 +5,7 @@ use Rattle.design_lines.specs.declared.stage.Share.{Share}
 
 -- the size of shares together
 abbrev pub size_of : List Share → Rational
-size_of shares = rational_sum_by (λ s. s.size) shares
+size_of shares = rational_sum_by (λ s. s.cp) shares
 
 -- the shares of a stage, and the states before it and after it
 pub record LedStage : Type 0 where
