@@ -68,6 +68,8 @@ pub use Rattle.statements.specs.Statements.{field}
 pub use Rattle.std.proofs.Math.ListN.{get_or-append}
 pub use Rattle.std.proofs.Math.Seq.{get_or-append_seam}
 pub use Rattle.std.proofs.lemmas.List.Elements.{All-push}
+pub use Rattle.std.proofs.lemmas.List.{flat_map_more}
+pub use Rattle.std.specs.List.{flat_map}
 pub use Rattle.std.proofs.lemmas.List.Folds.{position_or_len_push}
 pub use Rattle.std.proofs.lemmas.List.Sums.{prefix_len-le-length}
 pub use Rattle.std.specs.Cmp.{both_ways}
