@@ -8,9 +8,8 @@
 
 mod text_key;
 
-pub use text_key::TextKey;
-
 use indexmap::{IndexMap, IndexSet};
+pub use text_key::TextKey;
 
 /// A map in the order of insertion, whose hashes have a key.
 pub type KeyedMap<K, V> = IndexMap<K, V, TextKey>;

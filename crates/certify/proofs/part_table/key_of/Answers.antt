@@ -11,5 +11,5 @@ pub loop-part-preserved : goal.loop-part-preserved
 loop-part-preserved c =
     let so_far = bytes_of_parts c.args.case.now (take c.loop-part.part-index c.args.parts.now) in
     let more = bytes_of_parts-more c.args.case.now c.args.parts.now c.loop-part.part-index c.span_of-span.result
-        c.loop-part-test.true c.span_of-span.ensures in
+    c.loop-part-test.true c.span_of-span.ensures in
     subst (Holds256 c.digest_span.new.digest) more (c.digest_span.ensures so_far c.loop-part.invariant)
