@@ -11,6 +11,7 @@ ghost use Rattle.case_text.specs.Answers.{IsFresh};
 use crate::entry::{Entry, StreamData, UtilityData};
 use crate::fault::CaseWhy;
 use indexmap::IndexMap;
+use keyed_index::{KeyedMap, TextKey};
 use std::alloc::{AllocError, Global};
 use std::marker::Model;
 use stream_case::{Case, Forbid, Items, Name, Side, Source, Stream, Utility};
@@ -19,8 +20,8 @@ use stream_case::{Case, Forbid, Items, Name, Side, Source, Stream, Utility};
 #[derive(Drop)]
 pub struct Found {
     contribution: Option<i32>,
-    streams: IndexMap<Name, StreamData>,
-    utilities: IndexMap<Name, UtilityData>,
+    streams: KeyedMap<Name, StreamData>,
+    utilities: KeyedMap<Name, UtilityData>,
     forbids: Vec<Forbid>,
 }
 
@@ -36,13 +37,14 @@ impl Model for Found {
 }
 
 impl Found {
-    pub fn new(alloc: Global) -> Found
+    /// Nothing yet. The hashes of the names have this key.
+    pub fn new(alloc: Global, key: TextKey) -> Found
         ensures { result ≡ nothing }
     {
         Found {
             contribution: None,
-            streams: IndexMap::new(alloc),
-            utilities: IndexMap::new(alloc),
+            streams: IndexMap::with_hasher(alloc, key),
+            utilities: IndexMap::with_hasher(alloc, key),
             forbids: Vec::new(alloc),
         }
     }

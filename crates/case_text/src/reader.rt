@@ -20,6 +20,7 @@ use crate::kind::{Kind, kind_of};
 use crate::stream_row::stream_entry;
 use crate::utility_row::utility_entry;
 use csv::ByteRecord;
+use keyed_index::TextKey;
 use rows::Rows;
 use std::alloc::Global;
 use stream_case::Case;
@@ -89,5 +90,6 @@ pub fn read_case(alloc: Global, bytes: &[u8]) -> Result<Case, CaseFault>
     ensures valid { IfOk result IsValid }
 {
     let mut rows = Rows::new(alloc, bytes);
-    case_of(alloc, &mut rows, &mut Found::new(alloc))
+    let mut found = Found::new(alloc, TextKey::of_text(bytes));
+    case_of(alloc, &mut rows, &mut found)
 }

@@ -1,7 +1,7 @@
 -- The table of the parts of a side: the first part with a span keeps its index.
 use Rattle.certify.proofs.Words.{Case, Decides-int_eq, IndexMap, IsTableOf, IsWithSpan, Part, Span, Updates, and_from, and_parts, blank, both_ways}
 use Rattle.certify.proofs.Words.{bytes_decides, false≢true, index_in, index_of, is_span_of, length-take-le, nat_tests, option_or, position_or_len}
-use Rattle.certify.proofs.Words.{position_or_len_push, prefix_len-le-length, same_span, source_name, span_of, take_more, true≢false}
+use Rattle.certify.proofs.Words.{bytes_of_parts, bytes_of_span, flat_map, flat_map_more, position_or_len_push, prefix_len-le-length, same_span, source_name, span_of, take_more, true≢false}
 use Rattle.std.proofs.Common.{Bool, List, None, Option, Some, [], ap, ap₂, arith, cond, eqb, false, get_or, is_some, length, length-append, nat_lt, position}
 use Rattle.std.proofs.Common.{refl, sym, take, true, ℕ, ◌++◌, ◌+◌, ◌<◌, ◌∙◌, ◌∷◌, ◌≡◌, ◌≤◌}
 
@@ -51,6 +51,17 @@ module _ {S : Type 0} (own : Span) (index : ℕ) where
       by None b none e = refl
       by (Some i) false found e = refl
       by (Some i) true found e = absurd (false≢true (sym missing ∙ ap (λ t. is_some (index_in old t)) (same_as own s e) ∙ ap is_some found))
+
+-- ---- what the key of a table is drawn from
+
+-- the bytes of one part more, at its end
+pub bytes_of_parts-more : (c : Case) (parts : List Part) (i : ℕ) (s : Span) → i < length parts → s ≡ span_of c (get_or parts i blank)
+    → bytes_of_parts c (take i parts) ++ bytes_of_span s ≡ bytes_of_parts c (take (i + 1) parts)
+unfolding bytes_of_parts
+bytes_of_parts-more c parts i s within is =
+    let bytes : Part → List ℕ = λ p. bytes_of_span (span_of c p) in
+    let last = flat_map_more bytes [] (take i parts) (get_or parts i blank) in
+    ap (λ t. flat_map bytes (take i parts) ++ bytes_of_span t) is ∙ last ∙ ap (flat_map bytes) (sym (take_more parts i blank within))
 
 -- ---- one part more
 

@@ -7,7 +7,8 @@ unfoldable pub use Rattle.certify.specs.Given.{cut_kind, entry_in, number, span_
 pub use Rattle.certify.specs.Outcome.{IsOutcome, IsReport, end_fault, grammar}
 pub use Rattle.certify.specs.Permits.{HavePermits}
 pub use Rattle.certify.specs.Setting.{cold_parts, hot_parts, reach_of}
-pub use Rattle.certify.specs.Table.{IsTableOf, IsWithSpan, index_in, same_span}
+pub use Rattle.certify.specs.Table.{IsTableOf, IsWithSpan, bytes_of_span, index_in, same_span}
+unfoldable pub use Rattle.certify.specs.Table.{bytes_of_parts}
 pub use Rattle.certify.specs.declared.draft.Draft.{Draft}
 pub use Rattle.certify.specs.declared.entry.Entry.{Entry}
 pub use Rattle.certify.specs.declared.fault.ReportFault.{ReportFault}
@@ -57,6 +58,7 @@ pub use Rattle.heat_flow.specs.declared.cut.CutKind.{CutKind}
 pub use Rattle.heat_flow.specs.declared.cut.CutKind.TheVariants.{Demand, Supply}
 pub use Rattle.heat_flow.specs.declared.flow.Transfer.{Transfer}
 pub use Rattle.indexmap.specs.IndexMap.{IndexMap, Updates}
+pub use Rattle.sha2.specs.Hashers.{Holds256}
 pub use Rattle.statements.proofs.NextLine.{nothing_left, passed_over, statement_next}
 pub use Rattle.statements.proofs.PlainNumbers.{number-back, number_plain}
 pub use Rattle.statements.proofs.Words.{IsPlainField, IsPlainStatement, Statement, position_or_len, signed_decimal}
@@ -66,6 +68,8 @@ pub use Rattle.statements.specs.Statements.{field}
 pub use Rattle.std.proofs.Math.ListN.{get_or-append}
 pub use Rattle.std.proofs.Math.Seq.{get_or-append_seam}
 pub use Rattle.std.proofs.lemmas.List.Elements.{All-push}
+pub use Rattle.std.proofs.lemmas.List.{flat_map_more}
+pub use Rattle.std.specs.List.{flat_map}
 pub use Rattle.std.proofs.lemmas.List.Folds.{position_or_len_push}
 pub use Rattle.std.proofs.lemmas.List.Sums.{prefix_len-le-length}
 pub use Rattle.std.specs.Cmp.{both_ways}

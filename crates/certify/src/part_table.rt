@@ -1,19 +1,23 @@
 //! A table of the parts of a side, by what a report names them by.
 
-ghost use Rattle.std.specs.Prelude.{◌≡◌, ◌≤◌, All, IfOk, OnOk, length};
+ghost use Rattle.std.specs.Prelude.{◌≡◌, ◌≤◌, ◌++◌, ℕ, List, All, IfOk, OnOk, length};
 ghost use Rattle.stream_case.specs.Case.{IsSourceOf};
 ghost use Rattle.stream_case.specs.declared.limits.TheConstants.{MOST_PARTS};
 ghost use Rattle.certify.specs.Answers.{span_of};
-ghost use Rattle.certify.specs.Table.{IsTableOf, IsWithSpan, index_in};
+ghost use Rattle.certify.specs.Table.{IsTableOf, IsWithSpan, bytes_of_parts, bytes_of_span, index_in};
+ghost use Rattle.keyed_index.specs.Key.{begun_by, keyed_by};
+ghost use Rattle.sha2.specs.Hashers.{Holds256};
 
 use crate::report::Span;
 use grid::Part;
 use indexmap::IndexMap;
+use keyed_index::{KeyedMap, TextKey};
+use sha2::{Digest, Sha256};
 use std::alloc::{AllocError, Global};
 use stream_case::Case;
 
 /// The index of the first part with each span.
-pub type PartTable = IndexMap<Span, u32>;
+pub type PartTable = KeyedMap<Span, u32>;
 
 /// A part as a report names it.
 fn span_of(case: &Case, part: &Part) -> Span
@@ -25,6 +29,30 @@ fn span_of(case: &Case, part: &Part) -> Span
         high: part.high,
         low: part.low,
     }
+}
+
+/// Adds the bytes of a span to a digest.
+fn digest_span(digest: &mut Sha256, span: &Span)
+    ensures { (bytes : List ℕ) → Holds256 digest.old bytes
+        → Holds256 digest.new (bytes ++ bytes_of_span span.now) }
+{
+    digest.update(span.name.as_bytes());
+    digest.update(span.high.to_le_bytes());
+    digest.update(span.low.to_le_bytes());
+}
+
+/// The key of a table of these parts, drawn from all their spans: the table is fixed by it, and
+/// what a report looks up in it cannot make it worse.
+fn key_of(case: &Case, parts: &[Part]) -> TextKey
+    requires { All (λ p. IsSourceOf case.now p.source) parts.now }
+    ensures { begun_by result ≡ keyed_by (bytes_of_parts case.now parts.now) }
+{
+    let mut digest = Sha256::new();
+    for part in parts {
+        let span = span_of(case, part);
+        digest_span(&mut digest, &span);
+    }
+    TextKey::of_digest(digest)
 }
 
 /// Adds the span of a part. A span that is there keeps its index.
@@ -44,7 +72,7 @@ pub fn table_of(alloc: Global, case: &Case, parts: &[Part]) -> Result<PartTable,
     requires sources { All (λ p. IsSourceOf case.now p.source) parts.now }
     ensures { IfOk result (IsTableOf case.now parts.now) }
 {
-    let mut table = IndexMap::new(alloc);
+    let mut table = IndexMap::with_hasher(alloc, key_of(case, parts));
     for (index, part) in parts.iter().enumerate() {
         let span = span_of(case, part);
         add_span(&mut table, span, index as u32)?;

@@ -14,6 +14,7 @@ ghost use Rattle.network_text.specs.Building.{IsFresh, named_branch, named_sides
 use crate::entry::Entry;
 use crate::names::branch_name;
 use indexmap::{IndexMap, IndexSet};
+use keyed_index::{KeyedMap, KeyedSet, TextKey};
 use networks::{AtMostTwo, Branch, Line, MOST_STATEMENTS, Network, Passage};
 use std::alloc::{AllocError, Global};
 use std::marker::Model;
@@ -44,7 +45,7 @@ fn named_branch(name: Name, stream: u32) -> Branch
 }
 
 /// The branches of a table, as a list.
-fn listed(alloc: Global, branches: &IndexMap<Name, u32>) -> Result<Vec<Branch>, AllocError>
+fn listed(alloc: Global, branches: &KeyedMap<Name, u32>) -> Result<Vec<Branch>, AllocError>
     ensures { IfOk result (λ listed. listed.items ≡ map named_branch branches.now.entries) }
 {
     branches
@@ -61,7 +62,7 @@ fn is_exchanger(line: &Line) -> bool
 }
 
 /// Adds a branch to those that are used.
-fn mark_used(used: &mut IndexSet<u32>, number: u32) -> Result<(), AllocError>
+fn mark_used(used: &mut KeyedSet<u32>, number: u32) -> Result<(), AllocError>
     requires { list_any (λ other. number == other) used.old.keys ≡ false }
     ensures { OnOk result (used.new.keys ≡ used.old.keys ++ number ∷ []) }
 {
@@ -70,7 +71,7 @@ fn mark_used(used: &mut IndexSet<u32>, number: u32) -> Result<(), AllocError>
 }
 
 /// Adds the branches that a line uses to those that are used.
-fn mark_all_used(used: &mut IndexSet<u32>, numbers: AtMostTwo<u32>) -> Result<(), AllocError>
+fn mark_all_used(used: &mut KeyedSet<u32>, numbers: AtMostTwo<u32>) -> Result<(), AllocError>
     requires { AllPairs (λ a b. a ≢ b) (used.old.keys ++ members numbers) }
     ensures { OnOk result (used.new.keys ≡ used.old.keys ++ members numbers) }
 {
@@ -85,7 +86,7 @@ fn mark_all_used(used: &mut IndexSet<u32>, numbers: AtMostTwo<u32>) -> Result<()
 }
 
 /// Adds a branch with a new name.
-fn add_branch(branches: &mut IndexMap<Name, u32>, name: Name, stream: u32) -> Result<(), AllocError>
+fn add_branch(branches: &mut KeyedMap<Name, u32>, name: Name, stream: u32) -> Result<(), AllocError>
     requires { list_any (bytes_eq name) (keys_of branches.old.entries) ≡ false }
     ensures { OnOk result (branches.new.entries ≡ branches.old.entries ++ (name, stream) ∷ []) }
 {
@@ -95,7 +96,7 @@ fn add_branch(branches: &mut IndexMap<Name, u32>, name: Name, stream: u32) -> Re
 
 /// Adds branches of a stream with new names.
 fn add_branches(
-    branches: &mut IndexMap<Name, u32>,
+    branches: &mut KeyedMap<Name, u32>,
     names: AtMostTwo<Name>,
     stream: u32,
 ) -> Result<(), AllocError>
@@ -114,12 +115,16 @@ fn add_branches(
 }
 
 /// The branches of the streams themselves, by name.
-fn own_branches(alloc: Global, streams: &[Stream]) -> Result<IndexMap<Name, u32>, AllocError>
+fn own_branches(
+    alloc: Global,
+    key: TextKey,
+    streams: &[Stream],
+) -> Result<KeyedMap<Name, u32>, AllocError>
     requires few { length streams.now ≤ ALL_STREAMS }
     requires distinct { AllPairs (λ a b. a ≢ b) (map (λ s. s.name) streams.now) }
     ensures { IfOk result (λ branches. branches.entries ≡ own_entries streams.now) }
 {
-    let mut branches = IndexMap::new(alloc);
+    let mut branches = IndexMap::with_hasher(alloc, key);
     for (index, stream) in streams.iter().enumerate() {
         add_branch(&mut branches, stream.name, index as u32)?;
     }
@@ -127,7 +132,7 @@ fn own_branches(alloc: Global, streams: &[Stream]) -> Result<IndexMap<Name, u32>
 }
 
 /// Adds the exchanger that a line declares, if it declares one.
-fn add_declared(exchangers: &mut IndexMap<Name, Sides>, line: &Line) -> Result<(), AllocError>
+fn add_declared(exchangers: &mut KeyedMap<Name, Sides>, line: &Line) -> Result<(), AllocError>
     requires { AllPairs (λ a b. a ≢ b) (keys_of exchangers.old.entries ++
         map (λ e. e.name) (option_to_list (exchanger_of line.now))) }
     ensures { OnOk result (exchangers.new.entries ≡ exchangers.old.entries ++
@@ -146,7 +151,7 @@ fn add_declared(exchangers: &mut IndexMap<Name, Sides>, line: &Line) -> Result<(
 }
 
 /// Adds a side of an exchanger to those that are passed.
-fn mark_passed(passed: &mut IndexSet<Passage>, passage: Passage) -> Result<(), AllocError>
+fn mark_passed(passed: &mut KeyedSet<Passage>, passage: Passage) -> Result<(), AllocError>
     requires { list_any (same_passage passage) passed.old.keys ≡ false }
     ensures { OnOk result (passed.new.keys ≡ passed.old.keys ++ passage ∷ []) }
 {
@@ -156,7 +161,7 @@ fn mark_passed(passed: &mut IndexSet<Passage>, passage: Passage) -> Result<(), A
 
 /// Adds the side that a line passes, if it passes one, to those that are passed.
 fn mark_any_passed(
-    passed: &mut IndexSet<Passage>,
+    passed: &mut KeyedSet<Passage>,
     passage: Option<Passage>,
 ) -> Result<(), AllocError>
     requires { ForSome passage (λ p. list_any (same_passage p) passed.old.keys ≡ false) }
@@ -172,13 +177,13 @@ fn mark_any_passed(
 #[derive(Drop)]
 pub struct NetworkBuilder {
     /// The streams of the branches, by name, in the order of their numbers.
-    branches: IndexMap<Name, u32>,
+    branches: KeyedMap<Name, u32>,
     /// The branches that are used.
-    used: IndexSet<u32>,
+    used: KeyedSet<u32>,
     /// The exchangers, by name, in the order of their numbers.
-    exchangers: IndexMap<Name, Sides>,
+    exchangers: KeyedMap<Name, Sides>,
     /// The sides of exchangers that are passed.
-    passed: IndexSet<Passage>,
+    passed: KeyedSet<Passage>,
     lines: Vec<Line>,
 }
 
@@ -199,16 +204,16 @@ impl Model for NetworkBuilder {
 }
 
 impl NetworkBuilder {
-    /// What no statement gives: the streams' own branches.
-    pub fn new(alloc: Global, case: &Case) -> Result<NetworkBuilder, AllocError>
+    /// What no statement gives: the streams' own branches. The hashes of the tables have this key.
+    pub fn new(alloc: Global, key: TextKey, case: &Case) -> Result<NetworkBuilder, AllocError>
         requires { IsComplete case.now }
         ensures { IfOk result (λ builder. builder ≡ start case.now) }
     {
         Ok(NetworkBuilder {
-            branches: own_branches(alloc, case.streams.as_slice())?,
-            used: IndexSet::new(alloc),
-            exchangers: IndexMap::new(alloc),
-            passed: IndexSet::new(alloc),
+            branches: own_branches(alloc, key, case.streams.as_slice())?,
+            used: IndexSet::with_hasher(alloc, key),
+            exchangers: IndexMap::with_hasher(alloc, key),
+            passed: IndexSet::with_hasher(alloc, key),
             lines: Vec::new(alloc),
         })
     }

@@ -9,6 +9,7 @@ ghost use Rattle.networks.specs.Shape.{HasShape, KeepsCounts};
 use crate::builder::NetworkBuilder;
 use crate::entry::entry_of;
 use crate::fault::{NetFault, NetWhy};
+use keyed_index::TextKey;
 use networks::Network;
 use statements::{Statement, first_line};
 use std::alloc::Global;
@@ -22,7 +23,7 @@ pub fn read_network(alloc: Global, case: &Case, bytes: &[u8]) -> Result<Network,
     ensures shape { IfOk result (HasShape case.now) }
     ensures counts { IfOk result KeepsCounts }
 {
-    let mut builder = NetworkBuilder::new(alloc, case)?;
+    let mut builder = NetworkBuilder::new(alloc, TextKey::of_text(bytes), case)?;
     let mut rest = bytes;
     let mut number: u32 = 0;
     while !rest.is_empty() {

@@ -5,7 +5,7 @@ use Rattle.network_text.proofs.builder.own_branches.Goals as goal
 
 pub loop-index-init : goal.loop-index-init
 unfolding own_entries
-loop-index-init c = c.new-branches.ensures.empty
+loop-index-init c = c.with_hasher-branches.ensures.empty
 
 pub add_branch-requires : goal.add_branch-requires
 add_branch-requires c =

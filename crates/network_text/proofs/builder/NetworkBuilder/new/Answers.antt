@@ -13,8 +13,14 @@ own_branches-requires c =
 
 pub invariant_of-result : goal.invariant_of-result
 invariant_of-result c =
-    rw (c.in_ok-own_branches.ensures, c.as_slice.ensures, c.new.ensures.empty, c.new-2.ensures.empty, c.new-3.ensures.empty, c.new-4.ensures.items)
-    (own-tracked c.args.case.now (StaysValid-IsComplete c.args.case.now c.requires))
+    rw (
+      c.in_ok-own_branches.ensures,
+      c.as_slice.ensures,
+      c.with_hasher.ensures.empty,
+      c.with_hasher-2.ensures.empty,
+      c.with_hasher-3.ensures.empty,
+      c.new.ensures.items,
+    ) (own-tracked c.args.case.now (StaysValid-IsComplete c.args.case.now c.requires))
 
 pub returns : goal.returns
-returns c = rw (c.in_ok-own_branches.ensures, c.as_slice.ensures, c.new-4.ensures.items) (own-view c.args.case.now)
+returns c = rw (c.in_ok-own_branches.ensures, c.as_slice.ensures, c.new.ensures.items) (own-view c.args.case.now)
