@@ -33,7 +33,8 @@ module _ (ranks : List ℕ) where
   -- behind a rank that stands in the list there are more
   pub used-less : (m n : ℕ) → Contains ranks m → m < n → used_among ranks m < used_among ranks n
   used-less m n (k, within, is) less =
-      let here = ap (λ b. cond b 1 0) (list_any_at (λ r. eqb r m) ranks k m within (eq-eqb (get_or ranks k m) m is)) in
+      let stands_there = list_any_at (λ r. eqb r m) ranks k m within (eq-eqb (get_or ranks k m) m is) in
+      let here : cond (stands ranks m) 1 0 ≡ 1 = ap {B = ℕ} (λ (b : Bool). cond b 1 0) stands_there in
       omega (arith, used-more m, here, used-le (m + 1) n (omega (arith, less)))
 
 Contains-mapped : {X Y : Type 0} (f : X → Y) (xs : List X) (x : X) → Contains xs x → Contains (map f xs) (f x)

@@ -2,13 +2,17 @@
 use Rattle.chains.proofs.DepthLemmas.{used-more, used-within}
 use Rattle.chains.proofs.depths.used_above.Goals.{else-is_used, then-is_used}
 use Rattle.chains.proofs.Words.{list_any, list_any-append, map-range_with_len_more, range_with_len, used_among}
-use Rattle.std.proofs.Common.{[], ap, ap₂, arith, cond, eqb, map, sym, ◌++◌, ◌+◌, ◌∙◌, ◌∷◌, ◌≡◌}
+use Rattle.std.proofs.Common.{[], ap, ap₂, arith, cond, eqb, map, refl, sym, ◌++◌, ◌+◌, ◌∙◌, ◌∷◌, ◌≡◌}
 use Rattle.chains.proofs.depths.used_above.Goals as goal
 
 pub overflow_add-used : goal.overflow_add-used
 overflow_add-used c =
     let most = used-within (c.args.hot.now ++ c.args.cold.now) c.loop-rank.rank in
     omega (arith, most, c.loop-rank.invariant.used, c.requires.few, c.loop-rank-test.true)
+
+pub loop-rank-init : goal.loop-rank-init
+unfolding used_among
+loop-rank-init c = record { above = c.in_ok-above.ensures.items; used = refl }
 
 pub loop-rank-preserved : goal.loop-rank-preserved
 loop-rank-preserved c =

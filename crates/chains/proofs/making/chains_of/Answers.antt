@@ -3,7 +3,7 @@ use Rattle.chains.proofs.FlatMaps.{flat_map-step}
 use Rattle.chains.proofs.GroupLemmas.{few_chain_nodes}
 use Rattle.chains.proofs.DepthLemmas.{chain_length-le, chain_length-some}
 use Rattle.chains.proofs.NetLemmas.{AreChains, AreChains-made, AreForChains, first_nodes_few, on_places, places_some, rank_within}
-use Rattle.chains.proofs.making.chains_of.Goals.{After-as_slice-places, After-drop-grid-2, After-len-2, After-len-4, In-loop-group}
+use Rattle.chains.proofs.making.chains_of.Goals.{After-as_slice-places, After-drop-grid-2, After-len-2, After-len-3, In-loop-group}
 use Rattle.chains.proofs.making.chains_of.Goals.{In_ok-depths, In_ok-groups}
 use Rattle.chains.proofs.Words.{All, All-weaker, AreGroups, Cold, Group, Hot, IsOnPlaces, chain_length, depth_of, IsGrid, MOST_INNER_NODES, MOST_PARTS, MOST_PLACES, StandInLine, append-nil, chain_links, entering}
 use Rattle.chains.proofs.Words.{flat_map, leaving, length-grid, links_of_group, onward, rank_count, rank_of, take_all}
@@ -60,10 +60,10 @@ first_nodes c =
     c.in_ok-groups.ensures.few (few_parts (goal.at.In_ok-groups c).After-len-2) (few_nodes_each (goal.at.In_ok-groups c).In_ok-depths)
 
 pub overflow_cast-room : goal.overflow_cast-room
-overflow_cast-room c = let few = few_places (goal.at.overflow_cast-room c).After-as_slice-places in omega (arith, few, c.len-3.ensures)
+overflow_cast-room c = let few = few_places (goal.at.overflow_cast-room c).After-as_slice-places in omega (arith, few)
 
 pub overflow_mul-room : goal.overflow_mul-room
-overflow_mul-room c = let few = few_places (goal.at.overflow_mul-room c).After-as_slice-places in omega (arith, few, c.len-3.ensures)
+overflow_mul-room c = let few = few_places (goal.at.overflow_mul-room c).After-as_slice-places in omega (arith, few)
 
 pub push_entering-requires-clause-depths : goal.push_entering-requires-clause-depths
 push_entering-requires-clause-depths c = c.deref.ensures.value ∙ c.in_ok-depths.ensures.hot_depths
@@ -99,11 +99,11 @@ push_onward-requires c =
     record { node = node; some = omega (arith, some, c.in_ok-depths.ensures.nodes); nodes = few_nodes_each p.In_ok-depths }
 
 pub push_leaving-requires-clause-depths : goal.push_leaving-requires-clause-depths
-push_leaving-requires-clause-depths c = c.deref-2.ensures.value ∙ c.in_ok-depths.ensures.cold_depths
+push_leaving-requires-clause-depths c = c.deref-in-loop-group.ensures.value ∙ c.in_ok-depths.ensures.cold_depths
 
 pub push_leaving-requires-clause-small : goal.push_leaving-requires-clause-small
 push_leaving-requires-clause-small c =
-    subst (All (λ depth. depth ≤ 2 * MOST_PLACES)) (sym c.deref-2.ensures.value)
+    subst (All (λ depth. depth ≤ 2 * MOST_PLACES)) (sym c.deref-in-loop-group.ensures.value)
     (shallow (goal.at.push_leaving-requires-clause-small c).In_ok-depths c.in_ok-depths.depths.cold.items c.in_ok-depths.ensures.cold_within)
 
 pub push_leaving-requires-clause-node : goal.push_leaving-requires-clause-node
@@ -117,30 +117,29 @@ loop-group-preserved c =
     let case = c.args.case.now in let places = c.as_slice-places.result.now in let hot = c.args.parts.now.hot in
     let cold = c.args.parts.now.cold in let groups = c.deref-group-items.result.now in let g = c.group-item.result in
     let after = c.loop-group.links.items in let depth = depth_of places hot cold in let out = leaving case depth (length hot) g cold in
-    let room : 2 * c.len-3.result ≡ 2 * length places = omega (arith, c.len-3.ensures) in
-    let sizes = ap₂ (λ n m. after ++ (onward g.first_node n m ++ out)) c.in_ok-depths.ensures.nodes room in
+    let room = 2 * length places in let sizes = ap (λ n. after ++ (onward g.first_node n room ++ out)) c.in_ok-depths.ensures.nodes in
     let pushed = c.in_ok-push_leaving.ensures ∙ ap (λ links. links ++ out) c.in_ok-push_onward.ensures
-    ∙ append_assoc after (onward g.first_node c.in_ok-depths.depths.nodes (2 * c.len-3.result)) out ∙ sizes in
+    ∙ append_assoc after (onward g.first_node c.in_ok-depths.depths.nodes room) out ∙ sizes in
     flat_map-step groups c.loop-group.group-index g (entering depth groups hot) after _ c.loop-group-test.true c.group-item.is
     (links_of_group case places hot cold) c.loop-group.invariant pushed
 
-few_nodes : (c : After-len-4) → 2 * MOST_PARTS + c.len-4.result * c.in_ok-depths.depths.nodes < MOST_INNER_NODES
-few_nodes c = few_chain_nodes c.len-4.result c.in_ok-depths.depths.nodes (omega (arith, c.len-4.ensures, c.in_ok-groups.ensures.few))
-    (few_nodes_each (goal.at.After-len-4 c).In_ok-depths)
+few_nodes : (c : After-len-3) → 2 * MOST_PARTS + c.len-3.result * c.in_ok-depths.depths.nodes < MOST_INNER_NODES
+few_nodes c = few_chain_nodes c.len-3.result c.in_ok-depths.depths.nodes (omega (arith, c.len-3.ensures, c.in_ok-groups.ensures.few))
+    (few_nodes_each (goal.at.After-len-3 c).In_ok-depths)
 
 pub overflow_mul-result : goal.overflow_mul-result
-overflow_mul-result c = let most = few_nodes (goal.at.overflow_mul-result c).After-len-4 in omega (arith, most)
+overflow_mul-result c = let most = few_nodes (goal.at.overflow_mul-result c).After-len-3 in omega (arith, most)
 
 pub overflow_add-result : goal.overflow_add-result
 overflow_add-result c =
-    let most = few_nodes (goal.at.overflow_add-result c).After-len-4 in let parts = few_parts (goal.at.overflow_add-result c).After-len-2 in
+    let most = few_nodes (goal.at.overflow_add-result c).After-len-3 in let parts = few_parts (goal.at.overflow_add-result c).After-len-2 in
     omega (arith, most, parts)
 
 made : (c : After-drop-grid-2)
     → AreChains c.args.case.now c.args.parts.now.hot c.args.parts.now.cold
     (record {
       groups = c.from_vec-2.result;
-      net = record { nodes = (c.len.result + c.len-2.result) + c.len-4.result * c.in_ok-depths.depths.nodes; links = c.from_vec.result };
+      net = record { nodes = (c.len.result + c.len-2.result) + c.len-3.result * c.in_ok-depths.depths.nodes; links = c.from_vec.result };
     })
 made c =
     let case = c.args.case.now in let places = c.as_slice-places.result.now in let hot = c.args.parts.now.hot in
@@ -153,8 +152,8 @@ made c =
     c.from_vec.ensures ∙ c.loop-group.invariant
     ∙ ap (λ gs. entering (depth_of places hot cold) c.deref-group-items.result.now hot ++ flat_map (links_of_group case places hot cold) gs) all
     ∙ ap (chain_links case places hot cold) (c.deref-group-items.ensures.value ∙ same) in
-    let count : c.len-4.result ≡ length c.from_vec-2.result = omega (arith, c.len-4.ensures, ap length c.from_vec-2.ensures) in
-    let nodes : (c.len.result + c.len-2.result) + c.len-4.result * c.in_ok-depths.depths.nodes
+    let count : c.len-3.result ≡ length c.from_vec-2.result = omega (arith, c.len-3.ensures, ap length c.from_vec-2.ensures) in
+    let nodes : (c.len.result + c.len-2.result) + c.len-3.result * c.in_ok-depths.depths.nodes
     ≡ (length hot + length cold) + length c.from_vec-2.result * chain_length places hot cold = ap₂ ◌+◌ first (ap₂ ◌*◌ count c.in_ok-depths.ensures.nodes) in
     let p = (goal.at.After-drop-grid-2 c).After-as_slice-places in let is_grid = grid p in
     let for : AreForChains case places hot cold c.from_vec-2.result = record {
