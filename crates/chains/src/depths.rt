@@ -27,12 +27,7 @@ fn is_used(hot: &[u32], cold: &[u32], rank: u32) -> bool
 
 /// For each rank, and behind the last one, how many of the ranks above it are those of hot or cold
 /// parts.
-fn used_above(
-    alloc: Global,
-    ranks: u32,
-    hot: &[u32],
-    cold: &[u32],
-) -> Result<Vec<u32>, AllocError>
+fn used_above(alloc: Global, ranks: u32, hot: &[u32], cold: &[u32]) -> Result<Vec<u32>, AllocError>
     requires few { ranks ≤ 2 * MOST_PLACES }
     ensures { IfOk result (λ above.
         above.items ≡ map (used_among (hot.now ++ cold.now)) (range_with_len 0 (ranks + 1))) }
@@ -62,11 +57,7 @@ fn at_ranks(alloc: Global, above: &[u32], ranks: &[u32]) -> Result<Vec<u32>, All
 }
 
 /// The depths of parts whose ends stand among the places.
-pub(crate) fn depths_of(
-    alloc: Global,
-    places: &[i32],
-    parts: &Parts,
-) -> Result<Depths, AllocError>
+pub(crate) fn depths_of(alloc: Global, places: &[i32], parts: &Parts) -> Result<Depths, AllocError>
     requires few { length places.now ≤ MOST_PLACES }
     requires hot { All (λ p. rank_of places.now p < rank_count places.now) parts.now.hot }
     requires cold { All (λ p. rank_of places.now p < rank_count places.now) parts.now.cold }

@@ -23,7 +23,7 @@ loop-index-preserved c =
     let is = get_or_default slice.result.now i blank p c.loop-index-test.true ∙ ap (λ xs. get_or xs i p) slice.ensures in
     let side = subst (λ q. side_of case q.source ≡ Some Cold) (sym is) (c.requires.cold i p within) in
     let permitted = c.in_ok-permitted.ensures p.source side in let after = c.loop-index.links.items in
-    let depth = depth_of places hot cold in let out = open_link (g.first_node + depth p) (length hot + i) in 
+    let depth = depth_of places hot cold in let out = open_link (g.first_node + depth p) (length hot + i) in
     let pushes = λ (b : Bool). after ++ cons_if b out [] in
     let deep : get_or c.args.depths.now i 0 ≡ depth p = ap (λ xs. get_or xs i 0) c.requires.depths
     ∙ (get_or-map depth cold i p 0 within ∙ ap depth (sym is)) in
