@@ -5,18 +5,18 @@ use Rattle.chains.proofs.Words.{All-weaker, AllPairs-head, AllPairs-tail, AllPas
 use Rattle.chains.proofs.Words.{Contains-append_left, Contains-append_right, Contains-cons, Contains-flat_map, Contains-get_or, Contains-slice_get}
 use Rattle.chains.proofs.Words.{Decides-int_eq, Group, Hot, IsComplete, IsGrid, IsInner, IsInnerLink, IsInterval, IsOnPlaces, IsPath, IsSmall, LeadsTo, Link}
 use Rattle.chains.proofs.Words.{ListsFalling-unique, MOST_INNER_NODES, MOST_PARTS, MOST_PLACES, MOST_STREAMS, Net, Part, PathsAreReaches, Side, Source}
-use Rattle.chains.proofs.Words.{StandInLine, StartsChain, StaysValid-IsComplete, Stream, and_from, and_parts, append-nil, both_parts, both_reach, cases_eq}
-use Rattle.chains.proofs.Words.{cases_lt, chain_links, cons_if, div-mul-le_self, entering, entering_at, enumerate_from, false≢true, find, first_node_of}
+use Rattle.chains.proofs.Words.{StandInLine, StartsChain, StaysValid-IsComplete, Stream, and_from, and_parts, both_parts, both_reach, cases_eq}
+use Rattle.chains.proofs.Words.{cases_lt, chain_links, cons_if, entering, entering_at, enumerate_from, false≢true, find, first_node_of}
 use Rattle.chains.proofs.Words.{flat_map, get_or_from_slice_get, has_source, high_end, int_eq, int_eq-false, int_le-from, int_le-true, interval_falls, ints}
-use Rattle.chains.proofs.Words.{is_forbidden, is_permitted, le-div, le-div_iff_mul-le, leaving, leaving_at, length-enumerate_from, length-flat_map, length-grid}
+use Rattle.chains.proofs.Words.{is_forbidden, is_permitted, le-div_iff_mul-le, leaving, leaving_at, length-enumerate_from, length-grid}
 use Rattle.chains.proofs.Words.{links_of_group, list_all-from_AllPass, list_any-from_Any, mul-add-lt, mul-le, none-some, not-true, not_from_false, onward}
 use Rattle.chains.proofs.Words.{open_link, or_cases, or_left, or_right, passes_heat, place_index, places_of, range_with_len, rank_count, rank_of, reach_between}
 use Rattle.chains.proofs.Words.{same_Some, same_from_place, same_source, same_source-same, same_source-true, shifted_level, slice_get_read, slice_get_within}
 use Rattle.chains.proofs.Words.{STRIDES, chain_length, depth_of, stream_ends, stride_link, stride_links, strides_within}
-use Rattle.std.proofs.Common.{All, AllPairs, Bool, Contains, IsTrue, List, None, Option, Some, [], ap, append_assoc, ap₂, arith, cond, false, get_or}
+use Rattle.std.proofs.Common.{All, AllPairs, Bool, Contains, IsTrue, List, None, Option, Some, [], ap, ap₂, arith, cond, false, get_or}
 use Rattle.std.proofs.Common.{if◌then◌else◌, inl, inr, int_le, length, length-append, map, not, option_map, option_to_list, refl, slice_get, subst, subst₂, suc}
 use Rattle.std.proofs.Common.{sym, true, zero, ℕ, ℤ, ⊎_elim, ◌&&◌, ◌*◌, ◌++◌, ◌+◌, ◌-◌, ◌/◌, ◌<ℤ◌, ◌<◌, ◌∙◌, ◌∷◌, ◌≡◌, ◌≤ℤ◌, ◌≤◌, ◌⊎◌}
-use Rattle.std.proofs.lemmas.List.FromFn.{get_or-map-range_with_len, get_or-range_with_len, length-map-range_with_len, length-range_with_len}
+use Rattle.std.proofs.lemmas.List.FromFn.{get_or-range_with_len, length-range_with_len}
 use Rattle.chains.proofs.DepthLemmas.{chain_length-le, chain_length-some, depth-le, depth-within, rank-le}
 use Rattle.chains.proofs.FlatMaps.{Contains-enumerated, length-flat_map-le}
 use Rattle.chains.proofs.GroupLemmas.{few_chain_nodes}

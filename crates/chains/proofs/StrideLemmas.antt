@@ -1,5 +1,5 @@
 -- The links down a chain: the strides that fit, which links they give, and how many.
-use Rattle.chains.proofs.Words.{All, All-cons, All-head, All-nil, All-tail, Contains, Contains-flat_map, Link, STRIDES, at_drop_all, at_drop_more, cases_lt}
+use Rattle.chains.proofs.Words.{All, All-cons, All-head, All-nil, All-tail, Contains, Contains-flat_map, Link, STRIDES, at_drop_more, cases_lt}
 use Rattle.chains.proofs.Words.{flat_map, le-leb, lt-leb, onward, open_link, stride_link, stride_links, strides_within}
 use Rattle.std.proofs.Common.{List, [], ap, append_assoc, ap₂, arith, drop, get_or, if◌then◌else◌, length, length-append, refl, subst, suc, sym, zero, ℕ}
 use Rattle.std.proofs.Common.{⊎_elim, ◌++◌, ◌+◌, ◌-◌, ◌/◌, ◌<◌, ◌∙◌, ◌∷◌, ◌≡◌, ◌≤◌}

@@ -1,4 +1,4 @@
-use Rattle.chains.proofs.Words.{map-append, take_all, take_more}
+use Rattle.chains.proofs.Words.{map-append, take_more}
 use Rattle.std.proofs.Common.{[], ap, get_or, map, sym, take, ℕ, ◌++◌, ◌∙◌, ◌∷◌}
 use Rattle.chains.proofs.depths.at_ranks.Goals as goal
 

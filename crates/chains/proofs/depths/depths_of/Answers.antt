@@ -1,7 +1,7 @@
 -- The depths are read at the ranks of the parts.
 use Rattle.chains.proofs.DepthLemmas.{AreDepths-read, ranks_within}
 use Rattle.chains.proofs.Words.{get_or_default, range_with_len, rank_count, rank_of, used_among}
-use Rattle.std.proofs.Common.{ap, ap₂, arith, get_or, length, map, max, ℕ, ◌++◌, ◌+◌, ◌<◌, ◌∙◌, ◌≡◌}
+use Rattle.std.proofs.Common.{ap, ap₂, arith, get_or, length, map, max, ◌++◌, ◌+◌, ◌<◌, ◌∙◌, ◌≡◌}
 use Rattle.std.proofs.lemmas.List.FromFn.{length-map-range_with_len}
 use Rattle.chains.proofs.depths.depths_of.Goals as goal
 

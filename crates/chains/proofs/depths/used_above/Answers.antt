@@ -1,7 +1,7 @@
 -- One rank more.
 use Rattle.chains.proofs.DepthLemmas.{used-more, used-within}
 use Rattle.chains.proofs.depths.used_above.Goals.{else-is_used, then-is_used}
-use Rattle.chains.proofs.Words.{list_any, list_any-append, map-range_with_len_more, range_with_len, used_among}
+use Rattle.chains.proofs.Words.{list_any-append, map-range_with_len_more, range_with_len, used_among}
 use Rattle.std.proofs.Common.{[], ap, ap₂, arith, cond, eqb, map, refl, sym, ◌++◌, ◌+◌, ◌∙◌, ◌∷◌, ◌≡◌}
 use Rattle.chains.proofs.depths.used_above.Goals as goal
 

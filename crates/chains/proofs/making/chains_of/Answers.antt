@@ -7,7 +7,7 @@ use Rattle.chains.proofs.making.chains_of.Goals.{After-as_slice-places, After-dr
 use Rattle.chains.proofs.making.chains_of.Goals.{In_ok-depths, In_ok-groups}
 use Rattle.chains.proofs.Words.{All, All-weaker, AreGroups, Cold, Group, Hot, IsOnPlaces, chain_length, depth_of, IsGrid, MOST_INNER_NODES, MOST_PARTS, MOST_PLACES, StandInLine, append-nil, chain_links, entering}
 use Rattle.chains.proofs.Words.{flat_map, leaving, length-grid, links_of_group, onward, rank_count, rank_of, take_all}
-use Rattle.std.proofs.Common.{List, ap, append_assoc, ap₂, arith, get_or, length, map, subst, subst₂, sym, ℕ, ◌*◌, ◌++◌, ◌+◌, ◌<◌, ◌∙◌, ◌≡◌, ◌≤◌}
+use Rattle.std.proofs.Common.{List, ap, append_assoc, ap₂, arith, get_or, length, subst, subst₂, sym, ℕ, ◌*◌, ◌++◌, ◌+◌, ◌<◌, ◌∙◌, ◌≡◌, ◌≤◌}
 use Rattle.chains.proofs.making.chains_of.Goals as goal
 
 grid : (c : After-as_slice-places) → IsGrid c.args.case.now c.as_slice-places.result.now

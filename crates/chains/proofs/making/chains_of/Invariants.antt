@@ -1,5 +1,5 @@
 use Rattle.chains.proofs.Words.{depth_of, entering, flat_map, links_of_group}
-use Rattle.std.proofs.Common.{length, take, ◌++◌, ◌≡◌}
+use Rattle.std.proofs.Common.{take, ◌++◌, ◌≡◌}
 use Rattle.chains.proofs.making.chains_of.Given as goal
 
 abbrev pub invariant-loop-group : goal.invariant-loop-group
