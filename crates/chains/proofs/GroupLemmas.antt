@@ -184,19 +184,19 @@ abbrev pub StandsInOne : List Group → Source → Type 0
 StandsInOne groups source = Any (λ g. Contains g.sources source) groups
 
 -- the groups from these sources, which stand in them
-pub record HoldsGroups (c : Case) (early : List Source) (first ranks : ℕ) (groups : List Group) : Type 0 where
+pub record HoldsGroups (c : Case) (early : List Source) (first nodes : ℕ) (groups : List Group) : Type 0 where
   pub each : All (IsGroupFrom c early) groups
   pub every : All (StandsInOne groups) early
   pub apart : AllPairs (AreApart c) groups
-  pub in_line : StandInLine first ranks groups
+  pub in_line : StandInLine first nodes groups
   pub few : length groups ≤ length early
 
-module _ (c : Case) (early : List Source) (first ranks : ℕ) (groups : List Group) (h : HoldsGroups c early first ranks groups) (source : Source) where
+module _ (c : Case) (early : List Source) (first nodes : ℕ) (groups : List Group) (h : HoldsGroups c early first nodes groups) (source : Source) where
   more_early : (g : Group) → IsGroupFrom c early g → IsGroupFrom c (early ++ source ∷ []) g
   more_early g k = record { first = k.first; is_early = Contains-append_left early (source ∷ []) k.first k.is_early; sources = k.sources }
 
   -- a source that stands in a group
-  pub groups-pass : StandsInOne groups source → HoldsGroups c (early ++ source ∷ []) first ranks groups
+  pub groups-pass : StandsInOne groups source → HoldsGroups c (early ++ source ∷ []) first nodes groups
   groups-pass stands = record {
     each = All-weaker (IsGroupFrom c early) (IsGroupFrom c (early ++ source ∷ [])) more_early groups h.each;
     every = All-push (StandsInOne groups) early source h.every stands;
@@ -206,7 +206,7 @@ module _ (c : Case) (early : List Source) (first ranks : ℕ) (groups : List Gro
   }
 
   module _ (g : Group) (hot : side_of c source ≡ Some Hot) (sources : ListsOnce (IsLike c source) g.sources)
-      (node : g.first_node ≡ first + length groups * ranks) (new : StandsInOne groups source → ⊥) where
+      (node : g.first_node ≡ first + length groups * nodes) (new : StandsInOne groups source → ⊥) where
     still : (s : Source) → StandsInOne groups s → StandsInOne (groups ++ g ∷ []) s
     still s (k, f, within, is, found) = let (j, j_in, there) = Contains-append_left groups (g ∷ []) f (k, within, is) in (j, f, j_in, there, found)
 
@@ -220,7 +220,7 @@ module _ (c : Case) (early : List Source) (first ranks : ℕ) (groups : List Gro
         let (k, within, there) = in_groups in new (k, f, within, there, in_that)
 
     -- one that begins a group
-    pub groups-push : HoldsGroups c (early ++ source ∷ []) first ranks (groups ++ g ∷ [])
+    pub groups-push : HoldsGroups c (early ++ source ∷ []) first nodes (groups ++ g ∷ [])
     groups-push = let own = sources.every source (record { side = hot; alike = λ cold at. refl }) in record {
       each = All-push (IsGroupFrom c (early ++ source ∷ [])) groups g
           (All-weaker (IsGroupFrom c early) (IsGroupFrom c (early ++ source ∷ [])) more_early groups h.each)
@@ -229,30 +229,30 @@ module _ (c : Case) (early : List Source) (first ranks : ℕ) (groups : List Gro
           (All-weaker (StandsInOne groups) (StandsInOne (groups ++ g ∷ [])) still early h.every) (Any-push (λ f. Contains f.sources source) groups g own);
       apart = all_pairs_push (AreApart c) groups g h.apart
           (λ k d within. apart_from (get_or groups k d) (k, within, get_or_default groups k (get_or groups k d) d within));
-      in_line = λ i f at. ⊎_elim (λ here. h.in_line i f here) (λ last. ap (λ f. f.first_node) last.1 ∙ node ∙ ap (λ n. first + n * ranks) (sym last.0))
+      in_line = λ i f at. ⊎_elim (λ here. h.in_line i f here) (λ last. ap (λ f. f.first_node) last.1 ∙ node ∙ ap (λ n. first + n * nodes) (sym last.0))
           (slice_get_push groups g i f at);
       few = omega (arith, h.few, length_push early source, length_push groups g);
     }
 
 -- ---- steps of the loop
 
-module _ (c : Case) (hot : List Source) (first ranks : ℕ) (i : ℕ) (within : i < length hot) (source : Source) (is : source ≡ get_or hot i source)
-    (groups : List Group) (h : HoldsGroups c (take i hot) first ranks groups) where
-  pub groups-old : (now : List Group) → now ≡ groups → StandsInOne groups source → HoldsGroups c (take (i + 1) hot) first ranks now
+module _ (c : Case) (hot : List Source) (first nodes : ℕ) (i : ℕ) (within : i < length hot) (source : Source) (is : source ≡ get_or hot i source)
+    (groups : List Group) (h : HoldsGroups c (take i hot) first nodes groups) where
+  pub groups-old : (now : List Group) → now ≡ groups → StandsInOne groups source → HoldsGroups c (take (i + 1) hot) first nodes now
   groups-old now same stands =
-      subst₂ (λ early gs. HoldsGroups c early first ranks gs) (sym (taken-more hot i source within is)) (sym same)
-      (groups-pass c (take i hot) first ranks groups h source stands)
+      subst₂ (λ early gs. HoldsGroups c early first nodes gs) (sym (taken-more hot i source within is)) (sym same)
+      (groups-pass c (take i hot) first nodes groups h source stands)
 
   pub groups-new : (now : List Group) (g : Group) → now ≡ groups ++ g ∷ [] → side_of c source ≡ Some Hot → ListsOnce (IsLike c source) g.sources
-      → g.first_node ≡ first + length groups * ranks → (StandsInOne groups source → ⊥) → HoldsGroups c (take (i + 1) hot) first ranks now
+      → g.first_node ≡ first + length groups * nodes → (StandsInOne groups source → ⊥) → HoldsGroups c (take (i + 1) hot) first nodes now
   groups-new now g pushed side sources node new =
-      subst₂ (λ early gs. HoldsGroups c early first ranks gs) (sym (taken-more hot i source within is)) (sym pushed)
-      (groups-push c (take i hot) first ranks groups h source g side sources node new)
+      subst₂ (λ early gs. HoldsGroups c early first nodes gs) (sym (taken-more hot i source within is)) (sym pushed)
+      (groups-push c (take i hot) first nodes groups h source g side sources node new)
 
 -- ---- the whole
 
-module _ (c : Case) (hot : List Source) (lists : ListsOnce (λ source. side_of c source ≡ Some Hot) hot) (first ranks : ℕ) (groups : List Group)
-    (h : HoldsGroups c hot first ranks groups) where
+module _ (c : Case) (hot : List Source) (lists : ListsOnce (λ source. side_of c source ≡ Some Hot) hot) (first nodes : ℕ) (groups : List Group)
+    (h : HoldsGroups c hot first nodes groups) where
   from_of : (i : ℕ) (g : Group) → slice_get groups i ≡ Some g → IsGroupFrom c hot g
   from_of i g at = All-slice_get (IsGroupFrom c hot) groups i g h.each at
 
@@ -266,10 +266,16 @@ module _ (c : Case) (hot : List Source) (lists : ListsOnce (λ source. side_of c
     hot = λ i source (g, at, found). let from = from_of i g at in (All-contains (IsLike c from.first) g.sources source from.sources.each found).side;
     some = λ source side. let (k, g, within, is, found) = All-contains (StandsInOne groups) hot source h.every (lists.every source side) in
         (k, (g, slice_get_read groups (length groups) k g refl within (sym is), found));
+    filled = All-weaker (IsGroupFrom c hot) (λ g. 0 < length g.sources) some_source groups h.each;
     once = All-weaker (IsGroupFrom c hot) (λ g. AllPairs (λ p q. p ≢ q) g.sources) (λ g from. from.sources.ordered) groups h.each;
     alike = λ i j p q in_i in_j. (together i j p q in_i in_j, apart i j p q in_i in_j);
   }
     where
+      some_source : (g : Group) → IsGroupFrom c hot g → 0 < length g.sources
+      some_source g from =
+          let side = All-contains (λ s. side_of c s ≡ Some Hot) hot from.first lists.each from.is_early in
+          let (k, within, is) = from.sources.every from.first (record { side = side; alike = λ cold at. refl }) in omega (arith, within)
+
       together : (i j : ℕ) (p q : Source) → StandsIn groups i p → StandsIn groups j q → i ≡ j → HaveSamePartners c p q
       together i j p q (f, f_at, in_f) (g, g_at, in_g) e =
           let from = from_of i f f_at in let one : f ≡ g = same_Some f g (sym f_at ∙ ap (slice_get groups) e ∙ g_at) in
@@ -285,14 +291,14 @@ module _ (c : Case) (hot : List Source) (lists : ListsOnce (λ source. side_of c
 -- ---- sizes
 
 -- the hot sources of a completed case are few
-pub few_groups : (c : Case) (hot items : List Source) (first ranks i : ℕ) (groups : List Group) → IsComplete c → AreSources c.streams c.utilities Hot hot
-    → items ≡ hot → HoldsGroups c (take i items) first ranks groups → length groups ≤ MOST_STREAMS + ALL_UTILITIES
-few_groups c hot items first ranks i groups complete sources is h =
+pub few_groups : (c : Case) (hot items : List Source) (first nodes i : ℕ) (groups : List Group) → IsComplete c → AreSources c.streams c.utilities Hot hot
+    → items ≡ hot → HoldsGroups c (take i items) first nodes groups → length groups ≤ MOST_STREAMS + ALL_UTILITIES
+few_groups c hot items first nodes i groups complete sources is h =
     omega (arith, sources.few, h.few, (AreStreams-IsComplete c complete).few Hot, length-utilities c complete, length-take i items, ap length is)
 
 -- so their chains have few nodes
-pub few_chain_nodes : (groups ranks : ℕ) → groups ≤ MOST_STREAMS + ALL_UTILITIES → ranks ≤ 2 * MOST_PLACES → 2 * MOST_PARTS + groups * ranks < MOST_INNER_NODES
-few_chain_nodes groups ranks few_groups few_ranks = omega (arith, mul-le groups ranks (MOST_STREAMS + ALL_UTILITIES) (2 * MOST_PLACES) few_groups few_ranks)
+pub few_chain_nodes : (groups nodes : ℕ) → groups ≤ MOST_STREAMS + ALL_UTILITIES → nodes ≤ 2 * MOST_PLACES → 2 * MOST_PARTS + groups * nodes < MOST_INNER_NODES
+few_chain_nodes groups nodes few_groups few_nodes = omega (arith, mul-le groups nodes (MOST_STREAMS + ALL_UTILITIES) (2 * MOST_PLACES) few_groups few_nodes)
 
 -- ---- a list of hot sources that are like one
 

@@ -1,6 +1,8 @@
+mod DepthLemmas
 pub mod FlatMaps
 mod GatherLemmas
 mod GroupLemmas
 pub mod NetLemmas
 mod SpreadLemmas
+mod StrideLemmas
 pub mod Words

@@ -5,20 +5,22 @@ use Rattle.chains.proofs.Words.{All-weaker, AllPairs-head, AllPairs-tail, AllPas
 use Rattle.chains.proofs.Words.{Contains-append_left, Contains-append_right, Contains-cons, Contains-flat_map, Contains-get_or, Contains-slice_get}
 use Rattle.chains.proofs.Words.{Decides-int_eq, Group, Hot, IsComplete, IsGrid, IsInner, IsInnerLink, IsInterval, IsOnPlaces, IsPath, IsSmall, LeadsTo, Link}
 use Rattle.chains.proofs.Words.{ListsFalling-unique, MOST_INNER_NODES, MOST_PARTS, MOST_PLACES, MOST_STREAMS, Net, Part, PathsAreReaches, Side, Source}
-use Rattle.chains.proofs.Words.{StandInLine, StartsChain, StaysValid-IsComplete, Stream, and_from, and_parts, append-nil, both_parts, both_reach, cases_eq}
-use Rattle.chains.proofs.Words.{cases_lt, chain_links, cons_if, div-mul-le_self, entering, entering_at, enumerate_from, false≢true, find, first_node_of}
+use Rattle.chains.proofs.Words.{StandInLine, StartsChain, StaysValid-IsComplete, Stream, and_from, and_parts, both_parts, both_reach, cases_eq}
+use Rattle.chains.proofs.Words.{cases_lt, chain_links, cons_if, entering, entering_at, enumerate_from, false≢true, find, first_node_of}
 use Rattle.chains.proofs.Words.{flat_map, get_or_from_slice_get, has_source, high_end, int_eq, int_eq-false, int_le-from, int_le-true, interval_falls, ints}
-use Rattle.chains.proofs.Words.{is_forbidden, is_permitted, le-div, le-div_iff_mul-le, leaving, leaving_at, length-enumerate_from, length-flat_map, length-grid}
+use Rattle.chains.proofs.Words.{is_forbidden, is_permitted, le-div_iff_mul-le, leaving, leaving_at, length-enumerate_from, length-grid}
 use Rattle.chains.proofs.Words.{links_of_group, list_all-from_AllPass, list_any-from_Any, mul-add-lt, mul-le, none-some, not-true, not_from_false, onward}
 use Rattle.chains.proofs.Words.{open_link, or_cases, or_left, or_right, passes_heat, place_index, places_of, range_with_len, rank_count, rank_of, reach_between}
 use Rattle.chains.proofs.Words.{same_Some, same_from_place, same_source, same_source-same, same_source-true, shifted_level, slice_get_read, slice_get_within}
-use Rattle.chains.proofs.Words.{stream_ends, stride_link, stride_links, strides}
-use Rattle.std.proofs.Common.{All, AllPairs, Bool, Contains, IsTrue, List, None, Option, Some, [], ap, append_assoc, ap₂, arith, cond, false, get_or}
+use Rattle.chains.proofs.Words.{STRIDES, chain_length, depth_of, stream_ends, stride_link, stride_links, strides_within}
+use Rattle.std.proofs.Common.{All, AllPairs, Bool, Contains, IsTrue, List, None, Option, Some, [], ap, ap₂, arith, cond, false, get_or}
 use Rattle.std.proofs.Common.{if◌then◌else◌, inl, inr, int_le, length, length-append, map, not, option_map, option_to_list, refl, slice_get, subst, subst₂, suc}
 use Rattle.std.proofs.Common.{sym, true, zero, ℕ, ℤ, ⊎_elim, ◌&&◌, ◌*◌, ◌++◌, ◌+◌, ◌-◌, ◌/◌, ◌<ℤ◌, ◌<◌, ◌∙◌, ◌∷◌, ◌≡◌, ◌≤ℤ◌, ◌≤◌, ◌⊎◌}
-use Rattle.std.proofs.lemmas.List.FromFn.{get_or-map-range_with_len, get_or-range_with_len, length-map-range_with_len, length-range_with_len}
+use Rattle.std.proofs.lemmas.List.FromFn.{get_or-range_with_len, length-range_with_len}
+use Rattle.chains.proofs.DepthLemmas.{chain_length-le, chain_length-some, depth-le, depth-within, rank-le}
 use Rattle.chains.proofs.FlatMaps.{Contains-enumerated, length-flat_map-le}
 use Rattle.chains.proofs.GroupLemmas.{few_chain_nodes}
+use Rattle.chains.proofs.StrideLemmas.{few_onward, next_onward, positive-within}
 
 -- ---- places
 
@@ -146,14 +148,6 @@ module _ (links : List Link) where
 
 -- The links of a net of chains: how loops append them, which ones they are, and how many.
 
--- the links of all strides, one after the other
-pub strides-all : (first ranks : ℕ) (a b c d e f : List Link) → b ≡ a ++ stride_links first ranks 1 → c ≡ b ++ stride_links first ranks 3
-    → d ≡ c ++ stride_links first ranks 9 → e ≡ d ++ stride_links first ranks 27 → f ≡ e ++ stride_links first ranks 81 → f ≡ a ++ onward first ranks
-unfolding onward
-strides-all first ranks a b c d e f by1 by3 by9 by27 by81 =
-    let more = λ (n : ℕ) (links : List Link). links ++ stride_links first ranks n in
-    by81 ∙ ap (more 81) (by27 ∙ ap (more 27) (by9 ∙ ap (more 9) (by3 ∙ ap (more 3) by1))) ∙ simp (append_assoc, append-nil)
-
 -- ---- general lists
 
 module _ {X : Type 0} where
@@ -211,56 +205,29 @@ permitted-all c g cold each =
     list_all-from_AllPass free g.sources
     (λ k d within. let hot = get_or g.sources k d in not_from_false (is_forbidden c.forbids hot cold) (each hot (Contains-get_or g.sources k d within)))
 
--- ---- down a chain
-
-strides_positive : All (λ stride. 0 < stride) strides
-strides_positive zero d within = omega arith
-strides_positive (suc zero) d within = omega arith
-strides_positive (suc (suc zero)) d within = omega arith
-strides_positive (suc (suc (suc zero))) d within = omega arith
-strides_positive (suc (suc (suc (suc zero)))) d within = omega arith
-strides_positive (suc (suc (suc (suc (suc k))))) d within = absurd (omega (arith, within))
-
-next_onward : (first ranks r : ℕ) → (r + 1) < ranks → Contains (onward first ranks) (open_link (first + r) (first + (r + 1)))
-unfolding onward
-next_onward first ranks r within =
-    let next = open_link (first + r) (first + (r + 1)) in let same : stride_link first 1 r ≡ next = ap₂ open_link (omega arith) (omega arith) in
-    let count = (ranks - 1) / 1 in let early : r < count = omega (arith, within) in
-    let stands = get_or-map-range_with_len (stride_link first 1) 0 count r r next early (omega arith) in
-    let among : r < length (stride_links first ranks 1) = omega (arith, early, length-map-range_with_len (stride_link first 1) 0 count) in
-    Contains-flat_map (stride_links first ranks) strides 1 next (0, omega arith, refl) (r, among, stands ∙ same)
-
-few_onward : (first ranks : ℕ) → length (onward first ranks) ≤ (ranks - 1) + (ranks - 1) / 2
-unfolding onward
-few_onward first ranks =
-    let n = ranks - 1 in let each = λ (stride : ℕ). length-map-range_with_len (stride_link first stride) 0 (n / stride) in
-    let half = le-div (n / 3 + n / 9 + n / 27 + n / 81) n 2 (omega arith)
-    (omega (arith, div-mul-le_self n 3, div-mul-le_self n 9, div-mul-le_self n 27, div-mul-le_self n 81)) in
-    omega (arith, half, div-mul-le_self n 1, each 1, each 3, each 9, each 27, each 81, length-flat_map (stride_links first ranks) strides)
-
 -- ---- which links they are
 
 module _ (c : Case) (places : List ℤ) (hot cold : List Part) (groups : List Group) where
   -- what holds of the links from hot parts, down the chains, and to cold parts
   abbrev pub Enters : (Link → Type 0) → Type 0
   Enters P = (i : ℕ) (p : Part) (g : Group) → slice_get hot i ≡ Some p → Contains groups g → Contains g.sources p.source
-      → P (open_link i (g.first_node + rank_of places p))
+      → P (open_link i (g.first_node + depth_of places hot cold p))
 
   abbrev pub Descends : (Link → Type 0) → Type 0
-  Descends P = (g : Group) (r stride : ℕ) → Contains groups g → 0 < stride → (r + stride) < rank_count places
+  Descends P = (g : Group) (r stride : ℕ) → Contains groups g → 0 < stride → (r + stride) < chain_length places hot cold
       → P (open_link (g.first_node + r) (g.first_node + (r + stride)))
 
   abbrev pub Leaves : (Link → Type 0) → Type 0
   Leaves P = (g : Group) (i : ℕ) (q : Part) → Contains groups g → slice_get cold i ≡ Some q
       → ((source : Source) → Contains g.sources source → is_forbidden c.forbids source q.source ≡ false)
-      → P (open_link (g.first_node + rank_of places q) (length hot + i))
+      → P (open_link (g.first_node + depth_of places hot cold q) (length hot + i))
 
   module _ (P : Link → Type 0) (enter : Enters P) (descend : Descends P) (leave : Leaves P) where
-    all_entering : (i : ℕ) (p : Part) → slice_get hot i ≡ Some p → All P (entering_at places groups (i, p))
+    all_entering : (i : ℕ) (p : Part) → slice_get hot i ≡ Some p → All P (entering_at (depth_of places hot cold) groups (i, p))
     all_entering i p at = each (find (has_source p.source) groups) refl
       where
         into : ℕ → Link
-        into node = open_link i (node + rank_of places p)
+        into node = open_link i (node + depth_of places hot cold p)
 
         each : (o : Option Group) → find (has_source p.source) groups ≡ o → All P (option_to_list (option_map into (option_map (λ g. g.first_node) o)))
         each None none = All-nil P
@@ -268,48 +235,50 @@ module _ (c : Case) (places : List ℤ) (hot cold : List Part) (groups : List Gr
             let (there, has) = find-some (has_source p.source) groups g found in
             All-cons P (into g.first_node) [] (enter i p g at there (has_source-true p.source g has)) (All-nil P)
 
-    all_of_stride : (g : Group) → Contains groups g → (stride : ℕ) → 0 < stride → All P (stride_links g.first_node (rank_count places) stride)
+    all_of_stride : (g : Group) → Contains groups g → (stride : ℕ) → 0 < stride → All P (stride_links g.first_node (chain_length places hot cold) stride)
     all_of_stride g found stride some =
-        let count = (rank_count places - 1) / stride in
+        let count = (chain_length places hot cold - 1) / stride in
         All-map P (stride_link g.first_node stride) (range_with_len 0 count)
         (λ k d within.
         let early : k < count = omega (arith, within, length-range_with_len 0 count) in
         let step : k ≡ get_or (range_with_len 0 count) k d = omega (arith, get_or-range_with_len 0 count k d early) in
-        let upto = (le-div_iff_mul-le {k = stride} {x = k + 1} {y = rank_count places - 1} some).0 (omega (arith, early)) in
+        let upto = (le-div_iff_mul-le {k = stride} {x = k + 1} {y = chain_length places hot cold - 1} some).0 (omega (arith, early)) in
         let to : g.first_node + (k * stride + stride) ≡ g.first_node + k * stride + stride = omega arith in
         let link = descend g (k * stride) stride found some (omega (arith, upto, some)) in
         subst (λ n. P (stride_link g.first_node stride n)) step (subst (λ n. P (open_link (g.first_node + k * stride) n)) to link))
 
-    all_leaving : (g : Group) → Contains groups g → (i : ℕ) (q : Part) → slice_get cold i ≡ Some q → All P (leaving_at c places (length hot) g (i, q))
+    all_leaving : (g : Group) → Contains groups g → (i : ℕ) (q : Part) → slice_get cold i ≡ Some q → All P (leaving_at c (depth_of places hot cold) (length hot) g (i, q))
     all_leaving g found i q at =
-        All-cons_if P (is_permitted c g q.source) (open_link (g.first_node + rank_of places q) (length hot + i)) []
+        All-cons_if P (is_permitted c g q.source) (open_link (g.first_node + depth_of places hot cold q) (length hot + i)) []
         (λ free. leave g i q found at (λ source there. permitted-each c g q.source source free there)) (All-nil P)
 
-    all_of_group : (g : Group) → Contains groups g → All P (links_of_group c places (length hot) cold g)
+    all_of_group : (g : Group) → Contains groups g → All P (links_of_group c places hot cold g)
     unfolding onward
     all_of_group g found =
-        let ranks = rank_count places in
-        All-append P (onward g.first_node ranks) (leaving c places (length hot) g cold) (All-flat_map P (stride_links g.first_node ranks) strides
-        (All-weaker (λ stride. 0 < stride) (λ stride. All P (stride_links g.first_node ranks stride)) (all_of_stride g found) strides strides_positive))
-        (All-flat_map P (leaving_at c places (length hot) g) (enumerate_from 0 cold)
-        (All-enumerated (λ p. All P (leaving_at c places (length hot) g p)) cold (all_leaving g found)))
+        let nodes = chain_length places hot cold in let room = 2 * length places in let strides = strides_within nodes room STRIDES in
+        All-append P (onward g.first_node nodes room) (leaving c (depth_of places hot cold) (length hot) g cold)
+        (All-flat_map P (stride_links g.first_node nodes) strides
+        (All-weaker (λ stride. 0 < stride) (λ stride. All P (stride_links g.first_node nodes stride)) (all_of_stride g found) strides
+        (positive-within nodes room)))
+        (All-flat_map P (leaving_at c (depth_of places hot cold) (length hot) g) (enumerate_from 0 cold)
+        (All-enumerated (λ p. All P (leaving_at c (depth_of places hot cold) (length hot) g p)) cold (all_leaving g found)))
 
     -- what holds of each of them holds of all links
     pub All-chain_links : All P (chain_links c places hot cold groups)
     All-chain_links =
-        All-append P (entering places groups hot) (flat_map (links_of_group c places (length hot) cold) groups)
-        (All-flat_map P (entering_at places groups) (enumerate_from 0 hot) (All-enumerated (λ p. All P (entering_at places groups p)) hot all_entering))
-        (All-flat_map P (links_of_group c places (length hot) cold) groups (λ k d within. all_of_group (get_or groups k d) (Contains-get_or groups k d within)))
+        All-append P (entering (depth_of places hot cold) groups hot) (flat_map (links_of_group c places hot cold) groups)
+        (All-flat_map P (entering_at (depth_of places hot cold) groups) (enumerate_from 0 hot) (All-enumerated (λ p. All P (entering_at (depth_of places hot cold) groups p)) hot all_entering))
+        (All-flat_map P (links_of_group c places hot cold) groups (λ k d within. all_of_group (get_or groups k d) (Contains-get_or groups k d within)))
 
   -- ---- links that stand among them
 
   abbrev all_links : List Link
   all_links = chain_links c places hot cold groups
 
-  in_group : (g : Group) (l : Link) → Contains groups g → Contains (links_of_group c places (length hot) cold g) l → Contains all_links l
+  in_group : (g : Group) (l : Link) → Contains groups g → Contains (links_of_group c places hot cold g) l → Contains all_links l
   in_group g l there link =
-      Contains-append_right (entering places groups hot) (flat_map (links_of_group c places (length hot) cold) groups) l
-      (Contains-flat_map (links_of_group c places (length hot) cold) groups g l there link)
+      Contains-append_right (entering (depth_of places hot cold) groups hot) (flat_map (links_of_group c places hot cold) groups) l
+      (Contains-flat_map (links_of_group c places hot cold) groups g l there link)
 
   -- the one link that a part has here
   of_part : (f : ℕ × Part → List Link) (parts : List Part) (i : ℕ) (p : Part) (l : Link) → slice_get parts i ≡ Some p → f (i, p) ≡ l ∷ []
@@ -321,42 +290,45 @@ module _ (c : Case) (places : List ℤ) (hot cold : List Part) (groups : List Gr
   pub record EntersBy (a : ℕ) (p : Part) (g : Group) : Type 0 where
     pub group_is : Contains groups g
     pub stands : Contains g.sources p.source
-    pub link : Contains all_links (open_link a (g.first_node + rank_of places p))
+    pub link : Contains all_links (open_link a (g.first_node + depth_of places hot cold p))
 
   pub entered : (a : ℕ) (p : Part) (f : Group) → slice_get hot a ≡ Some p → Contains groups f → Contains f.sources p.source → (g : Group) × EntersBy a p g
   entered a p f at there stands =
       let (g, found) = find-there (has_source p.source) groups f there (has_source-there p.source f stands) in
-      let (first, has) = find-some (has_source p.source) groups g found in let into = λ (node : ℕ). open_link a (node + rank_of places p) in
+      let (first, has) = find-some (has_source p.source) groups g found in let into = λ (node : ℕ). open_link a (node + depth_of places hot cold p) in
       let is = ap (λ o. option_to_list (option_map into (option_map (λ (h : Group). h.first_node) o))) found in
-      let link = Contains-append_left (entering places groups hot) (flat_map (links_of_group c places (length hot) cold) groups) (into g.first_node)
-      (of_part (entering_at places groups) hot a p (into g.first_node) at is) in
+      let link = Contains-append_left (entering (depth_of places hot cold) groups hot) (flat_map (links_of_group c places hot cold) groups) (into g.first_node)
+      (of_part (entering_at (depth_of places hot cold) groups) hot a p (into g.first_node) at is) in
       (g, record { group_is = first; stands = has_source-true p.source g has; link = link })
 
-  pub led_on : (g : Group) (r : ℕ) → Contains groups g → (r + 1) < rank_count places
+  pub led_on : (g : Group) (r : ℕ) → Contains groups g → 0 < length places → (r + 1) < chain_length places hot cold
       → Contains all_links (open_link (g.first_node + r) (g.first_node + (r + 1)))
-  led_on g r there within =
-      let next = open_link (g.first_node + r) (g.first_node + (r + 1)) in let ranks = rank_count places in
+  led_on g r there some within =
+      let next = open_link (g.first_node + r) (g.first_node + (r + 1)) in
+      let nodes = chain_length places hot cold in let room = 2 * length places in
+      let few = chain_length-le places hot cold some in
       in_group g next there
-      (Contains-append_left (onward g.first_node ranks) (leaving c places (length hot) g cold) next (next_onward g.first_node ranks r within))
+      (Contains-append_left (onward g.first_node nodes room) (leaving c (depth_of places hot cold) (length hot) g cold) next
+      (next_onward g.first_node nodes room r (omega (arith, few)) within))
 
   pub left : (g : Group) (b : ℕ) (q : Part) → Contains groups g → slice_get cold b ≡ Some q → is_permitted c g q.source ≡ true
-      → Contains all_links (open_link (g.first_node + rank_of places q) (length hot + b))
+      → Contains all_links (open_link (g.first_node + depth_of places hot cold q) (length hot + b))
   left g b q there at permitted =
-      let out = open_link (g.first_node + rank_of places q) (length hot + b) in
-      let is : leaving_at c places (length hot) g (b, q) ≡ out ∷ [] = ap (λ b. cons_if b out []) permitted in
-      in_group g out there (Contains-append_right (onward g.first_node (rank_count places)) (leaving c places (length hot) g cold) out
-      (of_part (leaving_at c places (length hot) g) cold b q out at is))
+      let out = open_link (g.first_node + depth_of places hot cold q) (length hot + b) in
+      let is : leaving_at c (depth_of places hot cold) (length hot) g (b, q) ≡ out ∷ [] = ap (λ b. cons_if b out []) permitted in
+      in_group g out there (Contains-append_right (onward g.first_node (chain_length places hot cold) (2 * length places)) (leaving c (depth_of places hot cold) (length hot) g cold) out
+      (of_part (leaving_at c (depth_of places hot cold) (length hot) g) cold b q out at is))
 
   -- ---- how many there are
 
-  pub few_chain_links : length all_links ≤ length hot + length groups * (length cold + 3 * length places)
+  pub few_chain_links : length all_links ≤ length hot + length groups * (length cold + 2 * length places)
   few_chain_links =
-      let into = length-flat_map-le (entering_at places groups) 1 (enumerate_from 0 hot) (λ p. at_most_one p.0 p.1 (first_node_of groups p.1.source)) in
-      let rest = length-flat_map-le (links_of_group c places (length hot) cold) (length cold + 3 * length places) groups few in
-      let both = length-append (entering places groups hot) (flat_map (links_of_group c places (length hot) cold) groups) in
+      let into = length-flat_map-le (entering_at (depth_of places hot cold) groups) 1 (enumerate_from 0 hot) (λ p. at_most_one p.0 p.1 (first_node_of groups p.1.source)) in
+      let rest = length-flat_map-le (links_of_group c places hot cold) (length cold + 2 * length places) groups few in
+      let both = length-append (entering (depth_of places hot cold) groups hot) (flat_map (links_of_group c places hot cold) groups) in
       omega (arith, into, rest, length-enumerate_from 0 hot, both)
     where
-      at_most_one : (i : ℕ) (p : Part) (o : Option ℕ) → length (option_to_list (option_map (λ node. open_link i (node + rank_of places p)) o)) ≤ 1
+      at_most_one : (i : ℕ) (p : Part) (o : Option ℕ) → length (option_to_list (option_map (λ node. open_link i (node + depth_of places hot cold p)) o)) ≤ 1
       at_most_one i p None = omega arith
       at_most_one i p (Some node) = omega arith
 
@@ -364,11 +336,11 @@ module _ (c : Case) (places : List ℤ) (hot cold : List Part) (groups : List Gr
       one_or_none l true = omega arith
       one_or_none l false = omega arith
 
-      few : (g : Group) → length (links_of_group c places (length hot) cold g) ≤ length cold + 3 * length places
+      few : (g : Group) → length (links_of_group c places hot cold g) ≤ length cold + 2 * length places
       few g =
-          let out = length-flat_map-le (leaving_at c places (length hot) g) 1 (enumerate_from 0 cold) (λ p. one_or_none _ (is_permitted c g p.1.source)) in
-          let down = few_onward g.first_node (rank_count places) in
-          let both = length-append (onward g.first_node (rank_count places)) (leaving c places (length hot) g cold) in
+          let out = length-flat_map-le (leaving_at c (depth_of places hot cold) (length hot) g) 1 (enumerate_from 0 cold) (λ p. one_or_none _ (is_permitted c g p.1.source)) in
+          let down = few_onward g.first_node (chain_length places hot cold) (2 * length places) in
+          let both = length-append (onward g.first_node (chain_length places hot cold) (2 * length places)) (leaving c (depth_of places hot cold) (length hot) g cold) in
           omega (arith, out, down, length-enumerate_from 0 cold, both)
 
 -- In a net of chains a path leads from part to part exactly where the two reach.
@@ -400,12 +372,12 @@ group_index : (groups : List Group) (g : Group) → Contains groups g → (i : �
 group_index groups g (i, within, is) = (i, slice_get_read groups (length groups) i g refl within (sym is))
 
 module _ (c : Case) (places : List ℤ) (hot cold : List Part) where
-  -- a node of the chain of a group, at the rank of a hot part or a greater one
+  -- a node of the chain of a group, at the depth of a hot part or a greater one
   record IsBelow (g : Group) (p : Part) (v : ℕ) : Type 0 where
-    pub rank : ℕ
-    pub is : v ≡ g.first_node + rank
-    pub within : rank < rank_count places
-    pub from : rank_of places p ≤ rank
+    pub depth : ℕ
+    pub is : v ≡ g.first_node + depth
+    pub within : depth < chain_length places hot cold
+    pub from : depth_of places hot cold p ≤ depth
 
   -- the node of a cold part that takes heat from a hot part
   record IsTaker (p : Part) (v : ℕ) : Type 0 where
@@ -413,16 +385,17 @@ module _ (c : Case) (places : List ℤ) (hot cold : List Part) where
     pub part : Part
     pub is : v ≡ length hot + index
     pub at : slice_get cold index ≡ Some part
-    pub from : rank_of places p ≤ rank_of places part
+    pub from : depth_of places hot cold p ≤ depth_of places hot cold part
     pub free : is_forbidden c.forbids p.source part.source ≡ false
 
 -- what a net of chains is made of: parts on the grid of the case, and groups whose chains stand in line behind the parts
 pub record AreForChains (c : Case) (places : List ℤ) (hot cold : List Part) (groups : List Group) : Type 0 where
+  pub complete : IsComplete c
   pub is_grid : IsGrid c places
   pub hot_on : All (IsOnPlaces c places Hot) hot
   pub cold_on : All (IsOnPlaces c places Cold) cold
   pub are : AreGroups c groups
-  pub in_line : StandInLine (length hot + length cold) (rank_count places) groups
+  pub in_line : StandInLine (length hot + length cold) (chain_length places hot cold) groups
 
 module _ (c : Case) (places : List ℤ) (hot cold : List Part) (groups : List Group) (for : AreForChains c places hot cold groups) where
   hot_place : (a : ℕ) (p : Part) → slice_get hot a ≡ Some p → IsOnPlaces c places Hot p
@@ -431,23 +404,35 @@ module _ (c : Case) (places : List ℤ) (hot cold : List Part) (groups : List Gr
   cold_place : (b : ℕ) (q : Part) → slice_get cold b ≡ Some q → IsOnPlaces c places Cold q
   cold_place b q at = All-slice_get (IsOnPlaces c places Cold) cold b q for.cold_on at
 
-  cold_rank : (b : ℕ) (q : Part) → slice_get cold b ≡ Some q → rank_of places q < rank_count places
-  cold_rank b q at = rank_within c places for.is_grid.ordered Cold q (cold_place b q at)
+  some_place : 0 < length places
+  some_place = places_some c places for.complete for.is_grid
+
+  hot_depth : (a : ℕ) (p : Part) → slice_get hot a ≡ Some p → depth_of places hot cold p < chain_length places hot cold
+  hot_depth a p at =
+      depth-within places hot cold p (Contains-append_left hot cold p (Contains-slice_get hot a p at))
+      (rank_within c places for.is_grid.ordered Hot p (hot_place a p at))
+
+  cold_there : (b : ℕ) (q : Part) → slice_get cold b ≡ Some q → Contains (hot ++ cold) q
+  cold_there b q at = Contains-append_right hot cold q (Contains-slice_get cold b q at)
+
+  cold_depth : (b : ℕ) (q : Part) → slice_get cold b ≡ Some q → depth_of places hot cold q < chain_length places hot cold
+  cold_depth b q at =
+      depth-within places hot cold q (cold_there b q at) (rank_within c places for.is_grid.ordered Cold q (cold_place b q at))
 
   -- a node of a chain stands behind those of the parts, and before the end of the net
-  pub node_of : (g : Group) → Contains groups g → (r : ℕ) → r < rank_count places
-      → ((length hot + length cold) ≤ g.first_node + r) × ((g.first_node + r) < (length hot + length cold) + length groups * rank_count places)
+  pub node_of : (g : Group) → Contains groups g → (r : ℕ) → r < chain_length places hot cold
+      → ((length hot + length cold) ≤ g.first_node + r) × ((g.first_node + r) < (length hot + length cold) + length groups * chain_length places hot cold)
   node_of g (i, within, is) r below =
       let first = for.in_line i g (slice_get_read groups (length groups) i g refl within (sym is)) in
-      let last = mul-add-lt i (rank_count places) r (length groups) within below in (omega (arith, first), omega (arith, first, last))
+      let last = mul-add-lt i (chain_length places hot cold) r (length groups) within below in (omega (arith, first), omega (arith, first, last))
 
   -- a node of two chains is the same node of the same chain
-  same_node : (g h : Group) → Contains groups g → Contains groups h → (r s : ℕ) → r < rank_count places → s < rank_count places
+  same_node : (g h : Group) → Contains groups g → Contains groups h → (r s : ℕ) → r < chain_length places hot cold → s < chain_length places hot cold
       → g.first_node + r ≡ h.first_node + s → (g ≡ h) × (r ≡ s)
   same_node g h g_in h_in r s r_in s_in same =
       let (i, from) = group_index groups g g_in in let (j, to) = group_index groups h h_in in
       let x = for.in_line i g from in let y = for.in_line j h to in
-      let e = same_from_place i r j s (rank_count places) r_in s_in (omega (arith, x, y, same)) in
+      let e = same_from_place i r j s (chain_length places hot cold) r_in s_in (omega (arith, x, y, same)) in
       (same_Some g h (sym from ∙ ap (slice_get groups) e.0 ∙ to), e.1)
 
   -- what is permitted to one source of a group is permitted to each
@@ -462,7 +447,7 @@ module _ (c : Case) (places : List ℤ) (hot cold : List Part) (groups : List Gr
 
   -- ---- where parts reach, a path leads
 
-  down : (g : Group) → Contains groups g → (r k : ℕ) → r + k < rank_count places → LeadsTo links (g.first_node + r) (g.first_node + (r + k))
+  down : (g : Group) → Contains groups g → (r k : ℕ) → r + k < chain_length places hot cold → LeadsTo links (g.first_node + r) (g.first_node + (r + k))
   down g is r zero within =
       let same : r ≡ r + zero = omega arith in
       subst (λ n. LeadsTo links (g.first_node + r) (g.first_node + n)) same (LeadsTo-none links (g.first_node + r))
@@ -470,25 +455,26 @@ module _ (c : Case) (places : List ℤ) (hot cold : List Part) (groups : List Gr
       let same : r + k + 1 ≡ r + suc k = omega arith in let next = open_link (g.first_node + (r + k)) (g.first_node + (r + k + 1)) in
       subst (λ n. LeadsTo links (g.first_node + r) (g.first_node + n)) same
       (LeadsTo-link links (g.first_node + r) next (down g is r k (omega (arith, within)))
-      (led_on c places hot cold groups g (r + k) is (omega (arith, within))))
+      (led_on c places hot cold groups g (r + k) is some_place (omega (arith, within))))
 
   to_cold : (g : Group) → Contains groups g → (source : Source) → Contains g.sources source → (r b : ℕ) (q : Part) → slice_get cold b ≡ Some q
-      → r ≤ rank_of places q → is_forbidden c.forbids source q.source ≡ false → LeadsTo links (g.first_node + r) (length hot + b)
+      → r ≤ depth_of places hot cold q → is_forbidden c.forbids source q.source ≡ false → LeadsTo links (g.first_node + r) (length hot + b)
   to_cold g is source stands r b q at le free =
-      let within = cold_rank b q at in let same : r + (rank_of places q - r) ≡ rank_of places q = omega (arith, le) in
-      let last = open_link (g.first_node + rank_of places q) (length hot + b) in
+      let within = cold_depth b q at in let same : r + (depth_of places hot cold q - r) ≡ depth_of places hot cold q = omega (arith, le) in
+      let last = open_link (g.first_node + depth_of places hot cold q) (length hot + b) in
       LeadsTo-link links (g.first_node + r) last
-      (subst (λ n. LeadsTo links (g.first_node + r) (g.first_node + n)) same (down g is r (rank_of places q - r) (omega (arith, same, within))))
+      (subst (λ n. LeadsTo links (g.first_node + r) (g.first_node + n)) same (down g is r (depth_of places hot cold q - r) (omega (arith, same, within))))
       (left c places hot cold groups g b q is at (permitted-all c g q.source (λ other beside. permitted g is source other stands beside b q at free)))
 
   joined_leads : (a b : ℕ) (p q : Part) → AreJoined c hot cold a b p q → LeadsTo links a (length hot + b)
   joined_leads a b p q h =
       let on = hot_place a p h.hot_part in let (i, (f, at, f_stands)) = for.are.some p.source on.source in
       let (g, by) = entered c places hot cold groups a p f h.hot_part (Contains-slice_get groups i f at) f_stands in
-      let le = passes-rank c places for.is_grid.ordered Hot Cold p q on (cold_place b q h.cold_part) h.passes in
-      let first = open_link a (g.first_node + rank_of places p) in
-      LeadsTo-append links a (g.first_node + rank_of places p) (length hot + b) (LeadsTo-link links a first (LeadsTo-none links a) by.link)
-      (to_cold g by.group_is p.source by.stands (rank_of places p) b q h.cold_part le h.free)
+      let le = depth-le places hot cold p q
+      (passes-rank c places for.is_grid.ordered Hot Cold p q on (cold_place b q h.cold_part) h.passes) in
+      let first = open_link a (g.first_node + depth_of places hot cold p) in
+      LeadsTo-append links a (g.first_node + depth_of places hot cold p) (length hot + b) (LeadsTo-link links a first (LeadsTo-none links a) by.link)
+      (to_cold g by.group_is p.source by.stands (depth_of places hot cold p) b q h.cold_part le h.free)
 
   -- ---- a path leads to nothing else
 
@@ -502,24 +488,24 @@ module _ (c : Case) (places : List ℤ) (hot cold : List Part) (groups : List Gr
     GoesOn l = Goes g p l.from → Goes g p l.to
 
     enter : Enters c places hot cold groups GoesOn
-    enter i q h at h_in in_h (inl here) = absurd (omega (arith, slice_get_within hot i q at, node_of g g_in here.rank here.within, here.is))
+    enter i q h at h_in in_h (inl here) = absurd (omega (arith, slice_get_within hot i q at, node_of g g_in here.depth here.within, here.is))
     enter i q h at h_in in_h (inr taker) = absurd (omega (arith, slice_get_within hot i q at, taker.is))
 
     descend : Descends c places hot cold groups GoesOn
     descend h r stride h_in some within (inl here) =
-        let (one, same) = same_node g h g_in h_in here.rank r here.within (omega (arith, within)) (sym here.is) in
+        let (one, same) = same_node g h g_in h_in here.depth r here.within (omega (arith, within)) (sym here.is) in
         let is = ap (λ (f : Group). f.first_node + (r + stride)) (sym one) in
-        inl (record { rank = r + stride; is = is; within = within; from = omega (arith, same, here.from) })
+        inl (record { depth = r + stride; is = is; within = within; from = omega (arith, same, here.from) })
     descend h r stride h_in some within (inr taker) =
         let node = node_of h h_in r (omega (arith, within)) in absurd (omega (arith, slice_get_within cold taker.index taker.part taker.at, node, taker.is))
 
     leave : Leaves c places hot cold groups GoesOn
     leave h i q h_in at permitted (inl here) =
-        let (one, same) = same_node g h g_in h_in here.rank (rank_of places q) here.within (cold_rank i q at) (sym here.is) in
+        let (one, same) = same_node g h g_in h_in here.depth (depth_of places hot cold q) here.within (cold_depth i q at) (sym here.is) in
         let free = permitted p.source (subst (λ (f : Group). Contains f.sources p.source) one stands) in
         inr (record { index = i; part = q; is = refl; at = at; from = omega (arith, same, here.from); free = free })
     leave h i q h_in at permitted (inr taker) =
-        let node = node_of h h_in (rank_of places q) (cold_rank i q at) in
+        let node = node_of h h_in (depth_of places hot cold q) (cold_depth i q at) in
         absurd (omega (arith, slice_get_within cold taker.index taker.part taker.at, node, taker.is))
 
     step : (l : Link) → Contains links l → GoesOn l
@@ -528,7 +514,8 @@ module _ (c : Case) (places : List ℤ) (hot cold : List Part) (groups : List Gr
   taker_reaches : (a b : ℕ) (p : Part) → slice_get hot a ≡ Some p → IsTaker c places hot cold p (length hot + b) → IsTrue (reach_between c hot cold a b)
   taker_reaches a b p hot_part taker =
       let place : taker.index ≡ b = omega (arith, taker.is) in let cold_part = subst (λ n. slice_get cold n ≡ Some taker.part) place taker.at in
-      let passes = rank-passes c places for.is_grid.ordered Hot Cold p taker.part (hot_place a p hot_part) (cold_place b taker.part cold_part) taker.from in
+      let le = rank-le places hot cold p taker.part (cold_there b taker.part cold_part) taker.from in
+      let passes = rank-passes c places for.is_grid.ordered Hot Cold p taker.part (hot_place a p hot_part) (cold_place b taker.part cold_part) le in
       reach_from_joined c hot cold a b p taker.part (record { hot_part = hot_part; cold_part = cold_part; passes = passes; free = taker.free })
 
   -- a path that begins at a hot part begins with its entering link, and ends at a cold part that it reaches
@@ -538,16 +525,16 @@ module _ (c : Case) (places : List ℤ) (hot cold : List Part) (groups : List Gr
 
   right_entering : Enters c places hot cold groups LeadsRight
   right_entering i p g at g_in stands b path hot_in b_in rest =
-      let within = rank_within c places for.is_grid.ordered Hot p (hot_place i p at) in let node = g.first_node + rank_of places p in
-      let start : IsBelow c places hot cold g p node = record { rank = rank_of places p; is = refl; within = within; from = omega arith } in
-      ⊎_elim (λ below. absurd (omega (arith, node_of g g_in below.rank below.within, below.is, b_in))) (taker_reaches i b p at)
+      let within = hot_depth i p at in let node = g.first_node + depth_of places hot cold p in
+      let start : IsBelow c places hot cold g p node = record { depth = depth_of places hot cold p; is = refl; within = within; from = omega arith } in
+      ⊎_elim (λ below. absurd (omega (arith, node_of g g_in below.depth below.within, below.is, b_in))) (taker_reaches i b p at)
       (IsPath-keeps links (Goes g p) (step g g_in p stands) path node (length hot + b) rest (inl start))
 
   right_down : Descends c places hot cold groups LeadsRight
   right_down g r stride g_in some within b path hot_in b_in rest = absurd (omega (arith, node_of g g_in r (omega (arith, within)), hot_in))
 
   right_leaving : Leaves c places hot cold groups LeadsRight
-  right_leaving g i q g_in at permitted b path hot_in b_in rest = absurd (omega (arith, node_of g g_in (rank_of places q) (cold_rank i q at), hot_in))
+  right_leaving g i q g_in at permitted b path hot_in b_in rest = absurd (omega (arith, node_of g g_in (depth_of places hot cold q) (cold_depth i q at), hot_in))
 
   path_reaches : (a b : ℕ) (path : List Link) → a < length hot → b < length cold → IsPath links path a (length hot + b) → IsTrue (reach_between c hot cold a b)
   path_reaches a b [] a_in b_in same = absurd (omega (arith, same, a_in))
@@ -565,10 +552,10 @@ module _ (c : Case) (places : List ℤ) (hot cold : List Part) (groups : List Gr
     reaches = λ a b a_in b_in leads. path_reaches a b leads.0 a_in b_in leads.1;
   }
 
-  pub starts_chain : IsComplete c → (net : Net) → net.links ≡ links → net.nodes ≡ (length hot + length cold) + length groups * rank_count places → (g : Group)
+  pub starts_chain : (net : Net) → net.links ≡ links → net.nodes ≡ (length hot + length cold) + length groups * chain_length places hot cold → (g : Group)
       → Contains groups g → StartsChain c hot cold net g
-  starts_chain complete net same nodes g is =
-      let some = places_some c places complete for.is_grid in let node = node_of g is 0 (omega (arith, some)) in
+  starts_chain net same nodes g is =
+      let node = node_of g is 0 (chain_length-some places hot cold) in
       let first : g.first_node + 0 ≡ g.first_node = omega arith in
       record {
         from = omega (arith, node);
@@ -586,7 +573,7 @@ module _ (c : Case) (places : List ℤ) (hot cold : List Part) (groups : List Gr
   first = length hot + length cold
 
   abbrev nodes_in_all : ℕ
-  nodes_in_all = first + length groups * rank_count places
+  nodes_in_all = first + length groups * chain_length places hot cold
 
   -- among the nodes of the parts and of the chains
   abbrev IsAmong : Link → Type 0
@@ -600,7 +587,7 @@ module _ (c : Case) (places : List ℤ) (hot cold : List Part) (groups : List Gr
 
   into_chains : Enters c places hot cold groups IsAmong
   into_chains i p g at g_in stands =
-      let index = slice_get_within hot i p at in let node = node_of g g_in _ (rank_within c places for.is_grid.ordered Hot p (hot_place i p at)) in
+      let index = slice_get_within hot i p at in let node = node_of g g_in _ (hot_depth i p at) in
       among _ _ (omega (arith, index)) (omega (arith, node)) (inl index) (omega (arith, node)) (λ late _. absurd (omega (arith, late, index)))
 
   down_chains : Descends c places hot cold groups IsAmong
@@ -610,7 +597,7 @@ module _ (c : Case) (places : List ℤ) (hot cold : List Part) (groups : List Gr
 
   out_of_chains : Leaves c places hot cold groups IsAmong
   out_of_chains g i q g_in at permitted =
-      let index = slice_get_within cold i q at in let node = node_of g g_in _ (cold_rank i q at) in
+      let index = slice_get_within cold i q at in let node = node_of g g_in _ (cold_depth i q at) in
       among _ _ (omega (arith, node)) (omega (arith, index)) (inr (omega (arith, node))) (omega arith) (λ _ late. absurd (omega (arith, late, index)))
 
   pub IsInner-chains : (net : Net) → net.links ≡ links → net.nodes ≡ nodes_in_all → IsInner (length hot) (length cold) net
@@ -621,29 +608,31 @@ module _ (c : Case) (places : List ℤ) (hot cold : List Part) (groups : List Gr
 -- The net of chains is small.
 
 -- where the chains stand in line, all their first nodes are within the limit
-pub first_nodes_few : (first ranks : ℕ) (groups : List Group) → StandInLine first ranks groups → length groups ≤ MOST_STREAMS + ALL_UTILITIES
-    → first ≤ 2 * MOST_PARTS → ranks ≤ 2 * MOST_PLACES → All (λ g. g.first_node ≤ MOST_INNER_NODES) groups
-first_nodes_few first ranks groups in_line few few_parts few_ranks k d within =
+pub first_nodes_few : (first nodes : ℕ) (groups : List Group) → StandInLine first nodes groups → length groups ≤ MOST_STREAMS + ALL_UTILITIES
+    → first ≤ 2 * MOST_PARTS → nodes ≤ 2 * MOST_PLACES → All (λ g. g.first_node ≤ MOST_INNER_NODES) groups
+first_nodes_few first nodes groups in_line few few_parts few_nodes k d within =
     let (i, at) = group_index groups (get_or groups k d) (Contains-get_or groups k d within) in let is = in_line i (get_or groups k d) at in
-    let fewer = mul-le i ranks (length groups) ranks (omega (arith, slice_get_within groups i (get_or groups k d) at)) (omega arith) in
-    let most = few_chain_nodes (length groups) ranks few few_ranks in omega (arith, is, fewer, most, few_parts)
+    let fewer = mul-le i nodes (length groups) nodes (omega (arith, slice_get_within groups i (get_or groups k d) at)) (omega arith) in
+    let most = few_chain_nodes (length groups) nodes few few_nodes in omega (arith, is, fewer, most, few_parts)
 
 -- ---- sizes
 
 module _ (c : Case) (places : List ℤ) (hot cold : List Part) (complete : IsComplete c) (is_grid : IsGrid c places) (few_hot : length hot ≤ MOST_PARTS)
     (few_cold : length cold ≤ MOST_PARTS) where
   pub IsSmall-chains : (chains : Chains) → length chains.groups ≤ MOST_STREAMS + ALL_UTILITIES
-      → length chains.net.links ≤ length hot + length chains.groups * (length cold + 3 * length places)
-      → chains.net.nodes ≡ (length hot + length cold) + length chains.groups * rank_count places → IsSmall c (length hot) (length cold) chains
+      → length chains.net.links ≤ length hot + length chains.groups * (length cold + 2 * length places)
+      → chains.net.nodes ≡ (length hot + length cold) + length chains.groups * chain_length places hot cold → IsSmall c (length hot) (length cold) chains
   IsSmall-chains chains few links nodes =
       let few_places = length-grid c places complete is_grid in
       let same = λ (other : List ℤ) (grid : IsGrid c other). ListsFalling-unique (Contains (places_of c.streams c.utilities)) places other is_grid grid in
-      let most_nodes = mul-le (length chains.groups) (rank_count places) (length chains.groups) (2 * length places) (omega arith) (omega arith) in
-      let all_nodes = few_chain_nodes (length chains.groups) (rank_count places) few (omega (arith, few_places)) in
-      let most_links = mul-le (length chains.groups) (length cold + 3 * length places) (MOST_STREAMS + ALL_UTILITIES) (MOST_PARTS + 3 * MOST_PLACES) few
+      let few_in_chain = chain_length-le places hot cold (places_some c places complete is_grid) in
+      let most_nodes = mul-le (length chains.groups) (chain_length places hot cold) (length chains.groups) (2 * length places) (omega arith)
+      (omega (arith, few_in_chain)) in
+      let all_nodes = few_chain_nodes (length chains.groups) (chain_length places hot cold) few (omega (arith, few_places, few_in_chain)) in
+      let most_links = mul-le (length chains.groups) (length cold + 2 * length places) (MOST_STREAMS + ALL_UTILITIES) (MOST_PARTS + 2 * MOST_PLACES) few
       (omega (arith, few_cold, few_places)) in
       record {
-        links = λ other grid. subst (λ ps. length chains.net.links ≤ length hot + length chains.groups * (length cold + 3 * length ps)) (same other grid) links;
+        links = λ other grid. subst (λ ps. length chains.net.links ≤ length hot + length chains.groups * (length cold + 2 * length ps)) (same other grid) links;
         nodes = λ other grid. subst (λ ps. chains.net.nodes ≤ (length hot + length cold) + 2 * length chains.groups * length ps) (same other grid)
             (omega (arith, nodes, most_nodes));
         few_links = omega (arith, links, most_links, few_hot);
@@ -667,19 +656,18 @@ on_places c places hot cold is_grid on =
     let same = ListsFalling-unique (Contains (places_of c.streams c.utilities)) on.grid places on.is_grid is_grid in
     (subst (λ ps. All (IsOnPlaces c ps Hot) hot) same on.hot_parts, subst (λ ps. All (IsOnPlaces c ps Cold) cold) same on.cold_parts)
 
-module _ (c : Case) (places : List ℤ) (hot cold : List Part) (chains : Chains) (complete : IsComplete c)
-    (for : AreForChains c places hot cold chains.groups) where
+module _ (c : Case) (places : List ℤ) (hot cold : List Part) (chains : Chains) (for : AreForChains c places hot cold chains.groups) where
   pub AreChains-made : length hot ≤ MOST_PARTS → length cold ≤ MOST_PARTS → length chains.groups ≤ MOST_STREAMS + ALL_UTILITIES
       → chains.net.links ≡ chain_links c places hot cold chains.groups
-      → chains.net.nodes ≡ (length hot + length cold) + length chains.groups * rank_count places → AreChains c hot cold chains
+      → chains.net.nodes ≡ (length hot + length cold) + length chains.groups * chain_length places hot cold → AreChains c hot cold chains
   AreChains-made few_hot few_cold few links nodes =
       let few_links = few_chain_links c places hot cold chains.groups in
       record {
         groups = for.are;
-        first_nodes = λ k d within. starts_chain c places hot cold chains.groups for complete chains.net links nodes
+        first_nodes = λ k d within. starts_chain c places hot cold chains.groups for chains.net links nodes
             _ (Contains-get_or chains.groups k d within);
         inner = IsInner-chains c places hot cold chains.groups for chains.net links nodes;
         paths = subst (λ ls. PathsAreReaches (length hot) (length cold) ls (reach_between c hot cold)) (sym links)
             (paths_are_reaches c places hot cold chains.groups for);
-        small = IsSmall-chains c places hot cold complete for.is_grid few_hot few_cold chains few (omega (arith, few_links, ap length links)) nodes;
+        small = IsSmall-chains c places hot cold for.complete for.is_grid few_hot few_cold chains few (omega (arith, few_links, ap length links)) nodes;
       }

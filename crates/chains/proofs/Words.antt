@@ -1,6 +1,8 @@
 -- The words and lemmas from elsewhere that the proofs of this crate speak in, passed on from one place. Declares nothing.
 unfoldable pub use Rattle.chains.specs.ChainNet.{StandInLine, chain_links, entering, entering_at, first_node_of, has_source, is_permitted, leaving, leaving_at}
-unfoldable pub use Rattle.chains.specs.ChainNet.{links_of_group, onward, open_link, stride_link, stride_links, strides}
+unfoldable pub use Rattle.chains.specs.ChainNet.{links_of_group, onward, open_link, stride_link, stride_links, strides_within}
+unfoldable pub use Rattle.chains.specs.Depths.{chain_length, depth_of, ranks_used, used_among}
+pub use Rattle.chains.specs.Depths.{AreDepths}
 pub use Rattle.chains.specs.Gathered.{AreGathered, AreOfOnePair, IsAdded, IsJoined, IsNotAfter, IsPushed, transfer_of}
 pub use Rattle.chains.specs.Groups.{AreGroups, HaveSamePartners, StandsIn, StartsChain}
 pub use Rattle.chains.specs.Inner.{IsHeatOf, IsInner, IsInnerLink}
@@ -11,6 +13,8 @@ pub use Rattle.chains.specs.Sizes.{IsSmall}
 pub use Rattle.chains.specs.Spread.{IsSpread}
 pub use Rattle.chains.specs.Stock.{HasPassed, HaveSetOut, IsFirstShare, IsShare, IsUnderWay, held_at, held_of, moved}
 pub use Rattle.chains.specs.Ways.{AreOpen, IsCarried, IsFirstWay, IsWay, left_from, left_in_all, left_into, way_at}
+pub use Rattle.chains.specs.declared.depths.Depths.{Depths}
+pub use Rattle.chains.specs.declared.links.TheConstants.{STRIDES}
 pub use Rattle.chains.specs.declared.net.Chains.{Chains}
 pub use Rattle.chains.specs.declared.net.Group.{Group}
 pub use Rattle.chains.specs.declared.net.TheConstants.{MOST_INNER_NODES}
@@ -36,7 +40,7 @@ pub use Rattle.heat_flow.specs.declared.flow.Transfer.{Transfer}
 pub use Rattle.std.proofs.Math.ListN.{set}
 pub use Rattle.std.proofs.Math.Nat.{div-mul-le_self, le-div_iff_mul-le}
 pub use Rattle.std.proofs.Math.Path.{subst₂}
-pub use Rattle.std.proofs.lemmas.Bool.{and_from, and_parts, cases_eq, cases_lt, cases_order, eq-eqb, eqb-true, false_from_ne_true, false≢true, ne_eqb, not-true}
+pub use Rattle.std.proofs.lemmas.Bool.{and_from, and_parts, cases_eq, cases_lt, cases_order, eq-eqb, eqb-true, false_from_ne_true, false≢true, le-leb, lt-leb, ne_eqb, not-true}
 pub use Rattle.std.proofs.lemmas.Bool.{not_from_false, or_cases, or_left, or_right}
 pub use Rattle.std.proofs.lemmas.Bool.Decides.{Decides-int_eq, nat_tests, not_from_Decides}
 pub use Rattle.std.proofs.lemmas.Cmp.{by_ranked, ranked}
@@ -45,12 +49,12 @@ pub use Rattle.std.proofs.lemmas.Grind.{get_or-set_at}
 pub use Rattle.std.proofs.lemmas.Int.{by_lt_z, clamps, ints, to_z-of_z}
 pub use Rattle.std.proofs.lemmas.Iterator.Search.{position_from_yields_List}
 pub use Rattle.std.proofs.lemmas.List.{append-nil, flat_map_more, get_or-set_other, get_or-set_same, get_or-take, get_or_default, get_or_read, length-append}
-pub use Rattle.std.proofs.lemmas.List.{get_or-map, length-map, map-append}
+pub use Rattle.std.proofs.lemmas.List.{at_drop_all, at_drop_more, get_or-map, length-map, map-append}
 pub use Rattle.std.proofs.lemmas.List.{length-set, length-take, length-take-le, length_push, nil_from_length, take_all, take_more, take_more_set}
 pub use Rattle.std.proofs.lemmas.List.Concat.{length-flat_map}
 pub use Rattle.std.proofs.lemmas.List.Elements.{All-append, All-cons, All-contains, All-drop, All-head, All-map, All-nil, All-pop, All-push, All-set, All-tail}
 pub use Rattle.std.proofs.lemmas.List.Elements.{All-weaker, Contains-append_left, Contains-append_right, Contains-get_or, Contains-push, Contains-push_cases}
-pub use Rattle.std.proofs.lemmas.List.Folds.{Any-from_list_any, list_any-from_Any}
+pub use Rattle.std.proofs.lemmas.List.Folds.{Any-from_list_any, list_any-append, list_any-from_Any, list_any_at}
 pub use Rattle.std.proofs.lemmas.List.FromFn.{get_or-enumerate_from, length-enumerate_from, map-range_with_len_more}
 pub use Rattle.std.proofs.lemmas.List.Quantifiers.{Any-push, all_pairs_push}
 pub use Rattle.std.proofs.lemmas.List.Recursion.{is_position_or_len}
@@ -63,7 +67,7 @@ pub use Rattle.std.proofs.lemmas.Result.{IfOk-weaker, on_ok_weaker}
 pub use Rattle.std.specs.Fn.{Called, ComputesKey}
 pub use Rattle.std.specs.Int.{int_min}
 pub use Rattle.std.specs.Int.RustNames.{unsigned_abs}
-pub use Rattle.std.specs.List.{enumerate_from, find, flat_map, position_or_len, range_with_len, swap}
+pub use Rattle.std.specs.List.{enumerate_from, find, flat_map, list_any, position_or_len, range_with_len, swap}
 pub use Rattle.std.specs.List.Sorted.{IsNonDecreasingBy, IsPermutation, IsSortedByKey}
 pub use Rattle.std.specs.Ordering.{int_eq, is_lt, nat_cmp, ordering_then}
 pub use Rattle.std.specs.Prelude.{All, AllPairs, Any, Contains, count_by, if◌then◌else◌, int_lt, negsuc, pos, unwrap_or, ℤ, ◌*◌, ◌+ℤ◌, ◌-ℤ◌, ◌<ℤ◌, ◌≤ℤ◌}
@@ -82,7 +86,7 @@ pub use Rattle.stream_case.specs.declared.source.Source.{Source}
 pub use Rattle.stream_case.specs.declared.stream.Stream.{Stream}
 pub use Rattle.stream_case.specs.declared.utility.Utility.{Utility}
 pub use Rattle.sums.proofs.ConsLemmas.{All-cons_if, AllPairs-cons_if}
-pub use Rattle.sums.proofs.CountLemmas.{count_by-cons}
+pub use Rattle.sums.proofs.CountLemmas.{count_by-cons, count_by-map}
 pub use Rattle.sums.proofs.EnumerationLemmas.{All-enumerated, enumerate_from-append}
 pub use Rattle.sums.proofs.IntegerLemmas.{if_between, if_zero, int_eq-false, int_le-from, int_le-true, int_lt-from, int_lt-true, strictly}
 pub use Rattle.sums.proofs.ListLemmas.{All-flat_map, All-slice_get, Contains-flat_map, Contains-slice_get, slice_get_push}

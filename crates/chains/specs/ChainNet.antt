@@ -1,5 +1,5 @@
--- The links of a net of chains, as one list. The chain of a group has a node for each rank, in order.
-use Rattle.std.specs.Prelude.{◌≡◌, ℕ, ◌+◌, ◌-◌, ◌*◌, ◌/◌, Bool, not, ℤ, pos, List, [], ◌∷◌, ◌++◌, length, map, Option, Some, option_map, option_to_list, slice_get}
+-- The links of a net of chains, as one list. The chain of a group has a node for each rank at which a part stands, in order.
+use Rattle.std.specs.Prelude.{◌≡◌, ℕ, ◌+◌, ◌-◌, ◌*◌, ◌/◌, nat_le, Bool, not, ℤ, pos, List, [], ◌∷◌, ◌++◌, length, map, if◌then◌else◌, Option, Some, option_map, option_to_list, slice_get}
 use Rattle.std.specs.List.{enumerate_from, find, flat_map, list_all, list_any, range_with_len}
 use Rattle.stream_case.specs.declared.source.Source.{Source}
 use Rattle.stream_case.specs.declared.case.Case.{Case}
@@ -10,7 +10,8 @@ use Rattle.grid.specs.declared.part.Part.{Part}
 use Rattle.flow_net.specs.declared.limits.TheConstants.{MOST_ROOM}
 use Rattle.flow_net.specs.declared.net.Link.{Link}
 use Rattle.chains.specs.declared.net.Group.{Group}
-use Rattle.chains.specs.Ranks.{rank_of, rank_count}
+use Rattle.chains.specs.declared.links.TheConstants.{STRIDES}
+use Rattle.chains.specs.Depths.{chain_length, depth_of}
 
 -- a link with room for all heat, at no cost
 abbrev pub open_link : ℕ → ℕ → Link
@@ -18,7 +19,7 @@ open_link from to = record { from = from; to = to; room = MOST_ROOM; cost = pos 
 
 -- the chains stand one after the other, the first one from this node, each with so many nodes
 abbrev pub StandInLine : ℕ → ℕ → List Group → Type 0
-StandInLine first ranks groups = (i : ℕ) (g : Group) → slice_get groups i ≡ Some g → g.first_node ≡ first + i * ranks
+StandInLine first nodes groups = (i : ℕ) (g : Group) → slice_get groups i ≡ Some g → g.first_node ≡ first + i * nodes
 
 -- ---- from hot parts into the chains
 
@@ -29,28 +30,31 @@ has_source source g = list_any (λ other. same_source other source) g.sources
 abbrev pub first_node_of : List Group → Source → Option ℕ
 first_node_of groups source = option_map (λ g. g.first_node) (find (has_source source) groups)
 
--- from a hot part, which stands beside its index, into the chain of its source's group, at the rank of the part
-abbrev pub entering_at : List ℤ → List Group → ℕ × Part → List Link
-entering_at places groups p = option_to_list (option_map (λ node. open_link p.0 (node + rank_of places p.1)) (first_node_of groups p.1.source))
+-- from a hot part, which stands beside its index, into the chain of its source's group, at the depth of the part
+abbrev pub entering_at : (Part → ℕ) → List Group → ℕ × Part → List Link
+entering_at depth groups p = option_to_list (option_map (λ node. open_link p.0 (node + depth p.1)) (first_node_of groups p.1.source))
 
-abbrev pub entering : List ℤ → List Group → List Part → List Link
-entering places groups hot = flat_map (entering_at places groups) (enumerate_from 0 hot)
+abbrev pub entering : (Part → ℕ) → List Group → List Part → List Link
+entering depth groups hot = flat_map (entering_at depth groups) (enumerate_from 0 hot)
 
 -- ---- down the chain that begins at a node, with so many nodes
-
--- how many ranks the links down a chain lead on
-abbrev pub strides : List ℕ
-strides = 1 ∷ 3 ∷ 9 ∷ 27 ∷ 81 ∷ []
 
 -- the link from a multiple of the stride to the next one
 abbrev pub stride_link : ℕ → ℕ → ℕ → Link
 stride_link first stride step = open_link (first + step * stride) (first + step * stride + stride)
 
 abbrev pub stride_links : ℕ → ℕ → ℕ → List Link
-stride_links first ranks stride = map (stride_link first stride) (range_with_len 0 ((ranks - 1) / stride))
+stride_links first nodes stride = map (stride_link first stride) (range_with_len 0 ((nodes - 1) / stride))
 
-unfoldable pub onward : ℕ → ℕ → List Link
-onward first ranks = flat_map (stride_links first ranks) strides
+-- of these strides, each whose links fit into the room that those before it leave
+unfoldable pub strides_within : ℕ → ℕ → List ℕ → List ℕ
+strides_within nodes room [] = []
+strides_within nodes room (stride ∷ strides) =
+    if nat_le ((nodes - 1) / stride) room then stride ∷ strides_within nodes (room - (nodes - 1) / stride) strides else strides_within nodes room strides
+
+-- no more links in all than the room
+unfoldable pub onward : ℕ → ℕ → ℕ → List Link
+onward first nodes room = flat_map (stride_links first nodes) (strides_within nodes room STRIDES)
 
 -- ---- from the chain of a group to cold parts
 
@@ -58,18 +62,20 @@ onward first ranks = flat_map (stride_links first ranks) strides
 abbrev pub is_permitted : Case → Group → Source → Bool
 is_permitted c g cold = list_all (λ hot. not (is_forbidden c.forbids hot cold)) g.sources
 
--- to a cold part, which stands beside its index, behind so many hot parts, at the rank of the part
-abbrev pub leaving_at : Case → List ℤ → ℕ → Group → ℕ × Part → List Link
-leaving_at c places hots g p =
-    cons_if (is_permitted c g p.1.source) (open_link (g.first_node + rank_of places p.1) (hots + p.0)) []
+-- to a cold part, which stands beside its index, behind so many hot parts, at the depth of the part
+abbrev pub leaving_at : Case → (Part → ℕ) → ℕ → Group → ℕ × Part → List Link
+leaving_at c depth hots g p =
+    cons_if (is_permitted c g p.1.source) (open_link (g.first_node + depth p.1) (hots + p.0)) []
 
-abbrev pub leaving : Case → List ℤ → ℕ → Group → List Part → List Link
-leaving c places hots g cold = flat_map (leaving_at c places hots g) (enumerate_from 0 cold)
+abbrev pub leaving : Case → (Part → ℕ) → ℕ → Group → List Part → List Link
+leaving c depth hots g cold = flat_map (leaving_at c depth hots g) (enumerate_from 0 cold)
 
 -- ---- all of them
 
-abbrev pub links_of_group : Case → List ℤ → ℕ → List Part → Group → List Link
-links_of_group c places hots cold g = onward g.first_node (rank_count places) ++ leaving c places hots g cold
+-- down a chain two for each place at most
+abbrev pub links_of_group : Case → List ℤ → List Part → List Part → Group → List Link
+links_of_group c places hot cold g =
+    onward g.first_node (chain_length places hot cold) (2 * length places) ++ leaving c (depth_of places hot cold) (length hot) g cold
 
 abbrev pub chain_links : Case → List ℤ → List Part → List Part → List Group → List Link
-chain_links c places hot cold groups = entering places groups hot ++ flat_map (links_of_group c places (length hot) cold) groups
+chain_links c places hot cold groups = entering (depth_of places hot cold) groups hot ++ flat_map (links_of_group c places hot cold) groups

@@ -19,10 +19,11 @@ abbrev pub StandsIn : List Group → ℕ → Source → Type 0
 StandsIn groups i source = (g : Group) × (slice_get groups i ≡ Some g) × Contains g.sources source
 
 -- each hot source stands in one group, once, and two stand in the same group exactly where the same cold sources are permitted
--- to them
+-- to them; no group is empty
 pub record AreGroups (c : Case) (groups : List Group) : Type 0 where
   pub hot : (i : ℕ) (source : Source) → StandsIn groups i source → side_of c source ≡ Some Hot
   pub some : (source : Source) → side_of c source ≡ Some Hot → (i : ℕ) × StandsIn groups i source
+  pub filled : All (λ g. 0 < length g.sources) groups
   pub once : All (λ g. AllPairs (λ p q. p ≢ q) g.sources) groups
   pub alike : (i j : ℕ) (p q : Source) → StandsIn groups i p → StandsIn groups j q → ((i ≡ j) ↔ HaveSamePartners c p q)
 

@@ -1,4 +1,5 @@
 pub mod ChainNet
+pub mod Depths
 pub mod Gathered
 pub mod Groups
 pub mod Inner

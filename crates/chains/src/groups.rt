@@ -114,18 +114,18 @@ fn stands_in_one(groups: &[Group], source: Source) -> bool
 
 /// The groups of the hot sources: each source that stands in none yet begins a group of all to
 /// which the same cold sources are permitted. Their chains stand one after the other, from node
-/// `first` on, with `ranks` nodes each.
+/// `first` on, with `nodes` nodes each.
 pub(crate) fn groups_of(
     alloc: Global,
     case: &Case,
     first: u32,
-    ranks: u32,
+    nodes: u32,
 ) -> Result<Vec<Group>, AllocError>
     requires complete { IsComplete case.now }
     requires first { first ≤ 2 * MOST_PARTS }
-    requires ranks { ranks ≤ 2 * MOST_PLACES }
+    requires nodes { nodes ≤ 2 * MOST_PLACES }
     ensures groups { IfOk result (λ groups. AreGroups case.now groups.items) }
-    ensures chains { IfOk result (λ groups. StandInLine first ranks groups.items) }
+    ensures chains { IfOk result (λ groups. StandInLine first nodes groups.items) }
     ensures few { IfOk result (λ groups. length groups.items ≤ MOST_STREAMS + ALL_UTILITIES) }
 {
     let hot = sources_of(alloc, case, Side::Hot)?;
@@ -133,7 +133,7 @@ pub(crate) fn groups_of(
     let mut groups = Vec::new(alloc);
     for source in &hot {
         if !stands_in_one(groups.as_slice(), *source) {
-            let first_node = first + groups.len() as u32 * ranks;
+            let first_node = first + groups.len() as u32 * nodes;
             let sources = sources_like(alloc, case, hot.as_slice(), cold.as_slice(), *source)?;
             groups.push(Group {
                 sources: Items::from_vec(sources),

@@ -1,20 +1,22 @@
 //! The links of a net of chains.
-ghost use Rattle.std.specs.Prelude.{◌≡◌, ◌↔◌, ◌≤◌, ◌+◌, ◌*◌, ◌++◌, true, length, map, IsTrue, IfOk, OnOk, All, Contains, Some};
+ghost use Rattle.std.specs.Prelude.{◌≡◌, ◌↔◌, ◌≤◌, ◌+◌, ◌-◌, ◌*◌, ◌++◌, true, length, map, IsTrue, IfOk, OnOk, All, Contains, Some};
 ghost use Rattle.stream_case.specs.declared.source.Source.{Source};
-ghost use Rattle.stream_case.specs.declared.limits.TheConstants.{MOST_PARTS, MOST_PLACES};
+ghost use Rattle.stream_case.specs.declared.limits.TheConstants.{MOST_PLACES};
 ghost use Rattle.stream_case.specs.declared.source.Side.TheVariants.{Cold};
 ghost use Rattle.stream_case.specs.Case.{side_of, IsComplete};
 ghost use Rattle.chains.specs.declared.net.TheConstants.{MOST_INNER_NODES};
-ghost use Rattle.chains.specs.Ranks.{rank_of};
+ghost use Rattle.chains.specs.Depths.{depth_of};
 ghost use Rattle.chains.specs.ChainNet.{entering, first_node_of, is_permitted, leaving, onward, open_link, stride_links};
 
 use crate::groups::{has_source, sources_of};
 use crate::net::Group;
-use crate::ranks::rank_of;
 use flow_net::{Link, MOST_ROOM};
-use grid::{Part, Parts};
+use grid::Parts;
 use std::alloc::{AllocError, Global};
 use stream_case::{Case, Side, Source};
+
+/// How many nodes the links down a chain lead on.
+const STRIDES: [u32; 5] = [1, 3, 9, 27, 81];
 
 /// A link with room for all heat, at no cost.
 fn open_link(from: u32, to: u32) -> Link
@@ -38,22 +40,26 @@ fn first_node_of(groups: &[Group], source: Source) -> Option<u32>
         .map(|group| group.first_node)
 }
 
-/// Appends a link from each hot part into the chain of its source's group, at the part's rank.
+/// Appends a link from each hot part into the chain of its source's group, at the part's depth.
+/// Beside the hot parts stand their depths, given the places.
 pub(crate) fn push_entering(
     links: &mut Vec<Link>,
-    places: &[i32],
     groups: &[Group],
-    hot: &[Part],
+    places: &[i32],
+    depths: &[u32],
+    parts: &Parts,
 ) -> Result<(), AllocError>
-    requires few_places { length places.now ≤ MOST_PLACES }
-    requires few_parts { length hot.now ≤ MOST_PARTS }
+    requires depths { depths.now
+        ≡ map (depth_of places.now parts.now.hot parts.now.cold) parts.now.hot }
+    requires small { All (λ depth. depth ≤ 2 * MOST_PLACES) depths.now }
     requires nodes { All (λ g. g.first_node ≤ MOST_INNER_NODES) groups.now }
     ensures { OnOk result
-        (links.new.items ≡ links.old.items ++ entering places.now groups.now hot.now) }
+        (links.new.items ≡ links.old.items
+        ++ entering (depth_of places.now parts.now.hot parts.now.cold) groups.now parts.now.hot) }
 {
-    for (index, part) in hot.iter().enumerate() {
+    for (index, part) in parts.hot.as_slice().iter().enumerate() {
         if let Some(first_node) = first_node_of(groups, part.source) {
-            let node = first_node + rank_of(places, part);
+            let node = first_node + depths[index];
             links.push(open_link(index as u32, node))?;
         }
     }
@@ -65,17 +71,17 @@ pub(crate) fn push_entering(
 fn push_stride(
     links: &mut Vec<Link>,
     group: &Group,
-    ranks: u32,
+    nodes: u32,
     stride: u32,
 ) -> Result<(), AllocError>
     requires node { group.now.first_node ≤ MOST_INNER_NODES }
-    requires some { 1 ≤ ranks }
-    requires ranks { ranks ≤ 2 * MOST_PLACES }
+    requires some { 1 ≤ nodes }
+    requires nodes { nodes ≤ 2 * MOST_PLACES }
     requires stride { 1 ≤ stride }
     ensures { OnOk result
-        (links.new.items ≡ links.old.items ++ stride_links group.now.first_node ranks stride) }
+        (links.new.items ≡ links.old.items ++ stride_links group.now.first_node nodes stride) }
 {
-    for step in 0..(ranks - 1) / stride {
+    for step in 0..(nodes - 1) / stride {
         let node = group.first_node + step * stride;
         links.push(open_link(node, node + stride))?;
     }
@@ -83,23 +89,29 @@ fn push_stride(
 }
 
 /// Appends the links down a group's chain, of so many nodes: from each node to the next one, and
-/// longer ones beside them, so that heat goes far down in few links.
+/// longer ones beside them where they fit, so that heat goes far down in few links. In all they
+/// are no more than the room.
 pub(crate) fn push_onward(
     links: &mut Vec<Link>,
     group: &Group,
-    ranks: u32,
+    nodes: u32,
+    room: u32,
 ) -> Result<(), AllocError>
     requires node { group.now.first_node ≤ MOST_INNER_NODES }
-    requires some { 1 ≤ ranks }
-    requires ranks { ranks ≤ 2 * MOST_PLACES }
+    requires some { 1 ≤ nodes }
+    requires nodes { nodes ≤ 2 * MOST_PLACES }
     ensures { OnOk result
-        (links.new.items ≡ links.old.items ++ onward group.now.first_node ranks) }
+        (links.new.items ≡ links.old.items ++ onward group.now.first_node nodes room) }
 {
-    push_stride(links, group, ranks, 1)?;
-    push_stride(links, group, ranks, 3)?;
-    push_stride(links, group, ranks, 9)?;
-    push_stride(links, group, ranks, 27)?;
-    push_stride(links, group, ranks, 81)
+    let mut room = room;
+    for stride in &STRIDES {
+        let count = (nodes - 1) / *stride;
+        if count <= room {
+            push_stride(links, group, nodes, *stride)?;
+            room -= count;
+        }
+    }
+    Ok(())
 }
 
 /// Whether a cold source is permitted to each source of a group.
@@ -136,31 +148,33 @@ fn is_one_of(sources: &[Source], source: Source) -> bool
     sources.contains(&source)
 }
 
-/// Appends a link from a group's chain, at the part's rank, to each cold part whose source is
-/// permitted to the group. Beside the cold parts stand their ranks on the places.
+/// Appends a link from a group's chain, at the part's depth, to each cold part whose source is
+/// permitted to the group. Beside the cold parts stand their depths, given the places.
 pub(crate) fn push_leaving(
     links: &mut Vec<Link>,
     alloc: Global,
     case: &Case,
     group: &Group,
     places: &[i32],
-    ranks: &[u32],
+    depths: &[u32],
     parts: &Parts,
 ) -> Result<(), AllocError>
     requires complete { IsComplete case.now }
-    requires ranks { ranks.now ≡ map (rank_of places.now) parts.now.cold }
-    requires small { All (λ r. r ≤ 2 * MOST_PLACES + 1) ranks.now }
+    requires depths { depths.now
+        ≡ map (depth_of places.now parts.now.hot parts.now.cold) parts.now.cold }
+    requires small { All (λ depth. depth ≤ 2 * MOST_PLACES) depths.now }
     requires node { group.now.first_node ≤ MOST_INNER_NODES }
     requires cold { All (λ part. side_of case.now part.source ≡ Some Cold) parts.now.cold }
     ensures { OnOk result
-        (links.new.items ≡ links.old.items ++ leaving case.now places.now
+        (links.new.items ≡ links.old.items
+        ++ leaving case.now (depth_of places.now parts.now.hot parts.now.cold)
         (length parts.now.hot) group.now parts.now.cold) }
 {
     let permitted = permitted_to(alloc, case, group)?;
     let hots = parts.hot.len() as u32;
     for (index, part) in parts.cold.as_slice().iter().enumerate() {
         if is_one_of(permitted.as_slice(), part.source) {
-            let node = group.first_node + ranks[index];
+            let node = group.first_node + depths[index];
             links.push(open_link(node, hots + index as u32))?;
         }
     }

@@ -8,10 +8,10 @@ ghost use Rattle.grid.specs.OnGrid.{AreOnGrid};
 ghost use Rattle.chains.specs.Path.{PathsAreReaches};
 ghost use Rattle.chains.specs.Sizes.{IsSmall};
 
+use crate::depths::depths_of;
 use crate::groups::groups_of;
 use crate::links::{push_entering, push_leaving, push_onward};
 use crate::net::Chains;
-use crate::ranks::{rank_count, ranks_of};
 use flow_net::Net;
 use grid::{Parts, grid_of};
 use std::alloc::{AllocError, Global};
@@ -38,19 +38,19 @@ pub fn chains_of(alloc: Global, case: &Case, parts: &Parts) -> Result<Chains, Al
 {
     let grid = grid_of(alloc, case)?;
     let places = grid.places.as_slice();
-    let ranks = rank_count(places);
+    let depths = depths_of(alloc, places, parts)?;
     let first = (parts.hot.len() + parts.cold.len()) as u32;
-    let groups = groups_of(alloc, case, first, ranks)?;
+    let groups = groups_of(alloc, case, first, depths.nodes)?;
+    let room = 2 * places.len() as u32;
     let mut links = Vec::new(alloc);
-    push_entering(&mut links, places, groups.as_slice(), parts.hot.as_slice())?;
-    let cold_ranks = ranks_of(alloc, places, parts.cold.as_slice())?;
+    push_entering(&mut links, groups.as_slice(), places, &depths.hot, parts)?;
     for group in &groups {
-        push_onward(&mut links, group, ranks)?;
-        push_leaving(&mut links, alloc, case, group, places, &cold_ranks, parts)?;
+        push_onward(&mut links, group, depths.nodes, room)?;
+        push_leaving(&mut links, alloc, case, group, places, &depths.cold, parts)?;
     }
     Ok(Chains {
         net: Net {
-            nodes: first + groups.len() as u32 * ranks,
+            nodes: first + groups.len() as u32 * depths.nodes,
             links: Items::from_vec(links),
         },
         groups: Items::from_vec(groups),

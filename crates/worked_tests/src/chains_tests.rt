@@ -38,8 +38,8 @@ const CASES: &[(&str, Table, Wanted)] = &[
         FOUR_STREAMS,
         Wanted {
             groups: &[(&[Stream(1), Stream(3), Utility(0)], 15)],
-            nodes: 26,
-            links: 9 + (10 + 3 + 1) + 6,
+            nodes: 22,
+            links: 9 + (6 + 2) + 6,
         },
     ),
     (
@@ -58,9 +58,9 @@ const CASES: &[(&str, Table, Wanted)] = &[
             ..FOUR_STREAMS
         },
         Wanted {
-            groups: &[(&[Stream(1)], 15), (&[Stream(3)], 26), (&[Utility(0)], 37)],
-            nodes: 48,
-            links: 9 + 3 * (10 + 3 + 1) + (3 + 4 + 6),
+            groups: &[(&[Stream(1)], 15), (&[Stream(3)], 22), (&[Utility(0)], 29)],
+            nodes: 36,
+            links: 9 + 3 * (6 + 2) + (3 + 4 + 6),
         },
     ),
     (
@@ -79,9 +79,9 @@ const CASES: &[(&str, Table, Wanted)] = &[
             ..FOUR_STREAMS
         },
         Wanted {
-            groups: &[(&[Stream(1), Stream(3)], 15), (&[Utility(0)], 26)],
-            nodes: 37,
-            links: 9 + 2 * (10 + 3 + 1) + (3 + 6),
+            groups: &[(&[Stream(1), Stream(3)], 15), (&[Utility(0)], 22)],
+            nodes: 29,
+            links: 9 + 2 * (6 + 2) + (3 + 6),
         },
     ),
     (
@@ -90,12 +90,12 @@ const CASES: &[(&str, Table, Wanted)] = &[
         Wanted {
             groups: &[
                 (&[Stream(0)], 12),
-                (&[Utility(0)], 25),
-                (&[Utility(1)], 38),
-                (&[Utility(2)], 51),
+                (&[Utility(0)], 22),
+                (&[Utility(1)], 32),
+                (&[Utility(2)], 42),
             ],
-            nodes: 64,
-            links: 6 + 4 * (12 + 4 + 1) + (5 + 5 + 3 + 6),
+            nodes: 52,
+            links: 6 + 4 * (9 + 3 + 1) + (5 + 5 + 3 + 6),
         },
     ),
     (
@@ -124,8 +124,8 @@ const CASES: &[(&str, Table, Wanted)] = &[
         },
         Wanted {
             groups: &[(&[Stream(0), Utility(0)], 6)],
-            nodes: 17,
-            links: 3 + (10 + 3 + 1),
+            nodes: 11,
+            links: 3 + (4 + 1),
         },
     ),
     (
@@ -145,14 +145,38 @@ const CASES: &[(&str, Table, Wanted)] = &[
             ..TWO_STREAMS
         },
         Wanted {
-            groups: &[(&[Stream(0)], 6), (&[Utility(0)], 17)],
-            nodes: 28,
-            links: 3 + 2 * (10 + 3 + 1) + (0 + 3),
+            groups: &[(&[Stream(0)], 6), (&[Utility(0)], 11)],
+            nodes: 16,
+            links: 3 + 2 * (4 + 1) + (0 + 3),
+        },
+    ),
+    (
+        "a part at each of six places and on each interval",
+        Table {
+            streams: ONE_HOT,
+            utilities: AT_EACH_PLACE,
+            ..TWO_STREAMS
+        },
+        Wanted {
+            groups: &[(&[Stream(0), Utility(0)], 11)],
+            nodes: 22,
+            // the 3 links of stride 3 do not fit below 12, the one of stride 9 does
+            links: 6 + (10 + 1) + 5,
         },
     ),
 ];
 
 const ONE_HOT: &[StreamRow] = &[("H", Hot, 1000, 500, 10)];
+
+/// A heater at the upper end of the hot stream, and coolers below it down to its lower end.
+const AT_EACH_PLACE: &[UtilityRow] = &[
+    ("S", Hot, 1000, 0, MOST_HEAT, 1),
+    ("V", Cold, 800, 0, MOST_HEAT, 0),
+    ("W", Cold, 700, 0, MOST_HEAT, 0),
+    ("X", Cold, 600, 0, MOST_HEAT, 0),
+    ("Y", Cold, 500, 0, MOST_HEAT, 0),
+    ("Z", Cold, 400, 0, MOST_HEAT, 0),
+];
 
 /// A hot stream between a heater at its upper end and a cooler at its lower end: two places.
 const TWO_PLACES: Table = Table {
@@ -177,24 +201,19 @@ const ONE_LEVEL: Table = Table {
 const TWO_PLACES_LINKS: &[(u32, u32)] = &[(0, 3), (1, 4), (3, 4), (4, 5), (5, 2)];
 
 const ONE_LEVEL_LINKS: &[(u32, u32)] = &[
-    (0, 9),
-    (1, 11),
-    (2, 12),
-    (3, 13),
+    (0, 8),
+    (1, 9),
+    (2, 10),
+    (3, 11),
     (8, 9),
     (8, 11),
+    (9, 4),
     (9, 10),
+    (10, 5),
     (10, 11),
-    (11, 4),
+    (11, 6),
     (11, 12),
-    (11, 14),
-    (12, 5),
-    (12, 13),
-    (13, 6),
-    (13, 14),
-    (14, 15),
-    (15, 7),
-    (15, 16),
+    (12, 7),
 ];
 
 /// The net of chains of a table.

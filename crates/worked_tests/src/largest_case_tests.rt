@@ -27,14 +27,17 @@ const COUNTS: [usize; 3] = [
 /// The groups, where no two hot sources have the same partners.
 const GROUPS: usize = MOST_STREAMS + MOST_UTILITIES;
 
-/// How many links lead from rank to rank down a chain; longer ones lead on by 3, 9, 27 and 81 ranks.
-const STEPS: usize = 2 * COUNTS[0] - 2;
+/// The nodes of a chain: parts stand on each interval, and utilities at places of their own.
+const DEPTHS: usize = (COUNTS[0] - 1) + (MOST_UTILITIES + 1);
+
+/// How many links lead from node to node down a chain; longer ones lead on by 3, 9, 27 and 81.
+const STEPS: usize = DEPTHS - 1;
 
 /// The nodes of the parts and of a chain for each group, and the links: one for each hot part,
 /// those down the chains, and one for each group and cold part but the forbidden matches.
 const NET: [usize; 3] = [
     GROUPS,
-    COUNTS[1] + COUNTS[2] + GROUPS * (2 * COUNTS[0] - 1),
+    COUNTS[1] + COUNTS[2] + GROUPS * DEPTHS,
     COUNTS[1]
         + GROUPS * (STEPS + STEPS / 3 + STEPS / 9 + STEPS / 27 + STEPS / 81)
         + GROUPS * COUNTS[2]

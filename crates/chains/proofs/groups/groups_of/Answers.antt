@@ -7,7 +7,7 @@ use Rattle.chains.proofs.groups.groups_of.Goals as goal
 use Rattle.stream_case.specs.declared.source.Source.TheVariants.{Stream as of_stream}
 
 few : (c : In-loop-source) → length c.loop-source.groups.items ≤ MOST_STREAMS + ALL_UTILITIES
-few c = few_groups c.args.case.now c.in_ok-hot.hot.items c.deref-source-items.result.now c.args.first c.args.ranks c.loop-source.source-index
+few c = few_groups c.args.case.now c.in_ok-hot.hot.items c.deref-source-items.result.now c.args.first c.args.nodes c.loop-source.source-index
     c.loop-source.groups.items c.requires.complete c.in_ok-hot.ensures c.deref-source-items.ensures.value c.loop-source.invariant
 
 pub overflow_cast-first_node : goal.overflow_cast-first_node
@@ -15,11 +15,11 @@ overflow_cast-first_node c = omega (arith, few (goal.at.overflow_cast-first_node
 
 pub overflow_mul-first_node : goal.overflow_mul-first_node
 overflow_mul-first_node c = let most = few (goal.at.overflow_mul-first_node c).In-loop-source in
-    omega (arith, few_chain_nodes c.len.result c.args.ranks (omega (arith, most, c.len.ensures)) c.requires.ranks)
+    omega (arith, few_chain_nodes c.len.result c.args.nodes (omega (arith, most, c.len.ensures)) c.requires.nodes)
 
 pub overflow_add-first_node : goal.overflow_add-first_node
 overflow_add-first_node c = let most = few (goal.at.overflow_add-first_node c).In-loop-source in
-    omega (arith, few_chain_nodes c.len.result c.args.ranks (omega (arith, most, c.len.ensures)) c.requires.ranks, c.requires.first)
+    omega (arith, few_chain_nodes c.len.result c.args.nodes (omega (arith, most, c.len.ensures)) c.requires.nodes, c.requires.first)
 
 pub loop-source-preserved : goal.loop-source-preserved
 loop-source-preserved c =
@@ -29,14 +29,14 @@ loop-source-preserved c =
     let each = subst (All (λ s. side_of case s ≡ Some Hot)) (sym c.deref-source-items.ensures.value) c.in_ok-hot.ensures.listed.each in
     elim c.if-not-stands_in_one.branch [
       | then-not-stands_in_one+in_ok-sources+in_ok-push w ↦
-          groups-new case hot c.args.first c.args.ranks i within source is groups c.loop-source.invariant
+          groups-new case hot c.args.first c.args.nodes i within source is groups c.loop-source.invariant
           _ _ (ap (λ v. v.items) w.groups-is ∙ w.in_ok-push.ensures.items) (each i (of_stream 0) within)
           (subst (ListsOnce (IsLike case source)) (sym w.from_vec.ensures) w.in_ok-sources.ensures)
-          (let count : w.len.result ≡ length groups = omega (arith, w.len.ensures) in ap (λ n. c.args.first + n * c.args.ranks) count)
+          (let count : w.len.result ≡ length groups = omega (arith, w.len.ensures) in ap (λ n. c.args.first + n * c.args.nodes) count)
           (λ stands. not_from_Decides _ c.stands_in_one.ensures w.if-not-stands_in_one.true
           (subst (λ gs. StandsInOne gs source) (sym c.as_slice.ensures.value) stands))
       | else-not-stands_in_one w ↦
-          groups-old case hot c.args.first c.args.ranks i within source is groups c.loop-source.invariant _ (ap (λ v. v.items) w.groups-is)
+          groups-old case hot c.args.first c.args.nodes i within source is groups c.loop-source.invariant _ (ap (λ v. v.items) w.groups-is)
           (subst (λ gs. StandsInOne gs source) c.as_slice.ensures.value (c.stands_in_one.ensures.0 w.if-not-stands_in_one.false))
     ]
 
@@ -44,10 +44,10 @@ pub returns-clause-groups : goal.returns-clause-groups
 returns-clause-groups c =
     let case = c.args.case.now in let groups = c.loop-source.groups.items in
     let whole = take_all c.loop-source.source-index c.deref-source-items.result.now c.loop-source-test.false ∙ c.deref-source-items.ensures.value in
-    AreGroups-holds case c.in_ok-hot.hot.items c.in_ok-hot.ensures.listed c.args.first c.args.ranks groups
-    (subst (λ hot. HoldsGroups case hot c.args.first c.args.ranks groups) whole c.loop-source.invariant)
+    AreGroups-holds case c.in_ok-hot.hot.items c.in_ok-hot.ensures.listed c.args.first c.args.nodes groups
+    (subst (λ hot. HoldsGroups case hot c.args.first c.args.nodes groups) whole c.loop-source.invariant)
 
 pub returns-clause-few : goal.returns-clause-few
 returns-clause-few c =
-    few_groups c.args.case.now c.in_ok-hot.hot.items c.deref-source-items.result.now c.args.first c.args.ranks c.loop-source.source-index
+    few_groups c.args.case.now c.in_ok-hot.hot.items c.deref-source-items.result.now c.args.first c.args.nodes c.loop-source.source-index
     c.loop-source.groups.items c.requires.complete c.in_ok-hot.ensures c.deref-source-items.ensures.value c.loop-source.invariant

@@ -3,4 +3,4 @@ use Rattle.std.proofs.Common.{take}
 use Rattle.chains.proofs.groups.groups_of.Given as goal
 
 abbrev pub invariant-loop-source : goal.invariant-loop-source
-invariant-loop-source l = HoldsGroups l.case (take l.source-index l.source-items) l.first l.ranks l.groups.items
+invariant-loop-source l = HoldsGroups l.case (take l.source-index l.source-items) l.first l.nodes l.groups.items

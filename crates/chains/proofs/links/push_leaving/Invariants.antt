@@ -1,6 +1,6 @@
-use Rattle.chains.proofs.Words.{leaving}
+use Rattle.chains.proofs.Words.{depth_of, leaving}
 use Rattle.std.proofs.Common.{length, take, ◌++◌, ◌≡◌}
 use Rattle.chains.proofs.links.push_leaving.Given as goal
 
 abbrev pub invariant-loop-index : goal.invariant-loop-index
-invariant-loop-index l = l.links.items ≡ l.initial.links.items ++ leaving l.case l.places (length l.parts.hot) l.group (take l.index l.parts.cold)
+invariant-loop-index l = l.links.items ≡ l.initial.links.items ++ leaving l.case (depth_of l.places l.parts.hot l.parts.cold) (length l.parts.hot) l.group (take l.index l.parts.cold)

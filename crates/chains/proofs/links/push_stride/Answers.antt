@@ -11,5 +11,5 @@ loop-step-preserved c =
 
 pub returns : goal.returns
 returns c =
-    let all : c.loop-step.step ≡ (c.args.ranks - 1) / c.args.stride = omega (arith, c.loop-step-test.false, c.loop-step.auto.step-end) in
+    let all : c.loop-step.step ≡ (c.args.nodes - 1) / c.args.stride = omega (arith, c.loop-step-test.false, c.loop-step.auto.step-end) in
     rw (← all) c.loop-step.invariant
