@@ -2,7 +2,7 @@
 use Rattle.pinch.proofs.Words.{Command, EndsIn, Format, IfEarly, IfEnd, IsErrAnd, NoText, Reading, ReadsText, Request, ShelfState, Shown, ShowsCommand, Stop}
 use Rattle.pinch.proofs.Words.{by_text, file, no_text, reading_of}
 use Rattle.pinch.specs.declared.stop.Stop.TheVariants.{Early, OutOfMemory}
-use Rattle.std.proofs.Common.{Err, IfOk, List, Ok, Option, Result, refl, subst, sym, ℕ, ◌≡◌}
+use Rattle.std.proofs.Common.{Err, IfOk, List, MatchResult, Ok, Option, Result, refl, subst, sym, ℕ, ◌≡◌}
 
 -- what a step stops with, reading ends with
 stopped : (result : Result Request Stop) (stop : Stop) (P : Shown → Type 0) (Q : Result Request Shown → Type 0) → IsErrAnd result (λ e. e ≡ stop)
@@ -30,7 +30,7 @@ without_second first second next result stop first_name name old mid new value s
 
 -- what is shown early is shown for the command
 pub early_shown : {E : Type 0} (stop : Stop) (result : Result Shown E) (command : Option Command) (old new : ShelfState)
-    → IfOk result (λ shown. stop ≡ Early shown)
+    → MatchResult result (λ shown. stop ≡ Early shown) (λ _. stop ≡ OutOfMemory)
     → IfEarly stop (λ shown. EndsIn (reading_of command) old new (Err shown)) → IfOk result (ShowsCommand command old new)
 early_shown stop (Ok shown) command old new is early =
     record { end = Err shown; reads = subst (λ s. IfEarly s (λ e. EndsIn (reading_of command) old new (Err e))) is early; shows = refl }

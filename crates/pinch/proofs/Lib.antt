@@ -1,8 +1,8 @@
+mod Audits
 mod Causes
 mod Complete
 mod Designs
 mod Early
-mod Ends
 mod FileSizes
 mod Formats
 mod Plain

@@ -1,10 +1,11 @@
 -- A run keeps what it is to keep.
+use Rattle.pinch.proofs.Audits.{accepted-answered, audited}
 use Rattle.pinch.proofs.Causes.{causes}
 use Rattle.pinch.proofs.Complete.{bad_file, complete}
 use Rattle.pinch.proofs.Proofs.{certified}
 use Rattle.pinch.proofs.Words.{Command, OutOfMemory, ShelfState, Shown, ShowsCommand, SiteShown, Status, WriteFault, number_of, status_of, ⊤}
 use Rattle.pinch.specs.Run.{Prints, Runs, cut, whole}
-use Rattle.std.proofs.Common.{List, Option, Some, ap, arith, inl, inr, sym, ℕ, ◌∙◌, ◌≡◌}
+use Rattle.std.proofs.Common.{List, None, Option, Some, ap, arith, inl, inr, refl, sym, ℕ, ◌∙◌, ◌≡◌}
 use Rattle.transport.specs.declared.answer.Answer.TheVariants as answer
 
 -- what is shown blames neither the sink nor memory
@@ -44,6 +45,9 @@ module _ {Sink : Type 0} (text_on : Sink → Option (List ℕ)) (faults_of : Sin
         complete = λ can no_fault no_write_fault. (number_is, complete command old new shown shows can no_fault);
         refused = λ refusal bad no_fault. bad_file command old new shown shows refusal bad no_fault;
         certified = λ proof no_fault no_write_fault. number_is ∙ ap number_of (certified command old new shown shows proof no_fault);
+        audited = λ design held no_fault no_write_fault.
+            let accepts = audited command old new shown shows design held no_fault in
+            (number_is ∙ ap number_of (accepted-answered design shown accepts), accepts);
       }
   of_print shown status number numbered shows (cut is front rose) =
       let number_is = numbered ∙ ap number_of is in
@@ -59,4 +63,22 @@ module _ {Sink : Type 0} (text_on : Sink → Option (List ℕ)) (faults_of : Sin
         complete = λ can no_fault no_write_fault. absurd (no_write_fault rose);
         refused = λ refusal bad no_fault. bad_file command old new shown shows refusal bad no_fault;
         certified = λ proof no_fault no_write_fault. absurd (no_write_fault rose);
+        audited = λ design held no_fault no_write_fault. absurd (no_write_fault rose);
       }
+
+  -- memory was wanted, and nothing was written
+  pub without_memory : now ≡ before → Runs text_on faults_of command old new before now (record { status = number_of OutOfMemory; shown = None })
+  without_memory same = record {
+    shown = tt;
+    causes = tt;
+    status = tt;
+    memory = (λ none. refl, λ is. refl);
+    untouched = λ is. same;
+    written = tt;
+    front = tt;
+    write_fault = λ is. absurd (omega (arith, is));
+    complete = λ can no_fault no_write_fault. tt;
+    refused = λ refusal bad no_fault. tt;
+    certified = λ proof no_fault no_write_fault. tt;
+    audited = λ design held no_fault no_write_fault. tt;
+  }

@@ -7,7 +7,7 @@ pub use Rattle.certify.specs.declared.report.NoWhy.{NoWhy}
 pub use Rattle.certify.specs.declared.report.Report.{Report}
 pub use Rattle.design_lines.specs.Drawn.{HasFewLines}
 pub use Rattle.first_fault.proofs.OneOutcome.{one_outcome}
-pub use Rattle.fractions.specs.Rationals.{IsAtMost, IsWithinLimits, Rational, fraction_text, whole}
+pub use Rattle.fractions.specs.Rationals.{IsAtMost, IsWithinLimits, Rational, fraction_text, rational_zero, whole}
 pub use Rattle.grid.specs.Part.{AreCaseParts, IsPartOf}
 pub use Rattle.grid.specs.declared.part.Part.{Part}
 pub use Rattle.grid.specs.declared.parts.Parts.{Parts}
@@ -18,6 +18,7 @@ pub use Rattle.heat_flow.specs.Flow.{HaveParts, IsHeatFlow, IsLeastCost, cost_of
 pub use Rattle.heat_flow.specs.Reach.{reach_between}
 pub use Rattle.heat_flow.specs.declared.flow.Transfer.{Transfer}
 pub use Rattle.network_audit.proofs.BalanceWithin.{HasFractions, balance-within}
+pub use Rattle.network_audit.proofs.ValidLemmas.{one_verdict}
 pub use Rattle.network_audit.specs.Audit.{SaysExactly}
 pub use Rattle.network_audit.specs.Balance.{balance_of}
 pub use Rattle.network_audit.specs.Findings.{HasNoFinding, IsVerdict}
@@ -35,10 +36,11 @@ pub use Rattle.networks.specs.declared.network.Network.{Network}
 pub use Rattle.penalties.specs.Answers.{IfListed, sum_of}
 pub use Rattle.pinch.specs.Answers.{Shows, ShowsCommand}
 unfoldable pub use Rattle.pinch.specs.Answers.{Answers}
+pub use Rattle.pinch.specs.Audits.{AcceptsDesign, AuditsDesign, HoldsDesign, IsWithinCounts}
 pub use Rattle.pinch.specs.Case.{case_file}
 pub use Rattle.pinch.specs.Complete.{Holds, HoldsFault, HoldsText}
 unfoldable pub use Rattle.pinch.specs.Complete.{CanAnswer, HasBadFile}
-pub use Rattle.pinch.specs.Design.{AnswersDesign, IsDesignOf, IsShownNetwork, IsTightDesign, ShowsDesignOf}
+pub use Rattle.pinch.specs.Design.{AnswersDesign, IsDesignOf, IsShownNetwork, IsTightDesign, ShowsDesign, ShowsDesignOf}
 pub use Rattle.pinch.specs.Files.{FromText, IsRefused, NoFile, NoText, ReadsText, by_text, failed, no_file, no_text, refused, too_long}
 unfoldable pub use Rattle.pinch.specs.Files.{EndsIn}
 pub use Rattle.pinch.specs.Flow.{AnswersFlow, IsCaseAnswer, shown_answer}
@@ -53,6 +55,7 @@ pub use Rattle.pinch.specs.Site.{IsLeastBoiler, ShowsSite, profiles_shown, site_
 pub use Rattle.pinch.specs.Status.{IsAnswered, number_of, status_of, status_of_site}
 pub use Rattle.pinch.specs.Stop.{IfEarly, IfEnd}
 pub use Rattle.pinch.specs.Tasks.{ShowsTask}
+pub use Rattle.pinch.specs.Vertical.{IsVerticalAnswer}
 pub use Rattle.pinch.specs.declared.command.CaseTask.{CaseTask}
 pub use Rattle.pinch.specs.declared.command.CaseTask.TheVariants.{Curves, Design, Flow, Sweep, Targets}
 pub use Rattle.pinch.specs.declared.command.Command.{Command}

@@ -75,6 +75,12 @@ abbrev pub command_of : List (List ℕ) → Option Command
 command_of [] = None
 command_of (word ∷ rest) = command_of_word word rest
 
+-- the words form a command that names files
+abbrev pub NamesFiles : Option Command → Type 0
+NamesFiles None = ⊥
+NamesFiles (Some (Sample number count)) = ⊥
+NamesFiles (Some other) = ⊤
+
 -- a sweep has a plan and workers that it can have
 abbrev pub CanDo : CaseTask → Type 0
 CanDo (Sweep plan workers) = IsSweepPlan plan × (1 ≤ workers) × (workers ≤ MOST_WORKERS)

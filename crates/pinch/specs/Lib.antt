@@ -1,5 +1,6 @@
 pub mod Answers
 pub mod Arguments
+pub mod Audits
 pub mod Case
 pub mod Causes
 pub mod Command

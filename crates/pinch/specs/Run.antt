@@ -7,6 +7,7 @@ use Rattle.pinch_outside.specs.Sink.{AppendsFront}
 use Rattle.reports.specs.Text.{text}
 use Rattle.reports.specs.declared.shown.Shown.{Shown}
 use Rattle.pinch.specs.Answers.{ShowsCommand}
+use Rattle.pinch.specs.Audits.{AcceptsDesign, AuditsDesign}
 use Rattle.pinch.specs.Causes.{HasCause}
 use Rattle.pinch.specs.Complete.{CanAnswer, HasBadFile}
 use Rattle.pinch.specs.Proofs.{ChecksProof}
@@ -36,6 +37,9 @@ pub record Runs {Sink : Type 0} (text_on : Sink → Option (List ℕ)) (faults_o
   -- a report that is what the program prints of a heat flow with its certificate, or of a cut, is answered with yes
   pub certified : ChecksProof command old.files → ¬ Rose old.faults new.faults → ¬ Rose (faults_of before) (faults_of now)
       → IfSome done.shown (λ shown. done.status ≡ number_of Answered)
+  -- a network that is what the program prints of a design is accepted, with the balance that is printed above it
+  pub audited : (design : Shown) → AuditsDesign command old.files design → ¬ Rose old.faults new.faults → ¬ Rose (faults_of before) (faults_of now)
+      → IfSome done.shown (λ shown. (done.status ≡ number_of Answered) × AcceptsDesign design shown)
 
 -- what is shown was written whole, or in front where a write was refused
 pub data Prints (before now : Option (List ℕ)) (faults_before faults_now : ℕ) (shown : Shown) (status : Status) : Type 0 where

@@ -10,6 +10,11 @@ abbrev pub IfEarly : Stop → (Shown → Type 0) → Type 0
 IfEarly (Early shown) P = P shown
 IfEarly OutOfMemory P = ⊤
 
+-- what is so where memory was wanted
+abbrev pub IfNoMemory : Stop → Type 0 → Type 0
+IfNoMemory (Early shown) P = ⊤
+IfNoMemory OutOfMemory P = P
+
 -- how reading ends, if memory was found: with a request, or with what is shown in its place
 abbrev pub IfEnd : Result Request Stop → (Result Request Shown → Type 0) → Type 0
 IfEnd (Ok request) P = P (Ok request)

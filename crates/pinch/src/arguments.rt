@@ -1,12 +1,11 @@
 //! The edge: from the arguments of the program to its exit code.
-ghost use Rattle.std.specs.Prelude.{◌≡◌, ◌≢◌, IfOk, IfErr, OnOk};
+ghost use Rattle.std.specs.Prelude.{◌≡◌, ◌↔◌, IfErr, IfOk, IsErr};
 ghost use Rattle.std.specs.IoError.{error_kind};
 ghost use Rattle.std.specs.Process.{exit_status};
-ghost use Rattle.pinch_outside.specs.Faults.{Rose};
 ghost use Rattle.pinch.specs.Arguments.{words_of, words_behind_name, Ends};
 ghost use Rattle.pinch.specs.Command.{command_of};
 ghost use Rattle.pinch.specs.Status.{number_of};
-ghost use Rattle.pinch.specs.declared.status.Status.TheVariants.{WriteFault, OutOfMemory};
+ghost use Rattle.pinch.specs.declared.status.Status.TheVariants.{OutOfMemory};
 
 use crate::program::run;
 use crate::status::Status;
@@ -27,10 +26,8 @@ pub fn run_arguments<R: Threads + Sync, S: Shelf, K: Sink>(
     shelf: &mut S,
     sink: &mut K,
 ) -> ExitCode
-    ensures ends { Ends (command_of (words_of texts)) (S.state shelf.old) (S.state shelf.new)
-        (K.written sink.old) (K.written sink.new) (exit_status result) }
-    ensures write_fault { exit_status result ≡ number_of WriteFault
-        → Rose (K.faults sink.old) (K.faults sink.new) }
+    ensures ends { Ends K.written K.faults (command_of (words_of texts)) (S.state shelf.old)
+        (S.state shelf.new) sink.old sink.new (exit_status result) }
     ensures memory { IfErr texts (λ error. error_kind error ≡ ErrorKind.OutOfMemory
         → exit_status result ≡ number_of OutOfMemory) }
 {
@@ -40,10 +37,11 @@ pub fn run_arguments<R: Threads + Sync, S: Shelf, K: Sink>(
     ExitCode::from(run(rt, alloc, &words, shelf, sink).into_status())
 }
 
-/// The words behind the program's name, or none where an argument is no text.
+/// The words behind the program's name, or none where an argument is no text, which takes no memory.
 pub fn collect_words(alloc: Global, texts: io::Result<Args>) -> Result<Items<Word>, AllocError>
     ensures words { IfOk result (λ words. words ≡ words_of texts) }
-    ensures memory { OnOk result (IfErr texts (λ error. error_kind error ≢ ErrorKind.OutOfMemory)) }
+    ensures memory { IfErr texts
+        (λ error. IsErr result ↔ (error_kind error ≡ ErrorKind.OutOfMemory)) }
 {
     match texts {
         Ok(texts) => words_behind_name(alloc, texts),

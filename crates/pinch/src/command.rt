@@ -1,6 +1,6 @@
 //! The forms of a command.
-ghost use Rattle.std.specs.Prelude.{◌≡◌, IfOk};
-ghost use Rattle.pinch.specs.Command.{command_of, command_of_word, of_case, one_file, prices_of, prices_with, sample_of, sample_with, sweep_of, sweep_with, two_files};
+ghost use Rattle.std.specs.Prelude.{◌≡◌, IfOk, IsSome, OnErr};
+ghost use Rattle.pinch.specs.Command.{NamesFiles, command_of, command_of_word, of_case, one_file, prices_of, prices_with, sample_of, sample_with, sweep_of, sweep_with, two_files};
 
 use crate::numbers::{plan_of, sample_count_of, sample_number_of, workers_of};
 use crate::word::Word;
@@ -65,9 +65,10 @@ pub enum Command {
     },
 }
 
-/// The command that the words form, if they form one.
+/// The command that the words form, if they form one. The names of files alone take memory.
 pub fn read_command(alloc: Global, words: &Items<Word>) -> Result<Option<Command>, AllocError>
-    ensures { IfOk result (λ command. command ≡ command_of words.now) }
+    ensures command { IfOk result (λ command. command ≡ command_of words.now) }
+    ensures memory { OnErr result (NamesFiles (command_of words.now)) }
 {
     match words.as_slice() {
         [word, rest @ ..] => command_of_word(alloc, word.as_str(), rest),
@@ -76,7 +77,8 @@ pub fn read_command(alloc: Global, words: &Items<Word>) -> Result<Option<Command
 }
 
 fn command_of_word(alloc: Global, word: &str, rest: &[Word]) -> Result<Option<Command>, AllocError>
-    ensures { IfOk result (λ command. command ≡ command_of_word word.now rest.now) }
+    ensures command { IfOk result (λ command. command ≡ command_of_word word.now rest.now) }
+    ensures memory { OnErr result (NamesFiles (command_of_word word.now rest.now)) }
 {
     match word {
         "targets" => of_case(alloc, rest, CaseTask::Targets),
@@ -100,7 +102,8 @@ fn command_of_word(alloc: Global, word: &str, rest: &[Word]) -> Result<Option<Co
 
 /// The name of a file, where the words are just that; it is not empty.
 fn one_file(alloc: Global, words: &[Word]) -> Result<Option<Word>, AllocError>
-    ensures { IfOk result (λ name. name ≡ one_file words.now) }
+    ensures name { IfOk result (λ name. name ≡ one_file words.now) }
+    ensures memory { OnErr result (IsSome (one_file words.now)) }
 {
     match words {
         [name] if !name.as_str().is_empty() => Ok(Some(name.copied(alloc)?)),
@@ -110,14 +113,16 @@ fn one_file(alloc: Global, words: &[Word]) -> Result<Option<Word>, AllocError>
 
 /// A task on the case of a file, where the words are just its name; it is not empty.
 fn of_case(alloc: Global, words: &[Word], task: CaseTask) -> Result<Option<Command>, AllocError>
-    ensures { IfOk result (λ command. command ≡ of_case task words.now) }
+    ensures command { IfOk result (λ command. command ≡ of_case task words.now) }
+    ensures memory { OnErr result (NamesFiles (of_case task words.now)) }
 {
     Ok(one_file(alloc, words)?.map(|case| Command::OfCase { case, task }))
 }
 
 /// The names of two files, where the words are just those; none is empty.
 fn two_files(alloc: Global, words: &[Word]) -> Result<Option<(Word, Word)>, AllocError>
-    ensures { IfOk result (λ names. names ≡ two_files words.now) }
+    ensures names { IfOk result (λ names. names ≡ two_files words.now) }
+    ensures memory { OnErr result (IsSome (two_files words.now)) }
 {
     match words {
         [first, second] if !first.as_str().is_empty() && !second.as_str().is_empty() => {
@@ -130,7 +135,8 @@ fn two_files(alloc: Global, words: &[Word]) -> Result<Option<(Word, Word)>, Allo
 /// The sweep of the case of a file, where the words are just the name of the file, which is not
 /// empty, and four numbers that a sweep can have.
 fn sweep_of(alloc: Global, words: &[Word]) -> Result<Option<Command>, AllocError>
-    ensures { IfOk result (λ command. command ≡ sweep_of words.now) }
+    ensures command { IfOk result (λ command. command ≡ sweep_of words.now) }
+    ensures memory { OnErr result (NamesFiles (sweep_of words.now)) }
 {
     match words {
         [case, from, to, step, workers] if !case.as_str().is_empty() => {
@@ -146,7 +152,8 @@ fn sweep_with(
     plan: Option<SweepPlan>,
     workers: Option<u32>,
 ) -> Result<Option<Command>, AllocError>
-    ensures { IfOk result (λ command. command ≡ sweep_with case.now plan workers) }
+    ensures command { IfOk result (λ command. command ≡ sweep_with case.now plan workers) }
+    ensures memory { OnErr result (NamesFiles (sweep_with case.now plan workers)) }
 {
     match (plan, workers) {
         (Some(plan), Some(workers)) => Ok(Some(Command::OfCase {
@@ -160,7 +167,8 @@ fn sweep_with(
 /// The price study of the case of a file, where the words are just the names of two files, of
 /// which none is empty, and a number of workers.
 fn prices_of(alloc: Global, words: &[Word]) -> Result<Option<Command>, AllocError>
-    ensures { IfOk result (λ command. command ≡ prices_of words.now) }
+    ensures command { IfOk result (λ command. command ≡ prices_of words.now) }
+    ensures memory { OnErr result (NamesFiles (prices_of words.now)) }
 {
     match words {
         [case, study, workers] if !case.as_str().is_empty() && !study.as_str().is_empty() => {
@@ -176,7 +184,8 @@ fn prices_with(
     study: &Word,
     workers: Option<u32>,
 ) -> Result<Option<Command>, AllocError>
-    ensures { IfOk result (λ command. command ≡ prices_with case.now study.now workers) }
+    ensures command { IfOk result (λ command. command ≡ prices_with case.now study.now workers) }
+    ensures memory { OnErr result (NamesFiles (prices_with case.now study.now workers)) }
 {
     match workers {
         Some(workers) => Ok(Some(Command::Prices {

@@ -1,16 +1,17 @@
 //! Files: each is taken whole from the shelf, and read by the grammar of its role.
-ghost use Rattle.std.specs.Prelude.{IfOk, IfErr};
+ghost use Rattle.std.specs.Prelude.{◌≡◌, ◌≤◌, IfErr, IfOk, false};
 ghost use Rattle.stream_case.specs.Case.{IsComplete, IsValid};
 ghost use Rattle.certify.specs.Answers.{HasPartPrices};
 ghost use Rattle.networks.specs.Shape.{HasShape};
 ghost use Rattle.pinch_outside.specs.Shelf.{KeepsFiles, IsWhole};
+ghost use Rattle.pinch_outside.specs.declared.limits.TheConstants.{MAX_FILE};
 ghost use Rattle.pinch.specs.Case.{case_file};
 ghost use Rattle.pinch.specs.Files.{NoFile, NoText, ReadsText};
 ghost use Rattle.pinch.specs.Network.{network_file};
 ghost use Rattle.pinch.specs.Prices.{study_file};
 ghost use Rattle.pinch.specs.Report.{report_file};
 ghost use Rattle.pinch.specs.Site.{site_file};
-ghost use Rattle.pinch.specs.Stop.{IfEarly};
+ghost use Rattle.pinch.specs.Stop.{IfEarly, IfNoMemory};
 ghost use Rattle.plants.specs.Site.{IsValidSite};
 ghost use Rattle.study.specs.Study.{IsStudy};
 
@@ -26,7 +27,8 @@ use std::alloc::Global;
 use stream_case::Case;
 use study::{Study, StudyFault, read_study};
 
-/// The bytes of a file of this role.
+/// The bytes of a file of this role. Memory is wanted only behind a call of the shelf that was not
+/// refused, and within the limit.
 fn take_file<S: Shelf>(
     alloc: Global,
     shelf: &mut S,
@@ -38,6 +40,8 @@ fn take_file<S: Shelf>(
     ensures stop { IfErr result
         (λ stop. IfEarly stop (NoFile role name.now (S.state shelf.old) (S.state shelf.new))) }
     ensures keeps { KeepsFiles (S.state shelf.old) (S.state shelf.new) }
+    ensures memory { IfErr result (λ stop. IfNoMemory stop
+        (((S.state shelf.new).failed ≡ false) × ((S.state shelf.new).taken ≤ MAX_FILE))) }
 {
     match take_all(alloc, shelf, name.as_str()) {
         Ok(bytes) => Ok(bytes),

@@ -1,12 +1,12 @@
 //! What is asked: all files are read here, and all that is refused is refused here.
-ghost use Rattle.std.specs.Prelude.{◌≡◌, ◌↔◌, IfOk, IsTrue, Some};
+ghost use Rattle.std.specs.Prelude.{◌≡◌, ◌↔◌, IfErr, IfOk, IsTrue, Some};
 ghost use Rattle.stream_case.specs.Case.{IsValid, completed};
 ghost use Rattle.stream_case.specs.Stream.{AreSensible};
 ghost use Rattle.pinch.specs.Answers.{IsRequest};
-ghost use Rattle.pinch.specs.Command.{command_of, CanDo, CanWork, IsRunnable};
+ghost use Rattle.pinch.specs.Command.{command_of, CanDo, CanWork, IsRunnable, NamesFiles};
 ghost use Rattle.pinch.specs.Files.{EndsIn};
 ghost use Rattle.pinch.specs.Reading.{reading_of};
-ghost use Rattle.pinch.specs.Stop.{IfEnd};
+ghost use Rattle.pinch.specs.Stop.{IfEnd, IfNoMemory};
 ghost use Rattle.pinch.specs.declared.command.Command.TheVariants.{Audit, Certify, OfCase, Prices, Vertical};
 
 use crate::command::{CaseTask, Command, read_command};
@@ -61,7 +61,7 @@ pub enum Request {
     },
 }
 
-/// What the words and the files ask.
+/// What the words and the files ask. Memory is wanted only where the words name files.
 pub fn request_of<S: Shelf>(
     alloc: Global,
     shelf: &mut S,
@@ -70,6 +70,7 @@ pub fn request_of<S: Shelf>(
     ensures request { IfOk result IsRequest }
     ensures reads { IfEnd result
         (EndsIn (reading_of (command_of words.now)) (S.state shelf.old) (S.state shelf.new)) }
+    ensures memory { IfErr result (λ stop. IfNoMemory stop (NamesFiles (command_of words.now))) }
 {
     match read_command(alloc, words)? {
         None => Err(Stop::Early(Shown::BadWords)),
@@ -86,6 +87,7 @@ fn request_of_command<S: Shelf>(
     ensures request { IfOk result IsRequest }
     ensures reads { IfEnd result
         (EndsIn (reading_of (Some command.now)) (S.state shelf.old) (S.state shelf.new)) }
+    ensures memory { IfErr result (λ stop. IfNoMemory stop (NamesFiles (Some command.now))) }
 {
     match command {
         Command::OfCase { case, task } => request_task(alloc, shelf, case, *task),

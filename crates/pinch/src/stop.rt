@@ -11,12 +11,12 @@ pub enum Stop {
 }
 
 impl Stop {
-    ghost use Rattle.std.specs.Prelude.{◌≡◌, IfOk};
-    ghost use Rattle.pinch.specs.declared.stop.Stop.TheVariants.{Early};
+    ghost use Rattle.std.specs.Prelude.{◌≡◌, MatchResult};
+    ghost use Rattle.pinch.specs.declared.stop.Stop.TheVariants.{Early, OutOfMemory};
 
-    /// What is shown early.
+    /// What is shown early, or that memory was wanted. No memory is taken.
     pub fn into_shown(self) -> Result<Shown, AllocError>
-        ensures { IfOk result (λ shown. self ≡ Early shown) }
+        ensures { MatchResult result (λ shown. self ≡ Early shown) (λ _. self ≡ OutOfMemory) }
     {
         match self {
             Stop::Early(shown) => Ok(shown),

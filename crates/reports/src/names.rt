@@ -1,5 +1,5 @@
 //! The names of the sources of a case or of a site.
-ghost use Rattle.std.specs.Prelude.{◌≡◌, ◌++◌, [], slice_index_or, IfOk, OnOk};
+ghost use Rattle.std.specs.Prelude.{◌≡◌, ◌++◌, ◌<◌, [], length, slice_index_or, IfOk, OnErr, OnOk};
 ghost use Rattle.reports.specs.Names.{case_names, site_names, source_name, stream_names};
 
 use site::Site;
@@ -35,9 +35,10 @@ fn name_at(names: &[Name], index: u32) -> &str
     }
 }
 
-/// Appends the names of streams.
+/// Appends the names of streams, which take memory where there are any.
 fn push_names(names: &mut Items<Name>, streams: &[Stream]) -> Result<(), AllocError>
-    ensures { OnOk result (names.new ≡ names.old ++ stream_names streams.now) }
+    ensures names { OnOk result (names.new ≡ names.old ++ stream_names streams.now) }
+    ensures memory { OnErr result (0 < length streams.now) }
 {
     for stream in streams {
         names.push(stream.name)?;
