@@ -1,9 +1,10 @@
 //! Numbered items, made by several workers.
 //!
-//! The first worker makes the first item, the second the second, and so on; each goes on with the
-//! item that is as many further on as there are workers. The items come back in their order.
+//! The items go round by round, of which each has as many items as there are workers: each worker
+//! makes one of them, in each round at another place. The items come back in their order.
 #![tactic(auto)]
 
+mod dealing;
 mod gate;
 mod meeting_gate;
 mod sharing;

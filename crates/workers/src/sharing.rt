@@ -1,7 +1,8 @@
 //! The items of all workers, in their order.
-ghost use Rattle.std.specs.Prelude.{◌≡◌, ℕ, ◌+◌, ◌^◌, ◌<◌, ◌≤◌, List, length, IfOk};
+ghost use Rattle.std.specs.Prelude.{◌≡◌, ℕ, ◌+◌, ◌^◌, ◌<◌, ◌≤◌, List, length, IfOk, is_ok};
 ghost use Rattle.workers.specs.Shares.{AreItems, AreItemsOfWorker, AreItemsOfWorkers, IsLastOf};
 
+use crate::dealing::{item_of, worker_of};
 use crate::gate::Gate;
 use std::alloc::{AllocError, Global};
 use std::marker::Model;
@@ -21,8 +22,8 @@ impl<X> Model for Share<X> {
     ghost view = { λ s. s.items.items };
 }
 
-/// The items that one of so many workers makes: that of its own number, from 0, and then each that
-/// is so many further on.
+/// The items that one of so many workers makes, one of each round. The last round may have none for
+/// it.
 fn share_of<X: Drop, G: Gate, F: Fn(u32) -> Result<X, AllocError>>(
     alloc: Global,
     gate: &G,
@@ -39,13 +40,14 @@ fn share_of<X: Drop, G: Gate, F: Fn(u32) -> Result<X, AllocError>>(
         (λ items. AreItemsOfWorker (λ k x. F.post item.now k (Ok x)) count workers worker items) }
 {
     let mut items = Vec::new(alloc);
-    let mut number = worker;
-    while number < count {
-        gate.enter(number);
-        let made = item(number);
-        gate.leave(number);
-        items.push(made?)?;
-        number += workers;
+    for round in 0..count.div_ceil(workers) {
+        let number = item_of(workers, worker, round);
+        if number < count {
+            gate.enter(number);
+            let made = item(number);
+            gate.leave(number);
+            items.push(made?)?;
+        }
     }
     Ok(Share { items })
 }
@@ -82,10 +84,11 @@ fn shares_of_workers<
 /// Takes the last item of a share, or says that its worker found no memory.
 fn take_last<X: Drop>(share: &mut Result<Share<X>, AllocError>) -> Result<X, AllocError>
     requires { IfOk share.old (λ items. 0 < length items) }
-    ensures { IfOk result (IsLastOf share.old share.new) }
+    ensures found { is_ok result ≡ is_ok share.old }
+    ensures last { IfOk result (IsLastOf share.old share.new) }
 {
     match share {
-        Ok(share) => share.items.pop().ok_or(AllocError),
+        Ok(share) => Ok(share.items.pop().unwrap()),
         Err(_) => Err(AllocError),
     }
 }
@@ -114,11 +117,11 @@ pub fn items_by_workers<
 {
     let mut shares = shares_of_workers(rt, alloc, gate, item, count, workers)?;
     let mut items = Vec::new(alloc);
-    let mut left = count as usize;
+    let mut left = count;
     // Each item moves out of the end of its worker's share, so the last one comes first.
     while left > 0 {
         left -= 1;
-        items.push(take_last(&mut shares[left % workers as usize])?)?;
+        items.push(take_last(&mut shares[worker_of(workers, left) as usize])?)?;
     }
     items.reverse();
     Ok(Items::from_vec(items))
