@@ -3,7 +3,7 @@ pub use Rattle.flow_net.specs.Arc.{AppendsWays, AreFirstIndices, HasRange, Holds
 pub use Rattle.flow_net.specs.Arc.{turned, way_of}
 pub use Rattle.flow_net.specs.Flow.{AreApart, AreOpenings, CanCarry, IsOpening, IsPotential, IsPriced, IsWalk, is_open, most_path_cost, most_rise, opening_at}
 pub use Rattle.flow_net.specs.Flow.{reduced_cost_of, residual_of, sent_along, sent_along_path}
-pub use Rattle.flow_net.specs.LevelGraph.{IsLevelGraph, StepsUp, level_at}
+pub use Rattle.flow_net.specs.LevelGraph.{IsLevelGraph, StepsUp, height_at, height_of, level_at}
 pub use Rattle.flow_net.specs.Net.{AreBounded, AreEnds, AreProofOfLeast, IsCost, IsCutBelow, IsLeastRouting, IsRouting, IsWithinLimits, IsWithinRooms, cost_of}
 pub use Rattle.flow_net.specs.Net.{flow_on, greatest_size, inflow, is_in, largest_cost, leaves, link_at, outflow, potential_at, reduced_cost}
 pub use Rattle.flow_net.specs.Problem.{IsBottleneck, IsFreeArc, IsFreePath, IsProblem, IsResidualArc, IsStanding, Stands}
