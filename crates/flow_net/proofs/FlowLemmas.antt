@@ -431,10 +431,10 @@ pub IsTree-arrived : (p : Problem) (r : Routing) (s : Search) → HasArrived p r
 IsTree-arrived p r s h =
     let labels = h.search.labels in record {
       one_each = labels.one_each;
-      sink_reached = h.sink_reached;
-      root = λ v hit. labels.root v (labels.reached_labelled v hit);
+      sink_settled = h.sink_settled;
+      root = λ v hit. labels.root v (labels.settled_labelled v hit);
       head = λ v a last. (labels.by_arc v a last).head;
-      tail_reached = λ v a last. (labels.by_arc v a last).tail_reached;
+      tail_settled = λ v a last. (labels.by_arc v a last).tail_settled;
       depth = λ v a last. (labels.by_arc v a last).depth;
     }
 

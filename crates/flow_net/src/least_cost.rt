@@ -63,7 +63,7 @@ pub fn solve(
         let mut search = Search::new(alloc, &problem)?;
         if !search.run(&problem, &routing)? {
             return Ok(Solved::Blocked {
-                reached: Items::from_vec(search.reached),
+                reached: Items::from_vec(search.settled),
             });
         }
         advance(alloc, &problem, &mut routing, search, &mut graph)?;

@@ -1,5 +1,5 @@
-use Rattle.flow_net.proofs.FlowLemmas.{IsStep, height_at, level_count}
-use Rattle.flow_net.proofs.Words.{All, IsLevelGraph, IsWalk}
+use Rattle.flow_net.proofs.FlowLemmas.{IsStep, level_count}
+use Rattle.flow_net.proofs.Words.{All, IsLevelGraph, IsWalk, height_at}
 use Rattle.std.proofs.Common.{reverse, ◌*◌, ◌+◌, ◌<◌}
 use Rattle.flow_net.proofs.level_graph.LevelGraph.find_path.Given as goal
 
