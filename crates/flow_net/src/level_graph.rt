@@ -11,7 +11,7 @@ use std::alloc::{AllocError, Global};
 
 /// How many levels are given beyond the first one from which a free arc leads to the sink: a path
 /// through one of these needs no level graph of its own.
-const LEVELS_BEYOND: u32 = 16;
+const LEVELS_BEYOND: u32 = 12;
 
 /// The free arcs by levels: the level of a node is how many free arcs lead to it from the source at
 /// least. The sink stands above all others. A node is closed, and has no level any more, as soon as no

@@ -72,7 +72,7 @@ impl Search {
         Ok(false)
     }
 
-    /// Reaches the node whose potential has to distance least, of those that are labelled and not settled.
+    /// Settles the nearest node of those with tentative labels.
     fn nearest(&mut self) -> Option<(u32, Label)>
         requires { HasQueue self.old }
         ensures { MatchOption result (IsDrained self.old self.new)
@@ -182,8 +182,8 @@ impl Search {
         }
     }
 
-    /// How far the potential of a node has to distance: as far as its label says where it is settled, and
-    /// elsewhere as far as the sink's.
+    /// How far the potential of a node has to rise: by its distance where it is settled, and elsewhere by
+    /// the sink's.
     fn rise(&self, node: usize) -> i64
         requires { node < length self.now.labels.items }
         ensures { result ≡ rise_of self.now node }
