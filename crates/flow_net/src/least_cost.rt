@@ -11,7 +11,7 @@ use crate::level_graph::LevelGraph;
 use crate::net::{Net, Solved};
 use crate::problem::Problem;
 use crate::routing::Routing;
-use crate::search::{Search, no_labels};
+use crate::search::Search;
 use std::alloc::{AllocError, Global};
 use stream_case::Items;
 
@@ -59,9 +59,8 @@ pub fn solve(
     };
     let mut routing = Routing::new(alloc, &problem)?;
     let mut graph = LevelGraph::new(alloc, &problem)?;
-    let blank = no_labels(alloc, net.nodes)?;
     while routing.routed < amount {
-        let mut search = Search::new(alloc, &problem, &blank)?;
+        let mut search = Search::new(alloc, &problem)?;
         if !search.run(&problem, &routing)? {
             return Ok(Solved::Blocked {
                 reached: Items::from_vec(search.settled),

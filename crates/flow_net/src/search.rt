@@ -1,6 +1,6 @@
 //! The search for a shortest path from the source to the sink along residual arcs, whose lengths are
 //! their reduced costs (Dijkstra 1959).
-ghost use Rattle.std.specs.Prelude.{◌≡◌, length, replicate, IfOk};
+ghost use Rattle.std.specs.Prelude.{◌≡◌, length};
 
 use crate::arc::Arc;
 use crate::problem::Problem;
@@ -29,33 +29,20 @@ pub(crate) struct Search {
     ghost one_mark_each: { length settled.items ≡ length labels.items },
 }
 
-/// A list without labels, for so many nodes.
-pub(crate) fn no_labels(alloc: Global, nodes: u32) -> Result<Vec<Option<Label>>, AllocError>
-    ensures { IfOk result (λ labels. labels.items ≡ replicate nodes None) }
-{
-    vec![in alloc; None; nodes as usize]
-}
-
 impl Search {
-    ghost use Rattle.std.specs.Prelude.{◌<◌, true, false, pos, ◌<ℤ◌, ◌≤ℤ◌, OnOk, MatchBool, MatchOption};
+    ghost use Rattle.std.specs.Prelude.{◌<◌, true, false, pos, ◌<ℤ◌, ◌≤ℤ◌, IfOk, OnOk, MatchBool, MatchOption};
     ghost use Rattle.flow_net.specs.Arc.{IsArc};
     ghost use Rattle.flow_net.specs.Problem.{IsProblem, IsStanding, IsFreeArc};
     ghost use Rattle.flow_net.specs.Search.{IsSearch, IsFresh, HasQueue, IsDrained, IsSettling, IsAt, IsEntered, Improves, IsClosedAt, IsRelaxed, HasArrived, IsStuck, IsTree, IsTreeArc, IsTreePath, arc_at, distance_at, is_labelled, rise_of};
 
-    /// A search that has labelled the source alone, begun on a list without labels: to copy one is quicker
-    /// than to write one.
-    pub fn new(
-        alloc: Global,
-        problem: &Problem,
-        blank: &[Option<Label>],
-    ) -> Result<Search, AllocError>
-        requires problem { IsProblem problem.now }
-        requires blank { blank.now ≡ replicate problem.now.net.now.nodes None }
+    /// A search that has labelled the source alone.
+    pub fn new(alloc: Global, problem: &Problem) -> Result<Search, AllocError>
+        requires { IsProblem problem.now }
         ensures { IfOk result (λ s. IsFresh problem.now s) }
     {
         let nodes = problem.net.nodes as usize;
         let mut search = Search {
-            labels: Vec::from_slice(alloc, blank)?,
+            labels: vec![in alloc; None; nodes]?,
             settled: vec![in alloc; false; nodes]?,
             queue: Queue::new(alloc),
         };
