@@ -5,14 +5,14 @@ use Rattle.flow_net.proofs.Words.{CanCarry, HasArrived, IsArc, IsBottleneck, IsC
 use Rattle.flow_net.proofs.Words.{IsPotential, IsPriced, IsProblem, IsResidualArc, IsStanding, IsTree, IsTreeArc, IsTreePath, IsWalk, IsWithinLimits}
 use Rattle.flow_net.proofs.Words.{IsWithinRooms, Link, MOST_COST, MOST_INITIAL_POTENTIAL, MOST_NODES, Net, Opening, Problem, Routing, Search, Stands, StepsUp}
 use Rattle.flow_net.proofs.Words.{arc_of, carry, cases_eq, cases_lt, depth_at, drop_more, false≢true, flow_on, fold_more, get_or-replicate, get_or-set_other}
-use Rattle.flow_net.proofs.Words.{get_or-set_same, get_or_past, get_or_read, inflow, ints, is_open, largest_cost, length-replicate, length-set, level_at}
+use Rattle.flow_net.proofs.Words.{get_or-set_same, get_or_past, get_or_read, height_at, height_of, inflow, ints, is_open, largest_cost, length-replicate, length-set, level_at}
 use Rattle.flow_net.proofs.Words.{link_at, mul-le, neg_ℤ-neg_ℤ, opening_at, outflow, potential_at, reduced_cost, reduced_cost_of, residual_of, reverse-append}
 use Rattle.flow_net.proofs.Words.{sent_along, sent_along_path, sum_below, sum_by-set, turned, unsigned_abs}
-use Rattle.std.proofs.Common.{Bool, IsTrue, List, None, Option, Some, [], ap, arith, cond, count_by, drop, false, get_or, inl, inr, is_some, length, pos, refl}
+use Rattle.std.proofs.Common.{Bool, IsTrue, List, None, Option, [], ap, arith, cond, count_by, drop, false, get_or, inl, inr, is_some, length, pos, refl}
 use Rattle.std.proofs.Common.{replicate, reverse, set, subst, sym, take, true, ℕ, ℤ, ◌*◌, ◌++◌, ◌+ℤ◌, ◌+◌, ◌-ℤ◌, ◌<ℤ◌, ◌<◌, ◌==◌, ◌↔◌, ◌∙◌, ◌∷◌, ◌≡◌, ◌≢◌, ◌≤ℤ◌}
 use Rattle.std.proofs.Common.{◌≤◌, ◌⊎◌}
 use Rattle.flow_net.proofs.Duality.{routing_from_surplus, surplus, surplus_is, when}
-use Rattle.flow_net.proofs.Lists.{within_from}
+use Rattle.flow_net.proofs.Lists.{set_cases, within_from}
 use Rattle.flow_net.proofs.Sizes.{greatest-le, size-le-greatest, sizes}
 use Rattle.flow_net.proofs.Sums.{sum_below-change, sum_below-zero}
 
@@ -431,10 +431,10 @@ pub IsTree-arrived : (p : Problem) (r : Routing) (s : Search) → HasArrived p r
 IsTree-arrived p r s h =
     let labels = h.search.labels in record {
       one_each = labels.one_each;
-      sink_reached = h.sink_reached;
-      root = λ v hit. labels.root v (labels.reached_labelled v hit);
+      sink_settled = h.sink_settled;
+      root = λ v hit. labels.root v (labels.settled_labelled v hit);
       head = λ v a last. (labels.by_arc v a last).head;
-      tail_reached = λ v a last. (labels.by_arc v a last).tail_reached;
+      tail_settled = λ v a last. (labels.by_arc v a last).tail_settled;
       depth = λ v a last. (labels.by_arc v a last).depth;
     }
 
@@ -448,27 +448,26 @@ IsFreePath-tree p r s path tree free h =
 
 -- Paths through a level graph, found from the sink.
 
--- the level of a node, and 0 where it has none
-abbrev pub height_of : Option ℕ → ℕ
-height_of (Some n) = n
-height_of None = 0
-
-abbrev pub height_at : List (Option ℕ) → ℕ → ℕ
-height_at levels v = height_of (level_at levels v)
+-- one level more within a bound keeps all within it
+pub heights-set : (levels : List (Option ℕ)) (v n : ℕ) (o : Option ℕ) → v < length levels → height_of o ≤ n → ((u : ℕ) → height_at levels u ≤ n) → (u : ℕ)
+    → height_at (set levels v o) u ≤ n
+heights-set levels v n o within here there = set_cases levels v o None within (λ u x. height_of x ≤ n) here (λ u ne. there u)
 
 -- how many nodes have a level
 abbrev pub level_count : List (Option ℕ) → ℕ
 level_count levels = count_by (λ o. is_some o) levels
 
--- a free arc of a path, from a node with a level to the next level
+-- a free arc of a path, from a node with a level to a higher level
 pub record IsStep (p : Problem) (r : Routing) (levels : List (Option ℕ)) (a : Arc) : Type 0 where
   pub free : IsFreeArc p r a
-  pub up : height_at levels a.head ≡ height_at levels a.tail + 1
+  pub up : height_at levels a.tail < height_at levels a.head
   pub has_level : is_some (level_at levels a.tail) ≡ true
 
 pub IsStep-up : (p : Problem) (r : Routing) (levels : List (Option ℕ)) (a : Arc) → IsFreeArc p r a → StepsUp levels a → IsStep p r levels a
 IsStep-up p r levels a free up =
-    let from = ap height_of up.tail in let to = ap height_of up.head in record { free = free; up = omega (arith, from, to); has_level = ap is_some up.tail }
+    let from = ap height_of up.tail in
+    let to = ap height_of up.head in
+    record { free = free; up = omega (arith, from, to, up.up); has_level = ap is_some up.tail }
 
 -- the first node of a path is closed: the other arcs begin at higher levels
 module _ (p : Problem) (r : Routing) (levels : List (Option ℕ)) (path : List Arc) (a : Arc) (w : ℕ) (step : IsStep p r levels a) where
@@ -481,7 +480,9 @@ module _ (p : Problem) (r : Routing) (levels : List (Option ℕ)) (path : List A
       λ k d l. let b = get_or path k d in let s = steps k d l in let over = higher k d l in let next = s.up in
       let tail = kept b.tail (λ e. let same = ap (height_at levels) e in absurd (omega (arith, over, same))) in
       let head = kept b.head (λ e. let same = ap (height_at levels) e in absurd (omega (arith, over, next, same))) in
-      record { free = s.free; up = ap height_of head ∙ (next ∙ ap (λ o. height_of o + 1) (sym tail)); has_level = ap is_some tail ∙ s.has_level }
+      let low = ap height_of tail in
+      let high = ap height_of head in
+      record { free = s.free; up = omega (arith, low, high, next); has_level = ap is_some tail ∙ s.has_level }
     where
       kept : (v : ℕ) → v ≢ a.tail → level_at (set levels a.tail None) v ≡ level_at levels v
       kept v other = get_or-set_other levels a.tail v None None other

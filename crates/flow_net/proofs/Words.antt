@@ -1,15 +1,15 @@
 -- The words and lemmas from elsewhere that the proofs of this crate speak in, passed on from one place. Declares nothing.
 pub use Rattle.flow_net.specs.Arc.{AppendsWays, AreFirstIndices, HasRange, HoldsArcsBelow, IsAdjacency, IsArc, IsArcBelow, IsFirstIndex, arc_of, arcs_at, carry}
 pub use Rattle.flow_net.specs.Arc.{turned, way_of}
-pub use Rattle.flow_net.specs.Flow.{AreApart, AreOpenings, CanCarry, IsOpening, IsPotential, IsPriced, IsWalk, is_open, most_path_cost, most_rise, opening_at}
+pub use Rattle.flow_net.specs.Flow.{AreApart, AreOpenings, CanCarry, IsOpening, IsPotential, IsPriced, IsWalk, is_open, most_path_cost, most_distance, opening_at}
 pub use Rattle.flow_net.specs.Flow.{reduced_cost_of, residual_of, sent_along, sent_along_path}
-pub use Rattle.flow_net.specs.LevelGraph.{IsLevelGraph, StepsUp, level_at}
+pub use Rattle.flow_net.specs.LevelGraph.{IsLevelGraph, StepsUp, height_at, height_of, level_at}
 pub use Rattle.flow_net.specs.Net.{AreBounded, AreEnds, AreProofOfLeast, IsCost, IsCutBelow, IsLeastRouting, IsRouting, IsWithinLimits, IsWithinRooms, cost_of}
 pub use Rattle.flow_net.specs.Net.{flow_on, greatest_size, inflow, is_in, largest_cost, leaves, link_at, outflow, potential_at, reduced_cost}
 pub use Rattle.flow_net.specs.Problem.{IsBottleneck, IsFreeArc, IsFreePath, IsProblem, IsResidualArc, IsStanding, Stands}
 pub use Rattle.flow_net.specs.Queue.{IsNext, entries_of, entry}
 pub use Rattle.flow_net.specs.Search.{HasArrived, HasQueue, Improves, IsAt, IsClosed, IsClosedAt, IsQueued, IsSearch, IsStuck, IsTree, IsTreeArc, IsTreePath}
-pub use Rattle.flow_net.specs.Search.{arc_at, depth_at, is_labelled, label_at, rise_at, rise_of, rise_of_label, rise_or}
+pub use Rattle.flow_net.specs.Search.{arc_at, depth_at, is_labelled, label_at, distance_at, rise_of, distance_of_label, rise_or}
 pub use Rattle.flow_net.specs.Sum.{sum_below}
 pub use Rattle.flow_net.specs.Threads.{AppendsThread, AreThreads, HaveSameArcs, IsNextOfTail, IsOfTail, arc_numbered}
 pub use Rattle.flow_net.specs.declared.adjacency.Adjacency.{Adjacency}

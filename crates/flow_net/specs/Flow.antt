@@ -67,9 +67,9 @@ most_path_cost = MOST_NODES * MOST_COST
 abbrev pub most_potential : ℕ
 most_potential = 3 * MOST_INITIAL_POTENTIAL + most_path_cost
 
--- how far a potential has to rise at most
-abbrev pub most_rise : ℕ
-most_rise = 2 * most_potential + most_path_cost
+-- how large a distance gets at most
+abbrev pub most_distance : ℕ
+most_distance = 2 * most_potential + most_path_cost
 
 -- a potential within that
 abbrev pub IsPotential : ℤ → Type 0

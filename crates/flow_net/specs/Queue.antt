@@ -5,15 +5,15 @@ use Rattle.std.specs.List.Sorted.{IsPermutation}
 use Rattle.std.specs.declared.cmp.Reverse.{Reverse}
 use Rattle.flow_net.specs.declared.queue.Queue.{Queue}
 
--- the entry of node v, which rises by z
+-- the entry of node v, at distance z
 abbrev pub entry : ℤ → ℕ → Reverse ℤ × ℕ
 entry z v = (record { 0 = z }, v)
 
--- the nodes in the queue, with their rises
+-- the nodes in the queue, with their distances
 abbrev pub entries_of : Queue → List (Reverse ℤ × ℕ)
 entries_of q = map (entry q.level) q.near.items ++ heap_items q.far
 
--- node v leaves the queue. It rises to the new level, and no entry left rises less
+-- node v leaves the queue. Its distance is the new level, and no entry left has a smaller one
 pub record IsNext (old new : Queue) (v : ℕ) : Type 0 where
   pub taken : IsPermutation (entries_of old) (entry new.level v ∷ entries_of new)
   pub level : old.level ≤ℤ new.level

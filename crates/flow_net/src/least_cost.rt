@@ -1,5 +1,5 @@
-//! Routing an amount at least cost, or finding a cut that it cannot pass (Ford and Fulkerson 1962, with
-//! the dual step of Edmonds and Karp 1972).
+//! Routing an amount at least cost, or finding a cut that it cannot pass: successive shortest paths with
+//! potentials (Edmonds and Karp 1972; Ahuja, Magnanti and Orlin 1993).
 ghost use Rattle.std.specs.Prelude.{◌≡◌, pos, ◌<ℤ◌, ◌≤ℤ◌, IfOk, OnOk};
 ghost use Rattle.flow_net.specs.Net.{IsWithinLimits, AreEnds, IsRoom, AreInitialPotentials, IsLeastRouting, AreProofOfLeast, AreBounded, IsCutBelow, IsRoutable, IfRouted, IfBlocked};
 ghost use Rattle.flow_net.specs.Problem.{IsStanding};
@@ -63,7 +63,7 @@ pub fn solve(
         let mut search = Search::new(alloc, &problem)?;
         if !search.run(&problem, &routing)? {
             return Ok(Solved::Blocked {
-                reached: Items::from_vec(search.reached),
+                reached: Items::from_vec(search.settled),
             });
         }
         advance(alloc, &problem, &mut routing, search, &mut graph)?;

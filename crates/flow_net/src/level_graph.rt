@@ -1,5 +1,6 @@
-//! Paths without reduced cost, each of whose arcs leads from one level to the next (Dinic 1970).
-ghost use Rattle.std.specs.Prelude.{◌≡◌, ◌<◌, ◌≤◌, ◌+◌, ◌↔◌, length, IfSome, IfOk, OnOk, IsTrue};
+//! Paths without reduced cost, each of whose arcs leads from a level to a higher one: level graphs
+//! (Dinic 1970), which here go on for some levels beyond the sink (this project's rule).
+ghost use Rattle.std.specs.Prelude.{◌≡◌, ◌<◌, ◌≤◌, ◌+◌, ◌↔◌, length, is_some, IfSome, IfOk, OnOk, IsTrue};
 ghost use Rattle.flow_net.specs.Problem.{IsStanding, IsFreeArc, IsFreePath};
 ghost use Rattle.flow_net.specs.LevelGraph.{level_at, IsLevelGraph, StepsUp};
 
@@ -8,8 +9,13 @@ use crate::problem::Problem;
 use crate::routing::Routing;
 use std::alloc::{AllocError, Global};
 
-/// The free arcs by levels: the level of a node is how many free arcs lead to it from the source. A
-/// node from which no free arc leads on to the source has no level any more.
+/// How many levels are given beyond the first one from which a free arc leads to the sink: a path
+/// through one of these needs no level graph of its own.
+const LEVELS_BEYOND: u32 = 12;
+
+/// The free arcs by levels: the level of a node is how many free arcs lead to it from the source at
+/// least. The sink stands above all others. A node is closed, and has no level any more, as soon as no
+/// free arc from a lower level to it is left.
 #[derive(Drop)]
 pub(crate) struct LevelGraph {
     pub levels: Vec<Option<u32>>,
@@ -32,7 +38,7 @@ impl LevelGraph {
         })
     }
 
-    /// Gives the nodes their levels up to the sink's, in place of those of before.
+    /// Gives the nodes their levels, in place of those of before.
     pub fn rebuild(&mut self, problem: &Problem, routing: &Routing) -> Result<(), AllocError>
         requires standing { IsStanding problem.now routing.now }
         requires graph { IsLevelGraph problem.now self.old }
@@ -41,15 +47,31 @@ impl LevelGraph {
         self.clear(problem);
         self.enter(problem, problem.source, 0)?;
         let mut first = 0;
+        let mut last = problem.net.nodes;
         for level in 1..problem.net.nodes {
             let end = self.entered.len();
-            if first == end || self.levels[problem.sink as usize].is_some() {
-                return Ok(());
+            if first == end || level > last {
+                break;
             }
             self.add_level(problem, routing, first, end, level)?;
+            if self.has_level(problem.sink) {
+                last = last.min(level + LEVELS_BEYOND);
+            }
             first = end;
         }
+        self.lift(problem);
         Ok(())
+    }
+
+    /// Puts the sink above all other nodes, if it has a level.
+    fn lift(&mut self, problem: &Problem)
+        requires sink { problem.now.sink < problem.now.net.now.nodes }
+        requires graph { IsLevelGraph problem.now self.old }
+        ensures { IsLevelGraph problem.now self.new }
+    {
+        if self.has_level(problem.sink) {
+            self.levels[problem.sink as usize] = Some(problem.net.nodes);
+        }
     }
 
     /// Takes their levels from all nodes.
@@ -66,6 +88,7 @@ impl LevelGraph {
     fn enter(&mut self, problem: &Problem, node: u32, level: u32) -> Result<(), AllocError>
         requires graph { IsLevelGraph problem.now self.old }
         requires node { node < problem.now.net.now.nodes }
+        requires level { level < problem.now.net.now.nodes }
         ensures graph { OnOk result (IsLevelGraph problem.now self.new) }
         ensures one_more { OnOk result (length self.old.entered.items ≤ length self.new.entered.items) }
     {
@@ -88,12 +111,15 @@ impl LevelGraph {
         requires standing { IsStanding problem.now routing.now }
         requires graph { IsLevelGraph problem.now self.old }
         requires end { end ≤ length self.old.entered.items }
+        requires level { level < problem.now.net.now.nodes }
         ensures graph { OnOk result (IsLevelGraph problem.now self.new) }
         ensures no_fewer { OnOk result (length self.old.entered.items ≤ length self.new.entered.items) }
     {
         for index in first..end {
             let node = self.entered[index];
-            self.reach(problem, routing, node, level)?;
+            if node != problem.sink {
+                self.reach(problem, routing, node, level)?;
+            }
         }
         Ok(())
     }
@@ -109,14 +135,15 @@ impl LevelGraph {
         requires standing { IsStanding problem.now routing.now }
         requires graph { IsLevelGraph problem.now self.old }
         requires node { node < problem.now.net.now.nodes }
+        requires level { level < problem.now.net.now.nodes }
         ensures graph { OnOk result (IsLevelGraph problem.now self.new) }
         ensures no_fewer { OnOk result (length self.old.entered.items ≤ length self.new.entered.items) }
     {
         let arcs = problem.arcs_from(node);
         let ways = problem.ways_from(node);
         for (index, way) in ways.iter().enumerate() {
-            if self.levels[way.head as usize].is_none()
-                && routing.is_open(way.link, way.forward)
+            let left = !self.has_level(way.head);
+            if left & routing.is_open(way.link, way.forward)
                 && routing.reduced_cost(&arcs[index]) == 0
             {
                 self.enter(problem, way.head, level)?;
@@ -125,7 +152,7 @@ impl LevelGraph {
         Ok(())
     }
 
-    /// A path from the source to the sink along free arcs, each to the next level, if there is one.
+    /// A path from the source to the sink along free arcs, each to a higher level, if one is found.
     pub fn find_path(
         &mut self,
         alloc: Global,
@@ -156,7 +183,7 @@ impl LevelGraph {
         Ok(Some(path))
     }
 
-    /// The next free arc to a node from the level before.
+    /// The next free arc to a node from a lower level.
     fn last_arc(&mut self, problem: &Problem, routing: &Routing, node: u32) -> Option<Arc>
         requires standing { IsStanding problem.now routing.now }
         requires graph { IsLevelGraph problem.now self.old }
@@ -180,16 +207,24 @@ impl LevelGraph {
         None
     }
 
-    /// Whether an arc leads from a level to the next.
+    /// Whether an arc leads from a level to a higher one.
     fn steps_up(&self, arc: &Arc) -> bool
         requires tail { arc.now.tail < length self.now.levels.items }
         requires head { arc.now.head < length self.now.levels.items }
         ensures { IsTrue result ↔ StepsUp self.now.levels.items arc.now }
     {
         match (self.level(arc.tail), self.level(arc.head)) {
-            (Some(tail), Some(head)) => head > 0 && head - 1 == tail,
+            (Some(tail), Some(head)) => tail < head,
             _ => false,
         }
+    }
+
+    /// Whether a node has a level.
+    fn has_level(&self, node: u32) -> bool
+        requires { node < length self.now.levels.items }
+        ensures { result ≡ is_some (level_at self.now.levels.items node) }
+    {
+        self.level(node).is_some()
     }
 
     /// The level of a node, if it has one.

@@ -1,6 +1,7 @@
 //! The least-cost flow engine: an amount routed through a net at least cost, with potentials that
-//! prove it, or a cut that the amount cannot pass (Ford and Fulkerson 1962, with the dual step of
-//! Edmonds and Karp 1972 and the level graph of Dinic 1970).
+//! prove it, or a cut that the amount cannot pass. It is the method of successive shortest paths with
+//! potentials, a primal-dual one (Ahuja, Magnanti and Orlin 1993), with level graphs (Dinic 1970)
+//! where the sink's potential did not rise.
 #![tactic(auto)]
 
 mod adjacency;

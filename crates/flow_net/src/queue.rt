@@ -1,4 +1,4 @@
-//! The queue of a search: nodes by how far their potentials have to rise.
+//! The queue of a search: nodes with tentative labels, by their distances.
 ghost use Rattle.std.specs.Prelude.{◌≡◌, ◌∷◌, [], pos, ◌≤ℤ◌, All, OnOk, MatchOption, IsPermutation};
 ghost use Rattle.std.specs.BinaryHeap.{heap_items, IsHeap, IsHeap-prop};
 ghost use Rattle.flow_net.specs.Entry.{entry_cmp};
@@ -7,8 +7,8 @@ use std::alloc::{AllocError, Global};
 use std::cmp::Reverse;
 use std::collections::{BinaryHeap, VecDeque};
 
-/// Nodes with the rises of their potentials, none below the level. Those at the level come first, in
-/// their order, and then the one that rises least.
+/// Nodes with their distances, none below the level: the distance of the node that was taken out last.
+/// Those at the level come first, in their order, and then the nearest one.
 #[derive(Drop)]
 pub(crate) struct Queue {
     pub level: i64,
@@ -33,23 +33,23 @@ impl Queue {
         }
     }
 
-    /// Enters a node with the rise of its potential.
-    pub fn push(&mut self, rise: i64, node: u32) -> Result<(), AllocError>
-        requires { self.old.level ≤ℤ rise }
+    /// Enters a node with its distance.
+    pub fn push(&mut self, distance: i64, node: u32) -> Result<(), AllocError>
+        requires { self.old.level ≤ℤ distance }
         ensures level { OnOk result (self.new.level ≡ self.old.level) }
         ensures entries { OnOk result
-            (IsPermutation ((record { 0 = rise }, node) ∷ entries_of self.old)
+            (IsPermutation ((record { 0 = distance }, node) ∷ entries_of self.old)
             (entries_of self.new)) }
     {
-        if rise == self.level {
+        if distance == self.level {
             self.near.push_back(node)?;
         } else {
-            self.far.push((Reverse(rise), node))?;
+            self.far.push((Reverse(distance), node))?;
         }
         Ok(())
     }
 
-    /// Takes out the next node, whose rise is the level from then on.
+    /// Takes out the next node, whose distance is the level from then on.
     pub fn pop(&mut self) -> Option<u32>
         ensures { MatchOption result (IsEmptied self.old self.new)
             (λ v. IsNext self.old self.new v) }
@@ -57,8 +57,8 @@ impl Queue {
         if let Some(node) = self.near.pop_front() {
             return Some(node);
         }
-        let (Reverse(rise), node) = self.far.pop()?;
-        self.level = rise;
+        let (Reverse(distance), node) = self.far.pop()?;
+        self.level = distance;
         Some(node)
     }
 }

@@ -1,5 +1,5 @@
-//! The search from the source: for each node, how far its potential has to rise until a path without
-//! reduced cost leads to it (Dijkstra 1959, over reduced costs).
+//! The search for a shortest path from the source to the sink along residual arcs, whose lengths are
+//! their reduced costs (Dijkstra 1959).
 ghost use Rattle.std.specs.Prelude.{◌≡◌, length};
 
 use crate::arc::Arc;
@@ -8,31 +8,32 @@ use crate::queue::Queue;
 use crate::routing::Routing;
 use std::alloc::{AllocError, Global};
 
-/// How a node was come upon.
+/// What a search knows of a node. A label is tentative until its node is settled: then no path to the
+/// node is shorter.
 #[derive(Clone, Copy)]
 pub(crate) struct Label {
-    /// How far the node's potential has to rise for a path without reduced cost.
-    pub rise: i64,
-    /// How many arcs lead to the node from the source.
+    /// The length of the path found to the node: the sum of its reduced costs.
+    pub distance: i64,
+    /// How many arcs that path has.
     pub depth: u32,
-    /// The last of those arcs; none at the source.
+    /// The last of these arcs; none at the source.
     pub arc: Option<Arc>,
 }
 
-/// The labels of the nodes, the nodes reached, and the queue of the labelled nodes.
+/// The labels of the nodes, which nodes are settled, and the queue of those with tentative labels.
 #[derive(Drop)]
 pub(crate) struct Search {
     pub labels: Vec<Option<Label>>,
-    pub reached: Vec<bool>,
+    pub settled: Vec<bool>,
     pub queue: Queue,
-    ghost one_mark_each: { length reached.items ≡ length labels.items },
+    ghost one_mark_each: { length settled.items ≡ length labels.items },
 }
 
 impl Search {
     ghost use Rattle.std.specs.Prelude.{◌<◌, true, false, pos, ◌<ℤ◌, ◌≤ℤ◌, IfOk, OnOk, MatchBool, MatchOption};
     ghost use Rattle.flow_net.specs.Arc.{IsArc};
     ghost use Rattle.flow_net.specs.Problem.{IsProblem, IsStanding, IsFreeArc};
-    ghost use Rattle.flow_net.specs.Search.{IsSearch, IsFresh, HasQueue, IsDrained, IsReaching, IsAt, IsEntered, Improves, IsClosedAt, IsRelaxed, HasArrived, IsStuck, IsTree, IsTreeArc, IsTreePath, arc_at, rise_at, is_labelled, rise_of};
+    ghost use Rattle.flow_net.specs.Search.{IsSearch, IsFresh, HasQueue, IsDrained, IsSettling, IsAt, IsEntered, Improves, IsClosedAt, IsRelaxed, HasArrived, IsStuck, IsTree, IsTreeArc, IsTreePath, arc_at, distance_at, is_labelled, rise_of};
 
     /// A search that has labelled the source alone.
     pub fn new(alloc: Global, problem: &Problem) -> Result<Search, AllocError>
@@ -42,11 +43,11 @@ impl Search {
         let nodes = problem.net.nodes as usize;
         let mut search = Search {
             labels: vec![in alloc; None; nodes]?,
-            reached: vec![in alloc; false; nodes]?,
+            settled: vec![in alloc; false; nodes]?,
             queue: Queue::new(alloc),
         };
         let label = Label {
-            rise: 0,
+            distance: 0,
             depth: 0,
             arc: None,
         };
@@ -54,7 +55,7 @@ impl Search {
         Ok(search)
     }
 
-    /// Searches until the sink is reached, and answers true, or until no node is left that a path
+    /// Searches until the sink is settled, and answers true, or until no node is left that a path
     /// leads to.
     pub fn run(&mut self, problem: &Problem, routing: &Routing) -> Result<bool, AllocError>
         requires standing { IsStanding problem.now routing.now }
@@ -71,16 +72,16 @@ impl Search {
         Ok(false)
     }
 
-    /// Reaches the node whose potential has to rise least, of those that are labelled and not reached.
+    /// Settles the nearest node of those with tentative labels.
     fn nearest(&mut self) -> Option<(u32, Label)>
         requires { HasQueue self.old }
         ensures { MatchOption result (IsDrained self.old self.new)
-            (λ r. IsReaching self.old self.new r.0 r.1) }
+            (λ r. IsSettling self.old self.new r.0 r.1) }
     {
         while let Some(node) = self.queue.pop() {
-            if !self.reached[node as usize] {
+            if !self.settled[node as usize] {
                 if let Some(label) = self.labels[node as usize] {
-                    self.reached[node as usize] = true;
+                    self.settled[node as usize] = true;
                     return Some((node, label));
                 }
             }
@@ -88,7 +89,7 @@ impl Search {
         None
     }
 
-    /// Follows each arc from the node that was reached last.
+    /// Follows each arc from the node that was settled last.
     fn scan(
         &mut self,
         problem: &Problem,
@@ -111,7 +112,7 @@ impl Search {
         Ok(())
     }
 
-    /// Labels the head of a residual arc from that node, where it has no label or one that rises more.
+    /// Labels the head of a residual arc from that node, where it has no label or one farther off.
     fn relax(
         &mut self,
         problem: &Problem,
@@ -125,31 +126,31 @@ impl Search {
         requires at { IsAt self.old arc.now.tail label.now }
         ensures { OnOk result (IsRelaxed problem.now routing.now self.old self.new arc.now) }
     {
-        if self.reached[arc.head as usize] || !routing.is_residual(problem, arc) {
+        if self.settled[arc.head as usize] || !routing.is_residual(problem, arc) {
             return Ok(());
         }
-        let rise = label.rise + routing.reduced_cost(arc);
-        if !self.is_lower(arc.head, rise) {
+        let distance = label.distance + routing.reduced_cost(arc);
+        if !self.is_lower(arc.head, distance) {
             return Ok(());
         }
         let label = Label {
-            rise,
+            distance,
             depth: label.depth + 1,
             arc: Some(*arc),
         };
         self.enter(arc.head, label)
     }
 
-    /// Whether a node has no label, or one that rises more than this.
-    fn is_lower(&self, node: u32, rise: i64) -> bool
+    /// Whether a node has no label, or one at a greater distance than this.
+    fn is_lower(&self, node: u32, distance: i64) -> bool
         requires { node < length self.now.labels.items }
         ensures lower { result ≡ true → is_labelled self.now.labels.items node ≡ true
-            → rise <ℤ rise_at self.now.labels.items node }
+            → distance <ℤ distance_at self.now.labels.items node }
         ensures no_lower { result ≡ false → (is_labelled self.now.labels.items node ≡ true)
-            × (rise_at self.now.labels.items node ≤ℤ rise) }
+            × (distance_at self.now.labels.items node ≤ℤ distance) }
     {
         match self.labels[node as usize] {
-            Some(label) => rise < label.rise,
+            Some(label) => distance < label.distance,
             None => true,
         }
     }
@@ -157,15 +158,15 @@ impl Search {
     /// Gives a node a label, and enters it into the queue.
     fn enter(&mut self, node: u32, label: Label) -> Result<(), AllocError>
         requires node { node < length self.old.labels.items }
-        requires rise { self.old.queue.level ≤ℤ label.rise }
+        requires distance { self.old.queue.level ≤ℤ label.distance }
         ensures { OnOk result (IsEntered self.old self.new node label) }
     {
-        self.queue.push(label.rise, node)?;
+        self.queue.push(label.distance, node)?;
         self.labels[node as usize] = Some(label);
         Ok(())
     }
 
-    /// Raises the potentials after the sink was reached, so that the path to it has no reduced cost.
+    /// Raises the potentials after the sink was settled, so that the path to it has no reduced cost.
     pub fn raise(&self, problem: &Problem, routing: &mut Routing)
         requires standing { IsStanding problem.now routing.old }
         requires arrived { HasArrived problem.now routing.old self.now }
@@ -181,19 +182,19 @@ impl Search {
         }
     }
 
-    /// How far the potential of a node has to rise: as far as its label says where it is reached, and
-    /// elsewhere as far as the sink's.
+    /// How far the potential of a node has to rise: by its distance where it is settled, and elsewhere by
+    /// the sink's.
     fn rise(&self, node: usize) -> i64
         requires { node < length self.now.labels.items }
         ensures { result ≡ rise_of self.now node }
     {
         match self.labels[node] {
-            Some(label) if self.reached[node] => label.rise,
+            Some(label) if self.settled[node] => label.distance,
             _ => self.queue.level,
         }
     }
 
-    /// The path by which the sink was reached from the source.
+    /// The path by which the sink was settled from the source.
     pub fn path(&self, alloc: Global, problem: &Problem) -> Result<Vec<Arc>, AllocError>
         requires { IsTree problem.now self.now }
         ensures { IfOk result (λ path. IsTreePath problem.now self.now path.items) }

@@ -10,13 +10,13 @@ returns-then-not-branch-clause-blocked c =
     let cut = IsCutBelow-stuck _ c.loop-routing.routing c.run.new.self c.loop-routing.invariant.standing (rw c.if-not-branch.true at c.in_ok-run.ensures)
     (omega (arith, ints, c.loop-routing-test.true, c.loop-routing.invariant.standing.routed_from, c.loop-routing.invariant.standing.routed_upto, whole)) in
     subst (IsCutBelow c.args.net.now c.args.source c.args.sink c.args.amount) (sym c.from_vec.ensures)
-    (subst (λ z. IsCutBelow c.args.net.now c.args.source c.args.sink z c.run.new.self.reached.items) whole cut)
+    (subst (λ z. IsCutBelow c.args.net.now c.args.source c.args.sink z c.run.new.self.settled.items) whole cut)
 
 pub returns-then-not-branch-clause-blocked_only : goal.returns-then-not-branch-clause-blocked_only
 returns-then-not-branch-clause-blocked_only c = λ routable. let whole = to_z-of_z w64 c.args.amount c.ranges.amount in
     let cut = IsCutBelow-stuck _ c.loop-routing.routing c.run.new.self c.loop-routing.invariant.standing (rw c.if-not-branch.true at c.in_ok-run.ensures)
     (omega (arith, ints, c.loop-routing-test.true, c.loop-routing.invariant.standing.routed_from, c.loop-routing.invariant.standing.routed_upto, whole)) in
-    none_past_cut c.args.net.now c.requires.net c.args.source c.args.sink c.requires.ends _ routable.0 c.run.new.self.reached.items cut
+    none_past_cut c.args.net.now c.requires.net c.args.source c.args.sink c.requires.ends _ routable.0 c.run.new.self.settled.items cut
     (subst (λ z. IsRouting c.args.net.now c.args.source c.args.sink z routable.0) (sym whole) routable.1)
 
 pub returns-clause-routed : goal.returns-clause-routed

@@ -1,9 +1,9 @@
-use Rattle.flow_net.proofs.FlowLemmas.{IsFreePath-rising, IsStep, IsStep-closed, IsStep-up, arc-nodes, fewer_levels, height_at, height_kept, level_count}
+use Rattle.flow_net.proofs.FlowLemmas.{IsFreePath-rising, IsStep, IsStep-closed, IsStep-up, arc-nodes, fewer_levels, height_kept, heights-set, level_count}
 use Rattle.flow_net.proofs.FlowLemmas.{walk-pop, walk-push}
 use Rattle.flow_net.proofs.level_graph.LevelGraph.find_path.Goals.{In-Some-pop}
 use Rattle.flow_net.proofs.Words.{All, All-permutation, All-pop, All-push, All-weaker, IsFreeArc, IsFreePath, IsPermutation-reverse, IsWalk, StepsUp}
-use Rattle.flow_net.proofs.Words.{length-set}
-use Rattle.std.proofs.Common.{None, Some, ap, arith, length, reverse, set, subst, sym, ◌*◌, ◌+◌, ◌<◌, ◌∙◌, ◌≡◌}
+use Rattle.flow_net.proofs.Words.{height_at, length-set}
+use Rattle.std.proofs.Common.{None, Some, ap, arith, length, reverse, set, subst, sym, ◌*◌, ◌+◌, ◌<◌, ◌∙◌, ◌≡◌, ◌≤◌, ℕ}
 use Rattle.flow_net.proofs.level_graph.LevelGraph.find_path.Goals as goal
 
 pub loop-node-preserved-in-Some : goal.loop-node-preserved-in-Some
@@ -16,6 +16,7 @@ loop-node-preserved-in-Some c =
         one_level_each = ap (λ t. length t.items) last.levels ∙ inv.graph.one_level_each;
         one_cursor_each = last.cursors ∙ inv.graph.one_cursor_each;
         entered = subst (λ t. All (λ v. v < p.net.now.nodes) t.items) (sym last.entered) inv.graph.entered;
+        upto = subst (λ t. (v : ℕ) → height_at t.items v ≤ p.net.now.nodes) (sym last.levels) inv.graph.upto;
       };
       node_in = (arc-nodes p.net.now c.requires.standing.problem.net a last.free.residual.arc).0;
       walk = subst (λ xs. IsWalk (reverse xs) a.tail p.sink) (sym grown)
@@ -46,17 +47,27 @@ loop-node-smaller c =
     (fewer_levels c.args.problem.now c.args.routing.now levels c.pop.new.self.items a c.args.problem.now.sink at.step) in
     let kept = subst (λ v. height_at (set levels v None) a.head ≡ height_at levels a.head) at.tail
     (height_kept c.args.problem.now c.args.routing.now levels c.pop.new.self.items a c.args.problem.now.sink at.step) in
-    let same = ap (λ t. 2 * level_count t.items + height_at t.items c.loop-node.node) c.in_default.ensures.levels in let tail = ap (height_at levels) at.tail in
-    omega (arith, fewer, kept, same, tail)
+    let n = c.args.problem.now.net.now.nodes in
+    let same = ap (λ t. (n + 1) * level_count t.items + height_at t.items c.loop-node.node) c.in_default.ensures.levels in
+    let upto = subst (λ t. height_at t.items a.head ≤ n) (sym c.in_default.ensures.levels) (c.loop-node.invariant.graph.upto a.head) in
+    let times = ap (λ k. (n + 1) * k) fewer in
+    omega (arith, times, kept, same, upto)
 
 pub loop-node-preserved : goal.loop-node-preserved
 loop-node-preserved c =
     let p = c.args.problem.now in let r = c.args.routing.now in let levels = c.last_arc.new.self.levels.items in let a = c.in-Some-pop.arc in
-    let inv = c.loop-node.invariant in let last = c.in_default.ensures in let at = popped c in record {
+    let inv = c.loop-node.invariant in
+    let last = c.in_default.ensures in
+    let at = popped c in
+    let node = inv.node_in in
+    let each = ap (λ t. length t.items) last.levels ∙ inv.graph.one_level_each in
+    let within : c.loop-node.node < length levels = omega (arith, node, each) in record {
       graph = record {
         one_level_each = length-set levels c.loop-node.node None ∙ (ap (λ t. length t.items) last.levels ∙ inv.graph.one_level_each);
         one_cursor_each = last.cursors ∙ inv.graph.one_cursor_each;
         entered = subst (λ t. All (λ v. v < p.net.now.nodes) t.items) (sym last.entered) inv.graph.entered;
+        upto = heights-set levels c.loop-node.node p.net.now.nodes None within (omega arith)
+            (subst (λ t. (v : ℕ) → height_at t.items v ≤ p.net.now.nodes) (sym last.levels) inv.graph.upto);
       };
       node_in = (arc-nodes p.net.now c.requires.standing.problem.net a at.step.free.residual.arc).1;
       walk = at.walk;

@@ -1,10 +1,10 @@
-use Rattle.flow_net.proofs.FlowLemmas.{IsStep, height_at, level_count}
-use Rattle.flow_net.proofs.Words.{All, IsLevelGraph, IsWalk}
+use Rattle.flow_net.proofs.FlowLemmas.{IsStep, level_count}
+use Rattle.flow_net.proofs.Words.{All, IsLevelGraph, IsWalk, height_at}
 use Rattle.std.proofs.Common.{reverse, ◌*◌, ◌+◌, ◌<◌}
 use Rattle.flow_net.proofs.level_graph.LevelGraph.find_path.Given as goal
 
 abbrev pub decreases-loop-node : goal.decreases-loop-node
-decreases-loop-node l = 2 * level_count l.self.levels.items + height_at l.self.levels.items l.node
+decreases-loop-node l = (l.problem.net.now.nodes + 1) * level_count l.self.levels.items + height_at l.self.levels.items l.node
 
 abbrev pub invariant-loop-node : goal.invariant-loop-node
 invariant-loop-node l = record {

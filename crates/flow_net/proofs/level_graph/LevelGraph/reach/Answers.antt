@@ -1,5 +1,5 @@
 use Rattle.flow_net.proofs.FlowLemmas.{IsPriced-arc, no_arc}
-use Rattle.flow_net.proofs.level_graph.LevelGraph.reach.Goals.{else-is_none, then-is_none+then-is_open+then-reduced_cost-eq0+in_ok-enter}
+use Rattle.flow_net.proofs.level_graph.LevelGraph.reach.Goals.{else-left-is_open, then-left-is_open+then-reduced_cost-eq0+in_ok-enter}
 use Rattle.flow_net.proofs.Words.{IsLevelGraph, Way, arcs_at, length-map, way_of}
 use Rattle.std.proofs.Common.{ap, arith, false, length, subst, sym, ◌<◌, ◌≤◌}
 use Rattle.flow_net.proofs.level_graph.LevelGraph.reach.Goals as goal
@@ -20,12 +20,12 @@ enter-requires-clause-node c = c.ways_from-ways.ensures.heads c.loop-index.index
 
 pub loop-index-preserved : goal.loop-index-preserved
 loop-index-preserved c =
-    let inv = c.loop-index.invariant in let before = inv.no_fewer in let count = length c.args.self.now.entered.items in elim c.if-is_none.branch [
-      | then-is_none+then-is_open+then-reduced_cost-eq0+in_ok-enter w ↦ record {
+    let inv = c.loop-index.invariant in let before = inv.no_fewer in let count = length c.args.self.now.entered.items in elim c.if-left-is_open.branch [
+      | then-left-is_open+then-reduced_cost-eq0+in_ok-enter w ↦ record {
         graph = subst (IsLevelGraph c.args.problem.now) (sym w.self-is) w.in_ok-enter.ensures.graph;
         no_fewer = subst (λ g. count ≤ length g.entered.items) (sym w.self-is) (omega (arith, before, w.in_ok-enter.ensures.one_more));
       }
-      | else-is_none w ↦ record {
+      | else-left-is_open w ↦ record {
         graph = subst (IsLevelGraph c.args.problem.now) (sym w.self-is) inv.graph;
         no_fewer = subst (λ g. count ≤ length g.entered.items) (sym w.self-is) before;
       }

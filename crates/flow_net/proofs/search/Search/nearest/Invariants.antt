@@ -8,6 +8,6 @@ decreases-loop-node l = length (entries_of l.self.queue)
 abbrev pub invariant-loop-node : goal.invariant-loop-node
 invariant-loop-node l = record {
   labels : l.self.labels ≡ l.initial.self.labels;
-  reached : l.self.reached ≡ l.initial.self.reached;
+  settled : l.self.settled ≡ l.initial.self.settled;
   queue : HasQueue l.self;
 }

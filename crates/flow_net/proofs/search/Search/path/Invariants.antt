@@ -7,7 +7,7 @@ decreases-loop-arc l = depth_at l.self.labels.items l.node
 
 abbrev pub invariant-loop-arc : goal.invariant-loop-arc
 invariant-loop-arc l = record {
-  reached : is_in l.self.reached.items l.node ≡ true;
+  settled : is_in l.self.settled.items l.node ≡ true;
   walk : IsWalk (reverse l.path.items) l.node l.problem.sink;
   arcs : All (IsTreeArc l.self) l.path.items;
 }

@@ -28,7 +28,7 @@ loop-arc-preserved c =
       improves = Improves-trans c.args.self.now s t inv.improves after.improves;
       closed = All-more (IsClosedAt p r t) arcs i no_arc c.loop-arc-test.true (λ k d l.
           let tail = (All-take (λ a. IsArc p.net.now.links a × (a.tail ≡ c.args.node)) i arcs c.arcs_from-arc-items.ensures.arcs k d l).1 in
-          IsClosedAt-improves p r s t (get_or (take i arcs) k d) after.improves (ap (is_in s.reached.items) tail ∙ at.reached) (inv.closed k d l)) after.closed;
+          IsClosedAt-improves p r s t (get_or (take i arcs) k d) after.improves (ap (is_in s.settled.items) tail ∙ at.settled) (inv.closed k d l)) after.closed;
     }
 
 pub returns-clause-closed : goal.returns-clause-closed
