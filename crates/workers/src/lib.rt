@@ -5,9 +5,7 @@
 #![tactic(auto)]
 
 mod gate;
-mod meeting_gate;
 mod sharing;
 
 pub use gate::{Gate, OpenGate};
-pub use meeting_gate::MeetingGate;
 pub use sharing::items_by_workers;
