@@ -47,4 +47,4 @@ pub use study_item::{Segment, Study, StudyAnswer, StudyItem};
 pub use study_laws::study_rows_have_one_outcome;
 pub use study_reader::read_study;
 pub use sweeps::{rows_are_one, sweep};
-pub use workers::{Gate, MeetingGate, OpenGate};
+pub use workers::{Gate, OpenGate};

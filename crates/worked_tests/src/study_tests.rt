@@ -5,6 +5,7 @@ ghost use Rattle.study.specs.Plan.{IsSweepPlan};
 
 use crate::compare::{assert_lists, assert_same};
 use crate::tables::{FOUR_STREAMS, TOO_LITTLE_COOLING, Table, case_of, completed};
+use meeting_gate::{MOST_TURNS, MeetingGate};
 use problem_table::{Target, targets};
 use std::alloc::{AllocError, Global};
 use std::process::Abort;
@@ -12,7 +13,7 @@ use std::test::Fail;
 use std::thread;
 use stream_case::Side::{Cold, Hot};
 use stream_case::{Case, Forbid, Side, Source, Stream};
-use study::{MeetingGate, OpenGate, SweepPlan, SweepRow, least_cost, sample_case, sweep};
+use study::{OpenGate, SweepPlan, SweepRow, least_cost, sample_case, sweep};
 
 /// A row: contribution, hot and cold target, and least cost.
 type Row = (i32, i64, i64, Option<i128>);
@@ -97,7 +98,7 @@ fn two_rows_meet(rt: HostRuntime) -> Result<(), Fail> {
         to: 10,
         step: 10,
     };
-    let gate = MeetingGate::new();
+    let gate = MeetingGate::new(MOST_TURNS);
     let rows = sweep(&rt, rt.alloc(), &gate, &case, plan, 2)?;
     let found = rows_of(rt.alloc(), rows.as_slice())?;
     assert_lists(&rt, "the rows", &found, &FOUR_STREAM_ROWS[..2]);

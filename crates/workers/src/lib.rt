@@ -6,9 +6,7 @@
 
 mod dealing;
 mod gate;
-mod meeting_gate;
 mod sharing;
 
 pub use gate::{Gate, OpenGate};
-pub use meeting_gate::MeetingGate;
 pub use sharing::items_by_workers;

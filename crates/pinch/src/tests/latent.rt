@@ -4,9 +4,9 @@ use super::support::{answer_of, check_answer, check_audit, check_end, check_fron
 use std::test::Fail;
 
 /// A hot stream above an evaporating one, which stands at the pinch. The place counts from itself.
-const EVAPORATING: &str = "contribution,,50,,,,\nhot,H,1500,700,10,,\ncold,B,900,900,0,8000,\n";
+pub const EVAPORATING: &str = "contribution,,50,,,,\nhot,H,1500,700,10,,\ncold,B,900,900,0,8000,\n";
 
-const EVAPORATING_FLOW: &str = "cost 3000
+pub const EVAPORATING_FLOW: &str = "cost 3000
 use HOT 3000
 use COLD 3000
 move HOT 1450 1450 B 950 950 3000
@@ -34,9 +34,10 @@ end .7
 ";
 
 /// A condensing stream in the range of a cold one, also at the pinch. The place counts above itself.
-const CONDENSING: &str = "contribution,,50,,,,\nhot,S,1000,1000,0,8000,\ncold,C,500,1300,10,,\n";
+pub const CONDENSING: &str =
+    "contribution,,50,,,,\nhot,S,1000,1000,0,8000,\ncold,C,500,1300,10,,\n";
 
-const CONDENSING_FLOW: &str = "cost 4000
+pub const CONDENSING_FLOW: &str = "cost 4000
 use HOT 4000
 use COLD 4000
 move HOT 1350 1350 C 1350 950 4000

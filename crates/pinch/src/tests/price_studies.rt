@@ -1,15 +1,17 @@
 //! Price studies of cases that were worked by hand, by one worker and by several.
 
+use super::latent::EVAPORATING;
 use super::support::{
     FOUR_STREAM, Fails, NONE, Outcome, WORDS, check_count, check_end, check_front, line_count,
     outcome_by, outcome_of, outcome_under,
 };
+use meeting_gate::{MOST_TURNS, MeetingGate};
 use std::alloc::{AllocError, Global};
 use std::fmt::Write;
 use std::process::Abort;
 use std::test::Fail;
 use std::thread::Threads;
-use study::{MeetingGate, OpenGate};
+use study::OpenGate;
 
 /// The four-stream table with steam of two levels.
 const TWO_LEVELS: &str = "contribution,,50,,,,
@@ -107,6 +109,12 @@ const STUDIES: &[(&str, &str, &str)] = &[
         "span,HOT,0,3\nspan,COLD,0,1\nspan,HOT,-2,1\nscenario,S,,\nprice,HOT,5,\nprice,COLD,2,\n",
         "span HOT 0 3 0 20000\nspan COLD 0 1 20000 60000\nspan HOT -2 0 0 999999960000\n\
          span HOT 1 1 20000 0\nscenario S 220000\n",
+    ),
+    // A stream that evaporates: 3000 W of HOT and of COLD.
+    (
+        EVAPORATING,
+        "scenario,S,,\nprice,HOT,2,\nspan,HOT,0,3\nspan,COLD,0,1\n",
+        "scenario S 6000\nspan HOT 0 3 0 3000\nspan COLD 0 1 3000 3000\n",
     ),
 ];
 
@@ -257,13 +265,13 @@ fn other_words_are_no_price_study(rt: HostRuntime) -> Result<(), Fail> {
 #[test]
 fn two_items_meet(rt: HostRuntime) -> Result<(), Fail> {
     let words = ["prices", "plant.csv", "study.csv", "2"];
-    let study = "scenario,S,,\nspan,HOT,0,3\n";
+    let study = "scenario,S1,,\nscenario,S2,,\n";
     let files = [
-        ("plant.csv", FOUR_STREAM.as_bytes()),
+        ("plant.csv", TWO_LEVELS.as_bytes()),
         ("study.csv", study.as_bytes()),
     ];
-    let text = "scenario S 20000\nspan HOT 0 3 0 20000\n";
-    let gate = MeetingGate::new();
+    let text = "scenario S1 57000\nscenario S2 57000\n";
+    let gate = MeetingGate::new(MOST_TURNS);
     let outcome = outcome_by(&rt, &gate, &words, &files)?;
     check_end(&rt, &words, &outcome, 0, text.as_bytes());
     assert_eq!(rt; gate.counts(), [1, 1, 1, 1, 0]);

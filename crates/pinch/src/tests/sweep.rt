@@ -4,10 +4,11 @@ use super::support::{
     FOUR_STREAM, OWN_CONTRIBUTION, WORDS, check_count, check_end, check_front, line_count,
     outcome_by, outcome_of,
 };
+use meeting_gate::{MOST_TURNS, MeetingGate};
 use std::process::Abort;
 use std::test::Fail;
 use std::thread::Threads;
-use study::{MeetingGate, OpenGate};
+use study::OpenGate;
 
 const FOUR_STREAM_ROWS: &str = "row 0 0 40000 0
 row 10 0 40000 0
@@ -174,7 +175,7 @@ fn two_rows_meet(rt: HostRuntime) -> Result<(), Fail> {
     let words = ["sweep", "plant.csv", "0", "10", "10", "2"];
     let files = [("plant.csv", FOUR_STREAM.as_bytes())];
     let text = "row 0 0 40000 0\nrow 10 0 40000 0\n";
-    let gate = MeetingGate::new();
+    let gate = MeetingGate::new(MOST_TURNS);
     let outcome = outcome_by(&rt, &gate, &words, &files)?;
     check_end(&rt, &words, &outcome, 0, text.as_bytes());
     assert_eq!(rt; gate.counts(), [1, 1, 1, 1, 0]);

@@ -1,16 +1,17 @@
-//! A gate at which two items meet, by which a test sees that two workers work side by side.
+//! A gate at which two items meet.
 
-use crate::gate::Gate;
 use std::sync::atomic::{AtomicU64, Ordering};
 use std::thread;
+use workers::Gate;
 
-/// The most turns that an item waits for the other one.
-const MOST_TURNS: u32 = 10_000_000;
+/// As many turns as an item that does meet the other one never needs.
+pub const MOST_TURNS: u32 = 10_000_000;
 
-/// A gate at which each of two items waits for the other one. It counts how often each item is
-/// entered and left, and how often an item goes on alone.
+/// A gate at which each of two items waits for the other one, so many turns at most. It counts how
+/// often each item is entered and left, and how often an item goes on alone.
 #[derive(Drop)]
 pub struct MeetingGate {
+    turns: u32,
     first_entered: AtomicU64,
     second_entered: AtomicU64,
     first_left: AtomicU64,
@@ -25,7 +26,7 @@ impl Gate for MeetingGate {
             _ => (&self.second_entered, &self.first_entered),
         };
         own.fetch_add(1, Ordering::SeqCst);
-        for _ in 0..MOST_TURNS {
+        for _ in 0..self.turns {
             if other.load(Ordering::SeqCst) > 0 {
                 return;
             }
@@ -44,9 +45,10 @@ impl Gate for MeetingGate {
 }
 
 impl MeetingGate {
-    /// A gate that nothing has passed.
-    pub fn new() -> MeetingGate {
+    /// A gate that nothing has passed, at which an item looks so many times for the other one.
+    pub fn new(turns: u32) -> MeetingGate {
         MeetingGate {
+            turns,
             first_entered: AtomicU64::new(0),
             second_entered: AtomicU64::new(0),
             first_left: AtomicU64::new(0),
