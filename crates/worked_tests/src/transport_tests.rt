@@ -1,6 +1,9 @@
 //! Heat flows of least cost and cuts, in cases that were worked by hand.
+ghost use Rattle.std.specs.Prelude.{IfOk};
 ghost use Rattle.stream_case.specs.Case.{IsComplete};
 ghost use Rattle.grid.specs.Part.{AreCaseParts};
+ghost use Rattle.heat_flow.specs.Reach.{reach_between};
+ghost use Rattle.transport.specs.Answer.{IsAnswer};
 
 use crate::compare::{assert_lists, assert_same};
 use crate::flows::parts_of_case;
@@ -228,6 +231,8 @@ fn sources_of(alloc: Global, parts: &Parts, cut: &Cut) -> Result<Vec<Source>, Al
 pub fn answer_of(alloc: Global, case: &Case, parts: &Parts) -> Result<Answer, AllocError>
     requires complete { IsComplete case.now }
     requires parts { AreCaseParts case.now parts.now.hot parts.now.cold }
+    ensures { IfOk result (IsAnswer (reach_between case.now parts.now.hot parts.now.cold)
+        parts.now.hot parts.now.cold) }
 {
     least_case(alloc, case, parts)
 }
