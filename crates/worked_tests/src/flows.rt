@@ -1,8 +1,8 @@
 //! The parts of a completed case, which of them reach, and its net of chains.
-ghost use Rattle.std.specs.Prelude.{length, IfOk};
+ghost use Rattle.std.specs.Prelude.{IfOk};
 ghost use Rattle.stream_case.specs.Case.{IsComplete, IsStandard};
 ghost use Rattle.grid.specs.Part.{AreCaseParts};
-ghost use Rattle.heat_flow.specs.Table.{HasSizes};
+ghost use Rattle.price_floor.specs.Floor.{IsReachOf};
 
 use crate::tables::{FOUR_STREAMS, Table, completed_case};
 use chains::{Chains, chains_of};
@@ -23,7 +23,7 @@ pub fn parts_of_case(alloc: Global, case: &Case) -> Result<Parts, AllocError>
 pub fn reach_of_case(alloc: Global, case: &Case, parts: &Parts) -> Result<Reach, AllocError>
     requires complete { IsComplete case.now }
     requires parts { AreCaseParts case.now parts.now.hot parts.now.cold }
-    ensures { IfOk result (λ reach. HasSizes reach (length parts.now.hot) (length parts.now.cold)) }
+    ensures { IfOk result (IsReachOf case.now parts.now.hot parts.now.cold) }
 {
     reach_of(alloc, case, parts)
 }

@@ -4,7 +4,8 @@ ghost use Rattle.stream_case.specs.Case.{IsComplete};
 use crate::compare::{assert_lists, assert_same};
 use crate::flows::{four_streams, parts_of_case, reach_of_case};
 use crate::tables::{
-    FOUR_STREAMS, RESTRICTED, TOO_COLD_A_HEATER, TOO_LITTLE_COOLING, Table, completed_case,
+    FOUR_STREAMS, RESTRICTED, TOO_COLD_A_HEATER, TOO_LITTLE_COOLING, TWO_STEAM_LEVELS, Table,
+    completed_case,
 };
 use heat_flow::{Cut, CutKind, Flow, Prices, is_cut, is_flow, is_supported, reaches};
 use std::alloc::{AllocError, Global};
@@ -37,6 +38,24 @@ const CELLS: &[(Table, &[u8])] = &[
         TTTTFT\
         FFTTFT",
     ),
+    (
+        TWO_STEAM_LEVELS,
+        b"\
+        TTTTTTTT\
+        TTTTTTTT\
+        TTTTTTTT\
+        TTTTTTTT\
+        FTTTTTTT\
+        FTTTTTTT\
+        FFFTTTTT\
+        FFFTTTTT\
+        FFFTTTTT\
+        FFFFFTTT\
+        FFFFFTTT\
+        FFFFFFTT",
+    ),
+    (TOO_LITTLE_COOLING, b"TTTT"),
+    (TOO_COLD_A_HEATER, b"FTT"),
 ];
 
 /// The cells of the table of a case, as letters.

@@ -24,7 +24,7 @@ pub fn cost_in(answer: &Answer) -> Option<i128> {
 }
 
 /// The answer by a table of the pairs of parts.
-fn answer_by_pairs(alloc: Global, case: &Case, parts: &Parts) -> Result<Answer, Fail>
+pub fn answer_by_pairs(alloc: Global, case: &Case, parts: &Parts) -> Result<Answer, Fail>
     requires complete { IsComplete case.now }
     requires parts { AreCaseParts case.now parts.now.hot parts.now.cold }
 {

@@ -37,6 +37,10 @@ mod network_text_tests;
 #[cfg(test)]
 mod pinch_outside_tests;
 #[cfg(test)]
+mod price_floor_tests;
+#[cfg(test)]
+mod price_study_tests;
+#[cfg(test)]
 mod problem_table_tests;
 #[cfg(test)]
 mod reports_tests;

@@ -1,5 +1,7 @@
 //! Study files that are read and refused.
+ghost use Rattle.std.specs.Prelude.{IfOk};
 ghost use Rattle.stream_case.specs.Case.{IsComplete};
+ghost use Rattle.study.specs.Study.{IsStudy};
 
 use crate::compare::{assert_lists, assert_same};
 use crate::tables::{RESTRICTED, completed_case, name};
@@ -94,8 +96,9 @@ const FAULTY_FILES: &[(&str, u32, StudyWhy)] = &[
 ];
 
 /// The study that a text asks of a case, or its fault.
-fn read(rt: &(impl Abort + AllocGlobal), case: &Case, text: &str) -> Result<Study, StudyFault>
+pub fn read(rt: &(impl Abort + AllocGlobal), case: &Case, text: &str) -> Result<Study, StudyFault>
     requires { IsComplete case.now }
+    ensures { IfOk result (IsStudy case.now) }
 {
     assert!(rt; text.len() <= LONGEST);
     read_study(rt.alloc(), case, text.as_bytes())

@@ -44,6 +44,15 @@ pub const FOUR_STREAMS: Table = Table {
     forbids: &[],
 };
 
+/// The four streams with steam of two levels.
+pub const TWO_STEAM_LEVELS: Table = Table {
+    utilities: &[
+        ("HP", Hot, 1700, 0, MOST_HEAT, 3),
+        ("LP", Hot, 910, 0, MOST_HEAT, 1),
+    ],
+    ..FOUR_STREAMS
+};
+
 const ONE_OF_EACH_SIDE: &[StreamRow] = &[("H", Hot, 1000, 500, 10), ("C", Cold, 300, 700, 10)];
 
 /// One hot and one cold stream.

@@ -1,12 +1,16 @@
 //! Heat flows of least cost and cuts, in cases that were worked by hand.
+ghost use Rattle.std.specs.Prelude.{IfOk};
 ghost use Rattle.stream_case.specs.Case.{IsComplete};
 ghost use Rattle.grid.specs.Part.{AreCaseParts};
+ghost use Rattle.heat_flow.specs.Reach.{reach_between};
+ghost use Rattle.transport.specs.Answer.{IsAnswer};
 
 use crate::compare::{assert_lists, assert_same};
 use crate::flows::parts_of_case;
+use crate::least_cost_tests::answer_by_pairs;
 use crate::tables::{
-    FOUR_STREAMS, MOST_HEAT, StreamRow, TOO_COLD_A_HEATER, TOO_LITTLE_COOLING, TWO_STREAMS, Table,
-    completed_case,
+    MOST_HEAT, StreamRow, TOO_COLD_A_HEATER, TOO_LITTLE_COOLING, TWO_STEAM_LEVELS, TWO_STREAMS,
+    Table, completed_case,
 };
 use grid::{Part, Parts};
 use heat_flow::{Cut, CutKind, Flow};
@@ -35,18 +39,26 @@ const PAIR: Forbid = Forbid {
     cold: Source::Stream(1),
 };
 
-const CASES: &[(&str, Table, Wanted)] = &[
+/// Cases that are answered over chains and over a table of all pairs.
+const CASES_BOTH_WAYS: &[(&str, Table, Wanted)] = &[
     (
         "two steam levels",
-        Table {
-            utilities: &[
-                ("HP", Hot, 1700, 0, MOST_HEAT, 3),
-                ("LP", Hot, 910, 0, MOST_HEAT, 1),
-            ],
-            ..FOUR_STREAMS
-        },
+        TWO_STEAM_LEVELS,
         Wanted::Cost(57_000, &[18_500, 1_500, 60_000]),
     ),
+    (
+        "too little cooling",
+        TOO_LITTLE_COOLING,
+        Wanted::Stuck(CutKind::Supply, 5_000, 2_000, &[Source::Stream(0)]),
+    ),
+    (
+        "a heater that is too cold",
+        TOO_COLD_A_HEATER,
+        Wanted::Stuck(CutKind::Demand, 2_000, 0, &[Source::Stream(0)]),
+    ),
+];
+
+const CASES: &[(&str, Table, Wanted)] = &[
     (
         "a heater that must run",
         Table {
@@ -66,16 +78,6 @@ const CASES: &[(&str, Table, Wanted)] = &[
             ..TWO_STREAMS
         },
         Wanted::Cost(4_000, &[4_000, 5_000]),
-    ),
-    (
-        "too little cooling",
-        TOO_LITTLE_COOLING,
-        Wanted::Stuck(CutKind::Supply, 5_000, 2_000, &[Source::Stream(0)]),
-    ),
-    (
-        "a heater that is too cold",
-        TOO_COLD_A_HEATER,
-        Wanted::Stuck(CutKind::Demand, 2_000, 0, &[Source::Stream(0)]),
     ),
     (
         "a heater whose least is its most",
@@ -229,6 +231,8 @@ fn sources_of(alloc: Global, parts: &Parts, cut: &Cut) -> Result<Vec<Source>, Al
 pub fn answer_of(alloc: Global, case: &Case, parts: &Parts) -> Result<Answer, AllocError>
     requires complete { IsComplete case.now }
     requires parts { AreCaseParts case.now parts.now.hot parts.now.cold }
+    ensures { IfOk result (IsAnswer (reach_between case.now parts.now.hot parts.now.cold)
+        parts.now.hot parts.now.cold) }
 {
     least_case(alloc, case, parts)
 }
@@ -256,38 +260,64 @@ fn compare_cut(rt: &impl Abort, at: &str, cut: &Cut, sources: &[Source], wanted:
     }
 }
 
-/// Compares what a table answers.
-fn compare_table(
+/// Compares an answer.
+fn compare_answer(
     rt: &impl Abort,
     alloc: Global,
     at: &str,
-    table: &Table,
+    (case, parts): (&Case, &Parts),
+    answer: &Answer,
     wanted: &Wanted,
-) -> Result<(), Fail> {
-    let case = completed_case(alloc, table)?;
-    let parts = parts_of_case(alloc, &case)?;
-    let answer = answer_of(alloc, &case, &parts)?;
-    match &answer {
+) -> Result<(), AllocError> {
+    match answer {
         Answer::Least {
             flow,
             prices: _,
             cost,
         } => {
-            let uses = uses_of(alloc, &case, &parts, flow)?;
+            let uses = uses_of(alloc, case, parts, flow)?;
             compare_least(rt, at, *cost, &uses, wanted);
         }
         Answer::Stuck(cut) => {
-            let sources = sources_of(alloc, &parts, cut)?;
+            let sources = sources_of(alloc, parts, cut)?;
             compare_cut(rt, at, cut, &sources, wanted);
         }
     }
     Ok(())
 }
 
+/// Compares what a table answers over chains.
+fn compare_table(
+    rt: &impl Abort,
+    alloc: Global,
+    (at, table, wanted): &(&str, Table, Wanted),
+) -> Result<(), Fail> {
+    let case = completed_case(alloc, table)?;
+    let parts = parts_of_case(alloc, &case)?;
+    let answer = answer_of(alloc, &case, &parts)?;
+    Ok(compare_answer(rt, alloc, at, (&case, &parts), &answer, wanted)?)
+}
+
+/// Compares what a table answers over all pairs.
+fn compare_pairs(
+    rt: &impl Abort,
+    alloc: Global,
+    (at, table, wanted): &(&str, Table, Wanted),
+) -> Result<(), Fail> {
+    let case = completed_case(alloc, table)?;
+    let parts = parts_of_case(alloc, &case)?;
+    let answer = answer_by_pairs(alloc, &case, &parts)?;
+    Ok(compare_answer(rt, alloc, at, (&case, &parts), &answer, wanted)?)
+}
+
 #[test]
 fn cases_have_these_least_costs_and_cuts(rt: HostRuntime) -> Result<(), Fail> {
-    for (at, table, wanted) in CASES {
-        compare_table(&rt, rt.alloc(), at, table, wanted)?;
+    for row in CASES_BOTH_WAYS {
+        compare_table(&rt, rt.alloc(), row)?;
+        compare_pairs(&rt, rt.alloc(), row)?;
+    }
+    for row in CASES {
+        compare_table(&rt, rt.alloc(), row)?;
     }
     Ok(())
 }

@@ -1,4 +1,5 @@
 use super::flow::FOUR_STREAM_FLOW;
+use super::latent::{CONDENSING, CONDENSING_FLOW, EVAPORATING, EVAPORATING_FLOW};
 use super::support::{FOUR_STREAM, Fails, NONE, answer_under, check_end};
 use std::process::Abort;
 use std::test::Fail;
@@ -14,6 +15,21 @@ fn check_report<R: Abort + Threads + Sync + AllocGlobal>(
 ) -> Result<(), Fail> {
     let outcome = answer_under(rt, "certify", case, report.as_bytes(), NONE)?;
     check_end(rt, &report, &outcome, status, text.as_bytes());
+    Ok(())
+}
+
+/// Cases, the exact heat flows that are printed of them, and the answers.
+const EXACT: &[(&str, &str, &str)] = &[
+    (FOUR_STREAM, FOUR_STREAM_FLOW, "yes cost 20000\n"),
+    (EVAPORATING, EVAPORATING_FLOW, "yes cost 3000\n"),
+    (CONDENSING, CONDENSING_FLOW, "yes cost 4000\n"),
+];
+
+#[test]
+fn printed_heat_flows_are_certified(rt: HostRuntime) -> Result<(), Fail> {
+    for (case, report, text) in EXACT {
+        check_report(&rt, case, report, 0, text)?;
+    }
     Ok(())
 }
 
