@@ -1,7 +1,11 @@
 """What the scripts of this folder share: the files, the commands with their answers, and one plain run of a program."""
+from collections.abc import Iterator
+from contextlib import contextmanager
 import os
+import re
 import subprocess
 import sys
+import traceback
 
 HERE = os.path.dirname(os.path.abspath(__file__))
 ROOT = os.path.dirname(HERE)
@@ -13,12 +17,19 @@ ENVIRONMENT = dict(os.environ, ASAN_OPTIONS='allocator_may_return_null=1:detect_
 TABLE = 'words: targets flow curves design vertical audit site sweep sample certify prices\n'
 
 
-def example(name):
+# The status of a run and its text. The status is the number that the run ended with, negative where a signal ended it; or, as a
+# text, that number with what was never to be there, so that it is no status of any answer.
+Answer = tuple[int | str, bytes]
+# What the address sanitizer says of memory that it refuses.
+SANITIZER = re.compile(rb'(?:==\d+==)?(?:WARNING: AddressSanitizer failed to allocate|ERROR: AddressSanitizer: requested)')
+
+
+def example(name: str) -> bytes:
     with open(os.path.join(ROOT, 'examples', name), 'rb') as handle:
         return handle.read()
 
 
-def text(*rows):
+def text(*rows: str) -> bytes:
     return ''.join(row + '\n' for row in rows).encode()
 
 
@@ -102,45 +113,70 @@ COMMANDS = [
 ]
 
 
-def program_of(arguments, usage):
+def program_of(arguments: list[str], usage: str | None) -> str:
     """The path of the program, which is the first argument of each script."""
     if not arguments or arguments[0].startswith('-') or not os.access(arguments[0], os.X_OK):
         sys.exit(usage)
     return os.path.abspath(arguments[0])
 
 
-def lay_out(folder, files):
+def count_and_seed(arguments: list[str], count: int) -> tuple[int, int]:
+    """How many cases are asked for, `count` unless it is given, and the seed, 1 unless it is given."""
+    numbers = [int(word) for word in arguments]
+    return numbers[0] if numbers else count, numbers[1] if numbers[1:] else 1
+
+
+def lay_out(folder: str, files: dict[str, bytes]) -> None:
     for name, content in files.items():
         with open(os.path.join(folder, name), 'wb') as handle:
             handle.write(content)
 
 
-def run(program, words, folder, timeout=120):
-    """The status and the text of a run in the folder. A run that a signal ended has the signal's number, negative."""
-    done = subprocess.run([program] + words, cwd=folder, env=ENVIRONMENT, stdin=subprocess.DEVNULL, stdout=subprocess.PIPE,
-                          stderr=subprocess.DEVNULL, timeout=timeout)
-    return done.returncode, done.stdout
+def run(program: str, words: list[str] | list[bytes], folder: str, timeout: int = 120) -> Answer:
+    """A run in the folder. It writes nothing to standard error: what stands there goes to the status."""
+    try:
+        done = subprocess.run([program, *words], cwd=folder, env=ENVIRONMENT, stdin=subprocess.DEVNULL, stdout=subprocess.PIPE,
+                              stderr=subprocess.PIPE, timeout=timeout)
+    except subprocess.TimeoutExpired:
+        return 'none within %d s' % timeout, b''
+    return status_with(done.returncode, done.stderr), done.stdout
+
+
+def status_with(status: int, error: bytes) -> int | str:
+    """The status, and what stands on standard error where that is not empty."""
+    error = b''.join(line for line in error.splitlines(True) if not SANITIZER.match(line))
+    return '%d, and %r on standard error' % (status, error[:120]) if error else status
 
 
 class Report:
     """Counts runs, and tells each one that was not as it should be."""
 
-    def __init__(self):
+    def __init__(self) -> None:
         self.runs = 0
         self.wrong = 0
 
-    def count(self, right, what, got, wanted):
+    def count(self, right: bool, what: str, got: tuple[object, bytes | str], wanted: object) -> None:
         self.runs += 1
         if not right:
             self.wrong += 1
             print('WRONG %s\n  got    %s\n  wanted %s' % (what, shown(got), wanted))
             sys.stdout.flush()
 
-    def end(self):
+    @contextmanager
+    def reading(self, what: str) -> Iterator[None]:
+        """What is done inside takes answers apart. An answer that cannot be taken apart is wrong, and the check goes on."""
+        try:
+            yield
+        except Exception as fault:  # A false answer may do anything to its reader.
+            place = traceback.extract_tb(fault.__traceback__)[-1]
+            where = '%s, line %s' % (os.path.basename(place.filename), place.lineno)
+            self.count(False, what, (repr(fault), where), 'an answer that can be taken apart')
+
+    def end(self) -> None:
         print('%d runs, %d wrong' % (self.runs, self.wrong))
         sys.exit(1 if self.wrong or not self.runs else 0)
 
 
-def shown(answer):
+def shown(answer: tuple[object, bytes | str]) -> str:
     status, written = answer
     return 'status %s, %d bytes: %r' % (status, len(written), written[:120])
