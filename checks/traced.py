@@ -48,14 +48,9 @@ def set_registers(thread, registers):
     ptrace(SETREGS, thread, 0, ctypes.addressof(registers))
 
 
-def symbols_of(program, wanted):
-    """The addresses of the named functions in the program's file, and whether the system moves it as a whole. A script has none."""
-    with open(program, 'rb') as handle:
-        image = handle.read()
-    if not image.startswith(b'\x7fELF'):
-        return {}, False
-    kind, sections, size, count = struct.unpack_from('<H', image, 16)[0], *struct.unpack_from('<Q', image, 40), *struct.unpack_from('<HH', image, 58)
-    found = {}
+def symbols_in(image, wanted):
+    """Of each named function of an ELF file its address, and where in the file the entry of its symbol stands."""
+    sections, (size, count) = struct.unpack_from('<Q', image, 40)[0], struct.unpack_from('<HH', image, 58)
     for number in range(count):
         _, sort, _, _, offset, length, link, _, _, each = struct.unpack_from('<IIQQQQIIQQ', image, sections + number * size)
         if sort != 2:
@@ -66,8 +61,16 @@ def symbols_of(program, wanted):
             end = image.index(b'\0', names + name)
             called = image[names + name:end].decode('latin-1')
             if called in wanted:
-                found[called] = value
-    return found, kind == 3
+                yield called, value, entry
+
+
+def symbols_of(program, wanted):
+    """The addresses of the named functions in the program's file, and whether the system moves it as a whole. A script has none."""
+    with open(program, 'rb') as handle:
+        image = handle.read()
+    if not image.startswith(b'\x7fELF'):
+        return {}, False
+    return {name: value for name, value, _ in symbols_in(image, wanted)}, struct.unpack_from('<H', image, 16)[0] == 3
 
 
 def base_of(process, program):
