@@ -59,7 +59,8 @@ OTHER_HOT = ONE_HOT + text('heater,HOT,1050,0,1000000000000,1,100')
 
 # A command: its words, its files by name, the role of each file in the order in which it is read, the status, and how its text
 # begins. The first four are the ones that matter most.
-COMMANDS = [
+Command = tuple[list[str], dict[str, bytes], list[str], int, str]
+COMMANDS: list[Command] = [
     (['flow', 'case'], {'case': example('two-steam-levels.csv')}, ['case'], 0, 'cost 57000\nuse HP 18500\n'),
     (['audit', 'case', 'net'], {'case': FOUR, 'net': FOUR_NETWORK}, ['case', 'network'], 0, 'accepted\nhot 20000\n'),
     (['vertical', 'case'], {'case': THREE}, ['case'], 0, '# hot 0 cold 2000 excess 0 cost 0\n'),

@@ -458,17 +458,17 @@ class Steps:
         return value
 
 
-def audit_text(case, statements):
-    """The status and the text of an audit of a network of a completed case."""
+def audit_text(case, statements, least=least_cost):
+    """The status and the text of an audit of a network of a completed case, whose least cost is found by `least`."""
     try:
-        return 0, accepted_text(case, statements)
+        return 0, accepted_text(case, statements, least)
     except Rejected as finding:
         return 1, finding.line + '\n'
     except Fine as finding:
         return 9, 'too fine %s step %d\n' % (finding.place, finding.step)
 
 
-def accepted_text(case, statements):
+def accepted_text(case, statements, least):
     ended = set()
     exchangers = [each for each in statements if each.word == 'exchanger']
     for each in statements:
@@ -517,7 +517,7 @@ def accepted_text(case, statements):
     for utility, total in zip(case.utilities, sums):
         part = steps.formed(utility.price * total)
         cost = steps.formed(cost + part)
-    head = 'accepted\nhot %s\ncold %s\nexcess %s\ncost %s\nfloor %s\nplace %d\n' % (hot, cold, excess, cost, least_cost(case), place)
+    head = 'accepted\nhot %s\ncold %s\nexcess %s\ncost %s\nfloor %s\nplace %d\n' % (hot, cold, excess, cost, least(case), place)
     try:
         return head + penalty_text(statements, exchangers, place, from_itself)
     except Fine as finding:

@@ -1,0 +1,34 @@
+"""Least costs of large cases, from the program's own `flow`. It need not be believed: its prices prove the cost, and they are taken apart by definition (flows.py)."""
+from __future__ import annotations
+
+from common import lay_out, run, text
+from flows import cost_of
+from reading import Case, Source
+
+
+def row_of(source: Source) -> str:
+    """A source as a row of a case, with its contribution."""
+    name, share = source.name.decode(), source.share
+    if not source.stream:
+        kind = 'heater' if source.hot else 'cooler'
+        return '%s,%s,%d,%d,%d,%d,%d' % (kind, name, source.supply, source.least, source.most, source.price, share)
+    load = str(source.load) if source.load else ''
+    return '%s,%s,%d,%d,%d,%s,%d' % ('hot' if source.hot else 'cold', name, source.supply, source.target, source.cp, load, share)
+
+
+def rows_of(case: Case) -> bytes:
+    forbidden = ['forbid,%s,%s,,,,' % (one.decode(), other.decode()) for one, other in case.forbidden]
+    return text('contribution,,%d,,,,' % case.share, *map(row_of, case.streams + case.utilities), *forbidden)
+
+
+class Certified:
+    """Asks a program, in a folder of its own."""
+
+    def __init__(self, program: str, folder: str) -> None:
+        self.program, self.folder = program, folder
+
+    def least_cost(self, case: Case) -> int | None:
+        """The least cost of a completed case, or None where it has no heat flow."""
+        lay_out(self.folder, {'certified': rows_of(case)})
+        status, written = run(self.program, ['flow', 'certified'], self.folder)
+        return cost_of(case, status, written.decode())
