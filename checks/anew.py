@@ -1,9 +1,11 @@
-"""The text of `vertical` and the case of a `sample`, made anew by the rules of docs/FORMATS.md."""
+"""The texts of `vertical` and of `design`, and the case of a `sample`, made anew by the rules of docs/FORMATS.md."""
 from __future__ import annotations
 from fractions import Fraction
 from typing import NamedTuple
 
 from common import text
+from flows import lines_of
+from parts import of_case
 from reading import Case, Source, targets_of
 
 MODULUS, FACTOR = 2147483647, 16807
@@ -118,6 +120,26 @@ def vertical_text(case: Case) -> str:
         there = [piece for piece in pieces if piece]
         chain.stream(stream.name.decode(), there if stream.hot else there[::-1])
     return ''.join(line + '\n' for line in lines + chain.lines)
+
+
+def design_text(case: Case, written: str) -> str:
+    """The text of `design` for a completed case of which `flow` prints this heat flow."""
+    problem, lines = of_case(case), lines_of(written)
+    uses = {line[1]: int(line[2]) for line in lines if line[0] == 'use'}
+    moves = [line[1:] for line in lines if line[0] == 'move']
+    hot, cold = [sum(uses[each.name.decode()] for each in case.utilities if each.hot is side) for side in (True, False)]
+    made = ['# hot %d cold %d excess %d cost %s' % (hot, cold, hot - targets_of(case)[0], lines[0][1])]
+    made += ['exchanger E%d %s %s %s' % (number, line[0], line[3], line[6]) for number, line in enumerate(moves, 1)]
+    chain = Chain()
+    for stream in case.streams:
+        parts = [part for part in (problem.hot if stream.hot else problem.cold) if part.source is stream]
+        pieces = []
+        for part in parts if stream.hot else parts[::-1]:
+            name, at = part.name().split(' '), 0 if stream.hot else 3
+            pieces.append([('E%d' % number, Fraction(int(line[6]), 1 if stream.load else part.high - part.low))
+                           for number, line in enumerate(moves, 1) if line[at:at + 3] == name])
+        chain.stream(stream.name.decode(), pieces)
+    return ''.join(line + '\n' for line in made + chain.lines)
 
 
 def sample_case(number: int, count: int) -> bytes:
