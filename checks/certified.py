@@ -16,9 +16,22 @@ def row_of(source: Source) -> str:
     return '%s,%s,%d,%d,%d,%s,%d' % ('hot' if source.hot else 'cold', name, source.supply, source.target, source.cp, load, share)
 
 
+def told(source: Source) -> tuple:
+    return source.name, source.supply, source.least, source.most, source.price, source.share
+
+
+def given(case: Case) -> list[Source]:
+    """The utilities but for those that completion adds by itself. It may add one outside the temperatures of a file."""
+    plain = Case()
+    plain.share, plain.streams = case.share, case.streams
+    added = {told(each) for each in plain.completed().utilities}
+    sides = [[each for each in case.utilities if each.hot is side] for side in (True, False)]
+    return [each for side in sides for each in side if len(side) > 1 or told(each) not in added]
+
+
 def rows_of(case: Case) -> bytes:
     forbidden = ['forbid,%s,%s,,,,' % (one.decode(), other.decode()) for one, other in case.forbidden]
-    return text('contribution,,%d,,,,' % case.share, *map(row_of, case.streams + case.utilities), *forbidden)
+    return text('contribution,,%d,,,,' % case.share, *map(row_of, case.streams + given(case)), *forbidden)
 
 
 class Certified:

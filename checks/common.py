@@ -12,6 +12,7 @@ ROOT = os.path.dirname(HERE)
 
 # A program that `rt try` built has the address sanitizer in it: refused memory is to reach the program, and no leak is looked
 # for. Any other program takes no notice.
+FIRST_WRONG = 'PINCH_FIRST_WRONG'
 ENVIRONMENT = dict(os.environ, ASAN_OPTIONS='allocator_may_return_null=1:detect_leaks=0')
 
 TABLE = 'words: targets flow curves design vertical audit site sweep sample certify prices\n'
@@ -150,11 +151,12 @@ def status_with(status: int, error: bytes) -> int | str:
 
 
 class Report:
-    """Counts runs, and tells each one that was not as it should be."""
+    """Counts runs, and tells each one that was not as it should be. Where the environment has FIRST_WRONG, the first such run ends the check."""
 
     def __init__(self) -> None:
         self.runs = 0
         self.wrong = 0
+        self.first_ends = FIRST_WRONG in os.environ
 
     def count(self, right: bool, what: str, got: tuple[object, bytes | str], wanted: object) -> None:
         self.runs += 1
@@ -162,6 +164,8 @@ class Report:
             self.wrong += 1
             print('WRONG %s\n  got    %s\n  wanted %s' % (what, shown(got), wanted))
             sys.stdout.flush()
+            if self.first_ends:
+                self.end()
 
     @contextmanager
     def reading(self, what: str) -> Iterator[None]:

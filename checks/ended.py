@@ -5,7 +5,7 @@ import re
 import subprocess
 from typing import NamedTuple
 
-from common import HERE
+from common import FIRST_WRONG, HERE
 
 END = re.compile(r'(\d+) runs, (\d+) wrong\Z')
 
@@ -17,11 +17,12 @@ class Ended(NamedTuple):
     printed: str
 
 
-def ended(check: str, words: list[str], longest: float | None = None) -> Ended:
-    """The end of a check that may take so many seconds."""
+def ended(check: str, words: list[str], longest: float | None = None, first_ends: bool = False) -> Ended:
+    """The end of a check that may take so many seconds, and that ends with the first run that is wrong where that is asked for."""
+    environment = dict(os.environ, **{FIRST_WRONG: ''} if first_ends else {})
     try:
         done = subprocess.run([os.path.join(HERE, check), *words], stdin=subprocess.DEVNULL, stdout=subprocess.PIPE, stderr=subprocess.PIPE,
-                              timeout=longest)
+                              timeout=longest, env=environment)
     except subprocess.TimeoutExpired:
         return Ended(None, None, 'it took more than %s s' % longest)
     printed = done.stdout.decode('latin-1')
