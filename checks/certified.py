@@ -25,8 +25,7 @@ def given(case: Case) -> list[Source]:
     plain = Case()
     plain.share, plain.streams = case.share, case.streams
     added = {told(each) for each in plain.completed().utilities}
-    sides = [[each for each in case.utilities if each.hot is side] for side in (True, False)]
-    return [each for side in sides for each in side if len(side) > 1 or told(each) not in added]
+    return [each for each in case.utilities if told(each) not in added or sum(other.hot is each.hot for other in case.utilities) > 1]
 
 
 def rows_of(case: Case) -> bytes:

@@ -78,14 +78,14 @@ main()
 
 
 class Lie(NamedTuple):
-    """Its name, and its lines in place of what the program answered; and whether each check has to notice it."""
+    """Its name, its lines in place of what the program answered, and of which commands it is told, or None of all; and whether each check has to notice it."""
     name: str
     lines: str
+    of: tuple[str, ...] | None = None
     for_all: bool = False
 
-
-def only(command: str, lines: str) -> str:
-    return 'if words[:1] == [%r]:\n        %s' % (command, lines)
+    def body(self) -> str:
+        return 'if words[:1] and words[0] in %r:\n        %s' % (self.of, self.lines) if self.of else self.lines
 
 
 TRUTH = Lie('the truth, with reads made by a child', 'pass')
@@ -93,23 +93,23 @@ LIES = [
     Lie('another digit in the middle', 'text = digit(text)'),
     Lie('the last line lost', "text = text[:text[:-1].rfind(b'\\n') + 1]"),
     Lie('status always 0', 'status = 0'),
-    Lie('status always 8, no text', "status, text = 8, b''", True),
-    Lie('text on standard error too', "os.write(2, b'a word\\n')", True),
-    Lie('a segfault, behind the text', 'status = -11', True),
-    Lie('a segfault, no text', "status, text = -11, b''", True),
-] + [Lie('a digit of ' + command, only(command, 'text = digit(text)')) for command in COMMANDS] + [
-    Lie('boiler one more', "text = more(text, b'boiler')"),
-    Lie('a move of site changed', only('site', "text = more(text, b'move')")),
-    Lie('all moves of site dropped', only('site', "text = b''.join(line for line in text.splitlines(True) if line[:5] != b'move ')")),
-    Lie('the last price of site changed', only('site', "text = more(text, b'take')")),
-    Lie('a move of flow changed', only('flow', "text = more(text, b'move')")),
-    Lie('the last price of flow changed', only('flow', "text = more(text, b'take')")),
-    Lie('the offer of a cut one more', "text = more(text, b'cut')"),
-    Lie('the floor of audit one more', "text = more(text, b'floor')"),
-    Lie('the last penalty dropped', only('audit', "text = text[:text[:-1].rfind(b'\\n') + 1] if b'penalty' in text else text")),
-    Lie('certify always yes', only('certify', "status, text = 0, text.replace(b'no Cost', b'yes cost 0')")),
-    Lie('the last segment of prices changed', only('prices', "text = more(text, b'span')")),
-    Lie('another price by several workers', "if words[:1] == ['prices'] and words[-1:] != ['1']:\n        text = digit(text)"),
+    Lie('status always 8, no text', "status, text = 8, b''", for_all=True),
+    Lie('text on standard error too', "os.write(2, b'a word\n')", for_all=True),
+    Lie('a segfault, behind the text', 'status = -11', for_all=True),
+    Lie('a segfault, no text', "status, text = -11, b''", for_all=True),
+] + [Lie('a digit of ' + command, 'text = digit(text)', (command,)) for command in COMMANDS] + [
+    Lie('boiler one more', "text = more(text, b'boiler')", ('site',)),
+    Lie('a move of site changed', "text = more(text, b'move')", ('site',)),
+    Lie('all moves of site dropped', "text = b''.join(line for line in text.splitlines(True) if line[:5] != b'move ')", ('site',)),
+    Lie('the last price of site changed', "text = more(text, b'take')", ('site',)),
+    Lie('a move of flow changed', "text = more(text, b'move')", ('flow',)),
+    Lie('the last price of flow changed', "text = more(text, b'take')", ('flow',)),
+    Lie('the offer of a cut one more', "text = more(text, b'cut')", ('flow', 'design', 'site')),
+    Lie('the floor of audit one more', "text = more(text, b'floor')", ('audit',)),
+    Lie('the last penalty dropped', "text = text[:text[:-1].rfind(b'\\n') + 1] if b'penalty' in text else text", ('audit',)),
+    Lie('certify always yes', "status, text = (0, b'yes cost 0\\n') if text[:3] == b'no ' else (status, text)", ('certify',)),
+    Lie('the last segment of prices changed', "text = more(text, b'span')", ('prices',)),
+    Lie('another price by several workers', "text = digit(text) if words[-1] != '1' else text", ('prices',)),
 ]
 
 
@@ -117,7 +117,7 @@ def make_liar(folder: str, program: str, number: int, lie: Lie) -> str:
     """The path of a liar in this folder."""
     path = os.path.join(folder, 'liar%d' % number)
     with open(path, 'w', encoding='utf-8') as handle:
-        handle.write(HEAD % (sys.executable, program, lie.lines) + TAIL)
+        handle.write(HEAD % (sys.executable, program, lie.body()) + TAIL)
     os.chmod(path, 0o755)
     return path
 
