@@ -94,7 +94,7 @@ LIES = [
     Lie('the last line lost', "text = text[:text[:-1].rfind(b'\\n') + 1]"),
     Lie('status always 0', 'status = 0'),
     Lie('status always 8, no text', "status, text = 8, b''", for_all=True),
-    Lie('text on standard error too', "os.write(2, b'a word\n')", for_all=True),
+    Lie('text on standard error too', "os.write(2, b'a word\\n')", for_all=True),
     Lie('a segfault, behind the text', 'status = -11', for_all=True),
     Lie('a segfault, no text', "status, text = -11, b''", for_all=True),
 ] + [Lie('a digit of ' + command, 'text = digit(text)', (command,)) for command in COMMANDS] + [
