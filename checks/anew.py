@@ -12,7 +12,8 @@ MODULUS, FACTOR = 2147483647, 16807
 
 
 class Match(NamedTuple):
-    """A hot and a cold source between two cuts of the axis of heat, with the heat that passes, and the size of the branch of each."""
+    """A hot and a cold source between two cuts of the axis of heat, with the heat that passes, and the size of the
+    branch of each."""
     hot: Source
     cold: Source
     heat: Fraction
@@ -29,7 +30,8 @@ def covered(streams: list[Source], begin: int) -> list[tuple[int, int]]:
 
 
 def running(side: list[tuple[Source, tuple[int, int]]], low: int, high: int) -> list[tuple[Source, Fraction]]:
-    """The sources of a side that run between two cuts, each with its part of the heat by its CP; a utility stands alone."""
+    """The sources of a side that run between two cuts, each with its part of the heat by its CP; a utility stands
+    alone."""
     there = [each for each, (begin, end) in side if begin <= low and high <= end]
     whole = sum(each.cp or 1 for each in there)
     return [(each, Fraction((high - low) * (each.cp or 1), whole)) for each in there]
@@ -50,7 +52,8 @@ def matched(hot: list[tuple[Source, Fraction]], cold: list[tuple[Source, Fractio
 
 
 def sections_of(case: Case) -> list[list[Match]]:
-    """The matches between two cuts, from the greatest heat down, of a completed standard case without latent streams."""
+    """The matches between two cuts, from the greatest heat down, of a completed standard case without latent
+    streams."""
     target, rest, _, _ = targets_of(case)
     heater, cooler = [next(each for each in case.utilities if each.hot is hot) for hot in (True, False)]
     hot, cold = [[each for each in case.streams if each.hot is side] for side in (True, False)]

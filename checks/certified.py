@@ -1,4 +1,5 @@
-"""Least costs of large cases, from the program's own `flow`. It need not be believed: its prices prove the cost, and they are taken apart by definition (flows.py)."""
+"""Least costs of large cases, from the program's own `flow`. It need not be believed: its prices prove the cost, and
+they are taken apart by definition (flows.py)."""
 from __future__ import annotations
 
 from common import lay_out, run, text

@@ -1,8 +1,9 @@
-"""The least cost of the heat flows of a case, and the least boiler of a site, by a search that shares nothing with the program: shortest distances over a net, and
-as much heat as fits along the shortest ways, until none is left. All numbers are whole.
+"""The least cost of the heat flows of a case, and the least boiler of a site, by a search that shares nothing with the
+program: shortest distances over a net, and as much heat as fits along the shortest ways, until none is left. All
+numbers are whole.
 
-The net of a case has a node for each part and one for all that is outside. That of a site has none for its parts: heat goes down from interval to interval of
-each plant, and through a main from plant to plant."""
+The net of a case has a node for each part and one for all that is outside. That of a site has none for its parts: heat
+goes down from interval to interval of each plant, and through a main from plant to plant."""
 from __future__ import annotations
 import heapq
 from typing import TYPE_CHECKING
@@ -45,7 +46,8 @@ class Net:
         return self.costs[arc] + self.potentials[begin] - self.potentials[self.ends[arc]]
 
     def is_nearer(self) -> bool:
-        """Moves the potentials by the distances from all nodes with heat to spare, no farther than to the nearest that wants some; no where there is none."""
+        """Moves the potentials by the distances from all nodes with heat to spare, no farther than to the nearest that
+        wants some; no where there is none."""
         distances: list[int | None] = [None] * len(self.out)
         queue, reached = [(0, node) for node, spare in enumerate(self.spare) if spare > 0], False
         farthest = 0
@@ -62,7 +64,8 @@ class Net:
         return reached
 
     def levels(self) -> tuple[list[int], bool]:
-        """How many arcs without a reduced cost lead to each node from those with heat to spare, or -1; and whether one that wants some is among them."""
+        """How many arcs without a reduced cost lead to each node from those with heat to spare, or -1; and whether one
+        that wants some is among them."""
         row = [node for node, spare in enumerate(self.spare) if spare > 0]
         levels, wanting = [-1] * len(self.out), False
         for node in row:

@@ -10,7 +10,8 @@ import traceback
 HERE = os.path.dirname(os.path.abspath(__file__))
 ROOT = os.path.dirname(HERE)
 
-# A program that `rt try` built has the address sanitizer in it: refused memory is to reach the program, and no leak is looked
+# A program that `rt try` built has the address sanitizer in it: refused memory is to reach the program, and no leak is
+# looked
 # for. Any other program takes no notice.
 FIRST_WRONG = 'PINCH_FIRST_WRONG'
 ENVIRONMENT = dict(os.environ, ASAN_OPTIONS='allocator_may_return_null=1:detect_leaks=0')
@@ -18,7 +19,8 @@ ENVIRONMENT = dict(os.environ, ASAN_OPTIONS='allocator_may_return_null=1:detect_
 TABLE = 'words: targets flow curves design vertical audit site sweep sample certify prices\n'
 
 
-# The status of a run and its text. The status is the number that the run ended with, negative where a signal ended it; or, as a
+# The status of a run and its text. The status is the number that the run ended with, negative where a signal ended it;
+# or, as a
 # text, that number with what was never to be there, so that it is no status of any answer.
 Answer = tuple[int | str, bytes]
 # What the address sanitizer says of memory that it refuses.
@@ -58,7 +60,8 @@ ONE_HOT = text('contribution,,50,,,,', 'hot,H,1000,500,10,,')
 GIVEN_HOT = ONE_HOT + text('heater,HOT,1000,0,1000000000000,1,50')
 OTHER_HOT = ONE_HOT + text('heater,HOT,1050,0,1000000000000,1,100')
 
-# A command: its words, its files by name, the role of each file in the order in which it is read, the status, and how its text
+# A command: its words, its files by name, the role of each file in the order in which it is read, the status, and how
+# its text
 # begins. The first four are the ones that matter most.
 Command = tuple[list[str], dict[str, bytes], list[str], int, str]
 COMMANDS: list[Command] = [
@@ -151,7 +154,8 @@ def status_with(status: int, error: bytes) -> int | str:
 
 
 class Report:
-    """Counts runs, and tells each one that was not as it should be. Where the environment has FIRST_WRONG, the first such run ends the check."""
+    """Counts runs, and tells each one that was not as it should be. Where the environment has FIRST_WRONG, the first
+    such run ends the check."""
 
     def __init__(self) -> None:
         self.runs = 0
@@ -169,7 +173,8 @@ class Report:
 
     @contextmanager
     def reading(self, what: str) -> Iterator[None]:
-        """What is done inside takes answers apart. An answer that cannot be taken apart is wrong, and the check goes on."""
+        """What is done inside takes answers apart. An answer that cannot be taken apart is wrong, and the check goes
+        on."""
         try:
             yield
         except Exception as fault:  # A false answer may do anything to its reader.

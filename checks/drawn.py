@@ -1,4 +1,5 @@
-"""Random cases for the scripts of this folder: streams that may be latent, utilities with ranges and prices, contributions of the sources' own, forbidden matches."""
+"""Random cases for the scripts of this folder: streams that may be latent, utilities with ranges and prices,
+contributions of the sources' own, forbidden matches."""
 from common import text
 
 

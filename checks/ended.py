@@ -11,14 +11,16 @@ END = re.compile(r'(\d+) runs, (\d+) wrong\Z')
 
 
 class Ended(NamedTuple):
-    """How many runs a check made, how many of them were wrong, or None for both where it ended without its report; and what it printed."""
+    """How many runs a check made, how many of them were wrong, or None for both where it ended without its report; and
+    what it printed."""
     runs: int | None
     wrong: int | None
     printed: str
 
 
 def ended(check: str, words: list[str], longest: float | None = None, first_ends: bool = False) -> Ended:
-    """The end of a check that may take so many seconds, and that ends with the first run that is wrong where that is asked for."""
+    """The end of a check that may take so many seconds, and that ends with the first run that is wrong where that is
+    asked for."""
     environment = dict(os.environ, **{FIRST_WRONG: ''} if first_ends else {})
     try:
         done = subprocess.run([os.path.join(HERE, check), *words], stdin=subprocess.DEVNULL, stdout=subprocess.PIPE, stderr=subprocess.PIPE,

@@ -26,9 +26,9 @@ def rows_of_bytes() -> dict[str, bytes]:
 
 
 def full() -> tuple[bytes, bytes, bytes]:
-    """A case, a standard case and a site with as much of each kind as there may be, over the whole range of temperatures. In both cases each
-    stream has a contribution of its own; the first heater is above all cold streams, the first cooler below all hot ones, and no match of these is
-    forbidden, so that there is a heat flow."""
+    """A case, a standard case and a site with as much of each kind as there may be, over the whole range of
+    temperatures. In both cases each stream has a contribution of its own; the first heater is above all cold streams,
+    the first cooler below all hot ones, and no match of these is forbidden, so that there is a heat flow."""
     streams, utilities = CASE_MOST['hot'], CASE_MOST['utility'] // 2
     hot = ['hot,H%d,%d,%d,100000,,%d' % (number, 30000 - number, -731 + number, 37 * number % 1001) for number in range(streams)]
     cold = ['cold,C%d,%d,%d,100000,,%d' % (number, -2731 + 7 * number, 28000 - 13 * number, 1000 - 31 * number) for number in range(streams)]

@@ -1,5 +1,6 @@
-"""Printed heat flows and cuts taken apart, by the definitions of docs/FORMATS.md alone: nothing is searched for, and nothing is shared with the program. Prices that
-hold what is asked of them prove the least cost; a cut proves that there is no heat flow."""
+"""Printed heat flows and cuts taken apart, by the definitions of docs/FORMATS.md alone: nothing is searched for, and
+nothing is shared with the program. Prices that hold what is asked of them prove the least cost; a cut proves that there
+is no heat flow."""
 from __future__ import annotations
 from itertools import groupby
 
@@ -40,7 +41,8 @@ class Body:
         return given, taken
 
     def fault(self, uses: list[int], cost: int) -> str | None:
-        """What is wrong with it as a heat flow of these uses of utilities that has this cost, which is the least; or None."""
+        """What is wrong with it as a heat flow of these uses of utilities that has this cost, which is the least; or
+        None."""
         hot, cold, reaches = self.problem.hot, self.problem.cold, self.problem.reaches
         if not self.is_formed:
             return 'the lines'
@@ -93,7 +95,8 @@ def cut_fault(problem: Problem, lines: Lines) -> str | None:
 
 
 def flow_fault(case: Case, status: object, written: str) -> str | None:
-    """What is wrong with the text of `flow` for a completed case, or None: it proves its least cost, or that there is no heat flow."""
+    """What is wrong with the text of `flow` for a completed case, or None: it proves its least cost, or that there is
+    no heat flow."""
     problem, lines = of_case(case), lines_of(written)
     if status == 1:
         return cut_fault(problem, lines)
@@ -106,7 +109,8 @@ def flow_fault(case: Case, status: object, written: str) -> str | None:
 
 
 def cost_of(case: Case, status: object, written: str) -> int | None:
-    """The least cost that a text of `flow` proves for a completed case, or None where it proves that there is no heat flow."""
+    """The least cost that a text of `flow` proves for a completed case, or None where it proves that there is no heat
+    flow."""
     fault = flow_fault(case, status, written)
     if fault:
         raise ValueError('a text of flow with a fault: %s' % fault)

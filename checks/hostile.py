@@ -1,7 +1,9 @@
-"""Inputs that are made to grind: names that fall together where an index hashes them with a fixed seed, and price studies in orders that leave workers idle.
+"""Inputs that are made to grind: names that fall together where an index hashes them with a fixed seed, and price
+studies in orders that leave workers idle.
 
-The names are for the fold hash of small keys: a state that each byte is mixed into, and multiplied with a constant to 128 bits, whose halves are then folded. They
-have the same tag, and begin within one sixteenth of the places of a table of 65,536."""
+The names are for the fold hash of small keys: a state that each byte is mixed into, and multiplied with a constant to
+128 bits, whose halves are then folded. They have the same tag, and begin within one sixteenth of the places of a table
+of 65,536."""
 from __future__ import annotations
 from collections.abc import Iterator
 from functools import cache

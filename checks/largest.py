@@ -1,5 +1,6 @@
-"""The largest case: as many streams, utilities and forbidden matches as a case may have, each source with a contribution of its own. On the shifted
-scale all ends of streams and all levels differ, and all upper ends lie above all lower ones, so that there are many parts."""
+"""The largest case: as many streams, utilities and forbidden matches as a case may have, each source with a
+contribution of its own. On the shifted scale all ends of streams and all levels differ, and all upper ends lie above
+all lower ones, so that there are many parts."""
 import random
 
 from reading import CASE_MOST, SHARE, TRILLION
@@ -10,9 +11,10 @@ SHIFTED = range(-1500, 12000)
 
 
 def largest_case(seed: int, outside: bool = False, standard: bool = False, streams: int = STREAMS, utilities: int = UTILITIES) -> list[str]:
-    """The rows of the case of a seed. It always has a heat flow: the first heater is above all streams and the last cooler below them, and neither
-    is in a forbidden match. With `outside` all ends of one side lie above or below all those of the other, else the sides are mixed. A standard case
-    has the streams alone. With fewer streams of each side, or fewer utilities, it is a smaller one."""
+    """The rows of the case of a seed. It always has a heat flow: the first heater is above all streams and the last
+    cooler below them, and neither is in a forbidden match. With `outside` all ends of one side lie above or below all
+    those of the other, else the sides are mixed. A standard case has the streams alone. With fewer streams of each
+    side, or fewer utilities, it is a smaller one."""
     draw = random.Random(seed)
     places = sorted(draw.sample(SHIFTED, 4 * streams + utilities), reverse=True)
     upper, levels, lower = places[1:2 * streams + 1], places[2 * streams + 1:-2 * streams - 1], places[-2 * streams - 1:-1]
@@ -54,7 +56,8 @@ def stream_rows(draw: random.Random, upper: list[int], lower: list[int], outside
 
 
 def utility_rows(draw: random.Random, levels: list[int], heaters: int) -> tuple[list[str], list[str]]:
-    """The rows of the heaters and of the coolers. The first of the ones and the last of the others can serve all streams."""
+    """The rows of the heaters and of the coolers. The first of the ones and the last of the others can serve all
+    streams."""
     rows = []
     for number, level in enumerate(levels):
         hot, share = number < heaters, draw.randrange(SHARE[1] + 1)

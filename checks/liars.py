@@ -1,4 +1,5 @@
-"""Programs that stand before the built one and lie: each runs it, as a child, and prints what it answered but for one lie. The first one tells the truth."""
+"""Programs that stand before the built one and lie: each runs it, as a child, and prints what it answered but for one
+lie. The first one tells the truth."""
 from __future__ import annotations
 import os
 import struct
@@ -78,7 +79,8 @@ main()
 
 
 class Lie(NamedTuple):
-    """Its name, its lines in place of what the program answered, and of which commands it is told, or None of all; and whether each check has to notice it."""
+    """Its name, its lines in place of what the program answered, and of which commands it is told, or None of all; and
+    whether each check has to notice it."""
     name: str
     lines: str
     of: tuple[str, ...] | None = None
@@ -123,7 +125,8 @@ def make_liar(folder: str, program: str, number: int, lie: Lie) -> str:
 
 
 def make_silent(folder: str, program: str) -> str:
-    """A copy of the program whose functions that ask for memory are not found where they are: their symbols name its first instruction."""
+    """A copy of the program whose functions that ask for memory are not found where they are: their symbols name its
+    first instruction."""
     with open(program, 'rb') as handle:
         image = bytearray(handle.read())
     first = {name: value for name, value, _ in symbols_in(bytes(image), ('_start',))}['_start']

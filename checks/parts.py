@@ -1,5 +1,5 @@
-"""The parts of a case and of a site, and which reach which, by the definitions of docs/FORMATS.md; for the search of cheapest.py and for flows.py, which takes
-printed heat flows apart."""
+"""The parts of a case and of a site, and which reach which, by the definitions of docs/FORMATS.md; for the search of
+cheapest.py and for flows.py, which takes printed heat flows apart."""
 from __future__ import annotations
 from collections.abc import Callable
 from dataclasses import dataclass
@@ -31,7 +31,8 @@ class Part:
 
 @dataclass(frozen=True)
 class Problem:
-    """Hot and cold parts in the order in which they are printed, which of them reach each other, and the utilities in their order."""
+    """Hot and cold parts in the order in which they are printed, which of them reach each other, and the utilities in
+    their order."""
     hot: list[Part]
     cold: list[Part]
     reaches: Callable[[Part, Part], bool]
@@ -39,7 +40,8 @@ class Problem:
 
 
 def parts_of(places: list[int], sources: list[Source], hot: bool) -> list[Part]:
-    """The parts of one side over a grid of places that fall: by falling high, by falling low, then in the order of the sources."""
+    """The parts of one side over a grid of places that fall: by falling high, by falling low, then in the order of the
+    sources."""
     found = []
     for at, each in enumerate(sources):
         low, high = each.span()

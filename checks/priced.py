@@ -1,4 +1,5 @@
-"""Price studies by the definition of docs/FORMATS.md: what each item has to be answered, from least costs that come from elsewhere."""
+"""Price studies by the definition of docs/FORMATS.md: what each item has to be answered, from least costs that come
+from elsewhere."""
 from __future__ import annotations
 from collections.abc import Callable
 import random

@@ -1,6 +1,7 @@
-"""A second reading of what `pinch` reads, by the rules of docs/FORMATS.md and docs/DECISIONS.md, which shares nothing with the
-program: the rows of a CSV text, the grammars of cases, sites, networks, reports and price studies, the words; and of what it answers, as far as that is one
-text: `targets`, `curves` and `audit` whole, the profiles of `site`, and how each other answer begins. Fractions are Python's."""
+"""A second reading of what `pinch` reads, by the rules of docs/FORMATS.md and docs/DECISIONS.md, which shares nothing
+with the program: the rows of a CSV text, the grammars of cases, sites, networks, reports and price studies, the words;
+and of what it answers, as far as that is one text: `targets`, `curves` and `audit` whole, the profiles of `site`, and
+how each other answer begins. Fractions are Python's."""
 from fractions import Fraction
 import re
 
@@ -16,7 +17,8 @@ TRILLION = 10 ** 12
 TEMPERATURE, FLOW, SHARE, HEAT, PRICE = (-2731, 30000), (1, 100000), (0, 1000), (0, TRILLION), (-10 ** 6, 10 ** 6)
 # The load of a latent stream, and the CP where there is one.
 LOAD, LATENT_FLOW = (1, 10 ** 10), (0, 100000)
-# How many there may be: in a case (heaters and coolers together), in a site (streams of all plants together), in a network, in a sample.
+# How many there may be: in a case (heaters and coolers together), in a site (streams of all plants together), in a
+# network, in a sample.
 CASE_MOST = {'hot': 30, 'cold': 30, 'utility': 12, 'forbid': 400}
 SITE_MOST = {'hot': 12, 'cold': 12, 'plant': 6, 'main': 4}
 STATEMENTS, EXCHANGERS, SAMPLED = 100000, 20000, 12
@@ -98,7 +100,8 @@ class Source:
         return self.load or self.cp
 
     def states(self):
-        """The state of a stream where it begins and where it ends: of a latent one the part of its load that is still to be given, or was taken."""
+        """The state of a stream where it begins and where it ends: of a latent one the part of its load that is still
+        to be given, or was taken."""
         if not self.load:
             return self.supply, self.target
         return (1, 0) if self.hot else (0, 1)
@@ -184,7 +187,8 @@ def stream_of(row, at, kind, plant=None):
     return Source(row[1], kind == 'hot', True, supply, target, cp, plant=plant, share=share, load=load or 0)
 
 
-# The fields that a kind may fill. Only a case has loads of latent streams and contributions of its sources' own, in the last two fields.
+# The fields that a kind may fill. Only a case has loads of latent streams and contributions of its sources' own, in the
+# last two fields.
 CASE_KINDS = {'contribution': {2}, 'hot': {1, 2, 3, 4, 5, 6}, 'cold': {1, 2, 3, 4, 5, 6}, 'heater': {1, 2, 3, 4, 5, 6}, 'cooler': {1, 2, 3, 4, 5, 6},
               'forbid': {1, 2}}
 SITE_KINDS = {'contribution': {2}, 'hot': {1, 2, 3, 4}, 'cold': {1, 2, 3, 4}, 'plant': {1}, 'main': {1, 2}}
@@ -279,7 +283,8 @@ FAR = 10 ** 9
 
 
 def deficit(streams, place, above=True):
-    """What the cold streams take above (or below) a shifted temperature, less what the hot ones give there. A load counts where its level is."""
+    """What the cold streams take above (or below) a shifted temperature, less what the hot ones give there. A load
+    counts where its level is."""
     low, high = (place, FAR) if above else (-FAR, place)
     return sum((-1 if each.hot else 1) * (each.cp * within(each.span(), low, high) + each.load * (low < each.span()[0] < high)) for each in streams)
 
@@ -290,7 +295,8 @@ def deficit_from(streams, place):
 
 
 def targets_of(case):
-    """The hot and the cold target, the pinches from the highest down, and the reference place with whether it counts from itself."""
+    """The hot and the cold target, the pinches from the highest down, and the reference place with whether it counts
+    from itself."""
     ends = case.ends()
     deficits = [(deficit(case.streams, end), deficit_from(case.streams, end)) for end in ends]
     hot = max(0, max(map(max, deficits)))
@@ -649,7 +655,8 @@ ITEMS, SPAN_PRICES = 1000, 100000
 
 
 def study_of(data, case):
-    """The items of a price study of a completed case: a scenario as its name and its prices, a span as its utility, its first and its last price."""
+    """The items of a price study of a completed case: a scenario as its name and its prices, a span as its utility, its
+    first and its last price."""
     items, scenario, rows = [], None, rows_of(data)
     names = [each.name for each in case.utilities]
     for at, row in enumerate(rows, 1):

@@ -13,8 +13,8 @@ PAUSE = 0.02
 
 
 class Run:
-    """A run in a folder, which gets its text as the file `out`: seconds by the clock and of the processor, the most resident memory in MB; with `spaces`
-    the most address space too."""
+    """A run in a folder, which gets its text as the file `out`: seconds by the clock and of the processor, the most
+    resident memory in MB; with `spaces` the most address space too."""
 
     def __init__(self, program: str, words: list[str], folder: str, spaces: bool = False) -> None:
         begun = time.monotonic()

@@ -1,7 +1,8 @@
-"""Runs a program under the system's own tracing (Linux, x86-64), so that a request for memory, a read or a write can be refused.
+"""Runs a program under the system's own tracing (Linux, x86-64), so that a request for memory, a read or a write can be
+refused.
 
-Nothing but Python is needed. The program is the built one, unchanged: what is refused is refused by the C library, which is
-asked for more than there is, or by the system, whose call is not made.
+Nothing but Python is needed. The program is the built one, unchanged: what is refused is refused by the C library,
+which is asked for more than there is, or by the system, whose call is not made.
 """
 import ctypes
 import errno
@@ -65,7 +66,8 @@ def symbols_in(image, wanted):
 
 
 def symbols_of(program, wanted):
-    """The addresses of the named functions in the program's file, and whether the system moves it as a whole. A script has none."""
+    """The addresses of the named functions in the program's file, and whether the system moves it as a whole. A script
+    has none."""
     with open(program, 'rb') as handle:
         image = handle.read()
     if not image.startswith(b'\x7fELF'):
@@ -224,8 +226,8 @@ def ptrace_word(process, address):
 
 
 class Calls:
-    """Which calls of the system are the program's own: opening a file that a word names, reading it, writing the output, and
-    making a thread."""
+    """Which calls of the system are the program's own: opening a file that a word names, reading it, writing the
+    output, and making a thread."""
 
     def __init__(self, names):
         self.names = [os.fsencode(name) for name in names]
@@ -249,8 +251,8 @@ class Calls:
 def with_calls_changed(program, words, names, folder, change):
     """A run in which `change(number, sort, file, length)` is asked at each call of the program's own, counted from 1.
 
-    It answers None (let it be), an error's number (the call fails with it), or ('short', n), a read or write of n bytes at most.
-    Gives the status, the text, and the list of the calls, each (sort, file, length).
+    It answers None (let it be), an error's number (the call fails with it), or ('short', n), a read or write of n bytes
+    at most. Gives the status, the text, and the list of the calls, each (sort, file, length).
     """
     with tempfile.TemporaryFile() as output, tempfile.TemporaryFile() as error:
         process = started(program, words, folder, output, error)
