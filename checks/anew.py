@@ -115,11 +115,13 @@ def vertical_text(case: Case) -> str:
     for at, section in enumerate(sections):
         for number, each in enumerate(section):
             names[at, number] = 'E%d' % (len(names) + 1)
-            lines.append('exchanger %s %s %s %s' % (names[at, number], each.hot.name.decode(), each.cold.name.decode(), each.heat))
+            pair = each.hot.name.decode(), each.cold.name.decode()
+            lines.append('exchanger %s %s %s %s' % (names[at, number], *pair, each.heat))
     chain = Chain()
     for stream in case.streams:
-        pieces = [[(names[at, number], each.hot_size if stream.hot else each.cold_size) for number, each in enumerate(section)
-                   if stream in (each.hot, each.cold)] for at, section in enumerate(sections)]
+        pieces = [[(names[at, number], each.hot_size if stream.hot else each.cold_size)
+                   for number, each in enumerate(section) if stream in (each.hot, each.cold)]
+                  for at, section in enumerate(sections)]
         there = [piece for piece in pieces if piece]
         chain.stream(stream.name.decode(), there if stream.hot else there[::-1])
     return ''.join(line + '\n' for line in lines + chain.lines)

@@ -14,7 +14,8 @@ def row_of(source: Source) -> str:
         kind = 'heater' if source.hot else 'cooler'
         return '%s,%s,%d,%d,%d,%d,%d' % (kind, name, source.supply, source.least, source.most, source.price, share)
     load = str(source.load) if source.load else ''
-    return '%s,%s,%d,%d,%d,%s,%d' % ('hot' if source.hot else 'cold', name, source.supply, source.target, source.cp, load, share)
+    return '%s,%s,%d,%d,%d,%s,%d' % ('hot' if source.hot else 'cold', name, source.supply, source.target, source.cp,
+                                     load, share)
 
 
 def told(source: Source) -> tuple:
@@ -26,7 +27,8 @@ def given(case: Case) -> list[Source]:
     plain = Case()
     plain.share, plain.streams = case.share, case.streams
     added = {told(each) for each in plain.completed().utilities}
-    return [each for each in case.utilities if told(each) not in added or sum(other.hot is each.hot for other in case.utilities) > 1]
+    return [each for each in case.utilities if told(each) not in added
+            or sum(other.hot is each.hot for other in case.utilities) > 1]
 
 
 def rows_of(case: Case) -> bytes:

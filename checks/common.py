@@ -24,7 +24,7 @@ TABLE = 'words: targets flow curves design vertical audit site sweep sample cert
 # text, that number with what was never to be there, so that it is no status of any answer.
 Answer = tuple[int | str, bytes]
 # What the address sanitizer says of memory that it refuses.
-SANITIZER = re.compile(rb'(?:==\d+==)?(?:WARNING: AddressSanitizer failed to allocate|ERROR: AddressSanitizer: requested)')
+SANITIZER = re.compile(rb'(?:==\d+==)?(?:WARNING: AddressSanitizer failed|ERROR: AddressSanitizer: requested)')
 
 
 def example(name: str) -> bytes:
@@ -43,18 +43,23 @@ OWN_NETWORK = example('own-contributions-network.txt')
 COLUMN = example('column.csv')
 COLUMN_NETWORK = example('column-network.txt')
 EVAPORATING = text('contribution,,50,,,,', 'hot,H,1500,700,10,,', 'cold,B,900,900,0,8000,')
-EVAPORATING_FLOW = text('cost 3000', 'use HOT 3000', 'use COLD 3000', 'move HOT 1450 1450 B 950 950 3000', 'move H 1450 950 B 950 950 5000', 'move H 950 650 COLD 650 650 3000',
-                        'give HOT 1450 1450 1', 'give H 1450 950 1', 'give H 950 650 0', 'take B 950 950 1', 'take COLD 650 650 0')
+EVAPORATING_FLOW = text('cost 3000', 'use HOT 3000', 'use COLD 3000', 'move HOT 1450 1450 B 950 950 3000',
+                        'move H 1450 950 B 950 950 5000', 'move H 950 650 COLD 650 650 3000',
+                        'give HOT 1450 1450 1', 'give H 1450 950 1', 'give H 950 650 0', 'take B 950 950 1',
+                        'take COLD 650 650 0')
 FORBIDDEN = text('contribution,,50,,,,', 'hot,H,1000,500,10,,', 'cold,C,300,700,10,,', 'forbid,H,C,,,,')
 THREE = text('contribution,,50,,,,', 'hot,H,1000,500,10,,', 'cold,C,300,500,5,,', 'cold,D,300,500,10,,')
 SMALL = text('contribution,,50,,,,', 'hot,H,1000,500,2,,')
 TWO_PLANTS = text('contribution,,50,,,,', 'main,MP,1500,,,,', 'plant,A,,,,,', 'hot,H,2000,1000,10,,', 'plant,B,,,,,',
                   'cold,C,500,1300,10,,')
 LOW_MAIN = text('contribution,,50,,,,', 'main,MP,1350,,,,', 'plant,B,,,,,', 'cold,C,500,1300,10,,')
-SPLIT_NETWORK = text('exchanger Q1 H COLD 4000', 'exchanger Q2 H COLD 1000', 'split H a 8 b', 'pass a Q1 c', 'pass b Q2 d',
+SPLIT_NETWORK = text('exchanger Q1 H COLD 4000', 'exchanger Q2 H COLD 1000', 'split H a 8 b', 'pass a Q1 c',
+                     'pass b Q2 d',
                      'mix c d e', 'end e')
 # 50 W more at E2, taken from Q1 and Q2: an approach is kept no longer.
-TOO_COLD = FOUR_NETWORK.replace(b'E2 H4 C1 90000', b'E2 H4 C1 90050').replace(b'C1 20000', b'C1 19950').replace(b'COLD 60000', b'COLD 59950')
+TOO_COLD = FOUR_NETWORK.replace(b'E2 H4 C1 90000', b'E2 H4 C1 90050').replace(b'C1 20000',
+                                                                              b'C1 19950').replace(b'COLD 60000',
+                                                                                                   b'COLD 59950')
 ONE_HOT = text('contribution,,50,,,,', 'hot,H,1000,500,10,,')
 # HOT as completion gives it for one hot stream, and the same with a contribution of its own.
 GIVEN_HOT = ONE_HOT + text('heater,HOT,1000,0,1000000000000,1,50')
@@ -83,9 +88,11 @@ COMMANDS: list[Command] = [
     (['audit', 'case', 'net'], {'case': FOUR, 'net': TOO_COLD},
      ['case', 'network'], 1, 'rejected exchanger E2 ColdEndApproach found 2699/3 wanted 900\n'),
     (['audit', 'case', 'net'],
-     {'case': SMALL, 'net': text('exchanger E1 H COLD 1/281474976710655', 'pass H E1 a', 'end a')}, ['case', 'network'], 9,
+     {'case': SMALL, 'net': text('exchanger E1 H COLD 1/281474976710655', 'pass H E1 a', 'end a')}, ['case', 'network'],
+     9,
      'too fine line 2 step 1\n'),
-    (['audit', 'case', 'net'], {'case': FOUR, 'net': text('end')}, ['case', 'network'], 4, 'network line 1 FieldCount\n'),
+    (['audit', 'case', 'net'], {'case': FOUR, 'net': text('end')}, ['case', 'network'], 4,
+     'network line 1 FieldCount\n'),
     (['audit', 'case', 'net'], {'case': OWN, 'net': OWN_NETWORK}, ['case', 'network'], 0, 'accepted\nhot 93750\n'),
     (['design', 'case'], {'case': OWN}, ['case'], 0, '# hot 93750 cold 28750 excess 0 cost 93750\n'),
     (['flow', 'case'], {'case': COLUMN}, ['case'], 0, 'cost 2282000\nuse HOT 2282000\n'),
@@ -93,18 +100,25 @@ COMMANDS: list[Command] = [
     (['design', 'case'], {'case': EVAPORATING}, ['case'], 0, '# hot 3000 cold 3000 excess 0 cost 3000\n'),
     (['vertical', 'case'], {'case': EVAPORATING}, ['case'], 3, 'case has latent streams\n'),
     (['audit', 'case', 'net'], {'case': COLUMN, 'net': COLUMN_NETWORK}, ['case', 'network'], 0, 'accepted\n'),
-    (['audit', 'case', 'net'], {'case': EVAPORATING, 'net': text('exchanger E1 HOT B 8800', 'pass B E1 a', 'end a')}, ['case', 'network'], 1,
+    (['audit', 'case', 'net'], {'case': EVAPORATING, 'net': text('exchanger E1 HOT B 8800', 'pass B E1 a', 'end a')},
+     ['case', 'network'], 1,
      'rejected line 2 Overdrawn found 11/10 wanted 1\n'),
-    (['certify', 'case', 'report'], {'case': EVAPORATING, 'report': EVAPORATING_FLOW}, ['case', 'report'], 0, 'yes cost 3000\n'),
+    (['certify', 'case', 'report'], {'case': EVAPORATING, 'report': EVAPORATING_FLOW}, ['case', 'report'], 0,
+     'yes cost 3000\n'),
     (['certify', 'case', 'report'], {'case': FOUR, 'report': EVAPORATING_FLOW}, ['case', 'report'], 1, 'no Parts\n'),
-    (['certify', 'case', 'report'], {'case': example('too-little-cooling.csv'), 'report': text('infeasible', 'cut supply 5000 2000', 'part H 950 450')},
+    (['certify', 'case', 'report'], {'case': example('too-little-cooling.csv'),
+                                     'report': text('infeasible', 'cut supply 5000 2000', 'part H 950 450')},
      ['case', 'report'], 0, 'yes infeasible\n'),
-    (['certify', 'case', 'report'], {'case': FOUR, 'report': text('infeasible')}, ['case', 'report'], 4, 'report line 2 Ended\n'),
-    (['prices', 'case', 'study', '2'], {'case': example('two-steam-levels.csv'), 'study': example('steam-prices.csv')}, ['case', 'study'], 0,
+    (['certify', 'case', 'report'], {'case': FOUR, 'report': text('infeasible')}, ['case', 'report'], 4,
+     'report line 2 Ended\n'),
+    (['prices', 'case', 'study', '2'], {'case': example('two-steam-levels.csv'), 'study': example('steam-prices.csv')},
+     ['case', 'study'], 0,
      'scenario Today 57000\nscenario Winter 95500\nspan LP 0 3 55500 1500\n'),
-    (['prices', 'case', 'study', '1'], {'case': example('too-little-cooling.csv'), 'study': text('scenario,S,,', 'span,CW,0,3')}, ['case', 'study'], 0,
+    (['prices', 'case', 'study', '1'], {'case': example('too-little-cooling.csv'),
+                                        'study': text('scenario,S,,', 'span,CW,0,3')}, ['case', 'study'], 0,
      'scenario S infeasible\nspan CW infeasible\n'),
-    (['prices', 'case', 'study', '2'], {'case': FOUR, 'study': text('price,HOT,2,')}, ['case', 'study'], 4, 'study row 1 NoScenario\n'),
+    (['prices', 'case', 'study', '2'], {'case': FOUR, 'study': text('price,HOT,2,')}, ['case', 'study'], 4,
+     'study row 1 NoScenario\n'),
     (['site', 'site'], {'site': example('three-plants.csv')}, ['site'], 0, 'profile 2550 0 120000\n'),
     (['site', 'site'], {'site': LOW_MAIN}, ['site'], 1, 'profile 1400 0 0\n'),
     (['sweep', 'case', '50', '50', '1', '2'], {'case': example('too-little-cooling.csv')}, ['case'], 0,
@@ -140,7 +154,8 @@ def lay_out(folder: str, files: dict[str, bytes]) -> None:
 def run(program: str, words: list[str] | list[bytes], folder: str, timeout: int = 120) -> Answer:
     """A run in the folder. It writes nothing to standard error: what stands there goes to the status."""
     try:
-        done = subprocess.run([program, *words], cwd=folder, env=ENVIRONMENT, stdin=subprocess.DEVNULL, stdout=subprocess.PIPE,
+        done = subprocess.run([program, *words], cwd=folder, env=ENVIRONMENT, stdin=subprocess.DEVNULL,
+                              stdout=subprocess.PIPE,
                               stderr=subprocess.PIPE, timeout=timeout)
     except subprocess.TimeoutExpired:
         return 'none within %d s' % timeout, b''

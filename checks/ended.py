@@ -23,7 +23,8 @@ def ended(check: str, words: list[str], longest: float | None = None, first_ends
     asked for."""
     environment = dict(os.environ, **{FIRST_WRONG: ''} if first_ends else {})
     try:
-        done = subprocess.run([os.path.join(HERE, check), *words], stdin=subprocess.DEVNULL, stdout=subprocess.PIPE, stderr=subprocess.PIPE,
+        done = subprocess.run([os.path.join(HERE, check), *words], stdin=subprocess.DEVNULL, stdout=subprocess.PIPE,
+                              stderr=subprocess.PIPE,
                               timeout=longest, env=environment)
     except subprocess.TimeoutExpired:
         return Ended(None, None, 'it took more than %s s' % longest)

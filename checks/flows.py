@@ -23,8 +23,8 @@ class Body:
     def __init__(self, problem: Problem, lines: Lines) -> None:
         self.problem = problem
         hot, cold = [[part.name().split(' ') for part in side] for side in (problem.hot, problem.cold)]
-        self.is_formed = [word for word, _ in groupby(line[0] for line in lines)] == ['move'] * any(line[0] == 'move' for line in lines) + \
-            ['give'] * bool(hot) + ['take'] * bool(cold)
+        wanted = ['move'] * any(line[0] == 'move' for line in lines) + ['give'] * bool(hot) + ['take'] * bool(cold)
+        self.is_formed = [word for word, _ in groupby(line[0] for line in lines)] == wanted
         moves, gives, takes = [[line[1:] for line in lines if line[0] == word] for word in ('move', 'give', 'take')]
         self.is_formed &= [line[:-1] for line in gives] == hot and [line[:-1] for line in takes] == cold
         if self.is_formed:
@@ -53,11 +53,13 @@ class Body:
         given, taken = self.heats()
         if not all(part.least <= heat <= part.most for part, heat in zip(hot + cold, given + taken)):
             return 'a balance'
-        if uses != [sum(heat for part, heat in zip(hot + cold, given + taken) if part.source is each) for each in self.problem.utilities]:
+        if uses != [sum(heat for part, heat in zip(hot + cold, given + taken) if part.source is each)
+                    for each in self.problem.utilities]:
             return 'the use of a utility'
         if cost != sum(each.price * use for each, use in zip(self.problem.utilities, uses)):
             return 'the cost'
-        if any(take > give and reaches(one, other) for one, give in zip(hot, self.gives) for other, take in zip(cold, self.takes)):
+        if any(take > give and reaches(one, other) for one, give in zip(hot, self.gives)
+               for other, take in zip(cold, self.takes)):
             return 'the support of the prices'
         return None if cost == worth(hot, self.gives, -1) + worth(cold, self.takes, 1) else 'the value of the prices'
 
@@ -71,7 +73,8 @@ def number(fields: list[str]) -> int:
 
 def worth(parts: list[Part], prices: list[int], sign: int) -> int:
     """What the parts of a side are worth at these prices, each at the end of its range where it is worth least."""
-    return sum(min((part.price + sign * price) * part.least, (part.price + sign * price) * part.most) for part, price in zip(parts, prices))
+    return sum(min((part.price + sign * price) * part.least, (part.price + sign * price) * part.most)
+               for part, price in zip(parts, prices))
 
 
 def cut_fault(problem: Problem, lines: Lines) -> str | None:

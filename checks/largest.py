@@ -10,14 +10,16 @@ STREAMS, UTILITIES, FORBIDS = CASE_MOST['hot'], CASE_MOST['utility'], CASE_MOST[
 SHIFTED = range(-1500, 12000)
 
 
-def largest_case(seed: int, outside: bool = False, standard: bool = False, streams: int = STREAMS, utilities: int = UTILITIES) -> list[str]:
+def largest_case(seed: int, outside: bool = False, standard: bool = False, streams: int = STREAMS,
+                 utilities: int = UTILITIES) -> list[str]:
     """The rows of the case of a seed. It always has a heat flow: the first heater is above all streams and the last
     cooler below them, and neither is in a forbidden match. With `outside` all ends of one side lie above or below all
     those of the other, else the sides are mixed. A standard case has the streams alone. With fewer streams of each
     side, or fewer utilities, it is a smaller one."""
     draw = random.Random(seed)
     places = sorted(draw.sample(SHIFTED, 4 * streams + utilities), reverse=True)
-    upper, levels, lower = places[1:2 * streams + 1], places[2 * streams + 1:-2 * streams - 1], places[-2 * streams - 1:-1]
+    upper, levels, lower = places[1:2 * streams + 1], places[2 * streams
+                                                             + 1:-2 * streams - 1], places[-2 * streams - 1:-1]
     rows = ['contribution,,50,,,,'] + stream_rows(draw, upper, lower, outside, streams)
     if standard:
         return rows

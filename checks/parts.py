@@ -47,10 +47,11 @@ def parts_of(places: list[int], sources: list[Source], hot: bool) -> list[Part]:
         low, high = each.span()
         if each.hot is not hot:
             continue
-        spans = [(high, low)] if high == low else [pair for pair in zip(places, places[1:]) if low <= pair[1] and pair[0] <= high]
-        for top, bottom in spans:
+        spans = [pair for pair in zip(places, places[1:]) if low <= pair[1] and pair[0] <= high]
+        for top, bottom in spans if low < high else [(high, low)]:
             heat = each.load + each.cp * (top - bottom)
-            part = Part(each, top, bottom, heat, heat, 0) if each.stream else Part(each, top, bottom, each.least, each.most, each.price)
+            least, most = (heat, heat) if each.stream else (each.least, each.most)
+            part = Part(each, top, bottom, least, most, 0 if each.stream else each.price)
             found.append((-top, -bottom, at, part))
     return [part for _, _, _, part in sorted(found, key=lambda one: one[:3])]
 
@@ -68,7 +69,8 @@ def of_case(case: Case) -> Problem:
 
 def places_of(site: Case) -> list[int]:
     """The grid of a site: the stream ends, and where each main takes and gives heat."""
-    return sorted(set(site.ends()) | {level + shift for _, level in site.mains for shift in (site.share, -site.share)}, reverse=True)
+    taking_and_giving = {level + shift for _, level in site.mains for shift in (site.share, -site.share)}
+    return sorted(set(site.ends()) | taking_and_giving, reverse=True)
 
 
 def of_site(site: Case) -> Problem:
@@ -84,4 +86,5 @@ def of_site(site: Case) -> Problem:
             return one.reaches(other)
         return any(level + site.share <= one.low and other.high <= level - site.share for level in levels)
 
-    return Problem(parts_of(places, site.streams + utilities, True), parts_of(places, site.streams + utilities, False), reaches, utilities)
+    hot, cold = [parts_of(places, site.streams + utilities, side) for side in (True, False)]
+    return Problem(hot, cold, reaches, utilities)

@@ -57,7 +57,8 @@ def segments_of(cost: Callable[[int], int], first: int, last: int) -> list[Segme
     return segments
 
 
-def fault_of_long(draw: random.Random, cost: Callable[[int], int], first: int, last: int, segments: list[Segment]) -> str | None:
+def fault_of_long(draw: random.Random, cost: Callable[[int], int], first: int, last: int,
+                  segments: list[Segment]) -> str | None:
     """What is wrong with the segments of a long span, looked at where it matters and at some prices between."""
     at = first
     for begin, end, base, slope in segments:

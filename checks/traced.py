@@ -23,7 +23,8 @@ ENDBR64, PUSH_RBP, BREAKPOINT = b'\xf3\x0f\x1e\xfa', b'\x55', 0xcc
 
 class Registers(ctypes.Structure):
     _fields_ = [(name, ctypes.c_ulonglong) for name in
-                'r15 r14 r13 r12 rbp rbx r11 r10 r9 r8 rax rcx rdx rsi rdi orig_rax rip cs eflags rsp ss fs_base gs_base ds es fs gs'.split()]
+                ('r15 r14 r13 r12 rbp rbx r11 r10 r9 r8 rax rcx rdx rsi rdi orig_rax rip cs eflags rsp ss '
+                 'fs_base gs_base ds es fs gs').split()]
 
 
 library = ctypes.CDLL(None, use_errno=True)
@@ -53,7 +54,8 @@ def symbols_in(image, wanted):
     """Of each named function of an ELF file its address, and where in the file the entry of its symbol stands."""
     sections, (size, count) = struct.unpack_from('<Q', image, 40)[0], struct.unpack_from('<HH', image, 58)
     for number in range(count):
-        _, sort, _, _, offset, length, link, _, _, each = struct.unpack_from('<IIQQQQIIQQ', image, sections + number * size)
+        _, sort, _, _, offset, length, link, _, _, each = struct.unpack_from('<IIQQQQIIQQ', image,
+                                                                             sections + number * size)
         if sort != 2:
             continue
         names = struct.unpack_from('<IIQQQQ', image, sections + link * size)[4]
