@@ -151,7 +151,7 @@ def lay_out(folder: str, files: dict[str, bytes]) -> None:
             handle.write(content)
 
 
-def run(program: str, words: list[str] | list[bytes], folder: str, timeout: int = 120) -> Answer:
+def run(program: str, words: list[str] | list[bytes], folder: str, timeout: int = 600) -> Answer:
     """A run in the folder. It writes nothing to standard error: what stands there goes to the status."""
     try:
         done = subprocess.run([program, *words], cwd=folder, env=ENVIRONMENT, stdin=subprocess.DEVNULL,
