@@ -1,107 +1,171 @@
-"""The least cost of the heat flows of a case, by a search that shares nothing with the program: shortest paths, one after the other, over a net of the parts and
-one node for all that is outside."""
+"""The least cost of the heat flows of a case, and the least boiler of a site, by a search that shares nothing with the
+program: shortest distances over a net, and as much heat as fits along the shortest ways, until none is left. All
+numbers are whole.
+
+The net of a case has a node for each part and one for all that is outside. That of a site has none for its parts: heat
+goes down from interval to interval of each plant, and through a main from plant to plant."""
+from __future__ import annotations
 import heapq
+from typing import TYPE_CHECKING
 
-ENDLESS = 10 ** 30
+from parts import ENDLESS, Problem, of_case, places_of
 
-
-class Part:
-    """A stream on a piece of its shifted range, or a utility at its level."""
-
-    def __init__(self, source, high, low, least, most, price):
-        self.source, self.high, self.low, self.least, self.most, self.price = source, high, low, least, most, price
-
-    def reaches(self, cold, forbidden):
-        if (self.source.name, cold.source.name) in forbidden:
-            return False
-        return self.low >= cold.high or (self.high, self.low) == (cold.high, cold.low)
-
-
-def parts_of(case, hot):
-    places = sorted({end for each in case.streams + case.utilities for end in each.span()}, reverse=True)
-    found = []
-    for each in case.streams + case.utilities:
-        low, high = each.span()
-        if each.hot is not hot:
-            continue
-        if not each.stream:
-            found.append(Part(each, high, low, each.least, each.most, each.price))
-        elif each.load:
-            found.append(Part(each, high, low, each.load, each.load, 0))
-        else:
-            pairs = [pair for pair in zip(places, places[1:]) if low <= pair[1] and pair[0] <= high]
-            found += [Part(each, *pair, each.cp * (pair[0] - pair[1]), each.cp * (pair[0] - pair[1]), 0) for pair in pairs]
-    return found
+if TYPE_CHECKING:
+    from reading import Case
 
 
 class Net:
     """Arcs of a net with what is still free of each; the arc back stands behind each arc."""
 
-    def __init__(self, nodes):
-        self.out = [[] for _ in range(nodes)]
-        self.ends, self.free, self.costs = [], [], []
+    def __init__(self, nodes: int) -> None:
+        self.out: list[list[int]] = [[] for _ in range(nodes)]
+        self.ends: list[int] = []
+        self.free: list[int] = []
+        self.costs: list[int] = []
+        self.leasts: list[int] = []
         self.spare = [0] * nodes
+        self.potentials = [0] * nodes
 
-    def join(self, one, other, least, most, cost):
+    def join(self, one: int, other: int, least: int, most: int, cost: int) -> None:
         """An arc that carries its least, or its most where that pays."""
         carried = most if cost < 0 else least
         self.spare[other] += carried
         self.spare[one] -= carried
+        self.leasts.append(least)
         for begin, end, free, price in ((one, other, most - carried, cost), (other, one, carried - least, -cost)):
             self.out[begin].append(len(self.ends))
             self.ends.append(end)
             self.free.append(free)
             self.costs.append(price)
-        return carried * cost
 
-    def nearest(self, potentials):
-        """The distances from all nodes with heat to spare, and the arc by which each node is reached, or -1."""
-        distances, by = [None] * len(self.out), [-1] * len(self.out)
-        queue = [(0, node, -1) for node, spare in enumerate(self.spare) if spare > 0]
-        while queue:
-            distance, node, arc = heapq.heappop(queue)
+    def cost(self) -> int:
+        """What the heat costs that all arcs carry."""
+        return sum((self.free[2 * at + 1] + least) * self.costs[2 * at] for at, least in enumerate(self.leasts))
+
+    def reduced(self, begin: int, arc: int) -> int:
+        return self.costs[arc] + self.potentials[begin] - self.potentials[self.ends[arc]]
+
+    def is_nearer(self) -> bool:
+        """Moves the potentials by the distances from all nodes with heat to spare, no farther than to the nearest that
+        wants some; no where there is none."""
+        distances: list[int | None] = [None] * len(self.out)
+        queue, reached = [(0, node) for node, spare in enumerate(self.spare) if spare > 0], False
+        farthest = 0
+        while queue and not reached:
+            distance, node = heapq.heappop(queue)
             if distances[node] is not None:
                 continue
-            distances[node], by[node] = distance, arc
-            for each in self.out[node]:
-                end = self.ends[each]
-                if self.free[each] and distances[end] is None:
-                    heapq.heappush(queue, (distance + self.costs[each] + potentials[node] - potentials[end], end, each))
-        return distances, by
+            distances[node], farthest, reached = distance, distance, self.spare[node] < 0
+            for arc in self.out[node]:
+                if self.free[arc] and distances[self.ends[arc]] is None:
+                    heapq.heappush(queue, (distance + self.reduced(node, arc), self.ends[arc]))
+        for node, moved in enumerate(distances):
+            self.potentials[node] += farthest if moved is None else moved
+        return reached
+
+    def levels(self) -> tuple[list[int], bool]:
+        """How many arcs without a reduced cost lead to each node from those with heat to spare, or -1; and whether one
+        that wants some is among them."""
+        row = [node for node, spare in enumerate(self.spare) if spare > 0]
+        levels, wanting = [-1] * len(self.out), False
+        for node in row:
+            levels[node] = 0
+        for node in row:
+            wanting |= self.spare[node] < 0
+            for arc in self.out[node]:
+                end = self.ends[arc]
+                if levels[end] < 0 and self.free[arc] and not self.reduced(node, arc):
+                    levels[end] = levels[node] + 1
+                    row.append(end)
+        return levels, wanting
+
+    def fill(self, levels: list[int]) -> None:
+        """Sends heat along ways that rise level by level, until each is blocked."""
+        tried = [0] * len(self.out)
+        for start in range(len(self.out)):
+            path: list[int] = []
+            node = start
+            while self.spare[start] > 0:
+                if self.spare[node] < 0:
+                    self.send(start, path, node)
+                    path, node = [], start
+                elif tried[node] < len(self.out[node]):
+                    arc = self.out[node][tried[node]]
+                    end = self.ends[arc]
+                    if self.free[arc] and levels[end] == levels[node] + 1 and not self.reduced(node, arc):
+                        path.append(arc)
+                        node = end
+                    else:
+                        tried[node] += 1
+                elif path:
+                    node = self.ends[path.pop() ^ 1]
+                    tried[node] += 1
+                else:
+                    break
+
+    def send(self, start: int, path: list[int], end: int) -> None:
+        heat = min([self.spare[start], -self.spare[end]] + [self.free[arc] for arc in path])
+        for arc in path:
+            self.free[arc] -= heat
+            self.free[arc ^ 1] += heat
+        self.spare[start] -= heat
+        self.spare[end] += heat
+
+    def settled(self) -> bool:
+        """Sends all heat to spare where some is wanted, at least cost; no where that is not possible."""
+        while any(spare > 0 for spare in self.spare):
+            if not self.is_nearer():
+                return False
+            levels, wanting = self.levels()
+            while wanting:
+                self.fill(levels)
+                levels, wanting = self.levels()
+        return True
 
 
-def least_cost(case):
-    """The least cost of the heat flows of a completed case, or None where it has none."""
-    hot, cold, forbidden = parts_of(case, True), parts_of(case, False), case.forbidden
+def net_of(problem: Problem) -> Net:
+    hot, cold = problem.hot, problem.cold
     net, outside = Net(len(hot) + len(cold) + 1), len(hot) + len(cold)
-    cost = sum(net.join(outside, at, each.least, each.most, each.price) for at, each in enumerate(hot))
-    cost += sum(net.join(len(hot) + at, outside, each.least, each.most, each.price) for at, each in enumerate(cold))
+    for at, each in enumerate(hot):
+        net.join(outside, at, each.least, each.most, each.price)
+    for at, each in enumerate(cold):
+        net.join(len(hot) + at, outside, each.least, each.most, each.price)
     for at, one in enumerate(hot):
         for to, other in enumerate(cold):
-            if one.reaches(other, forbidden):
+            if problem.reaches(one, other):
                 net.join(at, len(hot) + to, 0, ENDLESS, 0)
-    potentials = [0] * len(net.out)
-    while any(spare > 0 for spare in net.spare):
-        distances, by = net.nearest(potentials)
-        wanting = [(distances[node], node) for node, spare in enumerate(net.spare) if spare < 0 and distances[node] is not None]
-        if not wanting:
-            return None
-        farthest = max(each for each in distances if each is not None)
-        potentials = [before + (farthest if step is None else step) for before, step in zip(potentials, distances)]
-        cost += sent(net, by, min(wanting)[1])
-    return cost
+    return net
 
 
-def sent(net, by, node):
-    """Sends along the path to a node what it takes, and answers what that costs."""
-    path, begin = [], node
-    while by[begin] >= 0:
-        path.append(by[begin])
-        begin = net.ends[by[begin] ^ 1]
-    heat = min([net.spare[begin], -net.spare[node]] + [net.free[arc] for arc in path])
-    for arc in path:
-        net.free[arc] -= heat
-        net.free[arc ^ 1] += heat
-    net.spare[begin] -= heat
-    net.spare[node] += heat
-    return heat * sum(net.costs[arc] for arc in path)
+def least_cost(case: Case) -> int | None:
+    """The least cost of the heat flows of a completed case, or None where it has none."""
+    net = net_of(of_case(case))
+    return net.cost() if net.settled() else None
+
+
+def least_boiler(site: Case) -> int | None:
+    """What BOILER has to give at least, or None where no heat flow exists."""
+    places, plants = places_of(site), len(site.plants)
+    steps, share = len(places) - 1, site.share
+    mains, outside = plants * steps, plants * steps + len(site.mains)
+    net = Net(outside + 1)
+    for each in site.streams:
+        low, high = each.span()
+        for at, (top, bottom) in enumerate(zip(places, places[1:])):
+            if low <= bottom and top <= high:
+                heat = each.cp * (top - bottom) * (1 if each.hot else -1)
+                net.spare[each.plant * steps + at] += heat
+                net.spare[outside] -= heat
+    boiler = max(level for _, level in site.mains) - share
+    for plant in range(plants):
+        for at, (top, bottom) in enumerate(zip(places, places[1:])):
+            node = plant * steps + at
+            net.join(node, node + 1 if at + 1 < steps else outside, 0, ENDLESS, 0)
+            if top == boiler:
+                net.join(outside, node, 0, ENDLESS, 1)
+            for number, (_, level) in enumerate(site.mains):
+                if bottom == level + share:
+                    net.join(node, mains + number, 0, ENDLESS, 0)
+                if top == level - share:
+                    net.join(mains + number, node, 0, ENDLESS, 0)
+    return net.cost() if net.settled() else None

@@ -1,4 +1,5 @@
-"""Random cases for the scripts of this folder: streams that may be latent, utilities with ranges and prices, contributions of the sources' own, forbidden matches."""
+"""Random cases for the scripts of this folder: streams that may be latent, utilities with ranges and prices,
+contributions of the sources' own, forbidden matches."""
 from common import text
 
 
@@ -14,7 +15,10 @@ def case_of(draw):
         supply, target = (high, low if low < high else low - 1) if hot else (low if low < high else low - 1, high)
         if latent:
             supply = target = high
-        cp, load = (0, draw.choice((1, 3000, draw.randrange(1, 10 ** 6)))) if latent else (draw.choice((1, 20, draw.randrange(1, 1000))), '')
+        if latent:
+            cp, load = 0, draw.choice((1, 3000, draw.randrange(1, 10 ** 6)))
+        else:
+            cp, load = draw.choice((1, 20, draw.randrange(1, 1000))), ''
         rows.append('%s,%s,%d,%d,%d,%s,%s' % ('hot' if hot else 'cold', name, supply, target, cp, load, own()))
         sources[hot].append(name)
     for number in range(draw.choice((0, 0, 1, 2, 3, 5))):
@@ -22,7 +26,8 @@ def case_of(draw):
         name = 'U%d' % number
         most = draw.choice((10 ** 12, 10 ** 12, draw.randrange(10 ** 6)))
         least = draw.choice((0, 0, draw.randrange(min(most, 5000) + 1)))
-        rows.append('%s,%s,%d,%d,%d,%d,%s' % ('heater' if hot else 'cooler', name, draw.choice(ends + [4000 if hot else 0]), least, most,
+        rows.append('%s,%s,%d,%d,%d,%d,%s' % ('heater' if hot else 'cooler', name,
+                                              draw.choice(ends + [4000 if hot else 0]), least, most,
                                               draw.choice((0, 1, 3, draw.randrange(-20, 200), 10 ** 6)), own()))
         sources[hot].append(name)
     pairs = [(one, other) for one in sources[True] for other in sources[False]]

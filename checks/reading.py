@@ -1,6 +1,7 @@
-"""A second reading of what `pinch` reads, by the rules of docs/FORMATS.md and docs/DECISIONS.md, which shares nothing with the
-program: the rows of a CSV text, the grammars of cases, sites, networks, reports and price studies, the words; and of what it answers, as far as that is one
-text: `targets`, `curves` and `audit` whole, the profiles of `site`, and how each other answer begins. Fractions are Python's."""
+"""A second reading of what `pinch` reads, by the rules of docs/FORMATS.md and docs/DECISIONS.md, which shares nothing
+with the program: the rows of a CSV text, the grammars of cases, sites, networks, reports and price studies, the words;
+and of what it answers, as far as that is one text: `targets`, `curves` and `audit` whole, the profiles of `site`, and
+how each other answer begins. Fractions are Python's."""
 from fractions import Fraction
 import re
 
@@ -16,7 +17,8 @@ TRILLION = 10 ** 12
 TEMPERATURE, FLOW, SHARE, HEAT, PRICE = (-2731, 30000), (1, 100000), (0, 1000), (0, TRILLION), (-10 ** 6, 10 ** 6)
 # The load of a latent stream, and the CP where there is one.
 LOAD, LATENT_FLOW = (1, 10 ** 10), (0, 100000)
-# How many there may be: in a case (heaters and coolers together), in a site (streams of all plants together), in a network, in a sample.
+# How many there may be: in a case (heaters and coolers together), in a site (streams of all plants together), in a
+# network, in a sample.
 CASE_MOST = {'hot': 30, 'cold': 30, 'utility': 12, 'forbid': 400}
 SITE_MOST = {'hot': 12, 'cold': 12, 'plant': 6, 'main': 4}
 STATEMENTS, EXCHANGERS, SAMPLED = 100000, 20000, 12
@@ -41,7 +43,8 @@ class Fine(Exception):
 class Rejected(Exception):
     def __init__(self, place, reason, found=None, wanted=None):
         super().__init__(place, reason)
-        self.line = 'rejected %s %s' % (place, reason) + ('' if found is None else ' found %s wanted %s' % (found, wanted))
+        self.line = 'rejected %s %s' % (place, reason) + ('' if found is None
+                                                          else ' found %s wanted %s' % (found, wanted))
 
 
 # The rows of a CSV text: a machine over bytes.
@@ -85,7 +88,8 @@ def rows_of(data):
 # Streams, utilities and the rows that are common to cases and sites.
 
 class Source:
-    def __init__(self, name, hot, stream, supply, target, cp=0, least=0, most=0, price=0, plant=None, share=None, load=0):
+    def __init__(self, name, hot, stream, supply, target, cp=0, least=0, most=0, price=0, plant=None, share=None,
+                 load=0):
         self.name, self.hot, self.stream, self.supply, self.target, self.cp = name, hot, stream, supply, target, cp
         self.least, self.most, self.price, self.plant, self.share, self.load = least, most, price, plant, share, load
 
@@ -98,7 +102,8 @@ class Source:
         return self.load or self.cp
 
     def states(self):
-        """The state of a stream where it begins and where it ends: of a latent one the part of its load that is still to be given, or was taken."""
+        """The state of a stream where it begins and where it ends: of a latent one the part of its load that is still
+        to be given, or was taken."""
         if not self.load:
             return self.supply, self.target
         return (1, 0) if self.hot else (0, 1)
@@ -130,9 +135,11 @@ class Case:
         ends = self.ends()
         self.utilities = list(self.utilities)
         if not any(each.hot for each in self.utilities):
-            self.utilities.append(Source(b'HOT', True, False, ends[0] + self.share, ends[0] + self.share, 0, 0, TRILLION, 1, share=self.share))
+            self.utilities.append(Source(b'HOT', True, False, ends[0] + self.share, ends[0] + self.share, 0, 0,
+                                         TRILLION, 1, share=self.share))
         if not any(not each.hot for each in self.utilities):
-            self.utilities.append(Source(b'COLD', False, False, ends[-1] - self.share, ends[-1] - self.share, 0, 0, TRILLION, 0, share=self.share))
+            self.utilities.append(Source(b'COLD', False, False, ends[-1] - self.share, ends[-1] - self.share, 0, 0,
+                                         TRILLION, 0, share=self.share))
         return self
 
     def source(self, name):
@@ -166,7 +173,8 @@ def kind_of(row, at, kinds, fields=7):
 def numbers_and_more(row, fields, ranges, more, at):
     """These numbers, and behind them those of further fields with their ranges, each None where its field is empty."""
     filled = [(field, limits) for field, limits in more if row[field] != b'']
-    values = numbers(row, fields + tuple(field for field, _ in filled), ranges + tuple(limits for _, limits in filled), at)
+    values = numbers(row, fields + tuple(field for field, _ in filled), ranges + tuple(limits for _, limits in filled),
+                     at)
     behind = iter(values[len(fields):])
     return values[:len(fields)] + [next(behind) if row[field] != b'' else None for field, _ in more]
 
@@ -174,7 +182,8 @@ def numbers_and_more(row, fields, ranges, more, at):
 def stream_of(row, at, kind, plant=None):
     """A stream of a case, or of a plant of a site, where none is latent."""
     flow = LATENT_FLOW if row[5] != b'' else FLOW
-    supply, target, cp, load, share = numbers_and_more(row, (2, 3, 4), (TEMPERATURE, TEMPERATURE, flow), ((5, LOAD), (6, SHARE)), at)
+    supply, target, cp, load, share = numbers_and_more(row, (2, 3, 4), (TEMPERATURE, TEMPERATURE, flow),
+                                                       ((5, LOAD), (6, SHARE)), at)
     if load is not None and (supply != target or cp != 0):
         raise Refused(at, 'NotLatent')
     if load is None and plant is None and supply == target:
@@ -184,8 +193,10 @@ def stream_of(row, at, kind, plant=None):
     return Source(row[1], kind == 'hot', True, supply, target, cp, plant=plant, share=share, load=load or 0)
 
 
-# The fields that a kind may fill. Only a case has loads of latent streams and contributions of its sources' own, in the last two fields.
-CASE_KINDS = {'contribution': {2}, 'hot': {1, 2, 3, 4, 5, 6}, 'cold': {1, 2, 3, 4, 5, 6}, 'heater': {1, 2, 3, 4, 5, 6}, 'cooler': {1, 2, 3, 4, 5, 6},
+# The fields that a kind may fill. Only a case has loads of latent streams and contributions of its sources' own, in the
+# last two fields.
+CASE_KINDS = {'contribution': {2}, 'hot': {1, 2, 3, 4, 5, 6}, 'cold': {1, 2, 3, 4, 5, 6}, 'heater': {1, 2, 3, 4, 5, 6},
+              'cooler': {1, 2, 3, 4, 5, 6},
               'forbid': {1, 2}}
 SITE_KINDS = {'contribution': {2}, 'hot': {1, 2, 3, 4}, 'cold': {1, 2, 3, 4}, 'plant': {1}, 'main': {1, 2}}
 
@@ -196,7 +207,8 @@ def case_of(data):
         kind = kind_of(row, at, CASE_KINDS)
         if kind is None:
             continue
-        count = {'hot': sum(each.hot for each in case.streams) + 1, 'cold': sum(not each.hot for each in case.streams) + 1,
+        count = {'hot': sum(each.hot for each in case.streams) + 1,
+                 'cold': sum(not each.hot for each in case.streams) + 1,
                  'forbid': len(case.forbidden) + 1}.get(kind, len(case.utilities) + 1)
         if kind != 'contribution' and count > CASE_MOST.get(kind, CASE_MOST['utility']):
             raise Refused(at, 'TooMany')
@@ -223,7 +235,8 @@ def case_of(data):
         if kind in ('hot', 'cold'):
             case.streams.append(stream_of(row, at, kind))
             continue
-        level, least, most, price, share = numbers_and_more(row, (2, 3, 4, 5), (TEMPERATURE, HEAT, HEAT, PRICE), ((6, SHARE),), at)
+        level, least, most, price, share = numbers_and_more(row, (2, 3, 4, 5), (TEMPERATURE, HEAT, HEAT, PRICE),
+                                                            ((6, SHARE),), at)
         if least > most:
             raise Refused(at, 'BadRange')
         case.utilities.append(Source(row[1], kind == 'heater', False, level, level, 0, least, most, price, share=share))
@@ -240,7 +253,8 @@ def site_of(data):
         kind = kind_of(row, at, SITE_KINDS)
         if kind is None:
             continue
-        count = {'hot': sum(each.hot for each in site.streams) + 1, 'cold': sum(not each.hot for each in site.streams) + 1,
+        count = {'hot': sum(each.hot for each in site.streams) + 1,
+                 'cold': sum(not each.hot for each in site.streams) + 1,
                  'plant': len(site.plants) + 1, 'main': len(site.mains) + 1}
         if kind != 'contribution' and count[kind] > SITE_MOST[kind]:
             raise Refused(at, 'TooMany')
@@ -254,7 +268,8 @@ def site_of(data):
             raise Refused(at, 'NoPlant')
         if not NAME.match(row[1]) or stream and row[1] in (b'BOILER', b'COOLING'):
             raise Refused(at, 'BadName')
-        taken = [each.name for each in site.streams] if stream else site.plants if kind == 'plant' else [name for name, _ in site.mains]
+        plants_or_mains = site.plants if kind == 'plant' else [name for name, _ in site.mains]
+        taken = [each.name for each in site.streams] if stream else plants_or_mains
         if row[1] in taken:
             raise Refused(at, 'SameName')
         if stream:
@@ -263,7 +278,8 @@ def site_of(data):
             site.plants.append(row[1])
         else:
             site.mains.append((row[1], numbers(row, (2,), (TEMPERATURE,), at)[0]))
-    for missing, why in ((site.share is None, 'NoContribution'), (not site.mains, 'NoMain'), (not site.streams, 'NoStream')):
+    for missing, why in ((site.share is None, 'NoContribution'), (not site.mains, 'NoMain'),
+                         (not site.streams, 'NoStream')):
         if missing:
             raise Refused(len(rows) + 1, why)
     return site.shared_out()
@@ -279,18 +295,22 @@ FAR = 10 ** 9
 
 
 def deficit(streams, place, above=True):
-    """What the cold streams take above (or below) a shifted temperature, less what the hot ones give there. A load counts where its level is."""
+    """What the cold streams take above (or below) a shifted temperature, less what the hot ones give there. A load
+    counts where its level is."""
     low, high = (place, FAR) if above else (-FAR, place)
-    return sum((-1 if each.hot else 1) * (each.cp * within(each.span(), low, high) + each.load * (low < each.span()[0] < high)) for each in streams)
+    return sum((-1 if each.hot else 1) * (each.cp * within(each.span(), low, high)
+                                          + each.load * (low < each.span()[0] < high)) for each in streams)
 
 
 def deficit_from(streams, place):
     """The deficit above a shifted temperature with the loads at it."""
-    return deficit(streams, place) + sum((-1 if each.hot else 1) * each.load for each in streams if each.span()[0] == place)
+    return deficit(streams, place) + sum((-1 if each.hot else 1) * each.load
+                                         for each in streams if each.span()[0] == place)
 
 
 def targets_of(case):
-    """The hot and the cold target, the pinches from the highest down, and the reference place with whether it counts from itself."""
+    """The hot and the cold target, the pinches from the highest down, and the reference place with whether it counts
+    from itself."""
     ends = case.ends()
     deficits = [(deficit(case.streams, end), deficit_from(case.streams, end)) for end in ends]
     hot = max(0, max(map(max, deficits)))
@@ -309,17 +329,20 @@ def curves_text(case):
     for word, hot in (('hot', True), ('cold', False)):
         streams = [each for each in case.streams if each.hot is hot]
         for place in sorted({end for each in streams for end in (each.supply, each.target)}):
-            below = sum(each.cp * within(each.actual(), -FAR, place) + each.load * (each.supply < place) for each in streams)
+            below = sum(each.cp * within(each.actual(), -FAR, place) + each.load * (each.supply < place)
+                        for each in streams)
             there = [each.load for each in streams if each.load and each.supply == place]
             lines += ['%s %d %d\n' % (word, heat, place) for heat in [below] + [below + sum(there)] * bool(there)]
     target, levels = targets_of(case)[0], {each.span()[0] for each in case.streams if each.load}
     for end in case.ends():
-        lines += ['net %d %d\n' % (target - owed(case.streams, end), end) for owed in [deficit] + [deficit_from] * (end in levels)]
+        lines += ['net %d %d\n' % (target - owed(case.streams, end), end)
+                  for owed in [deficit] + [deficit_from] * (end in levels)]
     return ''.join(lines)
 
 
 def profile_text(site):
-    places = sorted(set(site.ends()) | {level + shift for _, level in site.mains for shift in (site.share, -site.share)}, reverse=True)
+    places = sorted(set(site.ends()) | {level + shift for _, level in site.mains
+                                        for shift in (site.share, -site.share)}, reverse=True)
     lines = []
     for place in places:
         sink = source = 0
@@ -367,7 +390,8 @@ def fields_of(line):
 def network_of(data, case):
     """The statements of a network for a completed case."""
     lines = data.split(b'\n')
-    lines = [line[:-1] if line.endswith(b'\r') and number < len(lines) - 1 else line for number, line in enumerate(lines)]
+    lines = [line[:-1] if line.endswith(b'\r') and number < len(lines) - 1 else line
+             for number, line in enumerate(lines)]
     statements, exchangers, at = [], {}, 0
     branches = {each.name: Branch(each) for each in case.streams}
     counts = {b'exchanger': 5, b'split': 5, b'pass': 4, b'mix': 4, b'end': 2}
@@ -412,7 +436,8 @@ def network_of(data, case):
                 raise Refused(at, 'UnknownName')
             if not hot.hot or cold.hot:
                 raise Refused(at, 'WrongSide')
-            statement = Statement('exchanger', name=fields[1], hot=hot, cold=cold, duty=ratio_of(fields[4], at), passed={})
+            statement = Statement('exchanger', name=fields[1], hot=hot, cold=cold, duty=ratio_of(fields[4], at),
+                                  passed={})
             exchangers[fields[1]] = statement
         elif word == b'split':
             source = used(fields[1])
@@ -439,7 +464,8 @@ def network_of(data, case):
         statement.line = at
         statements.append(statement)
     for each in statements:
-        if each.word == 'exchanger' and any(side.stream and side.hot not in each.passed for side in (each.hot, each.cold)):
+        if each.word == 'exchanger' and any(side.stream and side.hot not in each.passed
+                                            for side in (each.hot, each.cold)):
             raise Refused(each.line, 'MissingPass')
     return statements
 
@@ -458,17 +484,17 @@ class Steps:
         return value
 
 
-def audit_text(case, statements):
-    """The status and the text of an audit of a network of a completed case."""
+def audit_text(case, statements, least=least_cost):
+    """The status and the text of an audit of a network of a completed case, whose least cost is found by `least`."""
     try:
-        return 0, accepted_text(case, statements)
+        return 0, accepted_text(case, statements, least)
     except Rejected as finding:
         return 1, finding.line + '\n'
     except Fine as finding:
         return 9, 'too fine %s step %d\n' % (finding.place, finding.step)
 
 
-def accepted_text(case, statements):
+def accepted_text(case, statements, least):
     ended = set()
     exchangers = [each for each in statements if each.word == 'exchanger']
     for each in statements:
@@ -517,7 +543,8 @@ def accepted_text(case, statements):
     for utility, total in zip(case.utilities, sums):
         part = steps.formed(utility.price * total)
         cost = steps.formed(cost + part)
-    head = 'accepted\nhot %s\ncold %s\nexcess %s\ncost %s\nfloor %s\nplace %d\n' % (hot, cold, excess, cost, least_cost(case), place)
+    head = 'accepted\nhot %s\ncold %s\nexcess %s\ncost %s\nfloor %s\nplace %d\n' % (hot, cold, excess, cost,
+                                                                                    least(case), place)
     try:
         return head + penalty_text(statements, exchangers, place, from_itself)
     except Fine as finding:
@@ -535,7 +562,8 @@ def audit_statement(each, ended):
     elif each.word == 'pass':
         change = steps.formed(each.exchanger.duty / each.source.size)
         each.to.size = each.source.size
-        each.to.state = steps.formed(each.source.state - change if each.source.stream.hot else each.source.state + change)
+        each.to.state = steps.formed(each.source.state - change if each.source.stream.hot
+                                     else each.source.state + change)
         for wrong, wanted in ((each.to.state < 0, 0), (each.to.state > 1, 1)):
             if each.source.stream.load and wrong:
                 raise Rejected(place, 'Overdrawn', each.to.state, wanted)
@@ -544,7 +572,8 @@ def audit_statement(each, ended):
         if each.first.state == each.second.state:
             each.to.state = each.first.state
         else:
-            first, second = steps.formed(each.first.size * each.first.state), steps.formed(each.second.size * each.second.state)
+            first = steps.formed(each.first.size * each.first.state)
+            second = steps.formed(each.second.size * each.second.state)
             both = steps.formed(first + second)
             each.to.state = steps.formed(both / each.to.size)
     elif each.word == 'end':
@@ -573,7 +602,8 @@ def penalty_text(statements, exchangers, place, from_itself):
             level = branch.stream.span()[0]
             is_above = level >= place if from_itself else level > place
             return steps.formed(branch.size * branch.state, first + 1) if is_above else Fraction(0)
-        distance = steps.formed(branch.state - (place + branch.stream.share if branch.stream.hot else place - branch.stream.share), first)
+        distance = steps.formed(branch.state - (place + branch.stream.share if branch.stream.hot
+                                                else place - branch.stream.share), first)
         return steps.formed(branch.size * distance, first + 1) if distance > 0 else Fraction(0)
 
     for each in exchangers:
@@ -605,18 +635,22 @@ def penalty_text(statements, exchangers, place, from_itself):
 AMOUNT, LEVEL = 10 ** 15, 10 ** 6
 # The fields of each statement behind its word: the kind of a cut, names, and the greatest of numbers.
 SPAN = ('name', LEVEL, LEVEL)
-FIELDS = {b'cost': (10 ** 20,), b'use': ('name', AMOUNT), b'move': SPAN + SPAN + (AMOUNT,), b'give': SPAN + (AMOUNT,), b'take': SPAN + (AMOUNT,), b'infeasible': (),
+FIELDS = {b'cost': (10 ** 20,), b'use': ('name', AMOUNT), b'move': SPAN + SPAN + (AMOUNT,), b'give': SPAN + (AMOUNT,),
+          b'take': SPAN + (AMOUNT,), b'infeasible': (),
           b'cut': ('kind', AMOUNT, AMOUNT), b'part': SPAN}
 # Which words may stand behind a word, or at the head.
-BEHIND = {None: (b'cost', b'infeasible'), b'cost': (b'use', b'move', b'give', b'take'), b'use': (b'use', b'move', b'give', b'take'), b'move': (b'move', b'give', b'take'),
-          b'give': (b'give', b'take'), b'take': (b'take',), b'infeasible': (b'cut',), b'cut': (b'part',), b'part': (b'part',)}
+BEHIND = {None: (b'cost', b'infeasible'), b'cost': (b'use', b'move', b'give', b'take'),
+          b'use': (b'use', b'move', b'give', b'take'), b'move': (b'move', b'give', b'take'),
+          b'give': (b'give', b'take'), b'take': (b'take',), b'infeasible': (b'cut',), b'cut': (b'part',),
+          b'part': (b'part',)}
 LONG_NUMBER = re.compile(rb'-?[0-9]{1,30}\Z')
 
 
 def report_of(data):
     """The statements of a report."""
     lines = data.split(b'\n')
-    lines = [line[:-1] if line.endswith(b'\r') and number < len(lines) - 1 else line for number, line in enumerate(lines)]
+    lines = [line[:-1] if line.endswith(b'\r') and number < len(lines) - 1 else line
+             for number, line in enumerate(lines)]
     statements = [fields for fields in map(fields_of, lines) if fields and not fields[0].startswith(b'#')]
     last = None
     for at, fields in enumerate(statements, 1):
@@ -649,7 +683,8 @@ ITEMS, SPAN_PRICES = 1000, 100000
 
 
 def study_of(data, case):
-    """The items of a price study of a completed case: a scenario as its name and its prices, a span as its utility, its first and its last price."""
+    """The items of a price study of a completed case: a scenario as its name and its prices, a span as its utility, its
+    first and its last price."""
     items, scenario, rows = [], None, rows_of(data)
     names = [each.name for each in case.utilities]
     for at, row in enumerate(rows, 1):
@@ -719,10 +754,12 @@ class Wanted:
 
     def fits(self, status, written):
         written = written.decode('latin-1')
-        return status in self.statuses and (written == self.front if self.whole else any(written.startswith(each) for each in self.front))
+        return status in self.statuses and (written == self.front if self.whole
+                                            else any(written.startswith(each) for each in self.front))
 
     def __str__(self):
-        return 'status %s, %s %r' % ('/'.join(map(str, self.statuses)), 'the text' if self.whole else 'a text that begins', self.front)
+        return 'status %s, %s %r' % ('/'.join(map(str, self.statuses)),
+                                     'the text' if self.whole else 'a text that begins', self.front)
 
 
 def wanted_of(command, files):
@@ -772,9 +809,11 @@ def wanted_of(command, files):
         return Wanted((3,), LATENT, True)
     if is_standard(case):
         # The least cost of a standard case is its hot target.
-        return Wanted((0,), ['cost %d\nuse ' % hot] if command == 'flow' else ['# hot %d cold %d excess 0 cost %d\n' % (hot, cold, hot)]
+        return Wanted((0,), ['cost %d\nuse ' % hot] if command == 'flow'
+                      else ['# hot %d cold %d excess 0 cost %d\n' % (hot, cold, hot)]
                       if command in ('design', 'vertical') else ['row '], False)
-    return Wanted((0, 1), {'flow': ['cost ', 'infeasible\ncut '], 'design': ['# hot ', 'infeasible\ncut '], 'sweep': ['row ']}[command], False)
+    return Wanted((0, 1), {'flow': ['cost ', 'infeasible\ncut '], 'design': ['# hot ', 'infeasible\ncut '],
+                           'sweep': ['row ']}[command], False)
 
 
 def is_standard(case):

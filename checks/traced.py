@@ -1,7 +1,8 @@
-"""Runs a program under the system's own tracing (Linux, x86-64), so that a request for memory, a read or a write can be refused.
+"""Runs a program under the system's own tracing (Linux, x86-64), so that a request for memory, a read or a write can be
+refused.
 
-Nothing but Python is needed. The program is the built one, unchanged: what is refused is refused by the C library, which is
-asked for more than there is, or by the system, whose call is not made.
+Nothing but Python is needed. The program is the built one, unchanged: what is refused is refused by the C library,
+which is asked for more than there is, or by the system, whose call is not made.
 """
 import ctypes
 import errno
@@ -10,7 +11,7 @@ import signal
 import struct
 import tempfile
 
-from common import ENVIRONMENT
+from common import ENVIRONMENT, status_with
 
 TRACEME, PEEK, POKE, CONT, GETREGS, SETREGS, SYSCALL, SETOPTIONS = 0, 1, 4, 7, 12, 13, 24, 0x4200
 SYSCALL_STOPS, FOLLOW_THREADS, END_WITH_TRACER = 0x01, 0x08, 0x100000
@@ -22,7 +23,8 @@ ENDBR64, PUSH_RBP, BREAKPOINT = b'\xf3\x0f\x1e\xfa', b'\x55', 0xcc
 
 class Registers(ctypes.Structure):
     _fields_ = [(name, ctypes.c_ulonglong) for name in
-                'r15 r14 r13 r12 rbp rbx r11 r10 r9 r8 rax rcx rdx rsi rdi orig_rax rip cs eflags rsp ss fs_base gs_base ds es fs gs'.split()]
+                ('r15 r14 r13 r12 rbp rbx r11 r10 r9 r8 rax rcx rdx rsi rdi orig_rax rip cs eflags rsp ss '
+                 'fs_base gs_base ds es fs gs').split()]
 
 
 library = ctypes.CDLL(None, use_errno=True)
@@ -48,14 +50,12 @@ def set_registers(thread, registers):
     ptrace(SETREGS, thread, 0, ctypes.addressof(registers))
 
 
-def symbols_of(program, wanted):
-    """The addresses of the named functions in the program's file, and whether the system moves it as a whole."""
-    with open(program, 'rb') as handle:
-        image = handle.read()
-    kind, sections, size, count = struct.unpack_from('<H', image, 16)[0], *struct.unpack_from('<Q', image, 40), *struct.unpack_from('<HH', image, 58)
-    found = {}
+def symbols_in(image, wanted):
+    """Of each named function of an ELF file its address, and where in the file the entry of its symbol stands."""
+    sections, (size, count) = struct.unpack_from('<Q', image, 40)[0], struct.unpack_from('<HH', image, 58)
     for number in range(count):
-        _, sort, _, _, offset, length, link, _, _, each = struct.unpack_from('<IIQQQQIIQQ', image, sections + number * size)
+        _, sort, _, _, offset, length, link, _, _, each = struct.unpack_from('<IIQQQQIIQQ', image,
+                                                                             sections + number * size)
         if sort != 2:
             continue
         names = struct.unpack_from('<IIQQQQ', image, sections + link * size)[4]
@@ -64,8 +64,17 @@ def symbols_of(program, wanted):
             end = image.index(b'\0', names + name)
             called = image[names + name:end].decode('latin-1')
             if called in wanted:
-                found[called] = value
-    return found, kind == 3
+                yield called, value, entry
+
+
+def symbols_of(program, wanted):
+    """The addresses of the named functions in the program's file, and whether the system moves it as a whole. A script
+    has none."""
+    with open(program, 'rb') as handle:
+        image = handle.read()
+    if not image.startswith(b'\x7fELF'):
+        return {}, False
+    return {name: value for name, value, _ in symbols_in(image, wanted)}, struct.unpack_from('<H', image, 16)[0] == 3
 
 
 def base_of(process, program):
@@ -81,7 +90,7 @@ def text_at(process, address):
         return read.split(b'\0')[0]
 
 
-def started(program, words, folder, output):
+def started(program, words, folder, output, error):
     """A new process of the program that stands before its first instruction."""
     process = os.fork()
     if process == 0:
@@ -90,7 +99,7 @@ def started(program, words, folder, output):
             os.dup2(output.fileno(), 1)
             null = os.open('/dev/null', os.O_RDWR)
             os.dup2(null, 0)
-            os.dup2(null, 2)
+            os.dup2(error.fileno(), 2)
             os.closerange(3, 256)
             library.ptrace(TRACEME, 0, 0, 0)
             os.execve(program, [program] + words, ENVIRONMENT)
@@ -101,16 +110,31 @@ def started(program, words, folder, output):
     return process
 
 
+def too_long(*_):
+    raise TimeoutError
+
+
 def follow(process, go_on, stopped, seconds=120):
     """Lets the process run to its end; `stopped` is told of each stop that is one of ours. Gives the exit status."""
-    known = set([process])
+    signal.signal(signal.SIGALRM, too_long)
     signal.alarm(seconds)
+    try:
+        return followed(process, go_on, stopped)
+    except TimeoutError:
+        os.kill(process, signal.SIGKILL)
+        os.waitpid(process, 0)
+        return -signal.SIGKILL
+    finally:
+        signal.alarm(0)
+
+
+def followed(process, go_on, stopped):
+    known = set([process])
     ptrace(go_on, process)
     while True:
         thread, state = os.waitpid(-1, ANY_THREAD)
         if os.WIFEXITED(state) or os.WIFSIGNALED(state):
             if thread == process:
-                signal.alarm(0)
                 return os.WEXITSTATUS(state) if os.WIFEXITED(state) else -os.WTERMSIG(state)
             continue
         sort, event = os.WSTOPSIG(state), state >> 16
@@ -131,14 +155,21 @@ def follow(process, go_on, stopped, seconds=120):
             pass
 
 
+def answer_of(status, output, error):
+    """The status of a run that is over, with what stands on standard error, and its text."""
+    output.seek(0)
+    error.seek(0)
+    return status_with(status, error.read()), output.read()
+
+
 def with_memory_refused(program, words, folder, number, lasting=False):
     """A run whose request for memory of this number is refused (with `lasting`, each one from there on).
 
     Gives the status, the text, and how many requests the run made.
     """
     found, moved = symbols_of_once(program)
-    with tempfile.TemporaryFile() as output:
-        process = started(program, words, folder, output)
+    with tempfile.TemporaryFile() as output, tempfile.TemporaryFile() as error:
+        process = started(program, words, folder, output, error)
         base = base_of(process, program) if moved else 0
         places = {}
         for name, address in found.items():
@@ -147,7 +178,7 @@ def with_memory_refused(program, words, folder, number, lasting=False):
             if not (first.startswith(ENDBR64) or first.startswith(PUSH_RBP)):
                 os.kill(process, signal.SIGKILL)
                 os.waitpid(process, 0)
-                raise SystemExit('the function %s begins as none that can be stopped at: %r' % (name, first))
+                raise ValueError('the function %s begins as none that can be stopped at: %r' % (name, first))
             places[base + address] = (name, first.startswith(ENDBR64))
             ptrace(POKE, process, base + address, word & ~0xff | BREAKPOINT)
         count = 0
@@ -174,19 +205,17 @@ def with_memory_refused(program, words, folder, number, lasting=False):
             set_registers(thread, registers)
             return True
 
-        status = follow(process, CONT, stopped)
-        output.seek(0)
-        return status, output.read(), count
+        return *answer_of(follow(process, CONT, stopped), output, error), count
 
 
 KEPT = {}
+# The functions by which the program asks for memory.
+ASKING = ('rattle_alloc', 'rattle_realloc')
 
 
 def symbols_of_once(program):
     if program not in KEPT:
-        KEPT[program] = symbols_of(program, ('rattle_alloc', 'rattle_realloc'))
-        if len(KEPT[program][0]) != 2:
-            raise SystemExit('%s has no symbols rattle_alloc and rattle_realloc, by which memory is asked for' % program)
+        KEPT[program] = symbols_of(program, ASKING)
     return KEPT[program]
 
 
@@ -199,8 +228,8 @@ def ptrace_word(process, address):
 
 
 class Calls:
-    """Which calls of the system are the program's own: opening a file that a word names, reading it, writing the output, and
-    making a thread."""
+    """Which calls of the system are the program's own: opening a file that a word names, reading it, writing the
+    output, and making a thread."""
 
     def __init__(self, names):
         self.names = [os.fsencode(name) for name in names]
@@ -224,11 +253,11 @@ class Calls:
 def with_calls_changed(program, words, names, folder, change):
     """A run in which `change(number, sort, file, length)` is asked at each call of the program's own, counted from 1.
 
-    It answers None (let it be), an error's number (the call fails with it), or ('short', n), a read or write of n bytes at most.
-    Gives the status, the text, and the list of the calls, each (sort, file, length).
+    It answers None (let it be), an error's number (the call fails with it), or ('short', n), a read or write of n bytes
+    at most. Gives the status, the text, and the list of the calls, each (sort, file, length).
     """
-    with tempfile.TemporaryFile() as output:
-        process = started(program, words, folder, output)
+    with tempfile.TemporaryFile() as output, tempfile.TemporaryFile() as error:
+        process = started(program, words, folder, output, error)
         calls = Calls(names)
         made, inside, answers, opened = [], {}, {}, {}
 
@@ -266,10 +295,8 @@ def with_calls_changed(program, words, names, folder, change):
                         calls.files[registers.rax] = file
             return True
 
-        status = follow(process, SYSCALL, stopped)
-        output.seek(0)
-        return status, output.read(), made
+        return *answer_of(follow(process, SYSCALL, stopped), output, error), made
 
 
-REFUSALS = {'open': [errno.EIO, errno.EACCES, errno.EMFILE], 'read': [errno.EIO, errno.EINTR], 'write': [errno.EIO, errno.ENOSPC, errno.EINTR],
-            'thread': [errno.EAGAIN]}
+REFUSALS = {'open': [errno.EIO, errno.EACCES, errno.EMFILE], 'read': [errno.EIO, errno.EINTR],
+            'write': [errno.EIO, errno.ENOSPC, errno.EFBIG, errno.EINTR], 'thread': [errno.EAGAIN]}

@@ -1,0 +1,90 @@
+"""The parts of a case and of a site, and which reach which, by the definitions of docs/FORMATS.md; for the search of
+cheapest.py and for flows.py, which takes printed heat flows apart."""
+from __future__ import annotations
+from collections.abc import Callable
+from dataclasses import dataclass
+from typing import TYPE_CHECKING
+
+if TYPE_CHECKING:
+    from reading import Case, Source
+
+ENDLESS = 10 ** 30
+
+
+@dataclass(frozen=True, eq=False)
+class Part:
+    """A stream on a piece of its shifted range, a latent stream at its level, or a utility."""
+    source: Source
+    high: int
+    low: int
+    least: int
+    most: int
+    price: int
+
+    def name(self) -> str:
+        return '%s %d %d' % (self.source.name.decode(), self.high, self.low)
+
+    def reaches(self, cold: Part) -> bool:
+        """Whether heat passes from this hot part down to the cold one."""
+        return self.low >= cold.high or (self.high, self.low) == (cold.high, cold.low)
+
+
+@dataclass(frozen=True)
+class Problem:
+    """Hot and cold parts in the order in which they are printed, which of them reach each other, and the utilities in
+    their order."""
+    hot: list[Part]
+    cold: list[Part]
+    reaches: Callable[[Part, Part], bool]
+    utilities: list[Source]
+
+
+def parts_of(places: list[int], sources: list[Source], hot: bool) -> list[Part]:
+    """The parts of one side over a grid of places that fall: by falling high, by falling low, then in the order of the
+    sources."""
+    found = []
+    for at, each in enumerate(sources):
+        low, high = each.span()
+        if each.hot is not hot:
+            continue
+        spans = [pair for pair in zip(places, places[1:]) if low <= pair[1] and pair[0] <= high]
+        for top, bottom in spans if low < high else [(high, low)]:
+            heat = each.load + each.cp * (top - bottom)
+            least, most = (heat, heat) if each.stream else (each.least, each.most)
+            part = Part(each, top, bottom, least, most, 0 if each.stream else each.price)
+            found.append((-top, -bottom, at, part))
+    return [part for _, _, _, part in sorted(found, key=lambda one: one[:3])]
+
+
+def of_case(case: Case) -> Problem:
+    """The parts of a completed case."""
+    sources, forbidden = case.streams + case.utilities, set(case.forbidden)
+    places = sorted({end for each in sources for end in each.span()}, reverse=True)
+
+    def reaches(one: Part, other: Part) -> bool:
+        return one.reaches(other) and (one.source.name, other.source.name) not in forbidden
+
+    return Problem(parts_of(places, sources, True), parts_of(places, sources, False), reaches, case.utilities)
+
+
+def places_of(site: Case) -> list[int]:
+    """The grid of a site: the stream ends, and where each main takes and gives heat."""
+    taking_and_giving = {level + shift for _, level in site.mains for shift in (site.share, -site.share)}
+    return sorted(set(site.ends()) | taking_and_giving, reverse=True)
+
+
+def of_site(site: Case) -> Problem:
+    """The parts of a site with BOILER and COOLING. Between two plants a main has to lie between."""
+    from reading import Source
+    places, levels = places_of(site), [level for _, level in site.mains]
+    boiler, cooling = max(levels) - site.share, places[-1]
+    utilities = [Source(b'BOILER', True, False, boiler, boiler, most=ENDLESS, price=1, share=0),
+                 Source(b'COOLING', False, False, cooling, cooling, most=ENDLESS, share=0)]
+
+    def reaches(one: Part, other: Part) -> bool:
+        if None in (one.source.plant, other.source.plant) or one.source.plant == other.source.plant:
+            return one.reaches(other)
+        return any(level + site.share <= one.low and other.high <= level - site.share for level in levels)
+
+    hot, cold = [parts_of(places, site.streams + utilities, side) for side in (True, False)]
+    return Problem(hot, cold, reaches, utilities)
