@@ -223,7 +223,7 @@ def read_case(text: str | bytes) -> Case:
 
 def noted(basis: Basis, row: Sequence[str]) -> Basis:
     """The basis with what a comment row of the desk says; any other comment says nothing."""
-    word, first, second = row[0], row[1], row[2]
+    word, first, second = row[0], row[1].removeprefix("'"), row[2].removeprefix("'")
     try:
         if word == '#scale':
             return replace(basis, scale=positive(first))
@@ -243,15 +243,20 @@ def positive(text: str) -> Fraction:
     return held
 
 
+def plain(text: str) -> str:
+    """A text that no spreadsheet takes for a formula."""
+    return "'" + text if text.startswith(tuple("=+-@'\t")) else text
+
+
 def basis_rows(basis: Basis) -> Iterator[list[str]]:
     if basis.scale != 1:
         yield ['#scale', str(basis.scale), '', '', '', '', '']
     if basis.price_unit:
-        yield ['#price', basis.price_unit, str(basis.price_divisor), '', '', '', '']
+        yield ['#price', plain(basis.price_unit), str(basis.price_divisor), '', '', '', '']
     if basis.cost_unit:
-        yield ['#cost', basis.cost_unit, str(basis.cost_divisor), '', '', '', '']
+        yield ['#cost', plain(basis.cost_unit), str(basis.cost_divisor), '', '', '', '']
     for old, new in basis.names:
-        yield ['#name', old, new, '', '', '', '']
+        yield ['#name', plain(old), new, '', '', '', '']
 
 
 def case_rows(case: Case) -> Iterator[list[str]]:

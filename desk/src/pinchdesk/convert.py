@@ -55,8 +55,8 @@ def case_of_table(content: bytes, name: str, wanted: Wanted) -> Converted:
     """The case of a table's file. `Refused`, by sheet, row and column, where something is not understood, or is
     ambiguous."""
     if wanted.separator in (None, ',') and is_case(content):
-        cause = ('this is a case already, in tenths of °C, 10 W/K and W: it needs no conversion. If it is a table in °C, '
-                 'give it headings')
+        cause = ('this is a case already, in tenths of °C, 10 W/K and W: it needs no conversion. If it is a table in '
+                 '°C, give it headings')
         raise Refused(3, '', 'a case already', cause)
     tables = read_table(content, name, wanted.sheet, wanted.separator)
     best = max(headings(each) for each in tables)
