@@ -138,6 +138,8 @@ class Maker:
             self.take(line)
         share, share_row = self.contribution()
         self.told.settle()
+        if not self.streams:
+            raise Refused(3, '', 'no stream', 'the table has no stream: is its separator another one (--separator)?')
         utilities, basis = self.with_prices(share)
         changed = tuple((old, new) for old, new in names.items() if old != new)
         basis = replace(basis, scale=self.wanted.scale, names=changed)
