@@ -1,4 +1,5 @@
-"""From tables to cases: any unit, separator and mark gives the same case; what is ambiguous or wrong is refused by its place."""
+"""From tables to cases: any unit, separator and mark gives the same case; what is ambiguous or wrong is refused by its
+place."""
 from __future__ import annotations
 
 import io

@@ -8,7 +8,7 @@ from collections.abc import Iterable, Sequence
 from typing import NoReturn
 
 from . import words
-from .errors import DeskError, WordsError
+from .errors import DeskError, Refused
 from .output import check_place, put, write_whole
 from .word import Word
 
@@ -28,7 +28,8 @@ def parser() -> argparse.ArgumentParser:
     under = made.add_subparsers(dest='word', metavar='WORD', required=True)
     for word in WORDS:
         one = under.add_parser(word.name, help=word.summary, description=word.summary,
-                               epilog=f'example: {word.example}')
+                               epilog=f'example: {word.example}',
+                               formatter_class=argparse.RawDescriptionHelpFormatter)
         word.arguments(one)
         one.add_argument('-o', '--output', metavar='FILE', required=word.to_file, help='where the answer is written')
         one.set_defaults(its=word)
@@ -57,6 +58,13 @@ def answer(word: Word, options: argparse.Namespace) -> int:
     return 0 if given.good else 1
 
 
+def lines_of(fault: DeskError) -> list[str]:
+    """What an error says; a refusal may have a line for each fault of its file."""
+    if not isinstance(fault, Refused):
+        return [str(fault)]
+    return [f'{fault.file}: {line}' if fault.file else line for line in fault.text.split('\n')]
+
+
 def printable(text: str) -> str:
     """A text on one line, without what would steer a terminal."""
     return ''.join(each if each.isprintable() else '?' for each in text)
@@ -73,7 +81,8 @@ def main(arguments: Sequence[str] | None = None) -> int:
     try:
         return answer(options.its, options)
     except DeskError as fault:
-        print(f'pinchdesk: {printable(str(fault))}', file=sys.stderr)
+        for line in lines_of(fault):
+            print(f'pinchdesk: {printable(line)}', file=sys.stderr)
         return fault.status
     except KeyboardInterrupt:
         return 130
@@ -83,5 +92,3 @@ def run() -> NoReturn:
     """The command as it is installed."""
     sys.exit(main())
 
-
-__all__ = ['WORDS', 'WordsError', 'main', 'parser', 'run']

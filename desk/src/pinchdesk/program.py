@@ -8,7 +8,9 @@ import os
 import shutil
 import subprocess
 import tempfile
+from collections.abc import Callable
 from pathlib import Path
+from typing import TypeVar
 
 from . import printed
 from .answers import Curves, Cut, Design, HeatFlow, Prices, SiteAnswer, Sweep, Targets
@@ -19,6 +21,7 @@ from .study import Study, print_study, read_study
 from .verdicts import Verdict
 
 CHECKOUT = Path(__file__).resolve().parents[3] / 'crates' / 'pinch' / 'out' / 'pinch'
+Answer = TypeVar('Answer')
 CaseText = Case | str | bytes
 NetworkText = Network | str | bytes
 StudyText = Study | str | bytes
@@ -53,30 +56,30 @@ class Pinch:
 
     def targets(self, case: CaseText) -> Targets:
         """The least hot and cold utility, and the pinches."""
-        return printed.targets_of(self.ask(['targets', 'case'], {'case': case_bytes(case)}))
+        return self.answer(printed.targets_of, ['targets', 'case'], {'case': case_bytes(case)})
 
     def flow(self, case: CaseText) -> HeatFlow | Cut:
         """A heat flow of least cost with its proof, or the proof that there is none."""
-        return printed.flow_of(self.ask(['flow', 'case'], {'case': case_bytes(case)}))
+        return self.answer(printed.flow_of, ['flow', 'case'], {'case': case_bytes(case)})
 
     def curves(self, case: CaseText) -> Curves:
         """The composite curves and the grand one."""
-        return printed.curves_of(self.ask(['curves', 'case'], {'case': case_bytes(case)}))
+        return self.answer(printed.curves_of, ['curves', 'case'], {'case': case_bytes(case)})
 
     def design(self, case: CaseText) -> Design | Cut:
         """A network that realises the heat flow of `flow`, or the proof that there is none."""
-        return printed.design_of(self.ask(['design', 'case'], {'case': case_bytes(case)}))
+        return self.answer(printed.design_of, ['design', 'case'], {'case': case_bytes(case)})
 
     def vertical(self, case: CaseText) -> Design:
         """A network by the composite curves. `Refused` where the case is not standard, or has latent streams."""
-        made = printed.design_of(self.ask(['vertical', 'case'], {'case': case_bytes(case)}))
+        made = self.answer(printed.design_of, ['vertical', 'case'], {'case': case_bytes(case)})
         assert isinstance(made, Design)
         return made
 
     def audit(self, case: CaseText, network: NetworkText) -> Verdict:
         """What a network is: accepted with its balance, rejected at a place, or too fine."""
         files = {'case': case_bytes(case), 'network': network_bytes(network)}
-        return printed.verdict_of(self.ask(['audit', 'case', 'network'], files))
+        return self.answer(printed.verdict_of, ['audit', 'case', 'network'], files)
 
     def certify(self, case: CaseText, report: str | bytes) -> tuple[bool, str]:
         """Whether a printed flow proves what it says, and the answer."""
@@ -86,17 +89,25 @@ class Pinch:
     def sweep(self, case: CaseText, first: int, last: int, step: int, workers: int = 1) -> Sweep:
         """Targets and least cost at each contribution of a range, in tenths of °C."""
         words = ['sweep', 'case', str(first), str(last), str(step), str(workers)]
-        return printed.sweep_of(self.ask(words, {'case': case_bytes(case)}))
+        return self.answer(printed.sweep_of, words, {'case': case_bytes(case)})
 
     def prices(self, case: CaseText, study: StudyText, workers: int = 1) -> Prices:
         """The least cost at other prices."""
         held = print_study(study).encode() if isinstance(study, Study) else as_bytes(study)
-        answer = self.ask(['prices', 'case', 'study', str(workers)], {'case': case_bytes(case), 'study': held})
-        return printed.prices_of(read_study(held), answer)
+        words, files = ['prices', 'case', 'study', str(workers)], {'case': case_bytes(case), 'study': held}
+        return self.answer(lambda text: printed.prices_of(read_study(held), text), words, files)
 
     def site(self, site: str | bytes) -> SiteAnswer:
         """The profiles and the heat flow of plants on shared mains."""
-        return printed.site_of(self.ask(['site', 'site'], {'site': as_bytes(site)}))
+        return self.answer(printed.site_of, ['site', 'site'], {'site': as_bytes(site)})
+
+    def answer(self, reading: Callable[[str], Answer], words: list[str], files: dict[str, bytes]) -> Answer:
+        """One run, read; `ProgramError` where what it printed is no such answer."""
+        text = self.ask(words, files)
+        try:
+            return reading(text)
+        except (ValueError, IndexError, StopIteration) as fault:
+            raise ProgramError(f'{self.path} answered what `pinch {words[0]}` does not: {text[:60]!r}') from fault
 
     def ask(self, words: list[str], files: dict[str, bytes]) -> str:
         """One run: what it printed, where it is an answer."""
