@@ -3,6 +3,7 @@ place."""
 from __future__ import annotations
 
 import io
+from collections.abc import Callable
 from dataclasses import replace
 from decimal import Decimal
 from fractions import Fraction
@@ -11,7 +12,7 @@ from typing import Any
 import openpyxl
 import pytest
 from conftest import CASES, example
-from hypothesis import given
+from hypothesis import given, settings
 from hypothesis import strategies as some
 
 from pinchdesk import Basis, Case, Pinch, Refused, Side, Stream, WordsError, read_case
@@ -108,10 +109,12 @@ def test_what_the_program_refuses_is_refused_by_the_row_of_the_table(pinch: Pinc
 LAYOUTS = [
     'H,150,60,2\n', 'hot,H,150,60,2\n', 'H;150;60;2\n', 'H\t150\t60\t2\n', 'H|150|60|2\n', '"H";"150";"60";"2"\r\n',
     'name,supply,target,CP\nH,150,60,2\n', 'CP,target,supply,name\n2,60,150,H\n', 'Stream,Tin,Tout,mCp\nH,150,60,2\n',
-    'name,supply,target,CP\n,°C,°C,kW/K\nH,150,60,2\n', 'name,supply,target,CP\n-,[K],[K],[W/K]\nH,423.15,333.15,2000\n',
+    'name,supply,target,CP\n,°C,°C,kW/K\nH,150,60,2\n',
+    'name,supply,target,CP\n-,[K],[K],[W/K]\nH,423.15,333.15,2000\n',
     'Plant 7,,,\nrevision 2,,,\n\nname,supply,target,CP\nH,150,60,2\n\nSum,,,2\nall from the data sheet,,,\n',
     'name,supply,target,CP,duty\nH,150,60,2,180\n,,,,180\n', '\ufeffname,supply,target,CP\rH,150,60,2\r',
-    'stream,temperature,,CP\n,supply (K),target (K),kW/K\nH,423.15,333.15,2\n', 'no,name,supply,target,CP\n1,H,150,60,2\n',
+    'stream,temperature,,CP\n,supply (K),target (K),kW/K\nH,423.15,333.15,2\n',
+    'no,name,supply,target,CP\n1,H,150,60,2\n',
     ',Temperatures (K),,\nname,supply,target,CP\nH,423.15,333.15,2\n', 'name,supply,target,CP\nH,150 °C,60 °C,2 kW/K\n',
     'name,supply °C,target °C,CP in kW/K\nH,150,60,2\n', 'name,supply,target,"CP, kW/K"\nH,150,60,2\n',
     'name,supply,target,duty / kW\nH,150,60,180\n', 'name,supply,target,ΔH [kW],note\nH,150,60,-180,"of column, top"\n',
@@ -132,7 +135,8 @@ def test_latin_1_and_utf_16_are_read() -> None:
 
 def test_no_unit_at_all_is_told() -> None:
     notes = made('name,supply,target,CP\nH,150,60,2\n').notes
-    assert sorted(notes) == ['no unit stands with the column `CP`: kW/K is taken', 'no unit stands with the column `supply`: °C '
+    assert sorted(notes) == ['no unit stands with the column `CP`: kW/K is taken',
+                             'no unit stands with the column `supply`: °C '
                              'is taken', 'no unit stands with the column `target`: °C is taken']
     assert not made('name,supply °C,target °C,CP kW/K\nH,150,60,2\n').notes
 
@@ -147,16 +151,18 @@ def test_what_is_rounded_is_told() -> None:
 
 
 def test_a_scale_takes_all_heats_times_ten() -> None:
-    held = 'kind,name,supply °C,target °C,CP kW/K,duty kW,most kW\nhot,H,150,60,0.0234,,\ncold,B,90,90,,1.5,\nheater,S,200,,,,7\n'
+    held = ('kind,name,supply °C,target °C,CP kW/K,duty kW,most kW\nhot,H,150,60,0.0234,,\ncold,B,90,90,,1.5,\n'
+            'heater,S,200,,,,7\n')
     case = made(held, replace(TEN, scale=Fraction(10))).case
     assert [(each.cp, each.load) for each in case.streams] == [(23, 0), (0, 15000)]
-    assert (case.utilities[0].most, case.basis.scale) == (70000, 10)
+    assert case.utilities[0].most == 70000 and case.basis.scale == 10
     assert 'the CP is 0' in refusal('name,supply,target,CP\nH,150,60,0.004\n')
 
 
 def test_latent_streams_have_equal_temperatures_and_a_duty() -> None:
     held = 'kind,name,supply,target,CP,duty (MW)\nhot,condenser,82,82,-,3.6\ncold,reboiler,116,116,,3.677\n'
-    assert streams(held) == [('hot', 'condenser', 820, 820, 0, 3_600_000), ('cold', 'reboiler', 1160, 1160, 0, 3_677_000)]
+    assert streams(held) == [('hot', 'condenser', 820, 820, 0, 3_600_000),
+                             ('cold', 'reboiler', 1160, 1160, 0, 3_677_000)]
     assert 'has to say hot or cold' in refusal('name,supply,target,duty\nB,90,90,5\n')
     assert 'the duty is missing' in refusal('kind,name,supply,target,duty\nhot,B,90,90,\n')
     assert 'has a duty and no CP' in refusal('kind,name,supply,target,CP,duty\nhot,B,90,90,4,5\n')
@@ -169,7 +175,8 @@ def test_utilities_have_prices_and_all_costs_come_back(pinch: Pinch) -> None:
     case = made(held).case
     assert [each.price for each in case.utilities] == [355, 200, 0]
     assert (case.basis.price_unit, case.basis.cost_unit) == ('EUR/MWh', 'EUR/h')
-    assert made(held.replace('EUR/MWh', 'EUR/(kW a)'), replace(TEN, hours=Fraction(8000))).case.basis.cost_unit == 'EUR/a'
+    assert made(held.replace('EUR/MWh', 'EUR/(kW a)'),
+                replace(TEN, hours=Fraction(8000))).case.basis.cost_unit == 'EUR/a'
     assert 'none of a price' in refusal(held.replace('EUR/MWh', 'EUR/t'))
     assert 'is missing' in refusal(held.replace('20 EUR/MWh', ''))
     assert '--hours' in refusal(held.replace('20 EUR/MWh', '20 EUR/(kW a)'))
@@ -203,7 +210,8 @@ def test_names_are_made_fit_and_told() -> None:
             '=1+1,150,60,2\n')
     case = made(held).case
     names = [each.name for each in case.streams]
-    assert names == ['Kuehlwasser-Rueck', 'Column-1-overhea', 'Column-1-overh-2', 'S4', 'script-alert-1-s', 'fit', '1-plus-1'] \
+    assert names == ['Kuehlwasser-Rueck', 'Column-1-overhea', 'Column-1-overh-2', 'S4', 'script-alert-1-s', 'fit',
+                     '1-plus-1'] \
         or names[0] == 'Kuehlwasser-Ruec'
     assert len(set(names)) == 7
     assert case.basis.names[1] == ('Column 1/overhead vapour', 'Column-1-overhea')
@@ -212,18 +220,25 @@ def test_names_are_made_fit_and_told() -> None:
 
 
 REFUSED = [
-    ('hot,A,150,x,2\n', 'row 1 column 4'), ('hot,A,150,60 kW,2\n', 'row 1 column 4'), ('hot;A;150,5;60.5;2\n', 'row 1 column 4'),
-    ('hot,A,60,150,2\n', 'row 1 column 4'), ('A 150 60 2\n', 'the table has no stream'), ('hot,A,150,150,\n', 'row 1 column 6'),
+    ('hot,A,150,x,2\n', 'row 1 column 4'), ('hot,A,150,60 kW,2\n', 'row 1 column 4'),
+    ('hot;A;150,5;60.5;2\n', 'row 1 column 4'),
+    ('hot,A,60,150,2\n', 'row 1 column 4'), ('A 150 60 2\n', 'the table has no stream'),
+    ('hot,A,150,150,\n', 'row 1 column 6'),
     ('hot,A,150,60,\n', 'row 1 column 5'), ('hot,A,150,60,2,,,9\n', 'row 1 column 8'), ('hot,A,150,60,"2\n', 'row'),
-    ('name,supply,target,colour\nA,150,60,2\n', 'row 1 column 4'), ('name,supply,target,CP,CP\nA,150,60,2,2\n', 'row 1 column 5'),
+    ('name,supply,target,colour\nA,150,60,2\n', 'row 1 column 4'), ('name,supply,target,CP,CP\nA,150,60,2,2\n',
+                                                                    'row 1 column 5'),
     ('name,target,CP\nA,60,2\n', 'row 1'), ('name,supply,target,CP (kJ/kg/K)\nA,150,60,2\n', 'row 2 column 4'),
     ('name,supply,target,CP (kW/K)\n,,,MW/K\nA,150,60,2\n', 'row 2 column 4'), ('name,supply,CP\nA,150,2\n', 'row 2'),
-    ('name,supply (°C),target,CP\nA,423 K,60,2\n', 'row 2 column 2'), ('name,supply,target,CP\nA,150,,2\n', 'row 2 column 3'),
+    ('name,supply (°C),target,CP\nA,423 K,60,2\n', 'row 2 column 2'), ('name,supply,target,CP\nA,150,,2\n',
+                                                                       'row 2 column 3'),
     ('name,supply,target,CP\nA,,60,2\n', 'row 2 column 2'), ('name,supply,target,CP\n,150,60,2\n', 'row 2 column 1'),
-    ('kind,name,supply,target,CP\nwarmish,A,150,60,2\n', 'row 2 column 1'), ('name,supply,target,CP\nA,150,60,#REF!\n', 'row 2 column 4'),
+    ('kind,name,supply,target,CP\nwarmish,A,150,60,2\n', 'row 2 column 1'),
+    ('name,supply,target,CP\nA,150,60,#REF!\n', 'row 2 column 4'),
     ('kind,name,supply,target,CP\nheater,W,25,35,\nhot,A,150,60,2\n', 'row 2 column 4'), ('', ''), ('\n\n', ''),
-    ('name,supply,target,CP\nA,150,60,5 %\n', 'row 2 column 4'), ('name,supply,target,CP\nA,150,60,(2)\n', 'row 2 column 4'),
-    ('name,supply,target,CP\nA,150,60,1 25\n', 'row 2 column 4'), ('name,supply,target,duty (GJ/a)\nA,150,60,2\n', 'row 2 column 4'),
+    ('name,supply,target,CP\nA,150,60,5 %\n', 'row 2 column 4'), ('name,supply,target,CP\nA,150,60,(2)\n',
+                                                                  'row 2 column 4'),
+    ('name,supply,target,CP\nA,150,60,1 25\n', 'row 2 column 4'), ('name,supply,target,duty (GJ/a)\nA,150,60,2\n',
+                                                                   'row 2 column 4'),
     ('contribution,,50,,,,\nhot,H,1000,500,10,,\n', 'this is a case already'), ('\0\1\2', 'this is neither'),
 ]
 
@@ -242,7 +257,8 @@ def test_all_faults_are_told_at_once() -> None:
 
 def test_a_workbook_is_read() -> None:
     rows: list[list[object]] = [['Plant 7'], [], ['Stream', 'Supply (°C)', 'Target (°C)', 'Duty (MW)', 'Remarks'],
-                                ['H', 150, 60.0, 0.18, 'top'], ['C', '20 °C', 120, 0.3], ['Sum', None, None, 0.48], ['estimated']]
+                                ['H', 150, 60.0, 0.18, 'top'], ['C', '20 °C', 120, 0.3], ['Sum', None, None, 0.48],
+                                ['estimated']]
     assert streams(workbook(rows)) == [('hot', 'H', 1500, 600, 200, 0), ('cold', 'C', 200, 1200, 300, 0)]
 
 
@@ -251,7 +267,8 @@ def test_a_named_sheet_is_read() -> None:
     held = workbook([['nothing here']], Plant=rows)
     assert streams(held, replace(TEN, sheet='Plant')) == [('hot', 'H', 1500, 600, 200, 0)]
     assert 'there is no sheet Site: the workbook has Streams, Plant' in refusal(held, replace(TEN, sheet='Site'))
-    assert refusal(workbook([['name', 'supply', 'target', 'CP'], ['H', 150, 'x', 2]])).startswith('sheet Streams row 2 column C')
+    assert refusal(workbook([['name', 'supply', 'target', 'CP'], ['H', 150, 'x',
+                                                                  2]])).startswith('sheet Streams row 2 column C')
 
 
 def test_cells_that_are_no_plain_numbers_are_refused() -> None:
@@ -278,7 +295,8 @@ def test_units_of_formats_and_of_merged_titles_are_seen() -> None:
 
 
 def test_numbers_of_formulas_have_fifteen_digits() -> None:
-    assert made(workbook([['name', 'supply °C', 'target °C', 'CP kW/K'], ['H', 0.1 + 0.2, 60, 2.0000000000000004]])).notes == (
+    assert made(workbook([['name', 'supply °C', 'target °C', 'CP kW/K'],
+                          ['H', 0.1 + 0.2, 60, 2.0000000000000004]])).notes == (
         'sheet Streams row 2 column B: 0.3 °C is rounded to 3 (tenths of °C)',)[1:]
 
 
@@ -291,8 +309,10 @@ def test_what_is_no_workbook_is_refused() -> None:
 
 # Any case in any units, with any separator and mark.
 
-UNITS = {'°C': lambda tenths: Fraction(tenths, 10), 'K': lambda tenths: Fraction(tenths, 10) + Fraction('273.15'),
-         '°F': lambda tenths: Fraction(tenths, 10) * Fraction(9, 5) + 32}
+UNITS: dict[str, Callable[[int], Fraction]] = {
+    '°C': lambda tenths: Fraction(tenths, 10),
+    'K': lambda tenths: Fraction(tenths, 10) + Fraction('273.15'),
+    '°F': lambda tenths: Fraction(tenths, 10) * Fraction(9, 5) + 32}
 DIFFERENCES = {'K': Fraction(1, 10), '°F': Fraction(18, 100)}
 FLOWS = {'kW/K': Fraction(1, 100), 'MW/°C': Fraction(1, 100_000), 'W/K': Fraction(10), 'kW per K': Fraction(1, 100)}
 HEATS = {'kW': Fraction(1, 1000), 'MW': Fraction(1, 10 ** 6), 'W': Fraction(1), 'GJ/h': Fraction(36, 10 ** 7)}
@@ -310,19 +330,23 @@ def tables(draw: Any) -> tuple[Case, str]:
     case = read_case(example(draw(some.sampled_from(CASES)) + '.csv'))
     mark = draw(some.sampled_from('.,'))
     separator = draw(some.sampled_from(';\t|,'))
-    warm, flow, heat, apart = (draw(some.sampled_from(list(each))) for each in (UNITS, FLOWS, HEATS, DIFFERENCES))
-    units = {'supply': warm, 'target': warm, 'CP': flow, 'duty': heat, 'contribution': apart, 'least': heat, 'most': heat}
+    warm = draw(some.sampled_from([*UNITS]))
+    flow, heat, apart = (draw(some.sampled_from([*each])) for each in (FLOWS, HEATS, DIFFERENCES))
+    units = {'supply': warm, 'target': warm, 'CP': flow, 'duty': heat, 'contribution': apart, 'least': heat,
+             'most': heat}
     rows = []
     for each in case.sources:
         share = written(each.contribution * DIFFERENCES[apart], mark)
         if isinstance(each, Stream):
-            size = ['', written(each.load * HEATS[heat], mark)] if each.latent else [written(each.cp * FLOWS[flow], mark), '']
+            size = ['', written(each.load * HEATS[heat], mark)] if each.latent else [written(each.cp * FLOWS[flow],
+                                                                                             mark), '']
             ends = [written(UNITS[warm](end), mark) for end in (each.supply, each.target)]
             rows.append([each.side.value, each.name, *ends, *size, share, '', '', ''])
         else:
             bounds = [written(bound * HEATS[heat], mark) for bound in (each.least, each.most)]
             kind = 'heater' if each.side is Side.HOT else 'cooler'
-            rows.append([kind, each.name, written(UNITS[warm](each.level), mark), '', '', '', share, *bounds, str(each.price)])
+            rows.append([kind, each.name, written(UNITS[warm](each.level), mark), '', '', '', share, *bounds,
+                         str(each.price)])
     rows += [['forbid', each.hot, each.cold] for each in case.forbids]
     rows.append(['contribution', '', '', '', '', '', written(case.contribution * DIFFERENCES[apart], mark)])
     style = draw(some.sampled_from(['heading', 'row', 'cell']))
@@ -343,6 +367,7 @@ def test_a_case_printed_as_a_table_is_read_as_the_same_case(held: tuple[Case, st
     assert replace(again, basis=Basis()) == replace(case, basis=Basis())
 
 
+@settings(max_examples=20)
 @given(tables())
 def test_a_case_printed_as_a_workbook_is_read_as_the_same_case(held: tuple[Case, str]) -> None:
     case, text = held

@@ -22,7 +22,8 @@ KNOWN = [
     (Kind.FLOW, 'kW per K', 2, 200), (Kind.FLOW, 'W/K', 2000, 200), (Kind.FLOW, '10 W/K', 7, 7),
     (Kind.FLOW, 'kJ/(s K)', 2, 200), (Kind.FLOW, 'kW·K⁻¹', 2, 200), (Kind.FLOW, 'kW K^-1', 2, 200),
     (Kind.FLOW, 'kW/C', 2, 200), (Kind.FLOW, 'kcal/h/°C', 4500, 523), (Kind.FLOW, 'Btu/(h °F)', 1_250_000, 65941),
-    (Kind.HEAT, 'kW', 2, 2000), (Kind.HEAT, 'MW', 2, 2_000_000), (Kind.HEAT, 'W', 2, 2), (Kind.HEAT, 'GJ/h', 9, 2_500_000),
+    (Kind.HEAT, 'kW', 2, 2000), (Kind.HEAT, 'MW', 2, 2_000_000), (Kind.HEAT, 'W', 2, 2),
+    (Kind.HEAT, 'GJ/h', 9, 2_500_000),
     (Kind.HEAT, 'Btu/h', 225_000, 65941), (Kind.HEAT, 'kcal/h', 450, 523), (Kind.HEAT, 'MMBtu/h', 9, 2_637_640),
 ]
 UNKNOWN = [
@@ -53,13 +54,15 @@ def test_any_text_is_a_unit_or_refused(text: str, kind: Kind) -> None:
 
 
 NUMBERS = [
-    ('12', Says.NOTHING, '12'), ('12.5', Says.POINT, '12.5'), ('1.234,5', Says.COMMA, '1234.5'), ('0,250', Says.COMMA, '0.250'),
+    ('12', Says.NOTHING, '12'), ('12.5', Says.POINT, '12.5'), ('1.234,5', Says.COMMA, '1234.5'),
+    ('0,250', Says.COMMA, '0.250'),
     ('1.234.567', Says.COMMA, '1234567'), ('1,234,567', Says.POINT, '1234567'), ('1 250', Says.NOTHING, '1250'),
     ('1 250,5', Says.COMMA, '1250.5'), ("1'250.75", Says.POINT, '1250.75'), ('1\u202f250', Says.NOTHING, '1250'),
     ('−5,0', Says.COMMA, '-5.0'), ('-5', Says.NOTHING, '-5'), ('+5', Says.NOTHING, '5'), ('.5', Says.POINT, '0.5'),
     ('1234.567', Says.POINT, '1234.567'), ('1.5E+03', Says.POINT, '1500'), ('1,000.000', Says.POINT, '1000.000'),
 ]
-NO_NUMBERS = ['', 'x', '1,2,3', '1.23.456', '1 25', '1,00,000', '++5', '(60)', '0.5.', '1 2 3', '1,25.5', '#REF!', '٣', '५']
+NO_NUMBERS = ['', 'x', '1,2,3', '1.23.456', '1 25', '1,00,000', '++5', '(60)', '0.5.', '1 2 3', '1,25.5', '#REF!', '٣',
+              '५']
 
 
 @pytest.mark.parametrize('text, says, value', NUMBERS)
@@ -102,7 +105,8 @@ def test_rounding_is_to_the_nearest(value: Fraction) -> None:
 
 PRICES = [('EUR/MWh', 'EUR', 1_000_000, False), ('per kWh', '', 1000, False), ('€/(kW a)', '€', 1000, True),
           ('EUR/kW/a', 'EUR', 1000, True), ('per kW and year', '', 1000, True), ('EUR/kWa', 'EUR', 1000, True),
-          ('$/GJ', '$', Fraction(2_500_000, 9), False), ('ct/kWh', 'ct', 1000, False), ('US$/MWh', 'US$', 10 ** 6, False)]
+          ('$/GJ', '$', Fraction(2_500_000, 9), False), ('ct/kWh', 'ct', 1000, False),
+          ('US$/MWh', 'US$', 10 ** 6, False)]
 
 
 @pytest.mark.parametrize('text, money, amount, yearly', PRICES)
@@ -122,7 +126,8 @@ def test_costs_come_back_in_the_unit_of_the_prices() -> None:
     assert made.prices == (355, 20)
     # 2 MW at 35.5 EUR/MWh are 71 EUR in an hour.
     assert 2_000_000 * 355 / made.basis.cost_divisor == 71
-    assert (made.basis.price_unit, made.basis.cost_unit, made.basis.price_divisor) == ('EUR/MWh', 'EUR/h', 10)
+    assert (made.basis.price_unit, made.basis.cost_unit) == ('EUR/MWh', 'EUR/h')
+    assert made.basis.price_divisor == 10
 
 
 def test_prices_per_energy_and_per_year_go_together_by_the_hours() -> None:
@@ -146,5 +151,7 @@ def test_prices_keep_their_proportions_or_are_rounded(values: list[Decimal]) -> 
     exact = [Fraction(each) for each in values]
     made = priced(exact, [None] * len(exact), None)
     assert all(abs(each) <= 10 ** 6 for each in made.prices)
+    divisor = made.basis.price_divisor
+    apart = Fraction(1, 2) if made.rounded else Fraction(0)
     for price, value in zip(made.prices, exact):
-        assert abs(price / made.basis.price_divisor - value) <= (Fraction(1, 2) if made.rounded else 0) / made.basis.price_divisor
+        assert abs(price - value * divisor) <= apart

@@ -11,7 +11,8 @@ from conftest import CASES, NETWORKS, SITES, example
 from hypothesis import given
 from hypothesis import strategies as some
 
-from pinchdesk import (Basis, Case, Cut, End, Exchanger, Forbid, Mix, Network, Pass, Pinch, Refused, Scenario, Side, Span,
+from pinchdesk import (Basis, Case, Cut, End, Exchanger, Forbid, Mix, Network, Pass, Pinch, Refused, Scenario, Side,
+                       Span,
                        Split, Stream, Study, Utility, completed, print_case, print_network, print_study, read_case,
                        read_network, read_site, read_study, shifted)
 
@@ -75,7 +76,8 @@ def test_no_cell_of_a_printed_case_is_a_formula(case: Case) -> None:
 @given(networks)
 def test_a_network_printed_and_read_again_is_the_same(network: Network) -> None:
     assert read_network(print_network(network)) == network
-    assert read_network('# a comment\n\n' + print_network(network).replace(' ', '\t  ').replace('\n', '\r\n')) == network
+    assert read_network('# a comment\n\n' + print_network(network).replace(' ', '\t  ').replace('\n',
+                                                                                                '\r\n')) == network
 
 
 @given(studies)
@@ -160,7 +162,8 @@ def test_what_is_no_site_is_refused(text: str, said: str) -> None:
     assert fault.value.text == said
 
 
-@pytest.mark.parametrize('text, said', [('price,HP,1,', 'study row 1 NoScenario'), ('span,HP,0', 'study row 1 FieldCount'),
+@pytest.mark.parametrize('text, said', [('price,HP,1,', 'study row 1 NoScenario'),
+                                        ('span,HP,0', 'study row 1 FieldCount'),
                                         ('span,HP,0,x', 'study row 1 BadNumber'),
                                         ('buy,HP,0,1', 'study row 1 UnknownKind')])
 def test_what_is_no_study_is_refused(text: str, said: str) -> None:
@@ -170,7 +173,8 @@ def test_what_is_no_study_is_refused(text: str, said: str) -> None:
 
 
 def test_comments_in_any_letters_and_long_fields_are_passed_over() -> None:
-    held = b'# caf\xe9,,,,,,\n' + b'# ' + b'x' * 200_000 + b',,,,,,\ncontribution,,50,,,,\n,,,,,,\nhot,H,1000,500,10,,\n'
+    long = b'# ' + b'x' * 200_000 + b',,,,,,\n'
+    held = b'# caf\xe9,,,,,,\n' + long + b'contribution,,50,,,,\n,,,,,,\nhot,H,1000,500,10,,\n'
     assert read_case(held).streams == (Stream('H', Side.HOT, 1000, 500, 10, 0, 50),)
 
 

@@ -48,7 +48,8 @@ def test_targets_are_shown_on_both_scales(desk: Captured) -> None:
 def test_an_audit_shows_cost_floor_and_what_is_above_it(desk: Captured) -> None:
     done = desk('audit', *PREHEATER)
     assert done.status == 0
-    for line in ('excess over the hot target     1.5  kW', 'cost                          3500', 'cost above the floor          1500',
+    for line in ('excess over the hot target     1.5  kW', 'cost                          3500',
+                 'cost above the floor          1500',
                  'exchanger Q1    1', 'line 11       0.5'):
         assert line in done.out
 
@@ -74,8 +75,8 @@ def test_a_rejected_network_is_marked_in_its_row_and_is_no_good_answer(desk: Cap
                         .replace(b'C1 20000', b'C1 19950').replace(b'COLD 60000', b'COLD 59950'))
     done = desk('table', FOUR, str(network))
     assert done.status == 1
-    assert done.out.startswith('rejected at exchanger E2: too close at its cold end: the hot side leaves at 89.967 (2699/30) °C, '
-                               'and the cold one enters so warm that 90 °C is wanted (ColdEndApproach)')
+    assert done.out.startswith('rejected at exchanger E2: too close at its cold end: the hot side leaves at 89.967 '
+                               '(2699/30) °C, and the cold one enters so warm that 90 °C is wanted (ColdEndApproach)')
     assert [line.split()[1] for line in done.out.split('\n') if line.startswith('> ')] == ['E2']
     assert desk('audit', FOUR, str(network)).status == 1
     output = tmp_path / 'out.xlsx'
@@ -110,7 +111,8 @@ def test_a_sweep_is_in_least_differences(desk: Captured) -> None:
 
 def test_prices_are_of_utilities_by_name(desk: Captured, tmp_path: Path) -> None:
     case, study = tmp_path / 'case.csv', tmp_path / 'study.csv'
-    case.write_bytes(example('four-stream.csv') + b'heater,1,1700,0,1000000000000,3,\nheater,01,910,0,1000000000000,1,\n')
+    heaters = b'heater,1,1700,0,1000000000000,3,\nheater,01,910,0,1000000000000,1,\n'
+    case.write_bytes(example('four-stream.csv') + heaters)
     study.write_text('span,01,0,3\nspan,01,4,5\nspan,1,0,3\n')
     done = desk('prices', str(case), str(study), '--form', 'csv')
     rows = [row for row in csv.reader(io.StringIO(done.out)) if len(row) == 6][1:]
@@ -145,18 +147,26 @@ def test_what_was_scaled_is_divided_again(desk: Captured, tmp_path: Path) -> Non
 ERRORS = [
     (['case', '-d', '10', 'nowhere.xlsx'], 3, 'nowhere.xlsx: cannot be read: No such file or directory'),
     (['targets', 'nowhere.csv'], 3, 'nowhere.csv: cannot be read: No such file or directory'),
-    (['targets', '.'], 3, '.: cannot be read: Is a directory'), (['audit', FOUR, 'nowhere.txt'], 3, 'nowhere.txt: cannot be read'),
+    (['targets', '.'], 3, '.: cannot be read: Is a directory'), (['audit', FOUR, 'nowhere.txt'], 3,
+                                                                 'nowhere.txt: cannot be read'),
     (['targets', 'bad.csv'], 3, 'bad.csv: case row 2 BadNumber'), (['flow', 'bad.csv'], 3, 'bad.csv: case row 2'),
-    (['audit', FOUR, 'bad.txt'], 3, 'bad.txt: network line 1 UnknownName'), (['site', 'bad.csv'], 3, 'bad.csv: site row 2'),
-    (['prices', FOUR, 'bad.csv'], 3, 'bad.csv: study row 1 FieldCount'), (['sweep', 'bad.csv', '0', '10', '1'], 3, 'bad.csv: case row'),
-    (['table', 'bad.csv', 'bad.txt'], 3, 'bad.csv: case row 2'), (['table', FOUR, 'bad.txt'], 3, 'bad.txt: network line 1'),
-    (['case', '-d', 'x', 'table.csv'], 2, 'x is no least difference'), (['case', '--scale', '3', 'table.csv'], 2, '3 is no scale'),
-    (['case', '--hours', '-1', 'table.csv'], 2, '-1 is no number of hours'), (['case', '--separator', ';;', 'table.csv'], 2, ';; is no'),
-    (['case', 'table.csv'], 3, 'table.csv: no contribution'), (['case', '-d', '10', 'bad.csv'], 3, 'pinchdesk: bad.csv: row 1: the table has a contribution, and -d'),
+    (['audit', FOUR, 'bad.txt'], 3, 'bad.txt: network line 1 UnknownName'),
+    (['site', 'bad.csv'], 3, 'bad.csv: site row 2'),
+    (['prices', FOUR, 'bad.csv'], 3, 'bad.csv: study row 1 FieldCount'),
+    (['sweep', 'bad.csv', '0', '10', '1'], 3, 'bad.csv: case row'),
+    (['table', 'bad.csv', 'bad.txt'], 3, 'bad.csv: case row 2'), (['table', FOUR, 'bad.txt'], 3,
+                                                                  'bad.txt: network line 1'),
+    (['case', '-d', 'x', 'table.csv'], 2, 'x is no least difference'), (['case', '--scale', '3', 'table.csv'], 2,
+                                                                        '3 is no scale'),
+    (['case', '--hours', '-1', 'table.csv'], 2, '-1 is no number of hours'),
+    (['case', '--separator', ';;', 'table.csv'], 2, ';; is no'),
+    (['case', 'table.csv'], 3, 'table.csv: no contribution'),
+    (['case', '-d', '10', 'bad.csv'], 3, 'pinchdesk: bad.csv: row 1: the table has a contribution, and -d'),
     ([], 2, 'required: WORD'), (['draws'], 2, 'invalid choice'), (['targets'], 2, 'required: CASE'),
     (['targets', FOUR, FOUR], 2, 'unrecognized'), (['targets', FOUR, '-o', '.'], 2, '.: is a folder'),
     (['targets', FOUR, '-o', FOUR], 2, 'is an input'), (['targets', FOUR, '-o', 'link.csv'], 2, 'is an input'),
-    (['targets', FOUR, '-o', 'no/such/file'], 2, 'there is no folder'), (['targets', FOUR, '-o', '/dev/null'], 2, 'no plain file'),
+    (['targets', FOUR, '-o', 'no/such/file'], 2, 'there is no folder'),
+    (['targets', FOUR, '-o', '/dev/null'], 2, 'no plain file'),
     (['targets', FOUR, '--form', 'pdf'], 2, 'invalid choice'), (['targets', 'a\0b'], 3, 'cannot be read'),
 ]
 
@@ -241,7 +251,8 @@ def test_a_closed_or_full_output_is_an_error() -> None:
     with open('/dev/full', 'wb') as full:
         done = subprocess.run([sys.executable, str(DESK / 'pinchdesk'), 'targets', FOUR], stdout=full, check=False,
                               stderr=subprocess.PIPE)
-    assert done.returncode == 2 and done.stderr == b'pinchdesk: standard output: cannot be written: No space left on device\n'
+    said = b'pinchdesk: standard output: cannot be written: No space left on device\n'
+    assert (done.returncode, done.stderr) == (2, said)
 
 
 def test_the_launcher_runs_from_any_folder(tmp_path: Path) -> None:
@@ -255,12 +266,14 @@ def desk_text() -> str:
 
 
 @pytest.mark.parametrize('word', [each.name for each in WORDS])
-def test_help_has_an_example_that_runs(word: str, desk: Captured, monkeypatch: pytest.MonkeyPatch, tmp_path: Path) -> None:
+def test_help_has_an_example_that_runs(word: str, desk: Captured, monkeypatch: pytest.MonkeyPatch,
+                                       tmp_path: Path) -> None:
     monkeypatch.chdir(EXAMPLES.parent)
     done = desk(word, '--help')
     line = ' '.join(done.out.split('example: ')[1].split()).removeprefix('pinchdesk ')
     assert done.status == 0
-    words = [str(tmp_path / each) if at and line.split()[at - 1] == '-o' else each for at, each in enumerate(line.split())]
+    words = [str(tmp_path / each) if at and line.split()[at - 1] == '-o' else each for at,
+             each in enumerate(line.split())]
     assert desk(*words).status == 0
 
 

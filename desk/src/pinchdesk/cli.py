@@ -10,6 +10,7 @@ from typing import NoReturn
 from . import words
 from .errors import DeskError, Refused
 from .output import check_place, put, write_whole
+from .progress import progress
 from .word import Word
 
 WORDS: tuple[Word, ...] = words.WORDS
@@ -48,7 +49,8 @@ def answer(word: Word, options: argparse.Namespace) -> int:
     inputs = list(paths_of(word, options))
     if options.output is not None:
         check_place(options.output, inputs)
-    given = word.run(options)
+    with progress(word.name):
+        given = word.run(options)
     for note in given.notes:
         print(f'pinchdesk: {printable(note)}', file=sys.stderr)
     if options.output is None:
@@ -91,4 +93,3 @@ def main(arguments: Sequence[str] | None = None) -> int:
 def run() -> NoReturn:
     """The command as it is installed."""
     sys.exit(main())
-

@@ -11,15 +11,15 @@ from decimal import Decimal, localcontext
 from fractions import Fraction
 
 from .asked import answer_of, held_case, takes_network
-from .case import Utility
+from .case import Side, Stream, Utility
 from .errors import about
-from .findings import Finding, finding_of
+from .findings import Finding, finding_of, stream_at
 from .network import read_network
 from .output import read_bytes
 from .program import Pinch
 from .sheets import Cell, Sheet
 from .shown import Shown
-from .states import Followed, Passage, PinchPoint, follow, pinches_of
+from .states import Followed, Passage, PinchPoint, StreamEnd, follow, pinches_of
 from .verdicts import Accepted, Place, PlaceKind, Rejected, Verdict
 from .word import Answer, Word
 
@@ -104,6 +104,29 @@ def is_at(passage: Passage, finding: Finding, verdict: Verdict) -> bool:
     return finding.exchanger == passage.exchanger.name
 
 
+def streams_sheet(followed: Followed, verdict: Verdict) -> Sheet:
+    """Where each stream ends: its target, what is reached there, and how much heat it exchanged."""
+    shown = Shown(followed.case.basis)
+    finding = finding_of(followed, verdict, shown) if isinstance(verdict, Rejected) else None
+    rows = tuple(stream_row(each, followed.ends[each.name], shown) for each in followed.case.streams)
+    marked = frozenset(at for at, each in enumerate(followed.case.streams) if finding and finding.stream == each.name)
+    headings = ('stream', 'side', 'supply °C', 'target °C', 'reached °C', 'CP kW/K', 'load kW', 'exchanged kW')
+    return Sheet('Streams', headings, rows, marked)
+
+
+def stream_row(stream: Stream, ends: tuple[StreamEnd, ...], shown: Shown) -> tuple[Cell, ...]:
+    end = ends[0].branch if len(ends) == 1 else None
+    reached = end.temperature if end else None
+    exchanged = None
+    if end and end.state is not None:
+        part = end.state if stream.side is Side.COLD else 1 - end.state
+        exchanged = end.size * part if stream.latent else abs(end.state - stream.supply) * end.size
+    size = None if stream.latent else Decimal(shown.kilowatts_per_kelvin(stream.cp))
+    return (stream.name, stream.side.value, Decimal(shown.celsius(stream.supply)), Decimal(shown.celsius(stream.target)),
+            None if reached is None else Decimal(shown.celsius(reached)), size, Decimal(shown.kilowatts(stream.heat)),
+            None if exchanged is None else Decimal(shown.kilowatts(exchanged)))
+
+
 def sums_sheet(followed: Followed) -> Sheet:
     """The heat of each utility, and of all exchangers."""
     shown = Shown(followed.case.basis)
@@ -129,6 +152,16 @@ def verdict_sheet(followed: Followed, verdict: Verdict) -> Sheet:
     return Sheet('', (), ((told,),))
 
 
+def mixes_sheets(followed: Followed, verdict: Verdict) -> list[Sheet]:
+    """The mixes that lose heat, by their statements; no sheet where none does."""
+    shown = Shown(followed.case.basis)
+    held = verdict.penalties if isinstance(verdict, Accepted) else ()
+    lost = [each for each in held if each.place.kind is PlaceKind.LINE and each.heat]
+    rows = tuple((str(each.place), stream_at(followed, each.place.line), Decimal(shown.kilowatts(each.heat)))
+                 for each in lost)
+    return [Sheet('Mixes that lose heat', ('statement', 'stream', 'penalty kW'), rows)] if rows else []
+
+
 def table(options: Namespace) -> Answer:
     content, text = read_bytes(options.case), read_bytes(options.network)
     with about(case=options.case, network=options.network):
@@ -136,7 +169,8 @@ def table(options: Namespace) -> Answer:
         verdict = pinch.audit(content, text)
         followed = follow(held_case(content), read_network(text))
         pinches = pinches_of(pinch.targets(content), pinch.curves(content))
-    sheets = [verdict_sheet(followed, verdict), exchangers_sheet(followed, pinches, verdict), sums_sheet(followed)]
+    sheets = [verdict_sheet(followed, verdict), exchangers_sheet(followed, pinches, verdict),
+              *mixes_sheets(followed, verdict), streams_sheet(followed, verdict), sums_sheet(followed)]
     return answer_of(sheets, options, isinstance(verdict, Accepted))
 
 

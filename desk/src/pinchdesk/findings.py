@@ -5,7 +5,7 @@ from dataclasses import dataclass
 from fractions import Fraction
 
 from .case import Case, Stream
-from .network import End, Pass, Split
+from .network import End, Mix, Pass, Split
 from .shown import Shown, decimal, is_rounded
 from .states import Followed
 from .verdicts import PlaceKind, Rejected
@@ -44,7 +44,7 @@ def finding_of(followed: Followed, rejected: Rejected, shown: Shown) -> Finding:
     if place.kind is PlaceKind.LINE:
         statement = followed.network.statements[place.line - 1]
         stream = stream_at(followed, place.line)
-        exchanger = statement.exchanger if isinstance(statement, Pass) else None
+        exchanger = statement.exchanger if isinstance(statement, Pass) else exchanger_before(followed, statement)
         part = not isinstance(statement, Split)
     found, wanted = (measured(case, stream, rejected.reason, each, part, shown)
                      for each in (rejected.found, rejected.wanted))
@@ -53,10 +53,19 @@ def finding_of(followed: Followed, rejected: Rejected, shown: Shown) -> Finding:
     return Finding(where, exchanger, stream, found, wanted, sentence)
 
 
+def exchanger_before(followed: Followed, statement: object) -> str | None:
+    """The exchanger from which a branch comes that ends here; None where it comes from none."""
+    if not isinstance(statement, End):
+        return None
+    made = followed.branches[statement.branch].statement
+    before = followed.network.statements[made - 1] if made else None
+    return before.exchanger if isinstance(before, Pass) else None
+
+
 def stream_at(followed: Followed, line: int) -> str | None:
     """The stream that a statement is about."""
     match followed.network.statements[line - 1]:
-        case Split(branch) | Pass(branch) | End(branch):
+        case Split(branch) | Pass(branch) | End(branch) | Mix(branch):
             return followed.branches[branch].stream.name
     return None
 

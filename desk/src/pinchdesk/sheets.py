@@ -6,6 +6,7 @@ import io
 from collections.abc import Sequence
 from dataclasses import dataclass
 from decimal import Decimal
+from typing import Any
 
 from .errors import WordsError
 
@@ -21,6 +22,14 @@ class Sheet:
     headings: tuple[str, ...]
     rows: tuple[tuple[Cell, ...], ...]
     marked: frozenset[int] = frozenset()
+
+    def frame(self) -> Any:
+        """The rows as a `pandas.DataFrame`; `WordsError` where pandas is not installed."""
+        try:
+            import pandas
+        except ImportError as fault:
+            raise WordsError('frame() wants pandas, which is not installed') from fault
+        return pandas.DataFrame([dict(zip(self.headings, row)) for row in self.rows])
 
 
 def form_of(output: str | None, told: str | None) -> str:
