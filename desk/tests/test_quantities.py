@@ -16,14 +16,13 @@ KNOWN = [
     (Kind.TEMPERATURE, '°C', 150, 1500), (Kind.TEMPERATURE, 'K', Fraction('423.15'), 1500),
     (Kind.TEMPERATURE, '°F', 212, 1000), (Kind.TEMPERATURE, 'F', 50, 100), (Kind.TEMPERATURE, 'C', 5, 50),
     (Kind.TEMPERATURE, 'deg C', 5, 50), (Kind.TEMPERATURE, 'Celsius', 5, 50), (Kind.TEMPERATURE, '℃', 5, 50),
-    (Kind.TEMPERATURE, 'ºC', 5, 50), (Kind.TEMPERATURE, '°R', Fraction('491.67'), 0),
-    (Kind.DIFFERENCE, 'K', 10, 100), (Kind.DIFFERENCE, '°C', 10, 100), (Kind.DIFFERENCE, '°F', 18, 100),
-    (Kind.FLOW, 'kW/K', 2, 200), (Kind.FLOW, 'MW/K', 2, 200_000), (Kind.FLOW, 'MW/°C', 2, 200_000),
-    (Kind.FLOW, 'kW per K', 2, 200), (Kind.FLOW, 'W/K', 2000, 200), (Kind.FLOW, '10 W/K', 7, 7),
-    (Kind.FLOW, 'kJ/(s K)', 2, 200), (Kind.FLOW, 'kW·K⁻¹', 2, 200), (Kind.FLOW, 'kW K^-1', 2, 200),
-    (Kind.FLOW, 'kW/C', 2, 200), (Kind.FLOW, 'kcal/h/°C', 4500, 523), (Kind.FLOW, 'Btu/(h °F)', 1_250_000, 65941),
-    (Kind.HEAT, 'kW', 2, 2000), (Kind.HEAT, 'MW', 2, 2_000_000), (Kind.HEAT, 'W', 2, 2),
-    (Kind.HEAT, 'GJ/h', 9, 2_500_000),
+    (Kind.TEMPERATURE, 'ºC', 5, 50), (Kind.TEMPERATURE, '°R', Fraction('491.67'), 0), (Kind.DIFFERENCE, 'K', 10, 100),
+    (Kind.DIFFERENCE, '°C', 10, 100), (Kind.DIFFERENCE, '°F', 18, 100), (Kind.FLOW, 'kW/K', 2, 200),
+    (Kind.FLOW, 'MW/K', 2, 200_000), (Kind.FLOW, 'MW/°C', 2, 200_000), (Kind.FLOW, 'kW per K', 2, 200),
+    (Kind.FLOW, 'W/K', 2000, 200), (Kind.FLOW, '10 W/K', 7, 7), (Kind.FLOW, 'kJ/(s K)', 2, 200),
+    (Kind.FLOW, 'kW·K⁻¹', 2, 200), (Kind.FLOW, 'kW K^-1', 2, 200), (Kind.FLOW, 'kW/C', 2, 200),
+    (Kind.FLOW, 'kcal/h/°C', 4500, 523), (Kind.FLOW, 'Btu/(h °F)', 1_250_000, 65941), (Kind.HEAT, 'kW', 2, 2000),
+    (Kind.HEAT, 'MW', 2, 2_000_000), (Kind.HEAT, 'W', 2, 2), (Kind.HEAT, 'GJ/h', 9, 2_500_000),
     (Kind.HEAT, 'Btu/h', 225_000, 65941), (Kind.HEAT, 'kcal/h', 450, 523), (Kind.HEAT, 'MMBtu/h', 9, 2_637_640),
 ]
 UNKNOWN = [
@@ -55,14 +54,15 @@ def test_any_text_is_a_unit_or_refused(text: str, kind: Kind) -> None:
 
 NUMBERS = [
     ('12', Says.NOTHING, '12'), ('12.5', Says.POINT, '12.5'), ('1.234,5', Says.COMMA, '1234.5'),
-    ('0,250', Says.COMMA, '0.250'),
-    ('1.234.567', Says.COMMA, '1234567'), ('1,234,567', Says.POINT, '1234567'), ('1 250', Says.NOTHING, '1250'),
-    ('1 250,5', Says.COMMA, '1250.5'), ("1'250.75", Says.POINT, '1250.75'), ('1\u202f250', Says.NOTHING, '1250'),
-    ('−5,0', Says.COMMA, '-5.0'), ('-5', Says.NOTHING, '-5'), ('+5', Says.NOTHING, '5'), ('.5', Says.POINT, '0.5'),
-    ('1234.567', Says.POINT, '1234.567'), ('1.5E+03', Says.POINT, '1500'), ('1,000.000', Says.POINT, '1000.000'),
+    ('0,250', Says.COMMA, '0.250'), ('1.234.567', Says.COMMA, '1234567'), ('1,234,567', Says.POINT, '1234567'),
+    ('1 250', Says.NOTHING, '1250'), ('1 250,5', Says.COMMA, '1250.5'), ("1'250.75", Says.POINT, '1250.75'),
+    ('1\u202f250', Says.NOTHING, '1250'), ('−5,0', Says.COMMA, '-5.0'), ('-5', Says.NOTHING, '-5'),
+    ('+5', Says.NOTHING, '5'), ('.5', Says.POINT, '0.5'), ('1234.567', Says.POINT, '1234.567'),
+    ('1.5E+03', Says.POINT, '1500'), ('1,000.000', Says.POINT, '1000.000'),
 ]
-NO_NUMBERS = ['', 'x', '1,2,3', '1.23.456', '1 25', '1,00,000', '++5', '(60)', '0.5.', '1 2 3', '1,25.5', '#REF!', '٣',
-              '५']
+NO_NUMBERS = [
+    '', 'x', '1,2,3', '1.23.456', '1 25', '1,00,000', '++5', '(60)', '0.5.', '1 2 3', '1,25.5', '#REF!', '٣', '५',
+]
 
 
 @pytest.mark.parametrize('text, says, value', NUMBERS)
@@ -103,10 +103,11 @@ def test_rounding_is_to_the_nearest(value: Fraction) -> None:
     assert rounded(-value) == -rounded(value)
 
 
-PRICES = [('EUR/MWh', 'EUR', 1_000_000, False), ('per kWh', '', 1000, False), ('€/(kW a)', '€', 1000, True),
-          ('EUR/kW/a', 'EUR', 1000, True), ('per kW and year', '', 1000, True), ('EUR/kWa', 'EUR', 1000, True),
-          ('$/GJ', '$', Fraction(2_500_000, 9), False), ('ct/kWh', 'ct', 1000, False),
-          ('US$/MWh', 'US$', 10 ** 6, False)]
+PRICES = [
+    ('EUR/MWh', 'EUR', 1_000_000, False), ('per kWh', '', 1000, False), ('€/(kW a)', '€', 1000, True),
+    ('EUR/kW/a', 'EUR', 1000, True), ('per kW and year', '', 1000, True), ('EUR/kWa', 'EUR', 1000, True),
+    ('$/GJ', '$', Fraction(2_500_000, 9), False), ('ct/kWh', 'ct', 1000, False), ('US$/MWh', 'US$', 10 ** 6, False),
+]
 
 
 @pytest.mark.parametrize('text, money, amount, yearly', PRICES)

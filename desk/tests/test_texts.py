@@ -65,10 +65,7 @@ def test_a_case_printed_and_read_again_is_the_same(case: Case) -> None:
     assert read_case(print_case(case)) == case
     assert read_case(print_case(case).replace('\n', '\r\n').encode('utf-8-sig')) == case
     assert read_case(print_case(case).replace('\n', '\r')) == case
-
-
-@given(cases)
-def test_no_cell_of_a_printed_case_is_a_formula(case: Case) -> None:
+    # No cell of it is a formula for a spreadsheet.
     for row in csv.reader(io.StringIO(print_case(case), newline='')):
         assert not any(cell.startswith(('=', '+', '@')) for cell in row)
 

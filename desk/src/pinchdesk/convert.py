@@ -6,7 +6,8 @@ from collections.abc import Iterable, Sequence
 from dataclasses import dataclass, replace
 from fractions import Fraction
 
-from .case import Basis, Case, Forbid, Stream, Utility, basis_rows, print_case, read_case
+from .basis import Basis, basis_rows
+from .case import Case, Forbid, Stream, Utility, print_case, read_case
 from .cells import CellReader, Told, decimal_mark
 from .entries import Entries, Line, lines_of
 from .errors import Refused, WordsError
@@ -228,6 +229,8 @@ class Maker:
         except PriceFault as fault:
             row, line = next((row, line) for row, line, value, _ in self.priced if value is not None)
             raise self.told.table.refusal(row, line.at(Heading.PRICE), str(fault)) from fault
+        if self.wanted.hours is not None and not (given and given[0][1]):
+            self.told.once('--hours changes nothing, since no price has a unit')
         if given and given[0][1] is None:
             self.told.once('no unit stands with the prices: they are taken per W, in their proportion')
         if made.rounded:

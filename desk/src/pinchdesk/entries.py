@@ -117,6 +117,12 @@ class Entries:
         column = line.at(Heading.CONTRIBUTION)
         return self.reader.whole(line.row, column, Kind.DIFFERENCE) if self.given(line, Heading.CONTRIBUTION) else None
 
+    def none_of(self, line: Line, what: str, headings: tuple[Heading, ...]) -> None:
+        """Tells a fault for each of these columns in which there is something."""
+        for each in headings:
+            if line.at(each) is not None and self.given(line, each):
+                self.told.fault(line.row.number, line.at(each), f'{what} has no {each.name.lower()}')
+
     def temperature(self, line: Line, heading: Heading) -> int | None:
         if not self.given(line, heading):
             self.told.fault(line.row.number, line.at(heading), f'the {heading.name.lower()} temperature is missing')
@@ -126,6 +132,7 @@ class Entries:
     def stream(self, line: Line) -> tuple[Stream, int | None] | None:
         """A stream with the contribution of its own."""
         name, share = self.name(line), self.share(line)
+        self.none_of(line, 'a stream', (Heading.LEAST, Heading.MOST, Heading.PRICE))
         supply, target = self.temperature(line, Heading.SUPPLY), self.temperature(line, Heading.TARGET)
         if supply is None or target is None:
             return None
@@ -208,6 +215,7 @@ class Entries:
     def utility(self, line: Line) -> tuple[Utility, int | None] | None:
         """A heater or a cooler, without its price, with the contribution of its own."""
         name, level, share = self.name(line), self.temperature(line, Heading.SUPPLY), self.share(line)
+        self.none_of(line, 'a utility', (Heading.CP, Heading.LOAD))
         if self.given(line, Heading.TARGET):
             end = self.temperature(line, Heading.TARGET)
             if level is not None and end is not None and end != level:

@@ -122,7 +122,8 @@ def stream_row(stream: Stream, ends: tuple[StreamEnd, ...], shown: Shown) -> tup
         part = end.state if stream.side is Side.COLD else 1 - end.state
         exchanged = end.size * part if stream.latent else abs(end.state - stream.supply) * end.size
     size = None if stream.latent else Decimal(shown.kilowatts_per_kelvin(stream.cp))
-    return (stream.name, stream.side.value, Decimal(shown.celsius(stream.supply)), Decimal(shown.celsius(stream.target)),
+    return (stream.name, stream.side.value, Decimal(shown.celsius(stream.supply)),
+            Decimal(shown.celsius(stream.target)),
             None if reached is None else Decimal(shown.celsius(reached)), size, Decimal(shown.kilowatts(stream.heat)),
             None if exchanged is None else Decimal(shown.kilowatts(exchanged)))
 

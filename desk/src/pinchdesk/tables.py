@@ -19,6 +19,7 @@ from .errors import Refused
 SEPARATORS = {';': '`;`', '\t': 'a tab', ',': '`,`', '|': '`|`'}
 # What a table of streams never has: it keeps a hostile workbook from filling the memory.
 MOST_ROWS, MOST_COLUMNS, MOST_UNPACKED = 20_000, 200, 2 ** 26
+HINT = re.compile(r'sep=(.)(\r\n|\r|\n)')
 QUOTED = re.compile(r'"([^"]*)"')
 
 
@@ -92,6 +93,11 @@ def read_table(content: bytes, name: str, sheet: str | None = None, separator: s
     if sheet is not None:
         raise Refused(3, '', 'no sheets', 'this is a text, and has no sheets')
     text = text_of(content)
+    hint = HINT.match(text)
+    if hint:
+        # A spreadsheet's own line on what separates; it counts as a row.
+        text, separator = text[hint.end():], separator or hint[1]
+        return tuple(moved(each, 1) for each in text_tables(text, [separator]))
     separators = [separator] if separator else [each for each in SEPARATORS if each in text] or [',']
     return text_tables(text, separators)
 
@@ -141,6 +147,11 @@ def text_table(text: str, separator: str) -> Table:
         place = f'row {at + 1}'
         raise Refused(3, place, 'quotes', f'{place}: the quotes of a field do not close ({fault})') from fault
     return Table('', tuple(rows))
+
+
+def moved(table: Table, rows: int) -> Table:
+    """The table as it stands below so many rows."""
+    return Table(table.sheet, tuple(TableRow(each.number + rows, each.cells) for each in table.rows), table.merged)
 
 
 def too_large() -> Refused:

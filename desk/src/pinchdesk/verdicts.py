@@ -3,9 +3,10 @@ costs in price times W, temperatures in tenths of °C."""
 from __future__ import annotations
 
 import enum
-from collections.abc import Iterator
+from collections.abc import Iterator, Mapping
 from dataclasses import dataclass
 from fractions import Fraction
+from functools import cached_property
 
 from .answers import Row, Rows, printed
 
@@ -57,7 +58,12 @@ class Accepted(Rows):
 
     def penalty(self, place: Place) -> Fraction | None:
         """The penalty of an exchanger, or of the mix of a statement."""
-        return next((each.heat for each in self.penalties if each.place == place), None)
+        return self.heats.get(place)
+
+    @cached_property
+    def heats(self) -> Mapping[Place, Fraction]:
+        """The penalties by their places."""
+        return {each.place: each.heat for each in self.penalties}
 
     def rows(self) -> Iterator[Row]:
         return ({'place': str(each.place), 'penalty': each.heat} for each in self.penalties)
