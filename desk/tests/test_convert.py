@@ -3,54 +3,17 @@ place."""
 from __future__ import annotations
 
 import io
-from collections.abc import Callable
 from dataclasses import replace
-from decimal import Decimal
 from fractions import Fraction
-from typing import Any
 
 import openpyxl
 import pytest
-from conftest import CASES, example
-from hypothesis import given, settings
-from hypothesis import strategies as some
+from conftest import example
 
-from pinchdesk import Basis, Case, Pinch, Refused, Side, Stream, WordsError, read_case
-from pinchdesk.convert import Converted, Wanted, case_of_table, checked
+from tabled import TEN, made, refusal, streams, workbook
 
-TEN = Wanted(difference='10')
-
-
-def made(text: str | bytes, wanted: Wanted = TEN, name: str = 't.csv') -> Converted:
-    return case_of_table(text.encode() if isinstance(text, str) else text, name, wanted)
-
-
-def streams(text: str | bytes, wanted: Wanted = TEN) -> list[tuple[object, ...]]:
-    return [(each.side.value, each.name, each.supply, each.target, each.cp, each.load)
-            for each in made(text, wanted).case.streams]
-
-
-def refusal(text: str | bytes, wanted: Wanted = TEN) -> str:
-    with pytest.raises(Refused) as fault:
-        made(text, wanted)
-    assert fault.value.status == 3
-    return fault.value.text
-
-
-def workbook(rows: list[list[object]], **sheets: list[list[object]]) -> bytes:
-    book = openpyxl.Workbook()
-    page = book.active
-    page.title = 'Streams'
-    for row in rows:
-        page.append(row)
-    for title, more in sheets.items():
-        other = book.create_sheet(title)
-        for row in more:
-            other.append(row)
-    held = io.BytesIO()
-    book.save(held)
-    return held.getvalue()
-
+from pinchdesk import Pinch, Refused, WordsError, read_case
+from pinchdesk.convert import Wanted, case_of_table, checked
 
 REACTORS = '''Stream;Supply [°C];Target [°C];CP (MW/K);Duty (MW)
 Feed-1;20;180;0,2;32,0
@@ -307,92 +270,3 @@ def test_what_is_no_workbook_is_refused() -> None:
         with pytest.raises(Refused) as fault:
             case_of_table(held, name, TEN)
         assert 'workbook' in fault.value.text
-
-
-# Any case in any units, with any separator and mark.
-
-UNITS: dict[str, Callable[[int], Fraction]] = {
-    '°C': lambda tenths: Fraction(tenths, 10),
-    'K': lambda tenths: Fraction(tenths, 10) + Fraction('273.15'),
-    '°F': lambda tenths: Fraction(tenths, 10) * Fraction(9, 5) + 32}
-DIFFERENCES = {'K': Fraction(1, 10), '°F': Fraction(18, 100)}
-FLOWS = {'kW/K': Fraction(1, 100), 'MW/°C': Fraction(1, 100_000), 'W/K': Fraction(10), 'kW per K': Fraction(1, 100)}
-HEATS = {'kW': Fraction(1, 1000), 'MW': Fraction(1, 10 ** 6), 'W': Fraction(1), 'GJ/h': Fraction(36, 10 ** 7)}
-HEAD = ['kind', 'name', 'supply', 'target', 'CP', 'duty', 'contribution', 'least', 'most', 'price']
-
-
-def written(value: Fraction, mark: str) -> str:
-    text = f'{Decimal(value.numerator) / Decimal(value.denominator):f}'
-    return (text if '.' in text else text + '.0').replace('.', mark)
-
-
-@some.composite
-def tables(draw: Any) -> tuple[Case, str]:
-    """A case, and a table that says the same."""
-    case = read_case(example(draw(some.sampled_from(CASES)) + '.csv'))
-    mark = draw(some.sampled_from('.,'))
-    separator = draw(some.sampled_from(';\t|,'))
-    warm = draw(some.sampled_from([*UNITS]))
-    flow, heat, apart = (draw(some.sampled_from([*each])) for each in (FLOWS, HEATS, DIFFERENCES))
-    units = {'supply': warm, 'target': warm, 'CP': flow, 'duty': heat, 'contribution': apart, 'least': heat,
-             'most': heat}
-    rows = []
-    for each in case.sources:
-        share = written(each.contribution * DIFFERENCES[apart], mark)
-        if isinstance(each, Stream):
-            size = ['', written(each.load * HEATS[heat], mark)] if each.latent else [written(each.cp * FLOWS[flow],
-                                                                                             mark), '']
-            ends = [written(UNITS[warm](end), mark) for end in (each.supply, each.target)]
-            rows.append([each.side.value, each.name, *ends, *size, share, '', '', ''])
-        else:
-            bounds = [written(bound * HEATS[heat], mark) for bound in (each.least, each.most)]
-            kind = 'heater' if each.side is Side.HOT else 'cooler'
-            rows.append([kind, each.name, written(UNITS[warm](each.level), mark), '', '', '', share, *bounds,
-                         str(each.price)])
-    rows += [['forbid', each.hot, each.cold] for each in case.forbids]
-    rows.append(['contribution', '', '', '', '', '', written(case.contribution * DIFFERENCES[apart], mark)])
-    style = draw(some.sampled_from(['heading', 'row', 'cell']))
-    head = [f'{each} ({units[each]})' if style == 'heading' and each in units else each for each in HEAD]
-    below = [[units.get(each, '') for each in HEAD]] if style == 'row' else []
-    if style == 'cell':
-        rows = [[f'{cell} {units[HEAD[at]]}' if HEAD[at] in units and cell[:1] in '-0123456789' and cell else cell
-                 for at, cell in enumerate(row)] for row in rows]
-    lines = [head, *below, *rows]
-    quoted = [separator.join(f'"{cell}"' if separator in cell else cell for cell in row) for row in lines]
-    return case, draw(some.sampled_from(['\n', '\r\n', '\r'])).join(quoted)
-
-
-@given(tables(), some.sampled_from(['utf-8', 'utf-8-sig', 'latin-1', 'utf-16']))
-def test_a_case_printed_as_a_table_is_read_as_the_same_case(held: tuple[Case, str], encoding: str) -> None:
-    case, text = held
-    again = made(text.encode(encoding), Wanted()).case
-    assert replace(again, basis=Basis()) == replace(case, basis=Basis())
-
-
-@settings(max_examples=20)
-@given(tables())
-def test_a_case_printed_as_a_workbook_is_read_as_the_same_case(held: tuple[Case, str]) -> None:
-    case, text = held
-    lines = text.replace('\r\n', '\n').replace('\r', '\n').split('\n')
-    separator = next(each for each in '\t|;,' if len(lines[0].split(each)) == len(HEAD))
-    if separator == ',':
-        return
-    book = workbook([list(line.split(separator)) for line in lines])
-    again = made(book, Wanted(), 't.xlsx').case
-    assert replace(again, basis=Basis()) == replace(case, basis=Basis())
-
-
-@given(some.binary(max_size=200))
-def test_any_bytes_are_a_table_or_refused(held: bytes) -> None:
-    try:
-        made(held)
-    except Refused as fault:
-        assert fault.text
-
-
-@given(some.text(some.sampled_from('HC1,;.\t\n "50°Ckhotcldnamesuprg'), max_size=120))
-def test_any_text_is_a_table_or_refused(held: str) -> None:
-    try:
-        made(held)
-    except Refused as fault:
-        assert fault.text

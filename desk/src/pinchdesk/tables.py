@@ -8,6 +8,7 @@ import csv
 import datetime
 import io
 import re
+import warnings
 import zipfile
 from collections.abc import Iterable, Iterator
 from dataclasses import dataclass
@@ -18,7 +19,7 @@ from .errors import Refused
 
 SEPARATORS = {';': '`;`', '\t': 'a tab', ',': '`,`', '|': '`|`'}
 # What a table of streams never has: it keeps a hostile workbook from filling the memory.
-MOST_ROWS, MOST_COLUMNS, MOST_UNPACKED = 20_000, 200, 2 ** 26
+MOST_ROWS, MOST_COLUMNS, MOST_UNPACKED = 20_000, 200, 2 ** 25
 HINT = re.compile(r'sep=(.)(\r\n|\r|\n)')
 QUOTED = re.compile(r'"([^"]*)"')
 
@@ -193,7 +194,10 @@ def check_size(content: bytes) -> None:
 def opened(content: bytes, values: bool) -> Any:
     import openpyxl
     try:
-        return openpyxl.load_workbook(io.BytesIO(content), data_only=values)
+        with warnings.catch_warnings():
+            # What it leaves out of a workbook (pictures, validation) is no part of a table.
+            warnings.simplefilter('ignore')
+            return openpyxl.load_workbook(io.BytesIO(content), data_only=values)
     except Exception as fault:
         # openpyxl has no error of its own for what is no workbook.
         raise Refused(3, '', 'no workbook', f'this workbook cannot be read: {fault}') from fault
