@@ -13,6 +13,7 @@ from conftest import example
 from tabled import TEN, made, refusal, streams, workbook
 
 from pinchdesk import Pinch, Refused, WordsError, read_case
+from pinchdesk.case import print_comments
 from pinchdesk.convert import Wanted, case_of_table, checked
 
 REACTORS = '''Stream;Supply [°C];Target [°C];CP (MW/K);Duty (MW)
@@ -211,6 +212,11 @@ REFUSED = [
 @pytest.mark.parametrize('text, said', REFUSED)
 def test_what_is_not_understood_is_refused_by_its_place(text: str, said: str) -> None:
     assert refusal(text).startswith(said)
+
+
+def test_comments_stay_in_the_case() -> None:
+    assert made('# of the "old" unit;\n# =1+1;\nH;150;60;2\n').comments == ('# of the "old" unit', '# =1+1')
+    assert read_case(print_comments(['# a, "b"', '#scale']) + 'contribution,,50,,,,\n').basis.scale == 1
 
 
 def test_all_faults_are_told_at_once() -> None:

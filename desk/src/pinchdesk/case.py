@@ -9,7 +9,7 @@ import csv
 import enum
 import io
 import re
-from collections.abc import Iterator, Sequence
+from collections.abc import Iterable, Iterator, Sequence
 from dataclasses import dataclass, field, replace
 
 from .basis import Basis as Basis
@@ -225,6 +225,13 @@ def print_case(case: Case) -> str:
     """The case as a file; reading it gives the same case, but for utilities that are invented."""
     held = io.StringIO(newline='')
     csv.writer(held, lineterminator='\n').writerows([*basis_rows(case.basis), *case_rows(case)])
+    return held.getvalue()
+
+
+def print_comments(texts: Iterable[str]) -> str:
+    """Comments as rows of a case file, which the program passes over."""
+    held = io.StringIO(newline='')
+    csv.writer(held, lineterminator='\n').writerows([f'# {text.lstrip("# ")}', *[''] * 6] for text in texts)
     return held.getvalue()
 
 

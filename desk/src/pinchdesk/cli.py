@@ -8,6 +8,7 @@ from collections.abc import Iterable, Sequence
 from typing import NoReturn
 
 from . import words
+from .causes import CAUSES
 from .errors import DeskError, Refused
 from .output import check_place, put, write_whole
 from .progress import progress
@@ -64,7 +65,8 @@ def lines_of(fault: DeskError) -> list[str]:
     """What an error says; a refusal may have a line for each fault of its file."""
     if not isinstance(fault, Refused):
         return [str(fault)]
-    return [f'{fault.file}: {line}' if fault.file else line for line in fault.text.split('\n')]
+    words = f': {CAUSES[fault.cause]}' if fault.cause in CAUSES and fault.text.endswith(fault.cause) else ''
+    return [(f'{fault.file}: {line}' if fault.file else line) + words for line in fault.text.split('\n')]
 
 
 def printable(text: str) -> str:

@@ -8,8 +8,9 @@ from fractions import Fraction
 
 from .basis import Basis, basis_rows
 from .case import Case, Forbid, Stream, Utility, print_case, read_case
+from .causes import CAUSES
 from .cells import CellReader, Told, decimal_mark
-from .entries import Entries, Line, lines_of
+from .entries import Entries, Line, joined, lines_of
 from .errors import Refused, WordsError
 from .layout import Heading, Layout, known, layout_of
 from .naming import fit_names
@@ -18,14 +19,6 @@ from .pricing import PriceFault, PriceUnit, priced, price_unit_of
 from .program import Pinch
 from .quantities import Kind, UnknownUnit, rounded, unit_of
 from .tables import Cell, Table, read_table
-
-CAUSES = {
-    'TooMany': 'more than a case may have (docs/FORMATS.md, Limits)', 'BadName': 'the name cannot be one of a case',
-    'SameName': 'the name stands above already', 'UnknownName': 'no stream or utility above has this name',
-    'Repeated': 'this stands above already', 'BadNumber': 'the number has more than 13 digits',
-    'OutOfRange': 'a number is outside what a case may have (docs/FORMATS.md, Limits)',
-    'BadRange': 'least is above most',
-}
 
 
 @dataclass(frozen=True)
@@ -50,6 +43,7 @@ class Converted:
     table: Table
     origins: tuple[int, ...]
     notes: tuple[str, ...]
+    comments: tuple[str, ...] = ()
 
 
 def case_of_table(content: bytes, name: str, wanted: Wanted) -> Converted:
@@ -150,7 +144,8 @@ class Maker:
         rows = [share_row] * (len(list(basis_rows(basis))) + 1)
         rows += [row for row, _, _ in self.streams] + [row for row, _, _ in self.utilities]
         rows += [row for row, _ in self.forbids]
-        return Converted(case, self.told.table, tuple(rows), tuple(self.told.notes))
+        comments = tuple(joined(row) for row in self.told.table.rows if joined(row).startswith('#'))
+        return Converted(case, self.told.table, tuple(rows), tuple(self.told.notes), comments)
 
     def take(self, line: Line) -> None:
         row = line.row.number

@@ -5,7 +5,7 @@ from argparse import ArgumentParser, Namespace
 from decimal import Decimal, InvalidOperation
 from fractions import Fraction
 
-from .case import print_case
+from .case import print_case, print_comments
 from .convert import Wanted, case_of_table, checked
 from .errors import Refused, WordsError
 from .output import read_bytes
@@ -55,7 +55,8 @@ def case(options: Namespace) -> Answer:
     except Refused as fault:
         fault.file = fault.file or options.table
         raise
-    return Answer(print_case(made.case), notes=tuple(f'{options.table}: {each}' for each in made.notes))
+    notes = tuple(f'{options.table}: {each}' for each in made.notes)
+    return Answer(print_comments(made.comments) + print_case(made.case), notes=notes)
 
 
 WORDS = (

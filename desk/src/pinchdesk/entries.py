@@ -52,13 +52,13 @@ def lines_of(layout: Layout, told: Told) -> Iterator[Line]:
             continue
         why = passed_over(line, told)
         if why:
-            told.note(row.number, None, f'passed over, {why}: `{joined(row)}`')
+            told.note(row.number, None, f'passed over, {why}: `{joined(row)[:60]}`')
         elif not joined(row).startswith('#'):
             yield line
 
 
 def joined(row: TableRow) -> str:
-    return ' '.join(cell.text for _, cell in row.filled())[:60]
+    return ' '.join(cell.text for _, cell in row.filled())
 
 
 def headed_line(row: TableRow, layout: Layout, told: Told) -> Line | None:

@@ -129,7 +129,7 @@ def stream_row(stream: Stream, ends: tuple[StreamEnd, ...], shown: Shown) -> tup
 
 
 def sums_sheet(followed: Followed) -> Sheet:
-    """The heat of each utility, and of all exchangers."""
+    """The heat of each utility, of all exchangers, and the duty over mean difference of those of which it is known."""
     shown = Shown(followed.case.basis)
     rows: list[tuple[Cell, ...]] = []
     exchangers = followed.network.exchangers
@@ -138,6 +138,9 @@ def sums_sheet(followed: Followed) -> Sheet:
         rows.append((each.name, each.side.value, Decimal(shown.kilowatts(sum(duties, Fraction(0)))), 'kW'))
     duty = sum((each.duty for each in exchangers), Fraction(0))
     rows.append((f'{len(exchangers)} exchangers', '', Decimal(shown.kilowatts(duty)), 'kW'))
+    sizes = [conductance(each, shown) for each in followed.passages]
+    known = [each for each in sizes if each is not None]
+    rows.append((f'{len(known)} of them', '', sum(known, Decimal(0)).quantize(Decimal('0.001')), 'kW/K'))
     return Sheet('Utilities', ('', '', '', ''), tuple(rows))
 
 

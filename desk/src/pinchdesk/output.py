@@ -29,9 +29,9 @@ def read_bytes(path: str) -> bytes:
 
 def write_whole(path: str, content: str | bytes, inputs: Iterable[str] = ()) -> None:
     """Writes a file, or leaves what was there. `OutputError` where the place is an input, a folder, no plain file, or
-    cannot be written."""
+    cannot be written. A link is followed."""
     check_place(path, inputs)
-    place = Path(path)
+    place = Path(os.path.realpath(path))
     held = content.encode() if isinstance(content, str) else content
     try:
         handle, name = tempfile.mkstemp(prefix='.' + place.name[:100] + '.', dir=place.parent)
