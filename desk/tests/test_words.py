@@ -78,6 +78,9 @@ def test_a_rejected_network_is_marked_in_its_row_and_is_no_good_answer(desk: Cap
     assert done.out.startswith('rejected at exchanger E2: too close at its cold end: the hot side leaves at 89.967 '
                                '(2699/30) °C, and the cold one enters so warm that 90 °C is wanted (ColdEndApproach)')
     assert [line.split()[1] for line in done.out.split('\n') if line.startswith('> ')] == ['E2']
+    rows = list(csv.reader(io.StringIO(desk('table', FOUR, str(network), '--form', 'csv').out)))
+    assert [(row[0], row[16]) for row in rows if len(row) == 17][1:] == [
+        ('E2', 'ColdEndApproach: 89.967 (2699/30) °C, wanted 90 °C')]
     assert desk('audit', FOUR, str(network)).status == 1
     output = tmp_path / 'out.xlsx'
     assert desk('table', FOUR, str(network), '-o', str(output)).status == 1

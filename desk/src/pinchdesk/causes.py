@@ -7,7 +7,8 @@ CAUSES = {
     'UnknownWord': 'the first field is no word of a statement',
     'TooMany': 'there are more of these than there may be (docs/FORMATS.md, Limits)',
     'Repeated': 'this stands above already',
-    'BadName': 'a name has 1 to 16 letters, digits, _ and -, begins with one of the first two, and HOT and COLD are kept',
+    'BadName': 'a name has 1 to 16 letters, digits, _ and -, and begins with one of the first two; HOT and COLD are '
+               'those of utilities',
     'SameName': 'the name stands above already',
     'UnknownName': 'nothing above has this name',
     'BadNumber': 'a field that has to be a number is none',

@@ -7,6 +7,7 @@ known."""
 from __future__ import annotations
 
 from argparse import Namespace
+from dataclasses import replace
 from decimal import Decimal, localcontext
 from fractions import Fraction
 
@@ -94,7 +95,15 @@ def exchangers_sheet(followed: Followed, pinches: tuple[PinchPoint, ...], verdic
     rows = tuple(row_of(each, pinches, verdict, shown) for each in followed.passages)
     finding = finding_of(followed, verdict, shown) if isinstance(verdict, Rejected) else None
     marked = frozenset(at for at, each in enumerate(followed.passages) if finding and is_at(each, finding, verdict))
-    return Sheet('Exchangers', HEADINGS, rows, marked)
+    return with_fault(Sheet('Exchangers', HEADINGS, rows, marked), finding)
+
+
+def with_fault(sheet: Sheet, finding: Finding | None) -> Sheet:
+    """The sheet with a column that says the fault in the rows that are marked."""
+    if finding is None:
+        return sheet
+    rows = tuple((*row, finding.told) if at in sheet.marked else row for at, row in enumerate(sheet.rows))
+    return replace(sheet, headings=(*sheet.headings, 'fault'), rows=rows)
 
 
 def is_at(passage: Passage, finding: Finding, verdict: Verdict) -> bool:
@@ -111,7 +120,7 @@ def streams_sheet(followed: Followed, verdict: Verdict) -> Sheet:
     rows = tuple(stream_row(each, followed.ends[each.name], shown) for each in followed.case.streams)
     marked = frozenset(at for at, each in enumerate(followed.case.streams) if finding and finding.stream == each.name)
     headings = ('stream', 'side', 'supply °C', 'target °C', 'reached °C', 'CP kW/K', 'load kW', 'exchanged kW')
-    return Sheet('Streams', headings, rows, marked)
+    return with_fault(Sheet('Streams', headings, rows, marked), finding)
 
 
 def stream_row(stream: Stream, ends: tuple[StreamEnd, ...], shown: Shown) -> tuple[Cell, ...]:

@@ -33,6 +33,12 @@ class Finding:
     found: str
     wanted: str
     sentence: str
+    reason: str
+
+    @property
+    def told(self) -> str:
+        """The fault in short: its reason, what was found and what was wanted."""
+        return f'{self.reason}: {self.found}, wanted {self.wanted}' if self.found else self.reason
 
 
 def finding_of(followed: Followed, rejected: Rejected, shown: Shown) -> Finding:
@@ -50,7 +56,7 @@ def finding_of(followed: Followed, rejected: Rejected, shown: Shown) -> Finding:
                      for each in (rejected.found, rejected.wanted))
     sentence = REASONS.get(rejected.reason, rejected.reason).format(found=found, wanted=wanted)
     where = f'{place} ({stream})' if stream and place.kind is PlaceKind.LINE else str(place)
-    return Finding(where, exchanger, stream, found, wanted, sentence)
+    return Finding(where, exchanger, stream, found, wanted, sentence, rejected.reason)
 
 
 def exchanger_before(followed: Followed, statement: object) -> str | None:
