@@ -18,8 +18,9 @@ SITES = ('site-books', 'three-plants')
 NO_CASES = (*SITES, 'steam-prices', 'table')
 CASES = sorted(each.stem for each in EXAMPLES.glob('*.csv') if each.stem not in NO_CASES)
 NETWORKS = [each for each in CASES if (EXAMPLES / f'{each}-network.txt').exists()]
-# Each example is a run of hypothesis; the program is slow to start on a busy machine.
-settings.register_profile('desk', deadline=None, max_examples=40, suppress_health_check=[HealthCheck.too_slow])
+# The same examples each time, with no memory of earlier runs; the program is slow to start on a busy machine.
+settings.register_profile('desk', deadline=None, max_examples=40, derandomize=True, database=None,
+                          suppress_health_check=[HealthCheck.too_slow])
 settings.load_profile('desk')
 
 

@@ -146,6 +146,9 @@ def test_utilities_have_prices_and_all_costs_come_back(pinch: Pinch) -> None:
     assert 'is missing' in refusal(held.replace('20 EUR/MWh', ''))
     assert '--hours' in refusal(held.replace('20 EUR/MWh', '20 EUR/(kW a)'))
     assert pinch.targets(case).hot >= 0
+    cooler = 'kind;name;supply;target;CP;price\nhot;H;170;60;3;\ncooler;BFW;140;;;-3'
+    assert 'no heater with one' in refusal(cooler + ' EUR/MWh\n')
+    assert 'no heater is given: HOT stands in, at the price 1' in made(cooler + '\n').notes
 
 
 def test_a_contribution_and_forbidden_matches() -> None:

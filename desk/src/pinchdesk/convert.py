@@ -230,11 +230,20 @@ class Maker:
             self.told.once('no unit stands with the prices: they are taken per W, in their proportion')
         if made.rounded:
             self.told.notes.append('prices are rounded, so that they are whole and within the limits')
+        if given and not any(line.kind == 'heater' for _, line, _, _ in self.priced):
+            self.without_heater(made.basis)
         whole = iter(made.prices)
         usual = {'heater': 0 if given else 1, 'cooler': 0}
         prices = [usual[line.kind] if value is None else next(whole) for _, line, value, _ in self.priced]
         return [replace(each, price=price, contribution=share if own is None else own)
                 for (_, each, own), price in zip(self.utilities, prices)], made.basis
+
+    def without_heater(self, basis: Basis) -> None:
+        """Where prices stand and no heater does, `HOT` stands in at the price 1 per W, which no unit of prices has."""
+        if basis.price_unit:
+            row = self.priced[0][0]
+            raise self.told.table.refusal(row, None, 'there are prices, and no heater with one: add the heater')
+        self.told.once('no heater is given: HOT stands in, at the price 1')
 
 
 def half(difference: str, told: Told) -> int:
