@@ -1,0 +1,142 @@
+"""The words that ask `pinch`: `targets`, `flow`, `audit`, `sweep`, `prices`, `site`."""
+from __future__ import annotations
+
+import os
+from argparse import ArgumentParser, Namespace
+from collections.abc import Sequence
+from decimal import Decimal, InvalidOperation
+
+from .answers import Cut
+from .case import Case, completed, read_case
+from .errors import WordsError, about
+from .network import read_network
+from .output import read_bytes
+from .program import Pinch
+from .reports import audit_sheets, flow_sheets, prices_sheets, site_sheets, sweep_sheets, targets_sheets
+from .sheets import FORMS, Sheet, form_of, rendered
+from .states import follow
+from .verdicts import Accepted
+from .word import Answer, Word
+
+CASE_HELP = 'a case file, as `pinchdesk case` writes it'
+
+
+def takes_form(parser: ArgumentParser) -> None:
+    parser.add_argument('--form', choices=FORMS, help='the form of the answer; else the ending of FILE says it')
+
+
+def takes_case(parser: ArgumentParser) -> None:
+    parser.add_argument('case', metavar='CASE', help=CASE_HELP)
+    takes_form(parser)
+
+
+def takes_network(parser: ArgumentParser) -> None:
+    takes_case(parser)
+    parser.add_argument('network', metavar='NETWORK', help='a network text')
+
+
+def takes_workers(parser: ArgumentParser) -> None:
+    parser.add_argument('--workers', type=int, default=min(16, os.cpu_count() or 1), metavar='N',
+                        help='by how many workers it is made (1 to 16); the answer is the same')
+
+
+def takes_sweep(parser: ArgumentParser) -> None:
+    takes_case(parser)
+    for name in ('first', 'last', 'step'):
+        parser.add_argument(name, metavar=name.upper(), help='a least difference in K, of a fifth of a K at least')
+    takes_workers(parser)
+
+
+def takes_study(parser: ArgumentParser) -> None:
+    takes_case(parser)
+    parser.add_argument('study', metavar='STUDY', help='a price study (docs/FORMATS.md)')
+    takes_workers(parser)
+
+
+def takes_site(parser: ArgumentParser) -> None:
+    parser.add_argument('site', metavar='SITE', help='a site file (docs/FORMATS.md)')
+    takes_form(parser)
+
+
+def answer_of(sheets: Sequence[Sheet], options: Namespace, good: bool = True) -> Answer:
+    return Answer(rendered(sheets, form_of(options.output, options.form)), good)
+
+
+def held_case(content: bytes) -> Case:
+    """A case that the program has read, completed."""
+    return completed(read_case(content))
+
+
+def targets(options: Namespace) -> Answer:
+    content = read_bytes(options.case)
+    with about(case=options.case):
+        answer = Pinch().targets(content)
+        return answer_of(targets_sheets(held_case(content), answer), options)
+
+
+def flow(options: Namespace) -> Answer:
+    content = read_bytes(options.case)
+    with about(case=options.case):
+        answer = Pinch().flow(content)
+        return answer_of(flow_sheets(held_case(content), answer), options, not isinstance(answer, Cut))
+
+
+def audit(options: Namespace) -> Answer:
+    case, network = read_bytes(options.case), read_bytes(options.network)
+    with about(case=options.case, network=options.network):
+        verdict = Pinch().audit(case, network)
+        followed = follow(held_case(case), read_network(network))
+        return answer_of(audit_sheets(followed, verdict), options, isinstance(verdict, Accepted))
+
+
+def contribution_of(text: str) -> int:
+    """Half of a least difference in K, in tenths of °C; `WordsError` where that is no whole number."""
+    try:
+        held = Decimal(text.replace(',', '.')) * 5
+    except InvalidOperation:
+        held = Decimal('NaN')
+    if not held.is_finite() or held != int(held) or held < 0:
+        raise WordsError(f'{text} is no least difference in K: a number of fifths of a K is wanted, as 10 or 2.4')
+    return int(held)
+
+
+def sweep(options: Namespace) -> Answer:
+    content = read_bytes(options.case)
+    first, last, step = (contribution_of(each) for each in (options.first, options.last, options.step))
+    with about(case=options.case):
+        answer = Pinch().sweep(content, first, last, step, options.workers)
+        good = all(each.cost is not None for each in answer.points)
+        return answer_of(sweep_sheets(held_case(content), answer), options, good)
+
+
+def prices(options: Namespace) -> Answer:
+    content, study = read_bytes(options.case), read_bytes(options.study)
+    with about(case=options.case, study=options.study):
+        answer = Pinch().prices(content, study, options.workers)
+        good = 'infeasible' not in answer.text
+        return answer_of(prices_sheets(held_case(content), answer), options, good)
+
+
+def site(options: Namespace) -> Answer:
+    content = read_bytes(options.site)
+    with about(site=options.site):
+        answer = Pinch().site(content)
+        return answer_of(site_sheets(answer), options, answer.cut is None)
+
+
+WORDS = (
+    Word('targets', 'the least hot and cold utility, and the pinches', 'pinchdesk targets examples/four-stream.csv',
+         takes_case, targets, ('case',)),
+    Word('flow', 'a heat flow of least cost with its proof, or the proof that there is none',
+         'pinchdesk flow examples/two-steam-levels.csv', takes_case, flow, ('case',)),
+    Word('audit', 'whether a network is valid, what it costs, and where it loses heat',
+         'pinchdesk audit examples/preheater.csv examples/preheater-network.txt', takes_network, audit,
+         ('case', 'network')),
+    Word('sweep', 'targets and least cost over the least difference', 'pinchdesk sweep examples/four-stream.csv 0 20 2',
+         takes_sweep, sweep, ('case',)),
+    Word('prices', 'the least cost at other prices',
+         'pinchdesk prices examples/two-steam-levels.csv examples/steam-prices.csv', takes_study, prices,
+         ('case', 'study')),
+    Word('site', 'what plants on shared steam mains need', 'pinchdesk site examples/three-plants.csv', takes_site, site,
+         ('site',)),
+)

@@ -1,0 +1,61 @@
+"""What a case says for the desk in rows that begin with `#` and that the program passes over: its scale, the units of
+its prices and costs, and the names that its table had."""
+from __future__ import annotations
+
+from collections.abc import Iterator, Sequence
+from dataclasses import dataclass, replace
+from fractions import Fraction
+
+
+@dataclass(frozen=True)
+class Basis:
+    """How the numbers of a case are those of its engineer.
+
+    All heats, CPs and loads of the case are `scale` times the plant's. A price of the case divided by `price_divisor`
+    is in `price_unit`; a cost divided by `cost_divisor` (and by the scale) is in `cost_unit`. `names` has each name
+    that was made fit, as (name in the table, name in the case)."""
+
+    scale: Fraction = Fraction(1)
+    price_unit: str = ''
+    price_divisor: Fraction = Fraction(1)
+    cost_unit: str = ''
+    cost_divisor: Fraction = Fraction(1)
+    names: tuple[tuple[str, str], ...] = ()
+
+
+def noted(basis: Basis, row: Sequence[str]) -> Basis:
+    """The basis with what a comment row of the desk says; any other comment says nothing."""
+    word, first, second = row[0], row[1].removeprefix("'"), row[2].removeprefix("'")
+    try:
+        if word == '#scale':
+            return replace(basis, scale=positive(first))
+        if word == '#price':
+            return replace(basis, price_unit=first, price_divisor=positive(second))
+        if word == '#cost':
+            return replace(basis, cost_unit=first, cost_divisor=positive(second))
+    except (ValueError, ZeroDivisionError):
+        return basis
+    return replace(basis, names=(*basis.names, (first, second))) if word == '#name' else basis
+
+
+def positive(text: str) -> Fraction:
+    held = Fraction(text)
+    if held <= 0:
+        raise ValueError(text)
+    return held
+
+
+def plain(text: str) -> str:
+    """A text that no spreadsheet takes for a formula."""
+    return "'" + text if text.startswith(tuple("=+-@'\t")) else text
+
+
+def basis_rows(basis: Basis) -> Iterator[list[str]]:
+    if basis.scale != 1:
+        yield ['#scale', str(basis.scale), '', '', '', '', '']
+    if basis.price_unit:
+        yield ['#price', plain(basis.price_unit), str(basis.price_divisor), '', '', '', '']
+    if basis.cost_unit:
+        yield ['#cost', plain(basis.cost_unit), str(basis.cost_divisor), '', '', '', '']
+    for old, new in basis.names:
+        yield ['#name', plain(old), new, '', '', '', '']

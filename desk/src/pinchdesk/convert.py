@@ -1,0 +1,275 @@
+"""From a table to a case: the whole way, with what is told of it and the row of the table behind each row of the
+case."""
+from __future__ import annotations
+
+from collections.abc import Iterable, Sequence
+from dataclasses import dataclass, replace
+from fractions import Fraction
+
+from .basis import Basis, basis_rows
+from .case import Case, Forbid, Stream, Utility, print_case, read_case
+from .causes import CAUSES
+from .cells import CellReader, Told, decimal_mark
+from .entries import Entries, Line, joined, lines_of
+from .errors import Refused, WordsError
+from .layout import Heading, Layout, known, layout_of
+from .naming import fit_names
+from .numerals import NoNumber, Says, numeral_of, readings
+from .pricing import PriceFault, PriceUnit, priced, price_unit_of
+from .program import Pinch
+from .quantities import Kind, UnknownUnit, rounded, unit_of
+from .tables import Cell, Table, read_table
+
+
+@dataclass(frozen=True)
+class Wanted:
+    """How a table is to be read: the least difference, the sheet, the separator, the decimal mark, what all heats are
+    taken times, and the hours of a year for prices; None is what the table says."""
+
+    difference: str | None = None
+    sheet: str | None = None
+    separator: str | None = None
+    decimal: str | None = None
+    scale: Fraction = Fraction(1)
+    hours: Fraction | None = None
+
+
+@dataclass(frozen=True)
+class Converted:
+    """A case that was made of a table: `origins` has the row of the table behind each row of the case, `notes` is
+    told."""
+
+    case: Case
+    table: Table
+    origins: tuple[int, ...]
+    notes: tuple[str, ...]
+    comments: tuple[str, ...] = ()
+
+
+def case_of_table(content: bytes, name: str, wanted: Wanted) -> Converted:
+    """The case of a table's file. `Refused`, by sheet, row and column, where something is not understood, or is
+    ambiguous."""
+    if wanted.separator in (None, ',') and is_case(content):
+        cause = ('this is a case already, in tenths of °C, 10 W/K and W: it needs no conversion. If it is a table in '
+                 '°C, give it headings')
+        raise Refused(3, '', 'a case already', cause)
+    tables = read_table(content, name, wanted.sheet, wanted.separator)
+    best = max(headings(each) for each in tables)
+    if best > 1:
+        tables = tuple(each for each in tables if headings(each) == best)
+    return tables_converted(tables, wanted)
+
+
+def is_case(content: bytes) -> bool:
+    try:
+        read_case(content)
+    except Refused:
+        return False
+    return True
+
+
+def headings(table: Table) -> int:
+    return max((known(row) for row in table.rows), default=0)
+
+
+def tables_converted(tables: Sequence[Table], wanted: Wanted) -> Converted:
+    """Of the readings of a text the one that is a case; `Refused` where none is, or more than one."""
+    made: list[Converted] = []
+    faults: list[tuple[int, Refused]] = []
+    for table in tables:
+        try:
+            made.append(converted(table, wanted))
+        except Refused as fault:
+            faults.append((sum(len(list(row.filled())) for row in table.rows), fault))
+    if len(made) > 1:
+        raise Refused(3, '', 'separator', 'what separates the fields may be one sign or another: say --separator')
+    if not made:
+        raise max(faults, key=lambda each: each[0])[1]
+    return made[0]
+
+
+def converted(table: Table, wanted: Wanted) -> Converted:
+    """The case of one table."""
+    told = Told(table)
+    if not table.rows:
+        raise Refused(3, '', 'empty', 'the table is empty')
+    layout = layout_of(table)
+    lines = list(lines_of(layout, told))
+    told.settle()
+    mark = decimal_mark(table, numbers_of(lines), wanted.decimal)
+    reader = CellReader(told, mark, dict(layout.units), dict(layout.titles))
+    names = fit_names(line.name() for line in lines if line.kind not in ('contribution', 'forbid') and line.name())
+    for old, new in names.items():
+        if old != new:
+            told.notes.append(f'the name `{old}` becomes {new}')
+    if layout.passed:
+        told.notes.append(f'passed over, above the headings: rows {", ".join(map(str, layout.passed))}')
+    return Maker(told, reader, Entries(reader, told, names, wanted.scale), layout, wanted).made(lines, names)
+
+
+def numbers_of(lines: Iterable[Line]) -> Iterable[tuple[int, int, Cell]]:
+    """The cells of the lines that have to be numbers and stand there as texts."""
+    for line in lines:
+        for heading, column in line.columns.items():
+            cell = line.row.cell(column)
+            words = line.kind == 'forbid' or heading in (Heading.NAME, Heading.NUMBER, Heading.KIND)
+            if not words and cell.number is None and not cell.fault:
+                yield line.row.number, column, cell
+
+
+class Maker:
+    """Puts the lines of a table together to a case."""
+
+    def __init__(self, told: Told, reader: CellReader, entries: Entries, layout: Layout, wanted: Wanted) -> None:
+        self.told, self.reader, self.entries, self.layout, self.wanted = told, reader, entries, layout, wanted
+        self.contributions: list[tuple[int, int]] = []
+        self.streams: list[tuple[int, Stream, int | None]] = []
+        self.utilities: list[tuple[int, Utility, int | None]] = []
+        self.priced: list[tuple[int, Line, Fraction | None, PriceUnit | None]] = []
+        self.forbids: list[tuple[int, Forbid]] = []
+
+    def made(self, lines: Sequence[Line], names: dict[str, str]) -> Converted:
+        for line in lines:
+            self.take(line)
+        share, share_row = self.contribution()
+        self.told.settle()
+        if not self.streams:
+            raise Refused(3, '', 'no stream', 'the table has no stream: is its separator another one (--separator)?')
+        utilities, basis = self.with_prices(share)
+        changed = tuple((old, new) for old, new in names.items() if old != new)
+        basis = replace(basis, scale=self.wanted.scale, names=changed)
+        streams = tuple(replace(each, contribution=share if own is None else own) for _, each, own in self.streams)
+        self.told.settle()
+        case = Case(share, streams, tuple(utilities), tuple(each for _, each in self.forbids), basis)
+        rows = [share_row] * (len(list(basis_rows(basis))) + 1)
+        rows += [row for row, _, _ in self.streams] + [row for row, _, _ in self.utilities]
+        rows += [row for row, _ in self.forbids]
+        comments = tuple(joined(row) for row in self.told.table.rows if joined(row).startswith('#'))
+        return Converted(case, self.told.table, tuple(rows), tuple(self.told.notes), comments)
+
+    def take(self, line: Line) -> None:
+        row = line.row.number
+        if line.kind == 'contribution':
+            heading = Heading.CONTRIBUTION if self.entries.given(line, Heading.CONTRIBUTION) else Heading.SUPPLY
+            share = self.reader.whole(line.row, line.at(heading), Kind.DIFFERENCE)
+            self.contributions.append((row, share or 0))
+        elif line.kind == 'forbid':
+            self.take_forbid(line)
+        elif line.kind in ('heater', 'cooler'):
+            utility = self.entries.utility(line)
+            price = self.price(line)
+            if utility:
+                self.utilities.append((row, *utility))
+                self.priced.append((row, line, *price))
+        else:
+            stream = self.entries.stream(line)
+            if stream:
+                self.streams.append((row, *stream))
+
+    def take_forbid(self, line: Line) -> None:
+        """A pair that may not exchange heat: the hot name in the column of names, the cold one in the next one that is
+        filled."""
+        at = line.at(Heading.NAME)
+        behind = [cell.text for column, cell in line.row.filled() if at is not None and column > at]
+        if not line.name() or len(behind) != 1:
+            self.told.fault(line.row.number, at, 'a forbidden match has two names, the hot one and the cold one')
+            return
+        hot, cold = (self.entries.names.get(each, each) for each in (line.name(), behind[0]))
+        self.forbids.append((line.row.number, Forbid(hot, cold)))
+
+    def price(self, line: Line) -> tuple[Fraction | None, PriceUnit | None]:
+        """A price with its unit, that of its cell or of its column; None where there is none."""
+        column = line.at(Heading.PRICE)
+        if column is None or not self.entries.given(line, Heading.PRICE):
+            return None, None
+        held = self.reader.number(line.row, column)
+        if held is None:
+            return None, None
+        value, _, own = held
+        headed = self.layout.units.get(column, '')
+        text = own or headed
+        try:
+            if own and headed and price_unit_of(own) != price_unit_of(headed):
+                self.told.fault(line.row.number, column, f'two units, `{headed}` in the heading and `{own}` here')
+            return value, price_unit_of(text) if text else None
+        except UnknownUnit:
+            cause = f'the unit `{text}` is none of a price: EUR/MWh, per kWh, EUR/(kW a)'
+            self.told.fault(line.row.number, column, cause)
+            return None, None
+
+    def contribution(self) -> tuple[int, int]:
+        """The contribution of the case, and its row: of the table, or half of the least difference that is told."""
+        if len(self.contributions) > 1:
+            self.told.fault(self.contributions[1][0], None, 'a second contribution')
+        if self.contributions and self.wanted.difference is not None:
+            self.told.fault(self.contributions[0][0], None, 'the table has a contribution, and -d gives one too')
+        if self.contributions:
+            return self.contributions[0][1], self.contributions[0][0]
+        if self.wanted.difference is None:
+            cause = 'no contribution: say the least difference, as -d 10'
+            self.told.faults.append(Refused(3, '', 'no contribution', cause))
+            return 0, 0
+        return half(self.wanted.difference, self.told), 0
+
+    def with_prices(self, share: int) -> tuple[list[Utility], Basis]:
+        """The utilities with whole prices, and the basis that turns them back. Where no price stands at all a heater
+        costs 1 and a cooler nothing; where some do, only a cooler may be without."""
+        given = [(value, unit) for _, _, value, unit in self.priced if value is not None]
+        for row, line, value, _ in self.priced:
+            if given and value is None and line.kind == 'heater':
+                self.told.fault(row, line.at(Heading.PRICE), 'the price is missing, and others have one')
+        self.told.settle()
+        try:
+            made = priced([value for value, _ in given], [unit for _, unit in given], self.wanted.hours)
+        except PriceFault as fault:
+            row, line = next((row, line) for row, line, value, _ in self.priced if value is not None)
+            raise self.told.table.refusal(row, line.at(Heading.PRICE), str(fault)) from fault
+        if self.wanted.hours is not None and not (given and given[0][1]):
+            self.told.once('--hours changes nothing, since no price has a unit')
+        if given and given[0][1] is None:
+            self.told.once('no unit stands with the prices: they are taken per W, in their proportion')
+        if made.rounded:
+            self.told.notes.append('prices are rounded, so that they are whole and within the limits')
+        if given and not any(line.kind == 'heater' for _, line, _, _ in self.priced):
+            self.without_heater(made.basis)
+        whole = iter(made.prices)
+        usual = {'heater': 0 if given else 1, 'cooler': 0}
+        prices = [usual[line.kind] if value is None else next(whole) for _, line, value, _ in self.priced]
+        return [replace(each, price=price, contribution=share if own is None else own)
+                for (_, each, own), price in zip(self.utilities, prices)], made.basis
+
+    def without_heater(self, basis: Basis) -> None:
+        """Where prices stand and no heater does, `HOT` stands in at the price 1 per W, which no unit of prices has."""
+        if basis.price_unit:
+            row = self.priced[0][0]
+            raise self.told.table.refusal(row, None, 'there are prices, and no heater with one: add the heater')
+        self.told.once('no heater is given: HOT stands in, at the price 1')
+
+
+def half(difference: str, told: Told) -> int:
+    """Half of a least difference, as `10` or `18 °F`, in tenths of °C; what is rounded is told."""
+    try:
+        numeral = numeral_of(difference)
+        if numeral.says is Says.EITHER:
+            raise WordsError(f'the least difference {difference} may be {readings(numeral)}')
+        unit = unit_of(numeral.unit or 'K', Kind.DIFFERENCE)
+        exact = unit.exact(Fraction(numeral.value(numeral.says.value or '.'))) / 2
+    except (NoNumber, UnknownUnit) as fault:
+        raise WordsError(f'{difference} is no least difference: a number is wanted, in K or with its unit') from fault
+    nearest = rounded(exact)
+    if nearest != exact:
+        told.notes.append(f'half of the least difference {difference} is rounded to {nearest} (tenths of °C)')
+    return nearest
+
+
+def checked(made: Converted, pinch: Pinch) -> Converted:
+    """What was made, where the program takes it; what it refuses is refused by the row of the table."""
+    try:
+        pinch.targets(print_case(made.case))
+    except Refused as fault:
+        row = made.origins[int(fault.place.split()[-1]) - 1] if fault.place.split()[-1].isdigit() else 0
+        cause = f'{CAUSES.get(fault.cause, "refused")} ({fault.cause})'
+        if not row:
+            raise Refused(3, '', fault.cause, cause) from fault
+        raise made.table.refusal(row, None, cause) from fault
+    return made

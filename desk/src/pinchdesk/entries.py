@@ -1,0 +1,240 @@
+"""The rows of a table, one by one: which of them are sources, which are notes and sums, and what each says."""
+from __future__ import annotations
+
+import re
+from collections.abc import Iterator
+from dataclasses import dataclass
+from fractions import Fraction
+
+from .case import ANY_HEAT, Side, Stream, Utility
+from .cells import CellReader, Entered, Told
+from .layout import STREAM_COLUMNS, Heading, Layout, squeezed
+from .quantities import Kind, rounded
+from .tables import TableRow
+
+KIND_WORDS = {'hot': 'hot', 'h': 'hot', 'hotstream': 'hot', 'cold': 'cold', 'c': 'cold', 'coldstream': 'cold',
+              'heater': 'heater', 'hotutility': 'heater', 'hu': 'heater', 'cooler': 'cooler', 'coldutility': 'cooler',
+              'cu': 'cooler', 'contribution': 'contribution', 'forbid': 'forbid', 'forbidden': 'forbid', 'hei': 'hot',
+              'heiss': 'hot', 'warm': 'hot', 'kalt': 'cold'}
+UTILITY_COLUMNS = (Heading.NAME, Heading.SUPPLY, Heading.LEAST, Heading.MOST, Heading.PRICE, Heading.CONTRIBUTION)
+SUM = re.compile(r'(sum|total|totals|subtotal|summe|gesamt|somme|average|mean)\b.*|[Σ∑].*', re.I)
+# A duty and a CP may differ by what their last digits leave open, but by no more than this part.
+MOST_APART = Fraction(1, 20)
+
+
+@dataclass(frozen=True)
+class Line:
+    """A row with what kind it is; `''` is a stream whose side its temperatures say."""
+
+    row: TableRow
+    kind: str
+    columns: dict[Heading, int]
+
+    def at(self, heading: Heading) -> int | None:
+        return self.columns.get(heading)
+
+    def name(self) -> str:
+        column = self.at(Heading.NAME)
+        return self.row.cell(column).text if column is not None else ''
+
+
+def kind_of(text: str) -> str | None:
+    return KIND_WORDS.get(squeezed(text))
+
+
+def lines_of(layout: Layout, told: Told) -> Iterator[Line]:
+    """The rows that say something; notes, sums and comments are passed over, and that is told."""
+    for row in told.table.rows:
+        if row.number <= layout.head:
+            continue
+        line = headed_line(row, layout, told) if layout.headed else plain_line(row, told)
+        if line is None:
+            continue
+        why = passed_over(line, told)
+        if why:
+            told.note(row.number, None, f'passed over, {why}: `{joined(row)[:60]}`')
+        elif not joined(row).startswith('#'):
+            yield line
+
+
+def joined(row: TableRow) -> str:
+    return ' '.join(cell.text for _, cell in row.filled())
+
+
+def headed_line(row: TableRow, layout: Layout, told: Told) -> Line | None:
+    column = layout.columns.get(Heading.KIND)
+    text = row.cell(column).text if column is not None else ''
+    kind = kind_of(text) if text else ''
+    if kind is None and len(list(row.filled())) > 1 and not SUM.fullmatch(text):
+        told.fault(row.number, column, f'`{text}` is no kind: hot, cold, heater, cooler, contribution, forbid')
+        return None
+    return Line(row, kind or '', dict(layout.columns))
+
+
+def plain_line(row: TableRow, told: Told) -> Line | None:
+    """A row of a table without headings: a kind and then the columns of a case, or the columns of a stream."""
+    kind = kind_of(row.cell(0).text) or '' if len(row.cell(0).text) > 2 else ''
+    utility = kind in ('heater', 'cooler')
+    order = UTILITY_COLUMNS if utility else STREAM_COLUMNS
+    shift = 1 if kind else 0
+    beyond = [column for column, _ in row.filled() if column >= len(order) + shift]
+    if beyond:
+        told.fault(row.number, beyond[0], f'there are {len(order) + shift} columns at most where there are no headings')
+        return None
+    return Line(row, kind, {heading: at + shift for at, heading in enumerate(order)})
+
+
+def passed_over(line: Line, told: Told) -> str:
+    """Why a row says nothing; empty where it says something."""
+    row = line.row
+    filled = [cell for _, cell in row.filled()]
+    if filled[0].text.startswith('#'):
+        return ''
+    if len(filled) == 1 and filled[0].number is None and not filled[0].fault and not re.match('[0-9]', filled[0].text):
+        return 'a note'
+    warm = [column for column in (line.at(Heading.SUPPLY), line.at(Heading.TARGET)) if column is not None]
+    if line.kind in ('contribution', 'forbid') or any(not row.cell(column).empty for column in warm):
+        return ''
+    return 'a sum' if not line.name() or SUM.fullmatch(line.name()) else ''
+
+
+class Entries:
+    """Makes streams and utilities of lines; what is wrong is told as a fault, and then there is none."""
+
+    def __init__(self, reader: CellReader, told: Told, names: dict[str, str], scale: Fraction) -> None:
+        self.reader, self.told, self.names, self.scale = reader, told, names, scale
+
+    def name(self, line: Line) -> str:
+        if not line.name():
+            self.told.fault(line.row.number, line.at(Heading.NAME), 'a name is missing')
+        return self.names.get(line.name(), line.name())
+
+    def given(self, line: Line, heading: Heading) -> bool:
+        return self.reader.given(line.row, line.at(heading))
+
+    def share(self, line: Line) -> int | None:
+        """The contribution of a row's own; None where it has none."""
+        column = line.at(Heading.CONTRIBUTION)
+        return self.reader.whole(line.row, column, Kind.DIFFERENCE) if self.given(line, Heading.CONTRIBUTION) else None
+
+    def none_of(self, line: Line, what: str, headings: tuple[Heading, ...]) -> None:
+        """Tells a fault for each of these columns in which there is something."""
+        for each in headings:
+            if line.at(each) is not None and self.given(line, each):
+                self.told.fault(line.row.number, line.at(each), f'{what} has no {each.name.lower()}')
+
+    def temperature(self, line: Line, heading: Heading) -> int | None:
+        if not self.given(line, heading):
+            self.told.fault(line.row.number, line.at(heading), f'the {heading.name.lower()} temperature is missing')
+            return None
+        return self.reader.whole(line.row, line.at(heading), Kind.TEMPERATURE)
+
+    def stream(self, line: Line) -> tuple[Stream, int | None] | None:
+        """A stream with the contribution of its own."""
+        name, share = self.name(line), self.share(line)
+        self.none_of(line, 'a stream', (Heading.LEAST, Heading.MOST, Heading.PRICE))
+        supply, target = self.temperature(line, Heading.SUPPLY), self.temperature(line, Heading.TARGET)
+        if supply is None or target is None:
+            return None
+        side = self.side(line, supply, target)
+        size = self.load(line) if supply == target else self.flow(line, abs(supply - target))
+        if side is None or size is None:
+            return None
+        cp, load = (0, size) if supply == target else (size, 0)
+        return Stream(name, side, supply, target, cp, load, 0), share
+
+    def side(self, line: Line, supply: int, target: int) -> Side | None:
+        row = line.row.number
+        if supply == target and not line.kind:
+            self.told.fault(row, None, 'supply and target are one: a column `kind` has to say hot or cold')
+            return None
+        runs = Side.HOT if supply > target else Side.COLD
+        if line.kind and supply != target and runs.value != line.kind:
+            self.told.fault(row, line.at(Heading.TARGET), f'a {line.kind} stream runs the other way')
+            return None
+        return Side(line.kind) if line.kind else runs
+
+    def load(self, line: Line) -> int | None:
+        """The load of a latent stream, in W."""
+        column, flow = line.at(Heading.LOAD), line.at(Heading.CP)
+        if self.given(line, Heading.CP):
+            held = self.reader.measured(line.row, flow, Kind.FLOW)
+            if held is None or held.value != 0:
+                self.told.fault(line.row.number, flow, 'supply and target are one: such a stream has a duty and no CP')
+                return None
+        if not self.given(line, Heading.LOAD):
+            self.told.fault(line.row.number, column, 'supply and target are one: the duty is missing')
+            return None
+        load = self.reader.whole(line.row, column, Kind.HEAT, self.scale)
+        if load is not None and load <= 0:
+            self.told.fault(line.row.number, column, 'a duty is above 0 (in W): hot or cold says which way it goes')
+            return None
+        return load
+
+    def flow(self, line: Line, span: int) -> int | None:
+        """The CP of a sensible stream in 10 W/K: that of its row, or its duty over its span."""
+        column, load = line.at(Heading.CP), line.at(Heading.LOAD)
+        duty = self.reader.measured(line.row, load, Kind.HEAT) if self.given(line, Heading.LOAD) else None
+        if self.given(line, Heading.CP):
+            held = self.reader.measured(line.row, column, Kind.FLOW)
+            if held is None or duty and not self.agree(line, held, duty, span):
+                return None
+            made = self.reader.rounded(line.row, column, Kind.FLOW, held, self.scale)
+        elif duty:
+            column, made = load, self.flow_of(line, duty, span)
+        else:
+            if not self.given(line, Heading.LOAD):
+                self.told.fault(line.row.number, column, 'a CP or a duty is missing')
+            return None
+        if made == 0:
+            self.told.fault(line.row.number, column, 'the CP is 0 in 10 W/K: --scale 10 takes all heats ten times')
+            return None
+        return made
+
+    def flow_of(self, line: Line, duty: Entered, span: int) -> int:
+        """A CP from the duty between both temperatures."""
+        heat = abs(duty.value) * self.scale
+        made = rounded(heat / span)
+        if made * span != heat:
+            what = f'from {duty.text} the CP is rounded to {made} (10 W/K), which makes {made * span} W'
+            self.told.note(line.row.number, line.at(Heading.LOAD), what)
+        return made
+
+    def agree(self, line: Line, flow: Entered, duty: Entered, span: int) -> bool:
+        """Whether a CP and a duty say the same, as far as their last digits tell."""
+        made, said = flow.value * span, abs(duty.value)
+        apart = abs(made - said)
+        # Each temperature may be half a tenth of a degree away.
+        open_part = flow.slack * span + duty.slack + abs(flow.value)
+        if apart <= open_part and apart <= MOST_APART * max(abs(made), said):
+            return True
+        what = f'the CP {flow.text} makes {whole_watts(made)} W between both temperatures, and the duty is {duty.text}'
+        self.told.fault(line.row.number, line.at(Heading.LOAD), what)
+        return False
+
+    def utility(self, line: Line) -> tuple[Utility, int | None] | None:
+        """A heater or a cooler, without its price, with the contribution of its own."""
+        name, level, share = self.name(line), self.temperature(line, Heading.SUPPLY), self.share(line)
+        self.none_of(line, 'a utility', (Heading.CP, Heading.LOAD))
+        if self.given(line, Heading.TARGET):
+            end = self.temperature(line, Heading.TARGET)
+            if level is not None and end is not None and end != level:
+                what = 'a utility has one temperature: enter the one that is worth less (docs/HOW_TO_ENTER.md)'
+                self.told.fault(line.row.number, line.at(Heading.TARGET), what)
+        if level is None:
+            return None
+        least, most = self.bound(line, Heading.LEAST, 0), self.bound(line, Heading.MOST, ANY_HEAT)
+        if least is None or most is None:
+            return None
+        side = Side.HOT if line.kind == 'heater' else Side.COLD
+        return Utility(name, side, level, least, most, 0, 0), share
+
+    def bound(self, line: Line, heading: Heading, usual: int) -> int | None:
+        if not self.given(line, heading):
+            return usual
+        return self.reader.whole(line.row, line.at(heading), Kind.HEAT, self.scale)
+
+
+def whole_watts(value: Fraction) -> str:
+    """A heat for a message: whole watts."""
+    return str(rounded(value))

@@ -1,0 +1,212 @@
+"""Where a table has what: its headings, the units that stand with them, and where its rows begin.
+
+A table without headings has the columns of a case file, or of a stream alone: name, supply, target, CP, load,
+contribution."""
+from __future__ import annotations
+
+import enum
+import re
+import unicodedata
+from collections.abc import Iterator, Mapping
+from dataclasses import dataclass, field, replace
+
+from .errors import Refused
+from .numerals import NoNumber, numeral_of
+from .quantities import Kind, is_unit
+from .tables import Cell, Table, TableRow
+
+
+class Heading(enum.Enum):
+    """A column of a table. The words are those that name it, in small letters, without blanks and marks."""
+
+    KIND = 'kind type streamtype hotcold hotorcold art typ'
+    NAME = 'name stream streams streamname strom bezeichnung'
+    NUMBER = 'no nr number id tag streamno streamnumber streamid'
+    SUPPLY = ('supply supplytemperature supplytemp tsupply supplyt ts tin in inlet inlettemperature inlettemp tinlet '
+              'level temperature temp from start tstart starttemperature initial tinitial initialtemperature source '
+              'sourcetemperature entry eintritt eintrittstemperatur starttemperatur vorlauf')
+    TARGET = ('target targettemperature targettemp ttarget targett tt tout out outlet outlettemperature outlettemp '
+              'toutlet to end tend endtemperature final tfinal finaltemperature exit austritt austrittstemperatur ziel '
+              'zieltemperatur')
+    CP = ('cp mcp fcp wcp mdotcp heatcapacityflow heatcapacityflowrate heatcapacityrate heatcapacity flowcp '
+          'warmekapazitatsstrom')
+    LOAD = ('load heat duty q dh deltah enthalpy enthalpychange heatload heatduty heatflow power leistung warmestrom '
+            'warmeleistung')
+    CONTRIBUTION = 'contribution dtcont dtcontribution dtmin2 deltatmin2 deltatcont deltatcontribution dt2'
+    LEAST = 'least minimum min leastload minload leastheat minheat'
+    MOST = 'most maximum max mostload maxload mostheat maxheat'
+    PRICE = 'price cost unitcost unitprice preis'
+
+
+MEANINGS = {word: heading for heading in Heading for word in heading.value.split()}
+KINDS = {Heading.SUPPLY: Kind.TEMPERATURE, Heading.TARGET: Kind.TEMPERATURE, Heading.CP: Kind.FLOW,
+         Heading.LOAD: Kind.HEAT, Heading.LEAST: Kind.HEAT, Heading.MOST: Kind.HEAT,
+         Heading.CONTRIBUTION: Kind.DIFFERENCE}
+NOTES = frozenset('note notes remark remarks comment comments description fluid medium service bemerkung kommentar '
+                  'stoff'.split())
+STREAM_COLUMNS = (Heading.NAME, Heading.SUPPLY, Heading.TARGET, Heading.CP, Heading.LOAD, Heading.CONTRIBUTION)
+BRACKETED = re.compile(r'(.*?)[\s_]*[(\[](.*)[)\]]\s*')
+EMPTY = frozenset(('', '-', '–', '—', 'n/a', 'N/A', 'na', '.'))
+
+
+@dataclass(frozen=True)
+class Layout:
+    """The columns of a headed table with the units that the table gives them, and the number of the last row of its
+    head."""
+
+    columns: Mapping[Heading, int] = field(default_factory=dict)
+    units: Mapping[int, str] = field(default_factory=dict)
+    titles: Mapping[int, str] = field(default_factory=dict)
+    head: int = 0
+    passed: tuple[int, ...] = ()
+
+    @property
+    def headed(self) -> bool:
+        return bool(self.columns)
+
+
+def squeezed(text: str) -> str:
+    """A heading in small letters and digits alone; accents and marks are left out."""
+    plain = unicodedata.normalize('NFKD', text.replace('Δ', 'd').replace('∆', 'd').replace('ß', 'ss')).lower()
+    return ''.join(each for each in plain if each.isalnum() and each.isascii())
+
+
+def meaning(text: str) -> Heading | None:
+    return MEANINGS.get(squeezed(text))
+
+
+def heading_of(text: str) -> tuple[Heading | None, str]:
+    """What a heading means, and the unit that stands with it: `CP (MW/K)`, `Supply [°C]`, `Duty / kW`, `Duty in kW`."""
+    if meaning(text):
+        return meaning(text), ''
+    match = BRACKETED.fullmatch(text)
+    if match:
+        return meaning(match[1]), match[2].strip()
+    for name, unit in splits(text):
+        if meaning(name) and unit:
+            return meaning(name), unit
+    return None, ''
+
+
+def splits(text: str) -> Iterator[tuple[str, str]]:
+    """The ways in which a heading may be a name and a unit, the longest name first."""
+    for match in reversed(list(re.finditer(r'\s*[/,;:]\s*|\s+in\s+|[\s_]+', text))):
+        yield text[:match.start()], text[match.end():]
+
+
+def is_number(cell: Cell) -> bool:
+    if cell.number is not None:
+        return True
+    try:
+        numeral_of(cell.text)
+    except NoNumber:
+        return False
+    return True
+
+
+def known(row: TableRow) -> int:
+    """How many headings a row has; none where one of its cells is a number."""
+    cells = [cell for _, cell in row.filled()]
+    if any(is_number(cell) for cell in cells):
+        return 0
+    return len({heading_of(cell.text)[0] for cell in cells} - {None})
+
+
+def layout_of(table: Table) -> Layout:
+    """The layout of a table; `Refused` where a heading is not known, stands twice, or none names the streams."""
+    for at, row in enumerate(table.rows):
+        if known(row) > 1:
+            layout = taken(table, row)
+            below = table.rows[at + 1] if at + 1 < len(table.rows) else None
+            if below and is_second_head(layout, below):
+                layout = with_second(table, layout, below)
+            if at:
+                layout = with_first(table, layout, table.rows[at - 1])
+            passed = tuple(each.number for each in table.rows[:at])
+            return complete(table, replace(layout, passed=passed), row)
+    return Layout()
+
+
+def taken(table: Table, row: TableRow) -> Layout:
+    """The columns of a row of headings."""
+    columns: dict[Heading, int] = {}
+    units: dict[int, str] = {}
+    for column, cell in row.filled():
+        heading, unit = heading_of(cell.text)
+        if heading in columns:
+            raise table.refusal(row.number, column, f'a second column `{cell.text}`')
+        if heading:
+            columns[heading] = column
+        if unit:
+            units[column] = unit
+    titles = {column: cell.text for column, cell in row.filled()}
+    return Layout(columns, units, titles, row.number)
+
+
+def stripped(text: str) -> str:
+    return text.strip().strip('()[]').strip()
+
+
+def is_second_head(layout: Layout, row: TableRow) -> bool:
+    """Whether a row below the headings has units, or headings of columns that have none."""
+    if any(is_number(cell) for _, cell in row.filled()):
+        return False
+    measured = {column for heading, column in layout.columns.items() if heading in KINDS or heading is Heading.PRICE}
+    named = any(heading_of(cell.text)[0] for _, cell in row.filled())
+    return named or any(column in measured for column, cell in row.filled() if cell.text not in EMPTY)
+
+
+def with_second(table: Table, layout: Layout, row: TableRow) -> Layout:
+    """The layout with a second row of its head: each cell is a heading with its unit, or a unit."""
+    columns, units, titles = dict(layout.columns), dict(layout.units), dict(layout.titles)
+    for column, cell in row.filled():
+        heading, unit = heading_of(cell.text)
+        if heading and column not in columns.values():
+            if heading in columns:
+                raise table.refusal(row.number, column, f'a second column `{cell.text}`')
+            columns[heading] = column
+            titles[column] = cell.text
+        elif column in columns.values() and cell.text not in EMPTY:
+            unit = unit or stripped(cell.text)
+            if column in units and units[column] != unit:
+                raise table.refusal(row.number, column, f'two units, `{units[column]}` above and `{unit}` here')
+        if unit:
+            units[column] = unit
+    return Layout(columns, units, titles, row.number)
+
+
+def with_first(table: Table, layout: Layout, row: TableRow) -> Layout:
+    """The layout with the units of a row right above the headings, as `Temperatures (°C)` over two columns: each holds
+    as far as its merged cell reaches, or to the next title."""
+    units = dict(layout.units)
+    filled = [column for column, _ in row.filled()]
+    for column, cell in row.filled():
+        match = BRACKETED.fullmatch(cell.text)
+        end = next((end for at, begin, end in table.merged if (at, begin) == (row.number, column)), None)
+        following = [each for each in filled if each > column]
+        reach = range(column, end or (following[0] if following else max(layout.columns.values(), default=0) + 1))
+        for heading, each in layout.columns.items():
+            if match and each in reach and each not in units and heading in KINDS and is_unit(match[2], KINDS[heading]):
+                units[each] = match[2]
+    return replace(layout, units=units)
+
+
+def complete(table: Table, layout: Layout, row: TableRow) -> Layout:
+    """The layout where all its columns are known; `Refused` else."""
+    for column, title in layout.titles.items():
+        if column not in layout.columns.values() and squeezed(BRACKETED.sub(r'\1', title)) not in NOTES:
+            raise unknown(table, row, column, title)
+    columns = dict(layout.columns)
+    if Heading.NUMBER in columns:
+        columns.setdefault(Heading.NAME, columns[Heading.NUMBER])
+    layout = replace(layout, columns=columns)
+    for heading in (Heading.NAME, Heading.SUPPLY):
+        if heading not in layout.columns:
+            raise table.refusal(row.number, None, f'no column has the heading {heading.name.lower()}')
+    return layout
+
+
+def unknown(table: Table, row: TableRow, column: int, title: str) -> Refused:
+    names = ', '.join(each.name.lower() for each in Heading)
+    cause = f'the heading `{title}` is not known: {names}; take the column out, or head it `note`'
+    return table.refusal(row.number, column, cause)

@@ -1,0 +1,35 @@
+"""A sign of life on long work, where standard error is a terminal."""
+from __future__ import annotations
+
+import sys
+import threading
+import time
+from collections.abc import Iterator
+from contextlib import contextmanager
+
+PATIENCE = 2.0
+
+
+@contextmanager
+def progress(what: str) -> Iterator[None]:
+    """Shows what is at work, and for how long, from the third second on."""
+    if not sys.stderr.isatty():
+        yield
+        return
+    ended = threading.Event()
+    shower = threading.Thread(target=show, args=(what, ended), daemon=True)
+    shower.start()
+    try:
+        yield
+    finally:
+        ended.set()
+        shower.join()
+
+
+def show(what: str, ended: threading.Event) -> None:
+    begun = time.monotonic()
+    if ended.wait(PATIENCE):
+        return
+    while not ended.wait(0.5):
+        print(f'\r{what}: {time.monotonic() - begun:.0f} s ', end='', file=sys.stderr, flush=True)
+    print('\r\033[K', end='', file=sys.stderr, flush=True)

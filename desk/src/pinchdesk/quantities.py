@@ -1,0 +1,129 @@
+"""Units: a number with its unit becomes an exact number of the program's units.
+
+`pint` knows the units and converts them, in fractions. A temperature and a difference of temperatures are different
+things: 50 °F are 10 °C, and 50 K of difference are 50 K; a CP has a difference below its line. A calorie is pint's
+(4.184 J, thermochemical), a Btu too (1055.056 J, ISO)."""
+from __future__ import annotations
+
+import enum
+import re
+from dataclasses import dataclass
+from fractions import Fraction
+from functools import lru_cache
+from typing import Any
+
+
+class Kind(enum.Enum):
+    """What is measured: with the unit that is taken where none is given, and the program's unit."""
+
+    TEMPERATURE = ('°C', 'tenths of °C')
+    DIFFERENCE = ('K', 'tenths of °C')
+    FLOW = ('kW/K', '10 W/K')
+    HEAT = ('kW', 'W')
+
+    @property
+    def default(self) -> str:
+        return self.value[0]
+
+    @property
+    def program(self) -> str:
+        return self.value[1]
+
+
+class UnknownUnit(ValueError):
+    """A text that is no unit of what is measured."""
+
+
+@dataclass(frozen=True)
+class Unit:
+    """A unit: `number` of it is `(number + offset) * factor` of the program's."""
+
+    text: str
+    factor: Fraction
+    offset: Fraction = Fraction(0)
+
+    def exact(self, number: Fraction) -> Fraction:
+        return (number + self.offset) * self.factor
+
+
+LONGEST = 40
+SIGNS = {'º': '°', '˚': '°', '℃': '°C', '℉': '°F', '\u212a': 'K', '·': '*', '⋅': '*', '×': '*', '−': '-',
+         '⁻¹': '^-1', 'µ': 'micro', 'μ': 'micro'}
+ALLOWED = re.compile(r'[A-Za-z°_/*^() .-]*(?:(?:\^|\*\*)-?1[A-Za-z°_/*^() .-]*)*')
+DEGREES = re.compile(r'(?:\bdeg(?:ree)?s?\.?|°|\bo(?=[CF]\b))\s*(?:([CFKR])\b|(celsius|fahrenheit|kelvin)\b)', re.I)
+LETTER = re.compile(r'(?<![A-Za-z_°])([CF])(?![A-Za-z_])')
+NAMED = re.compile(r'\b(celsius|fahrenheit)\b', re.I)
+TIMES = re.compile(r'([1-9][0-9]{0,6})\s*([^0-9].*)')
+YEAR = re.compile(r'(?<![A-Za-z_])(a|y|yr|years?|annum|anno)(?![A-Za-z_])', re.I)
+DIMENSIONS = {Kind.TEMPERATURE: 'kelvin', Kind.DIFFERENCE: 'kelvin', Kind.FLOW: 'watt / kelvin', Kind.HEAT: 'watt'}
+# How much of the program's unit is in the SI unit above.
+IN_PROGRAM = {Kind.TEMPERATURE: Fraction(10), Kind.DIFFERENCE: Fraction(10), Kind.FLOW: Fraction(1, 10),
+              Kind.HEAT: Fraction(1)}
+ZERO_CELSIUS = Fraction('273.15')
+
+
+@lru_cache(maxsize=1)
+def registry() -> Any:
+    """pint's units, in fractions; it takes a second to make."""
+    import pint
+    made = pint.UnitRegistry(non_int_type=Fraction)
+    made.define('MMBtu = 1000000 * Btu = MMBTU')
+    return made
+
+
+def normal(text: str) -> str:
+    """A unit as it is written, in the letters that pint reads; `UnknownUnit` where it cannot be one."""
+    held = text.strip()
+    for sign, plain in SIGNS.items():
+        held = held.replace(sign, plain)
+    held = re.sub(r'\bper\b', '/', held)
+    held = re.sub(r'/\s*h(?:ou)?rs?\b', '/hour', held)
+    held = DEGREES.sub(lambda match: '°' + (match[1] or match[2][0]).upper(), held)
+    held = NAMED.sub(lambda match: '°' + match[1][0].upper(), LETTER.sub(r'°\1', held))
+    held = held.replace('°K', 'K').replace('°R', 'degR')
+    # MBtu is a thousand of them to some and a million to others.
+    if not held or len(held) > LONGEST or not ALLOWED.fullmatch(held) or re.search(r'\bmbtu', held, re.I):
+        raise UnknownUnit(text)
+    return held
+
+
+@lru_cache(maxsize=None)
+def unit_of(text: str, kind: Kind) -> Unit:
+    """The unit that a text names; `UnknownUnit` where it names none of this kind. A heat over a year is no power."""
+    times = TIMES.fullmatch(text.strip())
+    held = normal(times[2] if times else text)
+    if kind in (Kind.HEAT, Kind.FLOW) and YEAR.search(held):
+        raise UnknownUnit(text)
+    if kind is not Kind.TEMPERATURE:
+        held = held.replace('°C', 'delta_degC').replace('°F', 'delta_degF')
+    known = registry()
+    try:
+        if kind is Kind.TEMPERATURE:
+            return temperature_unit(text, '' if times else held)
+        one = known.Quantity(Fraction(times[1] if times else 1), known.Unit(held)).to(DIMENSIONS[kind])
+        return Unit(text, Fraction(one.magnitude) * IN_PROGRAM[kind])
+    except Exception as fault:
+        # pint has no error of its own for each text that it cannot read.
+        raise UnknownUnit(text) from fault
+
+
+def temperature_unit(text: str, held: str) -> Unit:
+    known = registry()
+    unit = known.Unit(held.replace('°C', 'degC').replace('°F', 'degF'))
+    zero, one = (Fraction(known.Quantity(Fraction(each), unit).to('kelvin').magnitude) for each in (0, 1))
+    factor = one - zero
+    return Unit(text, factor * IN_PROGRAM[Kind.TEMPERATURE], (zero - ZERO_CELSIUS) / factor)
+
+
+def is_unit(text: str, kind: Kind) -> bool:
+    try:
+        unit_of(text, kind)
+    except UnknownUnit:
+        return False
+    return True
+
+
+def rounded(value: Fraction) -> int:
+    """The nearest whole number, half away from 0."""
+    whole = (abs(value) * 2 + 1) // 2
+    return int(-whole if value < 0 else whole)

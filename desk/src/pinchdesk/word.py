@@ -1,0 +1,30 @@
+"""What a word of the command is, and what it gives. `cli` has the list of them."""
+from __future__ import annotations
+
+import argparse
+from collections.abc import Callable
+from dataclasses import dataclass
+
+
+@dataclass(frozen=True)
+class Answer:
+    """What a word gives: its content, whether it is a good answer (status 0, else 1), and notes for standard error."""
+
+    content: str | bytes
+    good: bool = True
+    notes: tuple[str, ...] = ()
+
+
+@dataclass(frozen=True)
+class Word:
+    """A word of the command. `arguments` declares its own ones (`-o FILE` is declared for each), `run` answers them;
+    `inputs` names those that are paths of files that are read, over which nothing is written; `to_file` where the
+    answer only goes to a file."""
+
+    name: str
+    summary: str
+    example: str
+    arguments: Callable[[argparse.ArgumentParser], None]
+    run: Callable[[argparse.Namespace], Answer]
+    inputs: tuple[str, ...]
+    to_file: bool = False

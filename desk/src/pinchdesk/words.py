@@ -1,0 +1,7 @@
+"""The words of the command, in the order in which the help lists them."""
+from __future__ import annotations
+
+from . import asked, entered, exchangers
+from .word import Word
+
+WORDS: tuple[Word, ...] = (*entered.WORDS, *asked.WORDS, *exchangers.WORDS)

@@ -1,0 +1,49 @@
+"""What the tests share: the program, the examples, the command as it is run from a checkout."""
+from __future__ import annotations
+
+import os
+import subprocess
+import sys
+from dataclasses import dataclass
+from pathlib import Path
+
+import pytest
+from hypothesis import HealthCheck, settings
+
+from pinchdesk import Pinch
+
+DESK = Path(__file__).resolve().parents[1]
+EXAMPLES = DESK.parent / 'examples'
+SITES = ('site-books', 'three-plants')
+NO_CASES = (*SITES, 'steam-prices', 'table')
+CASES = sorted(each.stem for each in EXAMPLES.glob('*.csv') if each.stem not in NO_CASES)
+NETWORKS = [each for each in CASES if (EXAMPLES / f'{each}-network.txt').exists()]
+# The same examples each time, with no memory of earlier runs; the program is slow to start on a busy machine.
+settings.register_profile('desk', deadline=None, max_examples=40, derandomize=True, database=None,
+                          suppress_health_check=[HealthCheck.too_slow])
+settings.load_profile('desk')
+
+
+@dataclass(frozen=True)
+class Done:
+    """How a run of the command ended."""
+
+    status: int
+    out: str
+    err: str
+
+
+def pinchdesk(*words: str, cwd: Path | None = None) -> Done:
+    """The command, run from the checkout in a process of its own."""
+    done = subprocess.run([sys.executable, str(DESK / 'pinchdesk'), *words], cwd=cwd, capture_output=True, check=False,
+                          stdin=subprocess.DEVNULL, env=dict(os.environ))
+    return Done(done.returncode, done.stdout.decode('utf-8', 'replace'), done.stderr.decode('utf-8', 'replace'))
+
+
+@pytest.fixture(scope='session')
+def pinch() -> Pinch:
+    return Pinch()
+
+
+def example(name: str) -> bytes:
+    return (EXAMPLES / name).read_bytes()
