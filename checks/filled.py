@@ -51,19 +51,19 @@ def full() -> tuple[bytes, bytes, bytes]:
     plants = [row for number in range(SITE_MOST['plant'])
               for row in ['plant,P%d,,,,,' % number] + shared[number::SITE_MOST['plant']]]
     mains = ['main,M%d,%d,,,,' % (number, 25000 - 6000 * number) for number in range(SITE_MOST['main'])]
-    return text('contribution,,0,,,,', *hot, *cold, *given, *pairs), text('contribution,,1000,,,,', *hot,
-                                                                          *cold), text('contribution,,0,,,,', *mains,
-                                                                                       *plants)
+    case = text('contribution,,0,,,,', *hot, *cold, *given, *pairs)
+    return case, text('contribution,,1000,,,,', *hot, *cold), text('contribution,,0,,,,', *mains, *plants)
 
 
 def full_of_latent() -> tuple[bytes, bytes]:
     """A standard case in which all streams are latent, with the largest loads, and one in which each second one is."""
-    rows = ['%s,%s%d,%d,%d,0,10000000000,' % (kind, kind[0].upper(), number, level, level)
-            for kind, first in (('hot', 29000), ('cold', -2000))
-            for number in range(CASE_MOST[kind]) for level in [first - 900 * number if kind == 'hot'
-                                                               else first + 900 * number]]
-    mixed = [row if at % 2 else '%s,%s,%d,%d,100000,,' % (*row.split(',')[:2],
-                                                          *((30000, -2731 + at) if row.startswith('hot')
-                                                            else (-2731 + at, 30000)))
-             for at, row in enumerate(rows)]
-    return text('contribution,,50,,,,', *rows), text('contribution,,50,,,,', *mixed)
+    latent, mixed = [], []
+    for kind, first, step, ends in (('hot', 29000, -900, (30000, -2731)), ('cold', -2000, 900, (-2731, 30000))):
+        for number in range(CASE_MOST[kind]):
+            level, name = first + step * number, '%s%d' % (kind[0].upper(), number)
+            latent.append('%s,%s,%d,%d,0,10000000000,' % (kind, name, level, level))
+            # A sensible one of the whole range, but for its lower end.
+            at = len(latent) - 1
+            supply, target = [end + at * (end < 0) for end in ends]
+            mixed.append(latent[-1] if at % 2 else '%s,%s,%d,%d,100000,,' % (kind, name, supply, target))
+    return text('contribution,,50,,,,', *latent), text('contribution,,50,,,,', *mixed)

@@ -2,8 +2,8 @@
 studies in orders that leave workers idle.
 
 The names are for the fold hash of small keys: a state that each byte is mixed into, and multiplied with a constant to
-128 bits, whose halves are then folded. They have the same tag, and begin within one sixteenth of the places of a table
-of 65,536."""
+128 bits, whose halves are then folded. In an index of a fixed seed that holds as many of them as MOST they have the
+same tag, and begin at one of four groups, so that each one is compared with all that are there."""
 from __future__ import annotations
 from collections.abc import Iterator
 from functools import cache
@@ -16,6 +16,8 @@ from common import HERE, text
 LETTERS = b'0123456789abcdefghijklmnopqrstuvwxyzABCDEFGHIJKLMNOPQRSTUVWXYZ'
 MULTIPLIER, SEED, WORD = 0x9e3779b97f4a7c15, 0x243f6a8885a308d3, (1 << 64) - 1
 LENGTH = 8
+# How many names fall together: as many as a table of 8,192 places holds.
+MOST = 7000
 # How many bytes run along a row of names that are hashed at once, behind four that are fixed.
 OPEN = 3
 
@@ -81,18 +83,20 @@ def name_of(front: bytes, place: int, last: int) -> str:
 
 
 def fitting(row: Row) -> Iterator[int]:
-    """The places of the row whose hash has the tag 0 or 1 and begins low in the table."""
+    """The places of the row whose hash has the tag of zero, and one of 64 beginnings in a table of 8,192."""
     written = row.bytes()
-    # The hash is the lower half with the upper one over it.
-    tags = int.from_bytes(written[3::16], 'little') ^ int.from_bytes(written[7::16], 'little')
-    begins = int.from_bytes(written[1::16], 'little') ^ int.from_bytes(written[5::16], 'little')
-    found = begins.to_bytes(row.count, 'little')
-    for place in re.finditer(rb'[\0\1]', tags.to_bytes(row.count, 'little')):
-        if found[place.start()] < 16:
+    # The hash is the lower half with the upper one over it, byte by byte.
+    tags, middles, lows = [xor(written[at::16], written[at + 4::16]) for at in (3, 1, 0)]
+    for place in re.finditer(rb'[\0\1]', tags):
+        if lows[place.start()] < 64 and middles[place.start()] % 32 == 0:
             yield place.start()
 
 
-def colliding(count: int) -> list[str]:
+def xor(one: bytes, other: bytes) -> bytes:
+    return (int.from_bytes(one, 'little') ^ int.from_bytes(other, 'little')).to_bytes(len(one), 'little')
+
+
+def colliding(count: int = MOST) -> list[str]:
     """So many names that fall together."""
     names: list[str] = []
     for letter in LETTERS:
@@ -104,7 +108,7 @@ def colliding(count: int) -> list[str]:
     return names
 
 
-def plain(count: int) -> list[str]:
+def plain(count: int = MOST) -> list[str]:
     """So many ordinary names of the same length."""
     return ['n%07d' % number for number in range(count)]
 
