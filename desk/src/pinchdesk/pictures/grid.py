@@ -61,8 +61,10 @@ def grid_figure(followed: Followed, pinches: tuple[PinchPoint, ...], verdict: Ve
     heights, labels, slants, deep = lane_heights(plan)
     numbers = margins(plan)
     title = headline(followed, verdict, finding, plan)
-    top, bottom = 0.34 + 0.17 * len(title) + 0.5, 0.62
-    wide, high = max(plan.edges[1] + numbers[-1], 7.0), deep + top + bottom
+    wide = max(plan.edges[1] + numbers[-1], 7.0)
+    notes = textwrap.wrap(end_texts(plan), int(wide / 0.068))
+    top, bottom = 0.34 + 0.17 * len(title) + (0.5 if len(pinches) > 1 else 0.35), 0.5 + 0.14 * len(notes)
+    high = deep + top + bottom
     with styled():
         figure = blank(wide, high)
         axes = figure.add_axes((0, 0, 1, 1))
@@ -75,7 +77,7 @@ def grid_figure(followed: Followed, pinches: tuple[PinchPoint, ...], verdict: Ve
         put_exchangers(sheet)
         put_streams(sheet)
         put_numbers(sheet, numbers, high - top)
-        put_legend(sheet)
+        put_legend(sheet, notes)
     return figure
 
 
@@ -211,13 +213,14 @@ def utility_reach(sheet: Sheet, utility: Utility) -> tuple[float, float]:
     return min(held) - margin, max(held) + margin
 
 
-def put_legend(sheet: Sheet) -> None:
-    """What the colours say; of a network without a pinch there is nothing to say."""
-    plan, x = sheet.plan, 0.25
+def put_legend(sheet: Sheet, notes: list[str]) -> None:
+    """What the colours say, where there is a pinch, and the units."""
+    plan, x, y = sheet.plan, 0.25, 0.22 + 0.14 * len(notes)
     used = {colour_of(each, plan.pinches) for each in plan.followed.passages}
     for colour, text in LEGEND:
         if colour in used:
-            sheet.axes.plot([x, x + 0.25], [0.36, 0.36], color=colour, linewidth=2)
-            sheet.write(x + 0.32, 0.36, text, ha='left', fontsize=7.5)
+            sheet.axes.plot([x, x + 0.25], [y, y], color=colour, linewidth=2)
+            sheet.write(x + 0.32, y, text, ha='left', fontsize=7.5)
             x += 0.55 + width(text, 7.5)
-    sheet.write(0.25, 0.16, end_texts(plan), ha='left', fontsize=7.5, color=PALE)
+    for at, line in enumerate(notes):
+        sheet.write(0.25, y - 0.17 - 0.14 * at, line, ha='left', fontsize=7.5, color=PALE)

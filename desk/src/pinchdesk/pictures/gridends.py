@@ -6,7 +6,7 @@ from fractions import Fraction
 
 from ..case import Side, Stream, Utility
 from ..shown import Shown
-from .gridplan import Plan
+from .gridplan import Plan, percent
 
 
 @dataclass(frozen=True)
@@ -58,11 +58,6 @@ def away(state: Fraction, target: int, shown: Shown) -> str:
     wanted = shown.celsius(target)
     return next((text for text in (shown.celsius(state, places) for places in range(2, 7)) if text != wanted),
                 f'near {wanted}')
-
-
-def percent(part: Fraction) -> str:
-    """A part of a stream in percent, with two decimals."""
-    return Shown().celsius(part * 1000, 2) + ' %'
 
 
 def reading(row: Stream | Utility, side: str) -> bool:

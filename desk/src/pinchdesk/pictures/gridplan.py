@@ -3,17 +3,19 @@ here."""
 from __future__ import annotations
 
 from dataclasses import dataclass
+from fractions import Fraction
 from functools import lru_cache
 
 from matplotlib.backends.backend_agg import RendererAgg
 from matplotlib.font_manager import FontProperties
 
 from ..case import Side, Stream, Utility
-from ..shown import Shown
+from ..network import Split
+from ..shown import Shown, decimal
 from ..states import Followed, PinchPoint
 from .columns import Columns, Tracks, columns_of
 from .courses import Course, course_of
-from .lanes import count_of, lanes_of
+from .lanes import count_of, lanes_of, share_of
 
 # An A3 sheet is 16.5 inches wide; names and columns of numbers take the rest.
 ROOM, SIZES = 13.4, (8.5, 7.5, 6.5, 5.5, 5.0)
@@ -102,13 +104,13 @@ def rows_of(followed: Followed) -> tuple[list[Stream | Utility], int]:
     return [*held[0], *held[1]], len(held[0])
 
 
-def type_of(columns: int, labels: dict[str, tuple[str, ...]], temperatures: list[tuple[str, str]]) -> Type:
+def type_of(columns: int, labels: dict[str, tuple[str, ...]], numbers: list[tuple[str, str]]) -> Type:
     """The largest letters with which all columns have room on the sheet: labels lie where they can, else they stand."""
     lines = [line for each in labels.values() for line in each]
     for upright in (False, True):
         for size in SIZES[:3] if not upright else SIZES[1:]:
             for places in (0, 1):
-                warm = max((width(each[places], size - 0.5) for each in temperatures), default=0.2)
+                warm = max((width(each[places], size - 0.5) for each in numbers), default=0.2)
                 flat = max((width(line, size, True) for line in lines), default=0.3)
                 tall = 3 * size * 1.3 / 72
                 pitch = max(warm + 0.05, (tall if upright else flat) + 0.06, 0.2)
@@ -117,11 +119,21 @@ def type_of(columns: int, labels: dict[str, tuple[str, ...]], temperatures: list
     raise AssertionError('no size of letters')
 
 
-def temperatures_of(followed: Followed) -> list[tuple[str, str]]:
-    """Each temperature of a branch in two and in one decimals."""
+def numbers_of(followed: Followed) -> list[tuple[str, str]]:
+    """What is written between columns, in two and in one decimals: temperatures, and shares behind splits."""
     shown = Shown(followed.case.basis)
     held = [each.temperature for each in followed.branches.values()]
-    return [(shown.celsius(each), shown.celsius(each, 1)) for each in held if each is not None]
+    made = [(shown.celsius(each), shown.celsius(each, 1)) for each in held if each is not None]
+    for each in followed.network.statements:
+        if isinstance(each, Split):
+            parts = [share_of(followed, name) for name in (each.first, each.second)]
+            made += [(percent(part, 2), percent(part, 1)) for part in parts]
+    return made
+
+
+def percent(part: Fraction, places: int = 2) -> str:
+    """A part of a stream in percent."""
+    return decimal(part * 100, places) + ' %'
 
 
 def plan_of(followed: Followed, pinches: tuple[PinchPoint, ...]) -> Plan:
@@ -132,7 +144,7 @@ def plan_of(followed: Followed, pinches: tuple[PinchPoint, ...]) -> Plan:
     columns = columns_of(followed, course, tracks, len(pinches))
     lanes = {each.name: lanes_of(followed, course, columns, each) for each in followed.case.streams}
     labels = labels_of(followed, pinches)
-    type_ = type_of(columns.count, labels, temperatures_of(followed))
+    type_ = type_of(columns.count, labels, numbers_of(followed))
     return Plan(followed, pinches, course, columns, lanes, rows, labels, type_)
 
 
@@ -163,11 +175,17 @@ def lane_heights(plan: Plan) -> tuple[dict[str, list[float]], float, float, floa
         if each.side is Side.COLD and (at == 0 or plan.rows[at - 1].side is Side.HOT):
             tall = band(plan)
             labels, slants = down + tall / 2, down + tall + 0.15
-            down += tall + 0.3
+            down += tall + (0.3 if is_slanted(plan) else 0.0)
         count = count_of(plan.lanes.get(each.name, {}))
         heights[each.name] = [down + line * (2.0 + 2.9 * lane) for lane in range(count)]
         down += line * (3.4 + 2.9 * (count - 1)) if isinstance(each, Stream) else line * 2.6
     return heights, labels, slants, down
+
+
+def is_slanted(plan: Plan) -> bool:
+    """Whether an exchanger has a column for each side."""
+    held = plan.columns.of
+    return any(('cold', key[1]) in held and held['cold', key[1]] != at for key, at in held.items() if key[0] == 'hot')
 
 
 def band(plan: Plan) -> float:

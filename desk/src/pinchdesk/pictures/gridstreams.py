@@ -8,8 +8,7 @@ from ..case import Side, Stream, Utility
 from ..network import End
 from ..states import Branch
 from .courses import Node
-from .gridends import percent
-from .gridplan import reach
+from .gridplan import percent, reach
 from .lanes import drawn_branches, node_at, share_of
 from .style import COLD, FAULT, HOT
 
@@ -65,8 +64,9 @@ def put_state(sheet: Sheet, branch: Branch, made: Node | None, x: float, y: floa
     if made is None:
         return
     if made.key[0] == 'split':
-        sheet.write(x + way * 0.07, y - plan.type.line * 0.75, percent(share_of(plan.followed, branch.name)),
-                    ha='left' if way > 0 else 'right', fontsize=plan.type.size - 1, color='#555555')
+        text = percent(share_of(plan.followed, branch.name), 2 - plan.type.places)
+        sheet.write(x + way * plan.type.pitch / 2, y - plan.type.line * 0.75, text, fontsize=plan.type.size - 1,
+                    color='#555555')
     elif not ended and not branch.stream.latent:
         text = '?' if branch.temperature is None else plan.shown.celsius(branch.temperature, 2 - plan.type.places)
         sheet.write(x + way * plan.type.pitch / 2, y + plan.type.line * 0.7, text, fontsize=plan.type.size - 0.5,
