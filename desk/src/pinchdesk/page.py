@@ -148,8 +148,8 @@ def case_utilities(case: Case, flow: HeatFlow | Cut) -> Sheet:
                      None if used is None else Decimal(shown.cost(used * each.price))))
     if not isinstance(flow, Cut):
         rows.append(('least cost', '', None, None, None, None, None, None, Decimal(shown.cost(flow.cost))))
-    headings = ('utility', '', 'level °C', 'least kW', 'most kW', f'price {shown.price_unit}', 'contribution K',
-                'used kW', f'cost {shown.cost_unit}')
+    headings = ('utility', '', 'level °C', 'least kW', 'most kW', f'price, {shown.price_unit}', 'contribution K',
+                'used kW', f'cost, {shown.cost_unit}')
     return Sheet('Utilities, and what a heat flow of least cost uses', headings, tuple(rows))
 
 
@@ -178,11 +178,9 @@ def compared(networks: Sequence[Reviewed], shown: Shown) -> Sheet:
             held.append('too fine' if verdict.too_fine else Decimal(shown.kilowatts(lost)))
         columns.append([*held, *[None] * (len(COMPARED) - len(held))])
     unit = shown.cost_unit
-    names = [f'{each} {unit}' if 'cost' in each else each for each in COMPARED]
-    names = [each.replace(f'no network costs less {unit}', f'no network costs less, {unit}') for each in names]
+    names = [f'{each}, {unit}' if 'cost' in each else each for each in COMPARED]
     rows = tuple((name, *(column[at] for column in columns)) for at, name in enumerate(names))
-    marked = frozenset(at for at, row in enumerate(rows) if at == 0 and 'rejected' in row)
-    return Sheet('Networks side by side', ('', *(each.given.name for each in networks)), rows, marked)
+    return Sheet('Networks side by side', ('', *(each.given.name for each in networks)), rows)
 
 
 def page_of(case: Given, networks: Sequence[Given], unfolded: bool = False) -> tuple[str, bool]:

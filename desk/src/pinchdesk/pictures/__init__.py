@@ -9,4 +9,4 @@ from .site import site_figure
 from .style import FORMS, rendered
 from .sweep import sweep_figure
 
-__all__ = ["FORMS", "MOST", "curves_figure", "grid_figure", "prices_figure", "rendered", "site_figure", "sweep_figure"]
+__all__ = ['FORMS', 'MOST', 'curves_figure', 'grid_figure', 'prices_figure', 'rendered', 'site_figure', 'sweep_figure']

@@ -194,7 +194,7 @@ def put_numbers(sheet: Sheet, numbers: list[float], top: float) -> None:
         sheet.write(right + numbers[0], y, end.flow, ha='right')
         sheet.write(right + numbers[1], y, end.load, ha='right')
         first, last = reach(plan, each) if isinstance(each, Stream) else utility_reach(sheet, each)
-        for x, text, side, far in ((first, end.left, 'right', -0.06), (last, end.right, 'left', 0.06)):
+        for x, text, side, far in ((first, end.left, 'right', -0.1), (last, end.right, 'left', 0.1)):
             wrong = end.missed and reading(each, side)
             mark = {'color': FAULT, 'fontweight': 'bold'} if wrong else {}
             box = {'facecolor': 'white', 'edgecolor': 'none', 'pad': 0.8}

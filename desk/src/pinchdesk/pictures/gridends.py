@@ -56,7 +56,7 @@ def reached_by(plan: Plan, stream: Stream) -> tuple[str, bool]:
 def away(state: Fraction, target: int, shown: Shown) -> str:
     """A temperature with as many decimals as tell it from the target, up to six."""
     wanted = shown.celsius(target)
-    return next((text for text in (shown.celsius(state, places) for places in range(2, 7)) if text != wanted),
+    return next((text for text in (shown.celsius(state, places) for places in range(3, 7)) if text != wanted),
                 f'near {wanted}')
 
 
