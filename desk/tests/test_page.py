@@ -8,10 +8,11 @@ from pathlib import Path
 import pytest
 from conftest import EXAMPLES, Done, example, pinchdesk
 
-from pinchdesk import Accepted, Pinch, Shown, read_case
+from pinchdesk import Accepted, Pinch, read_case
 from pinchdesk.browser import browser, run_browser
 from pinchdesk.cli import main
 from pinchdesk.page import Given, page_of
+from pinchdesk.shown import Shown
 
 STEAM = ('two-reactors-steam.csv', 'two-reactors-steam-network.txt')
 WITH_BROWSER = pytest.mark.skipif(browser() is None, reason='no browser to look at the page with')

@@ -9,11 +9,12 @@ from conftest import NETWORKS, example
 from looking import cut_off, overlapping, svg_texts, texts_of
 from matplotlib.figure import Figure
 
-from pinchdesk import (Accepted, HeatFlow, Pinch, Rejected, Shown, WordsError, completed, follow, pinches_of, read_case,
+from pinchdesk import (Accepted, HeatFlow, Pinch, Rejected, WordsError, completed, follow, pinches_of, read_case,
                        read_network, read_site)
 from pinchdesk.pictures import curves_figure, grid_figure, prices_figure, rendered, site_figure, sweep_figure
 from pinchdesk.pictures.labels import meets
 from pinchdesk.pictures.style import FAULT
+from pinchdesk.shown import Shown
 
 FURNACE = b"""contribution,,50,,,,
 cold,C1,200,1350,200,,
