@@ -20,7 +20,8 @@ WITH_BROWSER = pytest.mark.skipif(browser() is None, reason='no browser to look 
 LOOK = """<script>addEventListener('load', () => {
 const found = [];
 for (const each of document.querySelectorAll('h1, h2, h3, h4, p, caption, th, td, summary, pre, figure, .wide'))
-    if (each.scrollWidth > each.clientWidth + 1 && each.clientWidth && !/auto|scroll/.test(getComputedStyle(each).overflowX))
+    if (each.scrollWidth > each.clientWidth + 1 && each.clientWidth
+        && !/auto|scroll/.test(getComputedStyle(each).overflowX))
         found.push(each.tagName + ' ' + each.textContent.slice(0, 60));
 for (const each of document.images) if (!each.complete || !each.naturalWidth) found.push('no picture ' + each.alt);
 if (document.documentElement.scrollWidth > innerWidth) found.push('page ' + document.documentElement.scrollWidth);

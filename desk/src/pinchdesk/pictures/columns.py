@@ -12,8 +12,8 @@ Span = tuple[int, int]
 
 @dataclass
 class Tracks:
-    """Rows of the diagram from the top: hot utilities and streams, a band for the exchangers' labels, a band for slanted
-    bars, cold streams and utilities."""
+    """Rows of the diagram from the top: hot utilities and streams, a band for the exchangers' labels, a band for
+    slanted bars, cold streams and utilities."""
 
     rows: dict[str, int]
     labels: int

@@ -193,5 +193,3 @@ def band(plan: Plan) -> float:
     if not plan.type.upright:
         return max((len(each) for each in plan.labels.values()), default=2) * plan.type.line + 0.16
     return max((width('   '.join(each), plan.type.size, True) for each in plan.labels.values()), default=0.5) + 0.2
-
-

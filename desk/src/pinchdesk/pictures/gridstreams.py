@@ -1,4 +1,4 @@
-"""The streams of a grid diagram: lines with their branches, splits and mixes, and the temperatures between exchangers."""
+"""The streams of a grid diagram: their branches, splits and mixes, and the temperatures between exchangers."""
 from __future__ import annotations
 
 from collections.abc import Mapping

@@ -15,7 +15,7 @@ def branches_of(followed: Followed, stream: Stream) -> list[str]:
 
 
 def lanes_of(followed: Followed, course: Course, columns: Columns, stream: Stream) -> dict[str, int]:
-    """The lane of each branch of a stream: the first one of a split goes on in its lane, the others take the lowest ones
+    """The lane of each branch of a stream: the first one of a split goes on in its lane, the others take the lowest
     that are free there."""
     nodes = [each for each in course.nodes.values() if each.stream.name == stream.name]
     nodes.sort(key=lambda each: columns.of[each.key], reverse=stream.side is Side.COLD)
