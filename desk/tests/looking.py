@@ -14,12 +14,26 @@ from pinchdesk.pictures import rendered
 from pinchdesk.pictures.style import styled
 
 
+def undrawn(figure: Figure) -> set[int]:
+    """Labels of ticks that are not drawn: beyond the scale's ends, or of a diagram without scales."""
+    found: set[int] = set()
+    for axes in figure.axes:
+        for axis in (axes.xaxis, axes.yaxis):
+            low, high = sorted(axis.get_view_interval())
+            ticks = [*axis.get_major_ticks(), *axis.get_minor_ticks()]
+            hidden = [each for each in ticks if not axes.axison or not low <= each.get_loc() <= high]
+            found.update(id(label) for each in hidden for label in (each.label1, each.label2))
+    return found
+
+
 def texts_of(figure: Figure) -> list[tuple[str, Bbox, Any]]:
     """All texts that are seen, with their boxes in dots, a little less than they are."""
     with styled():
         figure.canvas.draw()
         renderer = figure.canvas.get_renderer()
-        found = [each for each in figure.findobj(Text) if each.get_visible() and each.get_text().strip()]
+        hidden = undrawn(figure)
+        found = [each for each in figure.findobj(Text)
+                 if each.get_visible() and each.get_text().strip() and id(each) not in hidden]
         boxes = [(each.get_text(), Text.get_window_extent(each, renderer), each) for each in found]
     frame = figure.bbox
     return [(text, box.padded(-0.6), each) for text, box, each in boxes if box.overlaps(frame)]
