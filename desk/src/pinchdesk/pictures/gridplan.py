@@ -36,12 +36,14 @@ def measurer() -> RendererAgg:
 
 @dataclass(frozen=True)
 class Type:
-    """How large letters are, how far columns stand apart, and whether labels of exchangers stand upright."""
+    """How large letters are, how far columns stand apart, whether texts in columns stand upright, how many decimals
+    temperatures do without, and the length of the longest."""
 
     size: float
     pitch: float
     upright: bool
     places: int
+    number: float
 
     @property
     def line(self) -> float:
@@ -112,10 +114,10 @@ def type_of(columns: int, labels: dict[str, tuple[str, ...]], numbers: list[tupl
             for places in (0, 1):
                 warm = max((width(each[places], size - 0.5) for each in numbers), default=0.2)
                 flat = max((width(line, size, True) for line in lines), default=0.3)
-                tall = 3 * size * 1.3 / 72
-                pitch = max(warm + 0.05, (tall if upright else flat) + 0.06, 0.2)
+                # What stands upright is as wide as a line is high, and there are two in each column.
+                pitch = max(2 * size * 1.3 / 72, 0.2) if upright else max(warm + 0.05, flat + 0.06, 0.2)
                 if (columns + 1) * pitch <= ROOM or upright and size == SIZES[-1] and places:
-                    return Type(size, pitch, upright, places)
+                    return Type(size, pitch, upright, places, warm)
     raise AssertionError('no size of letters')
 
 
@@ -170,15 +172,17 @@ def lane_heights(plan: Plan) -> tuple[dict[str, list[float]], float, float, floa
     """The height of each lane of each row, of the band of labels (its middle), of the slanted bars (its middle), and of
     the first row's top, all counted down from 0."""
     line, heights, down = plan.type.line, {}, 0.0
-    labels, slants = 0.0, 0.0
+    labels, slants, tall = 0.0, 0.0, plan.type.number
+    above, below = (tall + 0.16, tall + 0.16) if plan.type.upright else (line * 2.0, line * 1.4)
+    gap = above + tall if plan.type.upright else line * 2.9
     for at, each in enumerate(plan.rows):
         if each.side is Side.COLD and (at == 0 or plan.rows[at - 1].side is Side.HOT):
-            tall = band(plan)
-            labels, slants = down + tall / 2, down + tall + 0.15
-            down += tall + (0.3 if is_slanted(plan) else 0.0)
+            deep = band(plan)
+            labels, slants = down + deep / 2, down + deep + 0.15
+            down += deep + (0.3 if is_slanted(plan) else 0.0)
         count = count_of(plan.lanes.get(each.name, {}))
-        heights[each.name] = [down + line * (2.0 + 2.9 * lane) for lane in range(count)]
-        down += line * (3.4 + 2.9 * (count - 1)) if isinstance(each, Stream) else line * 2.6
+        heights[each.name] = [down + above + gap * lane for lane in range(count)]
+        down += above + gap * (count - 1) + (below if count > 1 else line * 1.4)
     return heights, labels, slants, down
 
 

@@ -61,16 +61,17 @@ def column(sheet: Sheet, node: Node) -> float:
 def put_state(sheet: Sheet, branch: Branch, made: Node | None, x: float, y: float, ended: bool) -> None:
     """Behind an exchanger or a mix the temperature, behind a split the share of the stream."""
     plan, way = sheet.plan, 1 if branch.stream.side is Side.HOT else -1
+    style = {'rotation': 90.0} if plan.type.upright else {}
+    far = plan.type.number / 2 + 0.05 if plan.type.upright else plan.type.line * 0.72
     if made is None:
         return
     if made.key[0] == 'split':
         text = percent(share_of(plan.followed, branch.name), 2 - plan.type.places)
-        sheet.write(x + way * plan.type.pitch / 2, y - plan.type.line * 0.75, text, fontsize=plan.type.size - 1,
-                    color='#555555')
+        sheet.write(x + way * plan.type.pitch / 2, y - far, text, fontsize=plan.type.size - 1, color='#555555', **style)
     elif not ended and not branch.stream.latent:
         text = '?' if branch.temperature is None else plan.shown.celsius(branch.temperature, 2 - plan.type.places)
-        sheet.write(x + way * plan.type.pitch / 2, y + plan.type.line * 0.7, text, fontsize=plan.type.size - 0.5,
-                    color='#444444')
+        sheet.write(x + way * plan.type.pitch / 2, y + far, text, fontsize=plan.type.size - 0.5, color='#444444',
+                    **style)
 
 
 def put_joints(sheet: Sheet, stream: Stream, lanes: Mapping[str, int], colour: str) -> None:
