@@ -5,7 +5,7 @@ from __future__ import annotations
 import argparse
 import sys
 from collections.abc import Iterable, Sequence
-from typing import NoReturn
+from typing import Any, NoReturn
 
 from . import words
 from .causes import CAUSES
@@ -27,15 +27,22 @@ class Parser(argparse.ArgumentParser):
 def parser() -> argparse.ArgumentParser:
     made = Parser(prog='pinchdesk', description='From an engineer\'s spreadsheet to a page for the reviewer, around '
                                                 'the proved program pinch.')
-    under = made.add_subparsers(dest='word', metavar='WORD', required=True)
-    for word in WORDS:
+    add_words(made.add_subparsers(dest='word', metavar='WORD', required=True), WORDS)
+    return made
+
+
+def add_words(under: Any, words: Sequence[Word]) -> None:
+    """Declares words, and those that may follow them."""
+    for word in words:
         one = under.add_parser(word.name, help=word.summary, description=word.summary,
                                epilog=f'example: {word.example}',
                                formatter_class=argparse.RawDescriptionHelpFormatter)
+        if word.parts:
+            add_words(one.add_subparsers(dest='part', metavar='PART', required=True), word.parts)
+            continue
         word.arguments(one)
         one.add_argument('-o', '--output', metavar='FILE', required=word.to_file, help='where the answer is written')
         one.set_defaults(its=word)
-    return made
 
 
 def paths_of(word: Word, options: argparse.Namespace) -> Iterable[str]:

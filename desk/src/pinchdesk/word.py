@@ -19,7 +19,7 @@ class Answer:
 class Word:
     """A word of the command. `arguments` declares its own ones (`-o FILE` is declared for each), `run` answers them;
     `inputs` names those that are paths of files that are read, over which nothing is written; `to_file` where the
-    answer only goes to a file."""
+    answer only goes to a file; `parts` are the words that follow one that is nothing by itself."""
 
     name: str
     summary: str
@@ -28,3 +28,4 @@ class Word:
     run: Callable[[argparse.Namespace], Answer]
     inputs: tuple[str, ...]
     to_file: bool = False
+    parts: tuple[Word, ...] = ()

@@ -1,0 +1,141 @@
+"""The word `draw`: pictures as files, in the form that their names say."""
+from __future__ import annotations
+
+from argparse import ArgumentParser, Namespace
+from typing import TYPE_CHECKING, Any
+
+from .asked import CASE_HELP, contribution_of, held_case, takes_workers
+from .errors import WordsError, about
+from .network import read_network
+from .output import read_bytes
+from .program import Pinch
+from .site import read_site
+from .states import follow, pinches_of
+from .answers import Cut
+from .verdicts import Accepted
+from .word import Answer, Word
+
+if TYPE_CHECKING:
+    from matplotlib.figure import Figure
+
+FORMS = ('svg', 'png', 'pdf')
+
+
+def takes_case(parser: ArgumentParser) -> None:
+    parser.add_argument('case', metavar='CASE', help=CASE_HELP)
+
+
+def takes_network(parser: ArgumentParser) -> None:
+    takes_case(parser)
+    parser.add_argument('network', metavar='NETWORK', help='a network text')
+    parser.add_argument('--most', type=int, default=60, metavar='N',
+                        help='how many exchangers are drawn at most: up to 60 can be read on A3')
+
+
+def takes_site(parser: ArgumentParser) -> None:
+    parser.add_argument('site', metavar='SITE', help='a site file (docs/FORMATS.md)')
+
+
+def takes_sweep(parser: ArgumentParser) -> None:
+    takes_case(parser)
+    for name in ('first', 'last', 'step'):
+        parser.add_argument(name, metavar=name.upper(), help='a least difference in K, of a fifth of a K at least')
+    takes_workers(parser)
+
+
+def takes_study(parser: ArgumentParser) -> None:
+    takes_case(parser)
+    parser.add_argument('study', metavar='STUDY', help='a price study with a span (docs/FORMATS.md)')
+    parser.add_argument('--utility', metavar='NAME', help='of several spans, those of this utility alone')
+    takes_workers(parser)
+
+
+def takes_nothing(parser: ArgumentParser) -> None:
+    """A word that is nothing by itself."""
+
+
+def form_of(path: str) -> str:
+    """The form of a picture; `WordsError` where its name says none."""
+    ending = path.rpartition('.')[2].lower()
+    if ending not in FORMS:
+        raise WordsError(f'{path}: a picture is a file .svg, .png or .pdf')
+    return ending
+
+
+def picture(figure: Figure, form: str, good: bool = True) -> Answer:
+    from .pictures import rendered
+    return Answer(rendered(figure, form), good)
+
+
+def curves(options: Namespace) -> Answer:
+    form, content = form_of(options.output), read_bytes(options.case)
+    with about(case=options.case):
+        pinch = Pinch()
+        targets, points, flow = pinch.targets(content), pinch.curves(content), pinch.flow(content)
+    from .pictures import curves_figure
+    return picture(curves_figure(held_case(content), targets, points, flow), form, not isinstance(flow, Cut))
+
+
+def grid(options: Namespace) -> Answer:
+    form, content, text = form_of(options.output), read_bytes(options.case), read_bytes(options.network)
+    with about(case=options.case, network=options.network):
+        pinch = Pinch()
+        verdict = pinch.audit(content, text)
+        followed = follow(held_case(content), read_network(text))
+        pinches = pinches_of(pinch.targets(content), pinch.curves(content))
+    from .pictures import grid_figure
+    figure = grid_figure(followed, pinches, verdict, options.most)
+    return picture(figure, form, isinstance(verdict, Accepted))
+
+
+def site(options: Namespace) -> Answer:
+    form, content = form_of(options.output), read_bytes(options.site)
+    with about(site=options.site):
+        answer, held = Pinch().site(content), read_site(content)
+    from .pictures import site_figure
+    return picture(site_figure(held, answer), form, answer.cut is None)
+
+
+def sweep(options: Namespace) -> Answer:
+    form, content = form_of(options.output), read_bytes(options.case)
+    first, last, step = (contribution_of(each) for each in (options.first, options.last, options.step))
+    with about(case=options.case):
+        answer = Pinch().sweep(content, first, last, step, options.workers)
+    from .pictures import sweep_figure
+    good = all(each.cost is not None for each in answer.points)
+    return picture(sweep_figure(held_case(content), answer), form, good)
+
+
+def prices(options: Namespace) -> Answer:
+    form, content, study = form_of(options.output), read_bytes(options.case), read_bytes(options.study)
+    with about(case=options.case, study=options.study):
+        answer = Pinch().prices(content, study, options.workers)
+    from .pictures import prices_figure
+    good = 'infeasible' not in answer.text
+    return picture(prices_figure(held_case(content), answer, options.utility), form, good)
+
+
+def nothing(options: Namespace) -> Answer:
+    raise WordsError('a picture is wanted')
+
+
+def part(name: str, summary: str, example: str, arguments: Any, run: Any, inputs: tuple[str, ...]) -> Word:
+    return Word(name, summary, f'pinchdesk draw {name} {example}', arguments, run, inputs, True)
+
+
+PARTS = (
+    part('curves', 'the composite curves and the grand one, with targets, pinches and utilities',
+         'examples/four-stream.csv -o curves.svg', takes_case, curves, ('case',)),
+    part('grid', 'the grid diagram of a network', 'examples/tc3.csv examples/tc3-network.txt -o grid.svg',
+         takes_network, grid, ('case', 'network')),
+    part('site', 'the profiles of a site', 'examples/three-plants.csv -o site.svg', takes_site, site, ('site',)),
+    part('sweep', 'targets and least cost over the least difference', 'examples/four-stream.csv 0 20 0.4 -o sweep.svg',
+         takes_sweep, sweep, ('case',)),
+    part('prices', 'the least cost over the price of a utility',
+         'examples/two-steam-levels.csv examples/steam-prices.csv --utility LP -o prices.svg', takes_study, prices,
+         ('case', 'study')),
+)
+WORDS = (
+    Word('draw', 'a picture: curves, grid, site, sweep or prices, as .svg, .png or .pdf',
+         'pinchdesk draw curves examples/four-stream.csv -o curves.svg', takes_nothing, nothing, (), True, PARTS),
+)

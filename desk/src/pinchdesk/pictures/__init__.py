@@ -1,0 +1,12 @@
+"""Pictures, by matplotlib: each function gives a `Figure`, which a notebook shows and `rendered` makes a file.
+
+A picture decides nothing: its numbers are those of `pinch`, or follow from them in fractions; floats are in here
+alone."""
+from .curves import curves_figure
+from .grid import MOST, grid_figure
+from .prices import prices_figure
+from .site import site_figure
+from .style import FORMS, rendered
+from .sweep import sweep_figure
+
+__all__ = ['FORMS', 'MOST', 'curves_figure', 'grid_figure', 'prices_figure', 'rendered', 'site_figure', 'sweep_figure']

@@ -1,0 +1,62 @@
+"""How all pictures look, and how a figure becomes a file. No global state of matplotlib is left changed."""
+from __future__ import annotations
+
+import io
+from collections.abc import Iterator
+from contextlib import contextmanager
+
+import matplotlib
+from matplotlib.axes import Axes
+from matplotlib.backends.backend_agg import FigureCanvasAgg
+from matplotlib.figure import Figure
+
+HOT, COLD, INK, PALE, FAULT = '#c0392b', '#2471a3', '#222222', '#777777', '#e00000'
+ABOVE, BELOW, BETWEEN, ACROSS, NEUTRAL = '#a04000', '#1f618d', '#1e8449', '#8e1fb5', '#333333'
+HEATERS = ('#e67e22', '#b9770e', '#d35400', '#f1948a', '#7b241c')
+COOLERS = ('#17a589', '#2e86c1', '#117864', '#7fb3d5', '#1b4f72')
+FORMS = ('svg', 'png', 'pdf')
+# Texts stay texts in a vector picture; none is read as mathematics, whatever signs it has.
+STYLE = {
+    'font.family': ['DejaVu Sans'], 'font.size': 9.0, 'text.parse_math': False,
+    'svg.fonttype': 'none', 'svg.hashsalt': 'pinchdesk', 'pdf.fonttype': 42, 'axes.edgecolor': INK,
+    'text.color': INK, 'axes.labelcolor': INK, 'axes.titlesize': 10.5, 'axes.grid': True, 'grid.color': '#e4e4e4',
+    'grid.linewidth': 0.6, 'axes.axisbelow': True, 'legend.fontsize': 8.5, 'legend.frameon': False,
+    'axes.unicode_minus': True, 'axes.formatter.useoffset': False, 'axes.formatter.limits': (-5, 9),
+}
+DOTS = 150
+
+
+@contextmanager
+def styled(letters_as_shapes: bool = False) -> Iterator[None]:
+    """The style of this module inside; `letters_as_shapes` for a picture that must look the same on each machine."""
+    with matplotlib.rc_context({**STYLE, 'svg.fonttype': 'path' if letters_as_shapes else 'none'}):
+        yield
+
+
+def blank(width: float, height: float) -> Figure:
+    """An empty figure of this size in inches, with a canvas by which texts can be measured."""
+    made = Figure(figsize=(width, height), dpi=DOTS)
+    FigureCanvasAgg(made)
+    return made
+
+
+def rendered(figure: Figure, form: str, letters_as_shapes: bool = False) -> bytes:
+    """A figure as the content of a file in one of `FORMS`; the same figure gives the same bytes."""
+    held = io.BytesIO()
+    dates = {'svg': {'Date': None}, 'pdf': {'CreationDate': None}, 'png': {}}[form]
+    with styled(letters_as_shapes):
+        figure.savefig(held, format=form, metadata=dates, dpi=DOTS)
+    # Verdana has the same widths.
+    return held.getvalue().replace(b"'DejaVu Sans'", b"'DejaVu Sans', Verdana, sans-serif") if form == 'svg' \
+        else held.getvalue()
+
+
+def said(text: str) -> str:
+    """A text that a picture can hold: what is no letter or sign is `?`."""
+    return ''.join(each if each.isprintable() else '?' for each in text)
+
+
+def framed(axes: Axes) -> None:
+    """No frame above and to the right, as in the books."""
+    for name in ('top', 'right'):
+        axes.spines[name].set_visible(False)

@@ -1,0 +1,57 @@
+"""What the tests of pictures look at: the boxes of all texts, the lines, the texts of an SVG."""
+from __future__ import annotations
+
+import re
+from html import unescape
+from itertools import combinations
+from typing import Any
+
+from matplotlib.figure import Figure
+from matplotlib.text import Text
+from matplotlib.transforms import Bbox
+
+from pinchdesk.pictures import rendered
+from pinchdesk.pictures.style import styled
+
+
+def undrawn(figure: Figure) -> set[int]:
+    """Labels of ticks that are not drawn: beyond the scale's ends, or of a diagram without scales."""
+    found: set[int] = set()
+    for axes in figure.axes:
+        for axis in (axes.xaxis, axes.yaxis):
+            low, high = sorted(axis.get_view_interval())
+            ticks = [*axis.get_major_ticks(), *axis.get_minor_ticks()]
+            hidden = [each for each in ticks if not axes.axison or not low <= each.get_loc() <= high]
+            found.update(id(label) for each in hidden for label in (each.label1, each.label2))
+    return found
+
+
+def texts_of(figure: Figure) -> list[tuple[str, Bbox, Any]]:
+    """All texts that are seen, with their boxes in dots, a little less than they are."""
+    with styled():
+        figure.canvas.draw()
+        renderer = figure.canvas.get_renderer()
+        hidden = undrawn(figure)
+        found = [each for each in figure.findobj(Text)
+                 if each.get_visible() and each.get_text().strip() and id(each) not in hidden]
+        boxes = [(each.get_text(), Text.get_window_extent(each, renderer), each) for each in found]
+    frame = figure.bbox
+    return [(text, box.padded(-0.6), each) for text, box, each in boxes if box.overlaps(frame)]
+
+
+def overlapping(figure: Figure) -> list[tuple[str, str]]:
+    """Pairs of texts that lie on each other."""
+    return [(one[0], other[0]) for one, other in combinations(texts_of(figure), 2) if one[1].overlaps(other[1])]
+
+
+def cut_off(figure: Figure) -> list[str]:
+    """Texts that the picture's edge cuts."""
+    frame = figure.bbox
+    return [text for text, box, _ in texts_of(figure)
+            if box.x0 < frame.x0 or box.x1 > frame.x1 or box.y0 < frame.y0 or box.y1 > frame.y1]
+
+
+def svg_texts(figure: Figure) -> list[str]:
+    """The texts of the picture as a file."""
+    held = rendered(figure, 'svg').decode()
+    return [unescape(re.sub('<[^>]*>', '', each)).strip() for each in re.findall('<text.*?</text>', held, re.S)]

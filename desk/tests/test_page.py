@@ -1,0 +1,143 @@
+"""The page: what `pinch` printed is on it, hostile names are only names, a browser shows it whole."""
+from __future__ import annotations
+
+import re
+from html import unescape
+from pathlib import Path
+
+import pytest
+from conftest import EXAMPLES, Done, example, pinchdesk
+
+from pinchdesk import Accepted, Pinch, read_case
+from pinchdesk.browser import browser, run_browser
+from pinchdesk.cli import main
+from pinchdesk.page import Given, page_of
+from pinchdesk.shown import Shown
+
+STEAM = ('two-reactors-steam.csv', 'two-reactors-steam-network.txt')
+WITH_BROWSER = pytest.mark.skipif(browser() is None, reason='no browser to look at the page with')
+# In the browser: what is cut is wider than its box and does not scroll; the page itself never scrolls sideways.
+LOOK = """<script>addEventListener('load', () => {
+const found = [];
+for (const each of document.querySelectorAll('h1, h2, h3, h4, p, caption, th, td, summary, pre, figure, .wide'))
+    if (each.scrollWidth > each.clientWidth + 1 && each.clientWidth
+        && !/auto|scroll/.test(getComputedStyle(each).overflowX))
+        found.push(each.tagName + ' ' + each.textContent.slice(0, 60));
+for (const each of document.images) if (!each.complete || !each.naturalWidth) found.push('no picture ' + each.alt);
+if (document.documentElement.scrollWidth > innerWidth) found.push('page ' + document.documentElement.scrollWidth);
+document.body.setAttribute('data-seen', JSON.stringify(found));
+})</script>"""
+
+
+def given(*names: str) -> list[Given]:
+    return [Given(each, str(EXAMPLES / each), example(each)) for each in names]
+
+
+@pytest.fixture(scope='module')
+def steam() -> str:
+    case, network = given(*STEAM)
+    less = Given('less.txt', 'less.txt', network.content.replace(b'CW 10000000', b'CW 9999000'))
+    page, good = page_of(case, [network, less])
+    assert not good
+    return page
+
+
+def words_of(page: str) -> str:
+    return ' '.join(unescape(re.sub('<[^>]*>', ' ', page)).split())
+
+
+def test_all_that_was_printed_is_on_the_page(steam: str, pinch: Pinch) -> None:
+    case, network = (example(each) for each in STEAM)
+    verdict = pinch.audit(case, network)
+    assert isinstance(verdict, Accepted)
+    text = words_of(steam)
+    for answer in (pinch.targets(case), pinch.flow(case), pinch.curves(case), verdict):
+        assert ' '.join(answer.text.split()) in text
+
+
+def test_numbers_are_in_engineers_units(steam: str, pinch: Pinch) -> None:
+    case, network = (example(each) for each in STEAM)
+    shown, targets, verdict = Shown(read_case(case).basis), pinch.targets(case), pinch.audit(case, network)
+    assert isinstance(verdict, Accepted)
+    text = words_of(steam)
+    for wanted in (f'hot utility {shown.kilowatts(targets.hot)} kW', f'cold utility {shown.kilowatts(targets.cold)} kW',
+                   'shifted °C hot side °C cold side °C 145 150 140', f'cost {shown.cost(verdict.cost)} price times W',
+                   f'floor: no network costs less {shown.cost(verdict.floor)} price times W',
+                   'verdict accepted rejected', 'the target is missed: 40.007 (6001/150) °C in place of 40 °C'):
+        assert wanted in text
+
+
+def test_the_page_stands_alone_and_styles_do_not_meet(steam: str) -> None:
+    assert '<svg' not in steam and steam.count('<style>') == 1 and '<script' not in steam
+    assert re.findall('(?:src|href)="(?!data:image/svg)', steam) == []
+    assert steam.count('<img src="data:image/svg+xml;base64,') == 3
+
+
+def test_hostile_names_and_texts_are_only_shown() -> None:
+    case, network = given('preheater.csv', 'preheater-network.txt')
+    bad = '<script>alert(1)</script>{{ 7 * 7 }}\x1b[31m.csv'
+    hostile = Given(bad, 'x', case.content.replace(b'\n', b'\n#</pre><script>alert(2)</script>,,,,,,\n', 1))
+    page, _ = page_of(hostile, [Given('"><img src=x onerror=alert(3)>', 'y', network.content)])
+    assert '<script' not in page and '<img src=x' not in page
+    assert '&lt;script&gt;alert(1)&lt;/script&gt;{{ 7 * 7 }}' in page and '&lt;script&gt;alert(2)' in page
+
+
+def test_without_a_heat_flow_the_page_says_why(tmp_path: Path, capfd: pytest.CaptureFixture[str]) -> None:
+    path = tmp_path / 'a page - of mine.html'
+    assert main(['page', str(EXAMPLES / 'too-little-cooling.csv'), '-o', str(path)]) == 1
+    text = words_of(path.read_text())
+    assert 'There is no heat flow' in text and 'The parts that cannot be served' in text
+    assert capfd.readouterr().err == ''
+
+
+def test_a_page_is_written_whole_or_not_at_all(tmp_path: Path) -> None:
+    case, page = tmp_path / "it's - a case.csv", tmp_path / '-page.html'
+    case.write_bytes(example('four-stream.csv'))
+    page.write_text('before')
+    refused = pinchdesk('page', str(case), str(EXAMPLES / 'tc3-network.txt'), '-o', str(page))
+    assert refused.status == 3 and page.read_text() == 'before' and 'tc3-network.txt' in refused.err
+    assert pinchdesk('page', str(case), '-o', str(case)).status == 2
+    assert case.read_bytes() == example('four-stream.csv')
+    assert sorted(each.name for each in tmp_path.iterdir()) == ['-page.html', "it's - a case.csv"]
+
+
+@pytest.mark.parametrize(('words', 'status'), [
+    (('draw', 'curves', '{four-stream.csv}', '-o', 'a b/curves -1.svg'), 0),
+    (('draw', 'curves', '{too-little-cooling.csv}', '-o', 'c.png'), 1),
+    (('draw', 'grid', '{preheater.csv}', '{preheater-network.txt}', '-o', '-grid.pdf'), 0),
+    (('draw', 'sweep', '{four-stream.csv}', '0', '20', '10', '-o', 's.svg'), 0),
+    (('draw', 'site', '{three-plants.csv}', '-o', 'site.svg'), 0),
+    (('draw', 'curves', '{four-stream.csv}', '-o', 'c.gif'), 2),
+    (('draw', 'curves', '{four-stream.csv}'), 2),
+    (('draw', '-o', 'x.svg'), 2),
+    (('page', '{four-stream.csv}', '-o', 'page.doc'), 2),
+    (('draw', 'grid', '{four-stream.csv}', '{tc3-network.txt}', '-o', 'g.svg'), 3),
+])
+def test_pictures_are_files_and_have_statuses(words: tuple[str, ...], status: int, tmp_path: Path,
+                                              monkeypatch: pytest.MonkeyPatch) -> None:
+    monkeypatch.chdir(tmp_path)
+    (tmp_path / 'a b').mkdir()
+    held = [str(EXAMPLES / each[1:-1]) if each.startswith('{') else each for each in words]
+    if held[-1].startswith('-grid'):
+        held[-2:] = [f'--output={held[-1]}']
+    assert main(held) == status
+    made = [each for each in tmp_path.rglob('*') if each.is_file()]
+    assert len(made) == (status < 2) and all(each.stat().st_size > 1000 for each in made)
+
+
+@WITH_BROWSER
+@pytest.mark.parametrize('width', [1280, 500])
+def test_a_browser_shows_the_page_whole(width: int, steam: str, tmp_path: Path) -> None:
+    looked = re.sub('<meta http-equiv[^>]*>', LOOK, steam).replace('<details>', '<details open>')
+    dom = run_browser([f'--window-size={width},900', '--virtual-time-budget=5000', '--dump-dom'], looked, tmp_path)
+    seen = re.search('data-seen="([^"]*)"', dom.decode())
+    assert seen and seen[1] == '[]'
+
+
+@WITH_BROWSER
+def test_a_browser_prints_the_page(tmp_path: Path) -> None:
+    path = tmp_path / 'page of a case.pdf'
+    done: Done = pinchdesk('page', str(EXAMPLES / 'preheater.csv'), str(EXAMPLES / 'preheater-network.txt'), '-o',
+                           str(path))
+    assert done.status == 0, done.err
+    assert path.read_bytes().startswith(b'%PDF')

@@ -1,0 +1,244 @@
+"""Pictures by what is in them: every number that should be there, no two texts that lie on each other, none that is
+cut, none on a curve."""
+from __future__ import annotations
+
+from fractions import Fraction
+
+import pytest
+from conftest import NETWORKS, example
+from looking import cut_off, overlapping, svg_texts, texts_of
+from matplotlib.figure import Figure
+
+from pinchdesk import (Accepted, HeatFlow, Pinch, Rejected, WordsError, completed, follow, pinches_of, read_case,
+                       read_network, read_site)
+from pinchdesk.pictures import curves_figure, grid_figure, prices_figure, rendered, site_figure, sweep_figure
+from pinchdesk.pictures.labels import meets
+from pinchdesk.pictures.style import FAULT
+from pinchdesk.shown import Shown
+
+FURNACE = b"""contribution,,50,,,,
+cold,C1,200,1350,200,,
+hot,H2,1700,600,300,,
+cold,C3,800,1400,400,,
+hot,H4,1500,300,150,,
+heater,FURNACE,9000,0,1000000000000,3,
+cooler,CW,100,0,1000000000000,1,
+"""
+# Three branches of 50, 30 and 20 %; two pinches; a stream that begins at the lower one.
+THREE = b"""contribution,,0,,,,
+hot,H,2000,1000,100,,
+cold,A,500,1000,100,,
+cold,B,500,1000,60,,
+cold,D,500,1000,40,,
+"""
+THREE_NETWORK = b"""exchanger E1 H A 50000
+exchanger E2 H B 30000
+exchanger E3 H D 20000
+split H a 50 r
+split r b 30 c
+pass a E1 a2
+pass b E2 b2
+pass c E3 c2
+mix a2 b2 m
+mix m c2 n
+end n
+pass A E1 x
+end x
+pass B E2 y
+end y
+pass D E3 z
+end z
+"""
+
+
+def curves(pinch: Pinch, content: bytes) -> Figure:
+    case = completed(read_case(content))
+    return curves_figure(case, pinch.targets(content), pinch.curves(content), pinch.flow(content))
+
+
+def grid(pinch: Pinch, content: bytes, text: bytes, most: int = 60) -> Figure:
+    followed = follow(completed(read_case(content)), read_network(text))
+    pinches = pinches_of(pinch.targets(content), pinch.curves(content))
+    return grid_figure(followed, pinches, pinch.audit(content, text), most)
+
+
+def assert_readable(figure: Figure) -> None:
+    assert overlapping(figure) == []
+    assert cut_off(figure) == []
+
+
+@pytest.mark.parametrize('name', ['four-stream', 'three-levels', 'own-contributions', 'column', 'too-little-cooling'])
+def test_curves_show_targets_and_pinches_on_both_scales(name: str, pinch: Pinch) -> None:
+    content = example(f'{name}.csv')
+    figure, case, targets = curves(pinch, content), read_case(content), pinch.targets(content)
+    assert_readable(figure)
+    shown, texts = Shown(case.basis), ' '.join(svg_texts(figure))
+    for each in (targets.hot, targets.cold):
+        assert f'{shown.kilowatts(each)} kW' in texts
+    for each in targets.pinches:
+        assert f'pinch {shown.celsius(each)} °C' in texts
+        assert f'hot {shown.celsius(each + case.contribution)} °C' in texts
+        assert f'cold {shown.celsius(each - case.contribution)} °C' in texts
+
+
+@pytest.mark.parametrize('name', ['four-stream', 'three-levels'])
+def test_labels_do_not_lie_on_curves(name: str, pinch: Pinch) -> None:
+    figure = curves(pinch, example(f'{name}.csv'))
+    for axes in figure.axes:
+        labels = [box for _, box, each in texts_of(figure) if each in axes.texts]
+        for line in axes.get_lines()[:2]:
+            points = axes.transData.transform(line.get_xydata())
+            for box in labels:
+                assert not any(meets(box, one, other) for one, other in zip(points, points[1:]))
+
+
+def test_the_cold_curve_begins_at_the_cooling_that_is_used(pinch: Pinch) -> None:
+    content = example('three-levels.csv')
+    flow, case = pinch.flow(content), completed(read_case(content))
+    assert isinstance(flow, HeatFlow)
+    used = sum(flow.use(each.name) for each in case.utilities if each.side.value == 'cold')
+    assert used > pinch.targets(content).cold
+    cold = next(line for line in curves(pinch, content).axes[0].get_lines() if line.get_label() == 'cold streams')
+    assert cold.get_xdata()[0] * 1000 == used
+
+
+def test_a_furnace_does_not_squeeze_the_curves(pinch: Pinch) -> None:
+    figure = curves(pinch, FURNACE)
+    assert_readable(figure)
+    axes = figure.axes[0]
+    heights = [axes.transAxes.inverted().transform(axes.transData.transform((0, at)))[1] for at in (20, 170, 900)]
+    assert heights[1] - heights[0] > 0.4 and heights[2] <= 1
+    assert any('FURNACE at 900 °C: 20 kW' in text for text in svg_texts(figure))
+
+
+@pytest.mark.parametrize('name', NETWORKS)
+def test_a_grid_diagram_has_every_number_and_nothing_on_another(name: str, pinch: Pinch) -> None:
+    content, text = example(f'{name}.csv'), example(f'{name}-network.txt')
+    figure, case = grid(pinch, content, text), completed(read_case(content))
+    assert_readable(figure)
+    shown, texts = Shown(case.basis), ' '.join(svg_texts(figure)).split()
+    for each in read_network(text).exchangers:
+        assert each.name in texts and shown.kilowatts(each.duty) in texts
+    for stream in case.streams:
+        wanted = [stream.name, shown.celsius(stream.supply), shown.celsius(stream.target), shown.kilowatts(stream.heat)]
+        wanted += ['latent'] if stream.latent else [shown.kilowatts_per_kelvin(stream.cp)]
+        assert set(wanted) <= set(texts)
+    for pinch_at in pinch.targets(content).pinches:
+        assert shown.celsius(pinch_at) in texts
+    wide, high = figure.get_size_inches()
+    assert wide <= 16.6 and high <= 16.6
+
+
+@pytest.mark.parametrize('name', NETWORKS)
+def test_no_bar_passes_through_the_label_of_another(name: str, pinch: Pinch) -> None:
+    figure = grid(pinch, example(f'{name}.csv'), example(f'{name}-network.txt'))
+    axes = figure.axes[0]
+    bars = [axes.transData.transform(each.get_xydata()) for each in axes.get_lines() if each.get_zorder() == 4]
+    for text, box, each in texts_of(figure):
+        if each.get_zorder() == 7:
+            through = [bar for bar in bars if any(meets(box, one, other) for one, other in zip(bar, bar[1:]))]
+            assert len(through) == 1, text
+
+
+def test_three_branches_have_their_own_shares(pinch: Pinch) -> None:
+    figure = grid(pinch, THREE, THREE_NETWORK)
+    assert isinstance(pinch.audit(THREE, THREE_NETWORK), Accepted)
+    texts = svg_texts(figure)
+    assert [each for each in texts if each.endswith('%')] == ['50 %', '30 %', '20 %']
+    assert_readable(figure)
+
+
+def test_a_missed_target_is_drawn_as_missed(pinch: Pinch) -> None:
+    content = example('four-stream.csv')
+    text = example('four-stream-network.txt')
+    first = read_network(text).exchangers[-1]
+    less = text.replace(f' {first.duty}\n'.encode(), f' {first.duty - 1000}\n'.encode(), 1)
+    verdict = pinch.audit(content, less)
+    assert isinstance(verdict, Rejected) and verdict.reason == 'MissedTarget'
+    figure = grid(pinch, content, less)
+    assert_readable(figure)
+    red = [text for text, _, each in texts_of(figure) if each.get_color() == FAULT]
+    found = Shown().celsius(verdict.found or Fraction(0), 3)
+    assert any(found in each and 'target' in each for each in red)
+    assert any(each.startswith('Rejected at ') for each in red)
+
+
+def test_what_works_across_the_pinch_is_marked(pinch: Pinch) -> None:
+    content, text = example('preheater.csv'), example('preheater-network.txt')
+    assert any('↯ 1' in each for each in svg_texts(grid(pinch, content, text)))
+
+
+def test_of_several_pinches_each_is_drawn_and_streams_begin_there(pinch: Pinch) -> None:
+    content = (b'contribution,,0,,,,\nhot,H,2000,1500,100,,\ncold,C,1500,2000,100,,\nhot,G,1000,500,100,,\n'
+               b'cold,D,500,1000,100,,\ncold,T,2000,2500,10,,\nhot,B,500,200,10,,\ncold,M,1000,1500,10,,\n'
+               b'hot,N,1500,1000,10,,\n')
+    text = pinch.design(content).text.encode()
+    targets = pinch.targets(content)
+    assert len(targets.pinches) > 1
+    figure = grid(pinch, content, text)
+    texts = ' '.join(svg_texts(figure))
+    for each in targets.pinches:
+        assert f'pinch {Shown().celsius(each)} °C' in texts
+    lines = {tuple(each.get_xdata()) for each in figure.axes[0].get_lines() if each.get_linestyle() == '--'}
+    assert len(lines) >= len(targets.pinches)
+
+
+def chain(count: int) -> tuple[bytes, bytes]:
+    """A hot and a cold stream with many exchangers one after the other."""
+    content = f'contribution,,0,,,,\nhot,H,{count + 1000},1000,100,,\ncold,C,{500},{count + 500},100,,\n'.encode()
+    lines = [f'exchanger E{at} H C 100' for at in range(count)]
+    lines += [f'pass {f"h{at}" if at else "H"} E{at} h{at + 1}' for at in range(count)] + [f'end h{count}']
+    lines += [f'pass {f"c{at}" if at else "C"} E{count - 1 - at} c{at + 1}' for at in range(count)] + [f'end c{count}']
+    return content, '\n'.join(lines).encode()
+
+
+def test_sixty_exchangers_have_room_on_a_sheet(pinch: Pinch) -> None:
+    figure = grid(pinch, *chain(60))
+    assert_readable(figure)
+    assert figure.get_size_inches()[0] <= 16.6
+
+
+def test_more_are_told_and_not_drawn(pinch: Pinch) -> None:
+    with pytest.raises(WordsError, match='has 500 exchangers'):
+        grid(pinch, *chain(500))
+
+
+def test_a_sweep_has_a_gap_in_its_cost_alone(pinch: Pinch) -> None:
+    content = example('too-little-cooling.csv')
+    sweep = pinch.sweep(content, 0, 100, 10)
+    figure = sweep_figure(read_case(content), sweep)
+    assert_readable(figure)
+    lines = {line.get_label().split(':')[0]: line for axes in figure.axes for line in axes.get_lines()}
+    gaps = [each.cost is None for each in sweep.points]
+    assert any(gaps)
+    assert list(lines['hot target'].get_ydata()) == [each.hot / 1000 for each in sweep.points]
+    assert list(lines['cold target'].get_ydata()) == [each.cold / 1000 for each in sweep.points]
+    if 'least cost (right scale)' in lines:
+        assert [each != each for each in lines['least cost (right scale)'].get_ydata()] == gaps
+
+
+def test_prices_are_segments_with_their_ends(pinch: Pinch) -> None:
+    content = example('two-steam-levels.csv')
+    prices = pinch.prices(content, example('steam-prices.csv'))
+    figure = prices_figure(read_case(content), prices)
+    assert_readable(figure)
+    texts = svg_texts(figure)
+    for wanted in ('0: 55500', '3: 60000', '5: 60000', '1.5 kW', '20 kW', '18.5 kW'):
+        assert wanted in texts
+    with pytest.raises(WordsError, match='no span of CW'):
+        prices_figure(read_case(content), prices, 'CW')
+
+
+def test_a_site_has_its_boiler_its_cooling_and_its_mains(pinch: Pinch) -> None:
+    content = example('three-plants.csv')
+    figure = site_figure(read_site(content), pinch.site(content))
+    assert_readable(figure)
+    texts = svg_texts(figure)
+    for wanted in ('Site profiles: boiler 25 kW, cooling 9 kW', 'HP 235 °C', 'HP 225 °C', 'LP 105 °C'):
+        assert wanted in texts
+
+
+def test_a_picture_is_the_same_each_time_in_each_form(pinch: Pinch) -> None:
+    figure = grid(pinch, THREE, THREE_NETWORK)
+    assert rendered(figure, 'svg') == rendered(figure, 'svg')
+    assert rendered(figure, 'png').startswith(b'\x89PNG') and rendered(figure, 'pdf').startswith(b'%PDF')
