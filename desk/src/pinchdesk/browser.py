@@ -17,7 +17,11 @@ WORDS = ('--headless', '--no-sandbox', '--disable-gpu', '--disable-extensions', 
 
 def browser() -> str | None:
     """The path of a browser; None where there is none."""
-    return next((path for path in map(shutil.which, NAMES) if path), None)
+    for name in NAMES:
+        path = shutil.which(name)
+        if path:
+            return path
+    return None
 
 
 def run_browser(words: list[str], page: str, folder: Path) -> bytes:

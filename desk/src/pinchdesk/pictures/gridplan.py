@@ -98,7 +98,8 @@ def labels_of(followed: Followed, pinches: tuple[PinchPoint, ...]) -> dict[str, 
 def rows_of(followed: Followed) -> tuple[list[Stream | Utility], int]:
     """Hot utilities that are used, hot streams, cold streams, cold utilities that are used; and how many are hot."""
     used = {name for each in followed.network.exchangers for name in (each.hot, each.cold)}
-    case, held = followed.case, []
+    case = followed.case
+    held: list[list[Stream | Utility]] = []
     for side in (Side.HOT, Side.COLD):
         streams = [each for each in case.streams if each.side is side]
         utilities = [each for each in case.utilities if each.side is side and each.name in used]

@@ -74,7 +74,7 @@ class Labels:
         frame = self.axes.get_window_extent()
         outside = (box.x0 < frame.x0) + (box.x1 > frame.x1) + (box.y0 < frame.y0) + (box.y1 > frame.y1)
         on_labels = sum(box.overlaps(other) for other in self.taken)
-        return 4 * outside + 3 * on_labels + sum(self.on_curve(box, curve) for curve in self.curves)
+        return float(4 * outside + 3 * on_labels + sum(self.on_curve(box, curve) for curve in self.curves))
 
     def on_curve(self, box: Bbox, curve: Sequence[Xy]) -> int:
         points = self.axes.transData.transform(curve)

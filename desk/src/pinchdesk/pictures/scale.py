@@ -68,7 +68,7 @@ def broken(axes: Axes, gaps: tuple[Gap, ...], levels: Sequence[float]) -> None:
     axes.set_ylim(low, high)
     inside = [low, *sorted(edge for gap in gaps for edge in (gap.low, gap.high)), high]
     kept = list(zip(inside[::2], inside[1::2]))
-    longest = max(kept, key=lambda each: each[1] - each[0])
+    longest = max(kept, key=lambda each: float(each[1] - each[0]))
     ticks = [tick for tick in MaxNLocator(8).tick_values(*longest) if longest[0] <= tick <= longest[1]]
     ticks += [level for level in levels if not longest[0] <= level <= longest[1]]
     axes.yaxis.set_major_locator(FixedLocator(sorted(ticks)))

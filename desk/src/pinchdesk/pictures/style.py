@@ -4,6 +4,7 @@ from __future__ import annotations
 import io
 from collections.abc import Iterator
 from contextlib import contextmanager
+from typing import Any
 
 import matplotlib
 from matplotlib.axes import Axes
@@ -16,7 +17,7 @@ HEATERS = ('#e67e22', '#b9770e', '#d35400', '#f1948a', '#7b241c')
 COOLERS = ('#17a589', '#2e86c1', '#117864', '#7fb3d5', '#1b4f72')
 FORMS = ('svg', 'png', 'pdf')
 # Texts stay texts in a vector picture; none is read as mathematics, whatever signs it has.
-STYLE = {
+STYLE: dict[str, Any] = {
     'font.family': ['DejaVu Sans'], 'font.size': 9.0, 'text.parse_math': False,
     'svg.fonttype': 'none', 'svg.hashsalt': 'pinchdesk', 'pdf.fonttype': 42, 'axes.edgecolor': INK,
     'text.color': INK, 'axes.labelcolor': INK, 'axes.titlesize': 10.5, 'axes.grid': True, 'grid.color': '#e4e4e4',
