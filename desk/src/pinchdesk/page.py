@@ -9,6 +9,7 @@ from collections.abc import Sequence
 from concurrent.futures import ThreadPoolExecutor
 from dataclasses import dataclass
 from decimal import Decimal
+from fractions import Fraction
 from typing import TYPE_CHECKING, Any
 
 from .answers import Curves, Cut, HeatFlow, Targets
@@ -136,7 +137,8 @@ def case_streams(case: Case) -> Sheet:
 
 def case_utilities(case: Case, flow: HeatFlow | Cut) -> Sheet:
     """The utilities, with what the heat flow of least cost uses of each and what that costs."""
-    shown, rows = Shown(case.basis), []
+    shown = Shown(case.basis)
+    rows: list[tuple[Cell, ...]] = []
     for each in case.utilities:
         used = None if isinstance(flow, Cut) else flow.use(each.name)
         most: Cell = 'any' if each.most >= ANY_HEAT else Decimal(shown.kilowatts(each.most))
@@ -174,7 +176,8 @@ def compared(networks: Sequence[Reviewed], shown: Shown) -> Sheet:
         if isinstance(verdict, Accepted):
             lost = sum((one.heat for one in verdict.penalties), start=verdict.excess * 0)
             held += [Decimal(shown.kilowatts(heat)) for heat in (verdict.hot, verdict.cold, verdict.excess)]
-            held += [Decimal(shown.cost(cost)) for cost in (verdict.cost, verdict.floor, verdict.cost - verdict.floor)]
+            costs: tuple[Fraction | int, ...] = (verdict.cost, verdict.floor, verdict.cost - verdict.floor)
+            held += [Decimal(shown.cost(cost)) for cost in costs]
             held.append('too fine' if verdict.too_fine else Decimal(shown.kilowatts(lost)))
         columns.append([*held, *[None] * (len(COMPARED) - len(held))])
     unit = shown.cost_unit
