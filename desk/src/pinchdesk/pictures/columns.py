@@ -67,6 +67,7 @@ class Placer:
         self.blocks: list[Block] = []
         self.block_of: dict[Key, int] = {}
         self.busy: list[list[Span]] = []
+        self.before = before(course)
         self.make()
 
     def make(self) -> None:
@@ -116,22 +117,14 @@ class Placer:
         """Where streams pass exchangers in contrary orders, one of these gets a column for each side."""
         for block in waiting:
             for node in block.nodes:
-                before = [one for one, other in self.pairs(node) if other is node]
-                if len(block.nodes) == 2 and all(self.blocks[self.block_of[one.key]].column is not None
-                                                 for one in before):
+                if len(block.nodes) == 2 and all(self.blocks[self.block_of[each.key]].column is not None
+                                                 for each in self.before[node.key]):
                     block.nodes.remove(node)
                     block.span = self.span(block.nodes)
                     self.add([node])
                     self.link()
                     return
         raise AssertionError('a stream that comes before itself')
-
-    def pairs(self, node: Node) -> list[tuple[Node, Node]]:
-        held = list(left_of(node))
-        for other in self.course.nodes.values():
-            if node in other.behind:
-                held.extend(pair for pair in left_of(other) if node in pair)
-        return held
 
     def zone(self, zone: int, base: int) -> None:
         """Places the blocks of a zone."""
@@ -141,6 +134,15 @@ class Placer:
                 self.place(min(free, key=lambda each: each.order), base)
             else:
                 self.apart(waiting)
+
+
+def before(course: Course) -> dict[Key, list[Node]]:
+    """The nodes that stand left of each."""
+    held: dict[Key, list[Node]] = {key: [] for key in course.nodes}
+    for node in course.nodes.values():
+        for one, other in left_of(node):
+            held[other.key].append(one)
+    return held
 
 
 def meets(one: Span, other: Span) -> bool:

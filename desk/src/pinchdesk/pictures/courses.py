@@ -17,9 +17,9 @@ from ..states import Followed, Passage, PinchPoint, SideState
 Key = tuple[str, str]
 
 
-@dataclass
+@dataclass(eq=False)
 class Node:
-    """A place on a stream. `zone` counts from the hot end: 2 k is between the pinches k and k + 1, and 2 k + 1 on the
+    """A place on a stream; each key has one. `zone` counts from the hot end: 2 k is between the pinches k and k + 1, and 2 k + 1 on the
     pinch k + 1. `warmth` is the shifted temperature of its hotter end."""
 
     key: Key
