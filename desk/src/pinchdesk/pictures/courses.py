@@ -19,8 +19,8 @@ Key = tuple[str, str]
 
 @dataclass(eq=False)
 class Node:
-    """A place on a stream; each key has one. `zone` counts from the hot end: 2 k is between the pinches k and k + 1, and 2 k + 1 on the
-    pinch k + 1. `warmth` is the shifted temperature of its hotter end."""
+    """A place on a stream; each key has one. `zone` counts from the hot end: 2 k is between the pinches k and k + 1,
+    and 2 k + 1 on the pinch k + 1. `warmth` is the shifted temperature of its hotter end."""
 
     key: Key
     stream: Stream
