@@ -5,23 +5,24 @@ import os
 import re
 import subprocess
 import sys
+import time
 import traceback
 
 HERE = os.path.dirname(os.path.abspath(__file__))
 ROOT = os.path.dirname(HERE)
 
+# What the environment tells a check: to end with its first run that is wrong, and when its time is over, in seconds of
+# the system's monotonic clock.
+FIRST_WRONG, UNTIL = 'PINCH_FIRST_WRONG', 'PINCH_UNTIL'
 # A program that `rt try` built has the address sanitizer in it: refused memory is to reach the program, and no leak is
-# looked
-# for. Any other program takes no notice.
-FIRST_WRONG = 'PINCH_FIRST_WRONG'
+# looked for. Any other program takes no notice.
 ENVIRONMENT = dict(os.environ, ASAN_OPTIONS='allocator_may_return_null=1:detect_leaks=0')
 
 TABLE = 'words: targets flow curves design vertical audit site sweep sample certify prices\n'
 
 
 # The status of a run and its text. The status is the number that the run ended with, negative where a signal ended it;
-# or, as a
-# text, that number with what was never to be there, so that it is no status of any answer.
+# or, as a text, that number with what was never to be there, so that it is no status of any answer.
 Answer = tuple[int | str, bytes]
 # What the address sanitizer says of memory that it refuses.
 SANITIZER = re.compile(rb'(?:==\d+==)?(?:WARNING: AddressSanitizer failed|ERROR: AddressSanitizer: requested)')
@@ -66,8 +67,7 @@ GIVEN_HOT = ONE_HOT + text('heater,HOT,1000,0,1000000000000,1,50')
 OTHER_HOT = ONE_HOT + text('heater,HOT,1050,0,1000000000000,1,100')
 
 # A command: its words, its files by name, the role of each file in the order in which it is read, the status, and how
-# its text
-# begins. The first four are the ones that matter most.
+# its text begins. The first four are the ones that matter most.
 Command = tuple[list[str], dict[str, bytes], list[str], int, str]
 COMMANDS: list[Command] = [
     (['flow', 'case'], {'case': example('two-steam-levels.csv')}, ['case'], 0, 'cost 57000\nuse HP 18500\n'),
@@ -170,12 +170,13 @@ def status_with(status: int, error: bytes) -> int | str:
 
 class Report:
     """Counts runs, and tells each one that was not as it should be. Where the environment has FIRST_WRONG, the first
-    such run ends the check."""
+    such run ends the check; where it has UNTIL, so does the first run behind that time."""
 
     def __init__(self) -> None:
         self.runs = 0
         self.wrong = 0
         self.first_ends = FIRST_WRONG in os.environ
+        self.until = float(os.environ.get(UNTIL, 'inf'))
 
     def count(self, right: bool, what: str, got: tuple[object, bytes | str], wanted: object) -> None:
         self.runs += 1
@@ -183,8 +184,8 @@ class Report:
             self.wrong += 1
             print('WRONG %s\n  got    %s\n  wanted %s' % (what, shown(got), wanted))
             sys.stdout.flush()
-            if self.first_ends:
-                self.end()
+        if not right and self.first_ends or time.monotonic() > self.until:
+            self.end()
 
     @contextmanager
     def reading(self, what: str) -> Iterator[None]:

@@ -1,11 +1,15 @@
-"""Runs a check to its end, and reads the line with which each check ends."""
+"""Runs checks, each to its end, and reads the line with which each check ends. A check and the programs that it runs are
+a group of processes with a folder of their own for temporary files, and nothing of either is left behind its end."""
 from __future__ import annotations
 import os
 import re
+import signal
 import subprocess
-from typing import NamedTuple
+import tempfile
+import threading
+from typing import IO, NamedTuple
 
-from common import FIRST_WRONG, HERE
+from common import HERE
 
 END = re.compile(r'(\d+) runs, (\d+) wrong\Z')
 
@@ -18,19 +22,64 @@ class Ended(NamedTuple):
     printed: str
 
 
-def ended(check: str, words: list[str], longest: float | None = None, first_ends: bool = False) -> Ended:
-    """The end of a check that may take so many seconds, and that ends with the first run that is wrong where that is
-    asked for."""
-    environment = dict(os.environ, **{FIRST_WRONG: ''} if first_ends else {})
+class Checks:
+    """The checks that run now, side by side, until they are stopped."""
+
+    def __init__(self) -> None:
+        self.lock, self.running, self.stopped = threading.Lock(), set[int](), False
+
+    def ended(self, check: str, words: list[str], longest: float, told: dict[str, str]) -> Ended:
+        """The end of a check that may take so many seconds, and is told this by its environment."""
+        with tempfile.TemporaryDirectory(prefix='checks-', ignore_cleanup_errors=True) as folder:
+            environment = dict(os.environ, TMPDIR=folder, **told)
+            with tempfile.TemporaryFile() as output, tempfile.TemporaryFile() as error:
+                try:
+                    status, late = self.run([os.path.join(HERE, check), *words], longest, environment, output, error)
+                except OSError as fault:
+                    return Ended(None, None, repr(fault))
+                output.seek(0)
+                error.seek(0)
+                printed, complaints = [each.read().decode('latin-1') for each in (output, error)]
+        end = END.search(printed.rstrip('\n'))
+        is_whole = end and not complaints and int(end.group(1)) > 0 and (status == 0) == (end.group(2) == '0')
+        if not end or not is_whole or late:
+            return Ended(None, None, '%s%sstatus %d%s' % (printed, complaints, status, late))
+        return Ended(int(end.group(1)), int(end.group(2)), printed)
+
+    def run(self, words: list[str], longest: float, environment: dict[str, str], output: IO[bytes],
+            error: IO[bytes]) -> tuple[int, str]:
+        """The status of a group of processes, and whether it took too long. All of the group end with its first."""
+        with self.lock:
+            if self.stopped:
+                raise OSError('stopped')
+            process = subprocess.Popen(words, stdin=subprocess.DEVNULL, stdout=output, stderr=error, env=environment,
+                                       start_new_session=True)
+            self.running.add(process.pid)
+        late = ''
+        try:
+            process.wait(timeout=longest)
+        except subprocess.TimeoutExpired:
+            late = ', it took more than %d s' % longest
+        with self.lock:
+            self.running.remove(process.pid)
+            kill(process.pid)
+        return process.wait(), late
+
+    def stop(self) -> None:
+        """Ends all that run, and lets none begin."""
+        with self.lock:
+            self.stopped = True
+            for group in self.running:
+                kill(group)
+
+    def stop_by_signals(self) -> None:
+        """A signal that asks this process to end stops all."""
+        for each in (signal.SIGTERM, signal.SIGINT, signal.SIGHUP):
+            signal.signal(each, lambda *_: self.stop())
+
+
+def kill(group: int) -> None:
     try:
-        done = subprocess.run([os.path.join(HERE, check), *words], stdin=subprocess.DEVNULL, stdout=subprocess.PIPE,
-                              stderr=subprocess.PIPE,
-                              timeout=longest, env=environment)
-    except subprocess.TimeoutExpired:
-        return Ended(None, None, 'it took more than %s s' % longest)
-    printed = done.stdout.decode('latin-1')
-    end = END.search(printed.rstrip('\n'))
-    is_whole = end and not done.stderr and int(end.group(1)) > 0 and (done.returncode == 0) == (end.group(2) == '0')
-    if not end or not is_whole:
-        return Ended(None, None, printed + done.stderr.decode('latin-1'))
-    return Ended(int(end.group(1)), int(end.group(2)), printed)
+        os.killpg(group, signal.SIGKILL)
+    except ProcessLookupError:
+        pass
