@@ -3,12 +3,16 @@ from elsewhere."""
 from __future__ import annotations
 from collections.abc import Callable
 import random
+from typing import Any
 
 from reading import Case
 
 # Spans of no more prices are cut into segments price by price.
 SHORT = 60
+# First and last price, base and slope.
 Segment = tuple[int, int, int, int]
+# A scenario with its name and the prices of all utilities, or a span with its utility, first and last price.
+Item = tuple[Any, ...]
 
 
 class Costs:
@@ -45,7 +49,7 @@ class Costs:
 
 
 def segments_of(cost: Callable[[int], int], first: int, last: int) -> list[Segment]:
-    """The segments by the definition, price by price: first and last price, base and slope."""
+    """The segments by the definition, price by price."""
     segments, price = [], first
     while price <= last:
         slope = cost(price + 1) - cost(price) if price < last else 0
@@ -89,31 +93,37 @@ def fault_of_span(draw: random.Random, costs: Costs, item: tuple[bytes, int, int
     return fault_of_long(draw, costs.along(utility), first, last, segments)
 
 
-def lines_of_span(item: tuple[bytes, int, int], lines: list[str]) -> int:
+def lines_of_span(last: int, lines: list[str]) -> int:
     """How many of the lines, from the first, are those of a span: up to its last price."""
     for number, line in enumerate(lines, 1):
         fields = line.split(' ')
-        if fields[-1] == 'infeasible' or len(fields) < 4 or fields[3] == str(item[2]):
+        if fields[-1] == 'infeasible' or len(fields) < 4 or fields[3] == str(last):
             return number
     return len(lines)
 
 
-def study_fault(draw: random.Random, costs: Costs, items: list, written: str) -> str | None:
+def lines_by_item(items: list[Item], written: str) -> list[list[str]]:
+    """The lines of each item of a study, and those behind the last one."""
+    lines, found = written.split('\n')[:-1], []
+    for sort, _, *rest in items:
+        there = 1 if sort == 'scenario' else lines_of_span(rest[1], lines)
+        found.append(lines[:there])
+        lines = lines[there:]
+    return found + [lines]
+
+
+def study_fault(draw: random.Random, costs: Costs, items: list[Item], written: str) -> str | None:
     """What is wrong with the text of `prices` for the items of a study, or None."""
     if not written.endswith('\n'):
         return 'the end of the text'
-    lines = written[:-1].split('\n')
-    for number, (sort, name, *rest) in enumerate(items, 1):
+    lines = lines_by_item(items, written)
+    for number, ((sort, name, *rest), told) in enumerate(zip(items, lines), 1):
         if sort == 'scenario':
             cost = costs.cost(tuple(rest[0]))
-            there, fault = 1, None
-            if lines[:1] != ['scenario %s %s' % (name.decode(), 'infeasible' if cost is None else cost)]:
-                fault = 'the cost, which is %s' % cost
+            right = told == ['scenario %s %s' % (name.decode(), 'infeasible' if cost is None else cost)]
+            fault = None if right else 'the cost, which is %s' % cost
         else:
-            item = name, rest[0], rest[1]
-            there = lines_of_span(item, lines)
-            fault = fault_of_span(draw, costs, item, lines[:there])
+            fault = fault_of_span(draw, costs, (name, rest[0], rest[1]), told)
         if fault:
             return 'item %d, %s %s: %s' % (number, sort, name.decode(), fault)
-        lines = lines[there:]
-    return 'more lines' if lines else None
+    return 'more lines' if lines[-1] else None
