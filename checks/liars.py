@@ -34,6 +34,16 @@ def more(text, word):
     return b'\\n'.join(lines)
 
 
+def met(text, by):
+    """The first meeting of two segments so many prices later."""
+    lines = [line.split(b' ') for line in text.split(b'\\n')]
+    for one, other in zip(lines, lines[1:]):
+        if one[0] == other[0] == b'span' and len(one) == len(other) == 6 and int(one[3]) + 1 == int(other[2]):
+            one[3], other[2] = [b'%%d' %% (int(each) + by) for each in (one[3], other[2])]
+            break
+    return b'\\n'.join(b' '.join(line) for line in lines)
+
+
 def lie(words, status, text):
     %s
     return status, text
@@ -114,6 +124,8 @@ LIES = [
     Lie('certify always yes', "status, text = (0, b'yes cost 0\\n') if text[:3] == b'no ' else (status, text)",
         ('certify',)),
     Lie('the last segment of prices changed', "text = more(text, b'span')", ('prices',)),
+    Lie('a segment of prices one price too long', 'text = met(text, 1)', ('prices',)),
+    Lie('a segment of prices one price too short', 'text = met(text, -1)', ('prices',)),
     Lie('another price by several workers', "text = digit(text) if words[-1] != '1' else text", ('prices',)),
 ]
 
