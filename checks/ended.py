@@ -53,7 +53,7 @@ class Checks:
             if self.stopped:
                 raise OSError('stopped')
             process = subprocess.Popen(words, stdin=subprocess.DEVNULL, stdout=output, stderr=error, env=environment,
-                                       start_new_session=True)
+                                       process_group=0)
             self.running.add(process.pid)
         late = ''
         try:
