@@ -73,10 +73,11 @@ def priced_case_of(draw: random.Random) -> bytes:
     for number in range(draw.choice((1, 2, 3, 4))):
         draw_stream(rows, number, ends)
     count, spreads = draw.randrange(2, CASE_MOST['utility'] - 1), draw.choice(SPREADS)
-    heat = heat_of(rows.rows) // (2 * count) + 1
+    rest = rest_of(rows.rows)
+    heat = 3 * abs(rest) // count + 2
     for number, hot in enumerate((True, False)):
         rows.utility('W%d' % number, hot, 4500 if hot else -500, (0, TRILLION), draw.choice((0, 300, 10 ** 5)))
-    side = draw.choice((True, False, None))
+    side = draw.choice((rest < 0, rest < 0, None))
     for number in range(count):
         hot = draw.randrange(2) == 0 if side is None else side
         most = draw.choice((TRILLION, *[draw.randrange(heat) for _ in range(5)]))
@@ -89,7 +90,8 @@ def priced_case_of(draw: random.Random) -> bytes:
     return text(*rows.rows)
 
 
-def heat_of(rows: list[str]) -> int:
-    """The heat of all streams of these rows."""
+def rest_of(rows: list[str]) -> int:
+    """How much more heat the hot streams of these rows have than the cold ones want."""
     fields = [row.split(',') for row in rows if row.startswith(('hot,', 'cold,'))]
-    return sum(abs(int(each[2]) - int(each[3])) * int(each[4]) + int(each[5] or 0) for each in fields)
+    heats = [abs(int(each[2]) - int(each[3])) * int(each[4]) + int(each[5] or 0) for each in fields]
+    return sum(heat if each[0] == 'hot' else -heat for each, heat in zip(fields, heats))
