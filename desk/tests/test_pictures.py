@@ -3,6 +3,7 @@ cut, none on a curve."""
 from __future__ import annotations
 
 from fractions import Fraction
+from time import process_time
 
 import pytest
 from conftest import NETWORKS, example
@@ -12,6 +13,7 @@ from matplotlib.figure import Figure
 from pinchdesk import (Accepted, HeatFlow, Pinch, Rejected, WordsError, completed, follow, pinches_of, read_case,
                        read_network, read_site)
 from pinchdesk.pictures import curves_figure, grid_figure, prices_figure, rendered, site_figure, sweep_figure
+from pinchdesk.pictures.gridplan import plan_of
 from pinchdesk.pictures.labels import meets
 from pinchdesk.pictures.style import FAULT
 from pinchdesk.shown import Shown
@@ -201,6 +203,14 @@ def test_sixty_exchangers_have_room_on_a_sheet(pinch: Pinch) -> None:
 def test_more_are_told_and_not_drawn(pinch: Pinch) -> None:
     with pytest.raises(WordsError, match='has 500 exchangers'):
         grid(pinch, *chain(500))
+
+
+def test_the_plan_of_many_exchangers_takes_no_time_worth_telling(pinch: Pinch) -> None:
+    content, text = chain(500)
+    followed = follow(completed(read_case(content)), read_network(text))
+    begun = process_time()
+    plan = plan_of(followed, pinches_of(pinch.targets(content), pinch.curves(content)))
+    assert process_time() - begun < 5 and len(plan.labels) == 500
 
 
 def test_a_sweep_has_a_gap_in_its_cost_alone(pinch: Pinch) -> None:
