@@ -15,7 +15,7 @@ from pinchdesk import (Accepted, HeatFlow, Pinch, Rejected, WordsError, complete
 from pinchdesk.pictures import curves_figure, grid_figure, prices_figure, rendered, site_figure, sweep_figure
 from pinchdesk.pictures.gridplan import plan_of
 from pinchdesk.pictures.labels import meets
-from pinchdesk.pictures.style import FAULT
+from pinchdesk.pictures.style import ACROSS, FAULT
 from pinchdesk.shown import Shown
 
 FURNACE = b"""contribution,,50,,,,
@@ -167,7 +167,10 @@ def test_a_missed_target_is_drawn_as_missed(pinch: Pinch) -> None:
 
 def test_what_works_across_the_pinch_is_marked(pinch: Pinch) -> None:
     content, text = example('preheater.csv'), example('preheater-network.txt')
-    assert any('↯ 1' in each for each in svg_texts(grid(pinch, content, text)))
+    figure = grid(pinch, content, text)
+    assert any('↯ 1' in each for each in svg_texts(figure))
+    marked = [each for each in figure.axes[0].get_lines() if each.get_zorder() == 4 and each.get_color() == ACROSS]
+    assert len(marked) == sum('↯' in each for each in svg_texts(figure) if not each.startswith('across'))
 
 
 def test_of_several_pinches_each_is_drawn_and_streams_begin_there(pinch: Pinch) -> None:

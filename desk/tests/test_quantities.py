@@ -120,7 +120,8 @@ def test_a_unit_of_prices_is_known(text: str, money: str, amount: Fraction, year
     assert (unit.money, unit.amount, unit.yearly) == (money, amount, yearly)
 
 
-@pytest.mark.parametrize('text', ['EUR', 'EUR/kW', 'EUR/t', 'EUR/kWh/a', 'EUR/a', 'x' * 50, '1/MWh', 'EUR/MWh2', 'EUR/(rad kWh)', ''])
+@pytest.mark.parametrize('text', ['EUR', 'EUR/kW', 'EUR/t', 'EUR/kWh/a', 'EUR/a', 'x' * 50, '1/MWh', 'EUR/MWh2', '',
+                                  'EUR/(rad kWh)'])
 def test_what_is_no_unit_of_prices_is_refused(text: str) -> None:
     with pytest.raises(UnknownUnit):
         price_unit_of(text)

@@ -50,7 +50,8 @@ LONGEST = 40
 SIGNS = {'º': '°', '˚': '°', '℃': '°C', '℉': '°F', '\u212a': 'K', '·': '*', '⋅': '*', '×': '*', '−': '-',
          '⁻¹': '^-1', 'µ': 'micro', 'μ': 'micro'}
 ALLOWED = re.compile(r'[A-Za-z°_/*^() .-]*(?:(?:\^|\*\*)-?1[A-Za-z°_/*^() .-]*)*')
-DEGREES = re.compile(r'(?:\b(?:deg(?:ree)?s?|grad)\b\.?|\bdeg(?=[CFKR]\b)|°|\bo(?=[CF]\b))\s*(?:([CFKR])\b|(celsius|fahrenheit|kelvin)\b)', re.I)
+DEGREES = re.compile(r'(?:\b(?:deg(?:ree)?s?|grad)\b\.?|\bdeg(?=[CFKR]\b)|°|\bo(?=[CF]\b))\s*'
+                     r'(?:([CFKR])\b|(celsius|fahrenheit|kelvin)\b)', re.I)
 LETTER = re.compile(r'(?<![A-Za-z_°])([CF])(?![A-Za-z_])')
 NAMED = re.compile(r'\b(celsius|fahrenheit)\b', re.I)
 KELVIN = re.compile(r'\bkelvins?\b', re.I)
