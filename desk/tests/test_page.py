@@ -2,14 +2,16 @@
 from __future__ import annotations
 
 import re
+import subprocess
 from html import unescape
 from pathlib import Path
+from shutil import which
 
 import pytest
 from conftest import EXAMPLES, Done, example, pinchdesk
 
 from pinchdesk import Accepted, Pinch, read_case
-from pinchdesk.browser import browser, run_browser
+from pinchdesk.browser import as_pdf, browser, run_browser
 from pinchdesk.cli import main
 from pinchdesk.page import Given, page_of
 from pinchdesk.shown import Shown
@@ -73,6 +75,19 @@ def test_the_page_stands_alone_and_styles_do_not_meet(steam: str) -> None:
     assert steam.count('<img src="data:image/svg+xml;base64,') == 3
 
 
+def test_prices_and_costs_of_the_page_have_the_units_of_the_table(tmp_path: Path) -> None:
+    table, case, page = (tmp_path / each for each in ('table.csv', 'case.csv', 'page.html'))
+    table.write_text('kind;name;supply;target;CP;price\nhot;Kühlung;170;60;3;\ncold;C;80;140;10;\n'
+                     'heater;ST;180;;;120 EUR/(kW a)\ncooler;CW;15;;;5 EUR/(kW a)\n')
+    assert main(['case', '-d', '10', str(table), '-o', str(case)]) == 0
+    assert main(['page', str(case), '-o', str(page)]) == 0
+    text = words_of(page.read_text())
+    targets, shown = Pinch().targets(case.read_bytes()), Shown(read_case(case.read_bytes()).basis)
+    assert 'price, EUR/(kW a)' in text and 'per W' not in text and 'Kuehlung hot 170 60 3 330 5 Kühlung' in text
+    wanted = 120 * targets.hot // 1000 + 5 * targets.cold // 1000
+    assert f'Least cost of a heat flow: {wanted} EUR/a' in text and shown.price(120) == '120'
+
+
 def test_hostile_names_and_texts_are_only_shown() -> None:
     case, network = given('preheater.csv', 'preheater-network.txt')
     bad = '<script>alert(1)</script>{{ 7 * 7 }}\x1b[31m.csv'
@@ -112,16 +127,20 @@ def test_a_page_is_written_whole_or_not_at_all(tmp_path: Path) -> None:
     (('draw', '-o', 'x.svg'), 2),
     (('page', '{four-stream.csv}', '-o', 'page.doc'), 2),
     (('draw', 'grid', '{four-stream.csv}', '{tc3-network.txt}', '-o', 'g.svg'), 3),
+    (('draw', 'grid', '{four-stream.csv}', 'less.txt', '-o', 'g.svg'), 1),
+    (('page', '{four-stream.csv}', '{four-stream-network.txt}', 'less.txt', '-o', 'p.html'), 1),
 ])
 def test_pictures_are_files_and_have_statuses(words: tuple[str, ...], status: int, tmp_path: Path,
                                               monkeypatch: pytest.MonkeyPatch) -> None:
     monkeypatch.chdir(tmp_path)
     (tmp_path / 'a b').mkdir()
+    rejected = tmp_path / 'less.txt'
+    rejected.write_bytes(example('four-stream-network.txt').replace(b'COLD 60000', b'COLD 59000'))
     held = [str(EXAMPLES / each[1:-1]) if each.startswith('{') else each for each in words]
     if held[-1].startswith('-grid'):
         held[-2:] = [f'--output={held[-1]}']
     assert main(held) == status
-    made = [each for each in tmp_path.rglob('*') if each.is_file()]
+    made = [each for each in tmp_path.rglob('*') if each.is_file() and each != rejected]
     assert len(made) == (status < 2) and all(each.stat().st_size > 1000 for each in made)
 
 
@@ -132,6 +151,22 @@ def test_a_browser_shows_the_page_whole(width: int, steam: str, tmp_path: Path) 
     dom = run_browser([f'--window-size={width},900', '--virtual-time-budget=5000', '--dump-dom'], looked, tmp_path)
     seen = re.search('data-seen="([^"]*)"', dom.decode())
     assert seen and seen[1] == '[]'
+
+
+@WITH_BROWSER
+@pytest.mark.skipif(which('pdftotext') is None, reason='nothing here reads a PDF')
+def test_on_paper_no_heading_stands_alone_and_no_line_is_cut(steam: str, pinch: Pinch, tmp_path: Path) -> None:
+    path = tmp_path / 'page.pdf'
+    path.write_bytes(as_pdf(steam.replace('<details>', '<details open>')))
+    done = subprocess.run(['pdftotext', '-layout', str(path), '-'], capture_output=True, check=True)
+    sheets = [[' '.join(line.split()) for line in each.splitlines() if line.strip()]
+              for each in done.stdout.decode().split('\f')]
+    headings = {words_of(each) for each in re.findall(r'<(?:h[1-4]|caption|summary|th)\b.*?</', steam, re.S)}
+    assert len(sheets) > 3 and not [each[-1] for each in sheets if each and each[-1] in headings]
+    text = ''.join(''.join(''.join(each).split()) for each in sheets)
+    verdict = pinch.audit(*(example(each) for each in STEAM))
+    for line in (pinch.flow(example(STEAM[0])).text + verdict.text).splitlines():
+        assert ''.join(line.split()) in text
 
 
 @WITH_BROWSER

@@ -3,6 +3,7 @@ cut, none on a curve."""
 from __future__ import annotations
 
 from fractions import Fraction
+from time import process_time
 
 import pytest
 from conftest import NETWORKS, example
@@ -12,8 +13,9 @@ from matplotlib.figure import Figure
 from pinchdesk import (Accepted, HeatFlow, Pinch, Rejected, WordsError, completed, follow, pinches_of, read_case,
                        read_network, read_site)
 from pinchdesk.pictures import curves_figure, grid_figure, prices_figure, rendered, site_figure, sweep_figure
+from pinchdesk.pictures.gridplan import plan_of
 from pinchdesk.pictures.labels import meets
-from pinchdesk.pictures.style import FAULT
+from pinchdesk.pictures.style import ACROSS, FAULT
 from pinchdesk.shown import Shown
 
 FURNACE = b"""contribution,,50,,,,
@@ -165,7 +167,10 @@ def test_a_missed_target_is_drawn_as_missed(pinch: Pinch) -> None:
 
 def test_what_works_across_the_pinch_is_marked(pinch: Pinch) -> None:
     content, text = example('preheater.csv'), example('preheater-network.txt')
-    assert any('↯ 1' in each for each in svg_texts(grid(pinch, content, text)))
+    figure = grid(pinch, content, text)
+    assert any('↯ 1' in each for each in svg_texts(figure))
+    marked = [each for each in figure.axes[0].get_lines() if each.get_zorder() == 4 and each.get_color() == ACROSS]
+    assert len(marked) == sum('↯' in each for each in svg_texts(figure) if not each.startswith('across'))
 
 
 def test_of_several_pinches_each_is_drawn_and_streams_begin_there(pinch: Pinch) -> None:
@@ -201,6 +206,14 @@ def test_sixty_exchangers_have_room_on_a_sheet(pinch: Pinch) -> None:
 def test_more_are_told_and_not_drawn(pinch: Pinch) -> None:
     with pytest.raises(WordsError, match='has 500 exchangers'):
         grid(pinch, *chain(500))
+
+
+def test_the_plan_of_many_exchangers_takes_no_time_worth_telling(pinch: Pinch) -> None:
+    content, text = chain(500)
+    followed = follow(completed(read_case(content)), read_network(text))
+    begun = process_time()
+    plan = plan_of(followed, pinches_of(pinch.targets(content), pinch.curves(content)))
+    assert process_time() - begun < 5 and len(plan.labels) == 500
 
 
 def test_a_sweep_has_a_gap_in_its_cost_alone(pinch: Pinch) -> None:

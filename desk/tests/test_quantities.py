@@ -16,6 +16,9 @@ KNOWN = [
     (Kind.TEMPERATURE, '°C', 150, 1500), (Kind.TEMPERATURE, 'K', Fraction('423.15'), 1500),
     (Kind.TEMPERATURE, '°F', 212, 1000), (Kind.TEMPERATURE, 'F', 50, 100), (Kind.TEMPERATURE, 'C', 5, 50),
     (Kind.TEMPERATURE, 'deg C', 5, 50), (Kind.TEMPERATURE, 'Celsius', 5, 50), (Kind.TEMPERATURE, '℃', 5, 50),
+    (Kind.TEMPERATURE, 'Grad C', 5, 50), (Kind.TEMPERATURE, 'grad Celsius', 5, 50), (Kind.TEMPERATURE, '° C', 5, 50),
+    (Kind.TEMPERATURE, 'Kelvin', Fraction('423.15'), 1500), (Kind.TEMPERATURE, 'degF', 212, 1000),
+    (Kind.TEMPERATURE, 'degrees Celsius', 5, 50), (Kind.FLOW, 'MJ/(h K)', 36, 1000), (Kind.HEAT, 'kJ/s', 2, 2000),
     (Kind.TEMPERATURE, 'ºC', 5, 50), (Kind.TEMPERATURE, '°R', Fraction('491.67'), 0), (Kind.DIFFERENCE, 'K', 10, 100),
     (Kind.DIFFERENCE, '°C', 10, 100), (Kind.DIFFERENCE, '°F', 18, 100), (Kind.FLOW, 'kW/K', 2, 200),
     (Kind.FLOW, 'MW/K', 2, 200_000), (Kind.FLOW, 'MW/°C', 2, 200_000), (Kind.FLOW, 'kW per K', 2, 200),
@@ -27,6 +30,7 @@ KNOWN = [
 ]
 UNKNOWN = [
     (Kind.TEMPERATURE, 'kW'), (Kind.TEMPERATURE, 'x'), (Kind.TEMPERATURE, '9**9**9'), (Kind.TEMPERATURE, 'K^2'),
+    (Kind.TEMPERATURE, 'rad K'), (Kind.HEAT, 'kW grade'), (Kind.HEAT, 'percent kW'), (Kind.FLOW, 'kW/K/rad'),
     (Kind.FLOW, 'kW'), (Kind.FLOW, 'kJ/kg/K'), (Kind.FLOW, 'kWh/a/K'), (Kind.FLOW, 'MBtu/h/F'), (Kind.FLOW, ''),
     (Kind.HEAT, 'kWh'), (Kind.HEAT, 'TJ/yr'), (Kind.HEAT, 'GJ/a'), (Kind.HEAT, 'MBtu/h'), (Kind.HEAT, 'EUR'),
     (Kind.HEAT, 'kW' * 30), (Kind.HEAT, '__import__("os")'), (Kind.HEAT, 'kW/K'), (Kind.DIFFERENCE, '%'),
@@ -116,7 +120,8 @@ def test_a_unit_of_prices_is_known(text: str, money: str, amount: Fraction, year
     assert (unit.money, unit.amount, unit.yearly) == (money, amount, yearly)
 
 
-@pytest.mark.parametrize('text', ['EUR', 'EUR/kW', 'EUR/t', 'EUR/kWh/a', 'EUR/a', 'x' * 50, '1/MWh', 'EUR/MWh2', ''])
+@pytest.mark.parametrize('text', ['EUR', 'EUR/kW', 'EUR/t', 'EUR/kWh/a', 'EUR/a', 'x' * 50, '1/MWh', 'EUR/MWh2', '',
+                                  'EUR/(rad kWh)'])
 def test_what_is_no_unit_of_prices_is_refused(text: str) -> None:
     with pytest.raises(UnknownUnit):
         price_unit_of(text)

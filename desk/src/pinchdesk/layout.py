@@ -46,6 +46,8 @@ NOTES = frozenset('note notes remark remarks comment comments description fluid 
                   'stoff'.split())
 STREAM_COLUMNS = (Heading.NAME, Heading.SUPPLY, Heading.TARGET, Heading.CP, Heading.LOAD, Heading.CONTRIBUTION)
 BRACKETED = re.compile(r'(.*?)[\s_]*[(\[](.*)[)\]]\s*')
+# A unit that has no letter: `CP (%)`.
+SIGN = re.compile(r'.*[(\[/,]\s*([^\w\s()\[\]/,.:;–—-]+)\s*[)\]]?\s*')
 EMPTY = frozenset(('', '-', '–', '—', 'n/a', 'N/A', 'na', '.'))
 
 
@@ -78,7 +80,8 @@ def meaning(text: str) -> Heading | None:
 def heading_of(text: str) -> tuple[Heading | None, str]:
     """What a heading means, and the unit that stands with it: `CP (MW/K)`, `Supply [°C]`, `Duty / kW`, `Duty in kW`."""
     if meaning(text):
-        return meaning(text), ''
+        sign = SIGN.fullmatch(text)
+        return meaning(text), sign[1] if sign else ''
     match = BRACKETED.fullmatch(text)
     if match:
         return meaning(match[1]), match[2].strip()

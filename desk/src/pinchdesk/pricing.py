@@ -12,7 +12,7 @@ from fractions import Fraction
 from math import gcd, lcm
 
 from .case import Basis
-from .quantities import SIGNS, YEAR, UnknownUnit, registry, rounded
+from .quantities import SIGNS, YEAR, UnknownUnit, parsed, registry, rounded
 
 MOST = 1_000_000
 MONEY = re.compile(r'[^\W\d]{0,8}|[€$£¥]|[A-Za-z]{0,3}[€$£¥]')
@@ -51,7 +51,7 @@ def amount_of(text: str, rest: str, yearly: bool) -> Fraction:
     """How many watt-hours (watts of a yearly price) the unit below the money is."""
     known = registry()
     try:
-        one = known.Quantity(Fraction(1), known.Unit(rest)).to('watt' if yearly else 'watt * hour')
+        one = known.Quantity(Fraction(1), parsed(rest)).to('watt' if yearly else 'watt * hour')
         return Fraction(one.magnitude)
     except Exception as fault:
         # pint has no error of its own for each text that it cannot read.

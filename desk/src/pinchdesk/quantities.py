@@ -50,9 +50,11 @@ LONGEST = 40
 SIGNS = {'º': '°', '˚': '°', '℃': '°C', '℉': '°F', '\u212a': 'K', '·': '*', '⋅': '*', '×': '*', '−': '-',
          '⁻¹': '^-1', 'µ': 'micro', 'μ': 'micro'}
 ALLOWED = re.compile(r'[A-Za-z°_/*^() .-]*(?:(?:\^|\*\*)-?1[A-Za-z°_/*^() .-]*)*')
-DEGREES = re.compile(r'(?:\bdeg(?:ree)?s?\.?|°|\bo(?=[CF]\b))\s*(?:([CFKR])\b|(celsius|fahrenheit|kelvin)\b)', re.I)
+DEGREES = re.compile(r'(?:\b(?:deg(?:ree)?s?|grad)\b\.?|\bdeg(?=[CFKR]\b)|°|\bo(?=[CF]\b))\s*'
+                     r'(?:([CFKR])\b|(celsius|fahrenheit|kelvin)\b)', re.I)
 LETTER = re.compile(r'(?<![A-Za-z_°])([CF])(?![A-Za-z_])')
 NAMED = re.compile(r'\b(celsius|fahrenheit)\b', re.I)
+KELVIN = re.compile(r'\bkelvins?\b', re.I)
 TIMES = re.compile(r'([1-9][0-9]{0,6})\s*([^0-9].*)')
 YEAR = re.compile(r'(?<![A-Za-z_])(a|y|yr|years?|annum|anno)(?![A-Za-z_])', re.I)
 DIMENSIONS = {Kind.TEMPERATURE: 'kelvin', Kind.DIFFERENCE: 'kelvin', Kind.FLOW: 'watt / kelvin', Kind.HEAT: 'watt'}
@@ -79,7 +81,7 @@ def normal(text: str) -> str:
     held = re.sub(r'\bper\b', '/', held)
     held = re.sub(r'/\s*h(?:ou)?rs?\b', '/hour', held)
     held = DEGREES.sub(lambda match: '°' + (match[1] or match[2][0]).upper(), held)
-    held = NAMED.sub(lambda match: '°' + match[1][0].upper(), LETTER.sub(r'°\1', held))
+    held = NAMED.sub(lambda match: '°' + match[1][0].upper(), LETTER.sub(r'°\1', KELVIN.sub('K', held)))
     held = held.replace('°K', 'K').replace('°R', 'degR')
     # MBtu is a thousand of them to some and a million to others.
     if not held or len(held) > LONGEST or not ALLOWED.fullmatch(held) or re.search(r'\bmbtu', held, re.I):
@@ -100,16 +102,25 @@ def unit_of(text: str, kind: Kind) -> Unit:
     try:
         if kind is Kind.TEMPERATURE:
             return temperature_unit(text, '' if times else held)
-        one = known.Quantity(Fraction(times[1] if times else 1), known.Unit(held)).to(DIMENSIONS[kind])
+        one = known.Quantity(Fraction(times[1] if times else 1), parsed(held)).to(DIMENSIONS[kind])
         return Unit(text, Fraction(one.magnitude) * IN_PROGRAM[kind])
     except Exception as fault:
         # pint has no error of its own for each text that it cannot read.
         raise UnknownUnit(text) from fault
 
 
+def parsed(text: str) -> Any:
+    """What pint reads; `UnknownUnit` where an angle or a part is in it, which would be taken for a mere number."""
+    known = registry()
+    made = known.Unit(text)
+    if any(known.Unit(name).dimensionless for name, _ in known.Quantity(1, made).to_tuple()[1]):
+        raise UnknownUnit(text)
+    return made
+
+
 def temperature_unit(text: str, held: str) -> Unit:
     known = registry()
-    unit = known.Unit(held.replace('°C', 'degC').replace('°F', 'degF'))
+    unit = parsed(held.replace('°C', 'degC').replace('°F', 'degF'))
     zero, one = (Fraction(known.Quantity(Fraction(each), unit).to('kelvin').magnitude) for each in (0, 1))
     factor = one - zero
     return Unit(text, factor * IN_PROGRAM[Kind.TEMPERATURE], (zero - ZERO_CELSIUS) / factor)

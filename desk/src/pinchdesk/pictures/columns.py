@@ -1,8 +1,9 @@
 """The columns of a grid diagram: each exchanger has one, in which no other bar stands; nothing is drawn here."""
 from __future__ import annotations
 
-from collections.abc import Sequence
-from dataclasses import dataclass, field
+from collections.abc import Iterator, Sequence
+from dataclasses import dataclass
+from heapq import heappop, heappush
 
 from ..states import Followed
 from .courses import Course, Key, Node, left_of
@@ -25,14 +26,15 @@ class Tracks:
 
 @dataclass
 class Block:
-    """Nodes that share a column: both sides of an exchanger, or one node alone."""
+    """Nodes that share a column: both sides of an exchanger, or one node alone. `waits` counts the nodes left of them
+    that have no column yet."""
 
     nodes: list[Node]
     span: Span
     zone: int
     order: tuple[float, int]
     column: int | None = None
-    left: set[int] = field(default_factory=set)
+    waits: int = 0
 
 
 @dataclass
@@ -44,30 +46,18 @@ class Columns:
     pinches: list[Span]
 
 
-def span_of(nodes: Sequence[Node], tracks: Tracks, followed: Followed) -> Span:
-    """The tracks through which the bar of a block goes."""
-    first = nodes[0]
-    row = tracks.rows[first.stream.name]
-    if first.exchanger is None:
-        return (row, row)
-    exchanger = followed.passage(first.exchanger).exchanger
-    both = sorted((tracks.rows[exchanger.hot], tracks.rows[exchanger.cold]))
-    names = {each.name for each in followed.case.streams}
-    if len(nodes) == 2 or not {exchanger.hot, exchanger.cold} <= names:
-        return (both[0], both[1])
-    return (row, tracks.labels) if first.key[0] == 'hot' else (tracks.slants, row)
-
-
 class Placer:
-    """Places blocks from left to right, zone by zone."""
+    """Places blocks from left to right, zone by zone: of those that wait for no other the one with the hottest end."""
 
     def __init__(self, followed: Followed, course: Course, tracks: Tracks) -> None:
-        self.followed, self.course, self.tracks = followed, course, tracks
-        self.spans = {each.exchanger.name: each for each in followed.passages}
+        self.course, self.tracks = course, tracks
+        self.exchangers = {each.name: each for each in followed.network.exchangers}
+        self.streams = {each.name for each in followed.case.streams}
         self.blocks: list[Block] = []
         self.block_of: dict[Key, int] = {}
         self.busy: list[list[Span]] = []
-        self.before = before(course)
+        self.before, self.behind = neighbours(course)
+        self.free: dict[int, list[tuple[tuple[float, int], int]]] = {}
         self.make()
 
     def make(self) -> None:
@@ -82,7 +72,8 @@ class Placer:
                 self.block_of[node.key] = self.block_of[other.key]
             else:
                 self.add([node])
-        self.link()
+        for at in range(len(self.blocks)):
+            self.count(at)
 
     def add(self, nodes: list[Node]) -> None:
         order = (-float(max(each.warmth for each in nodes)), len(self.blocks))
@@ -91,58 +82,79 @@ class Placer:
             self.block_of[node.key] = len(self.blocks) - 1
 
     def span(self, nodes: Sequence[Node]) -> Span:
-        return span_of(nodes, self.tracks, self.followed)
+        """The tracks through which the bar of a block goes."""
+        first, rows = nodes[0], self.tracks.rows
+        row = rows[first.stream.name]
+        if first.exchanger is None:
+            return (row, row)
+        exchanger = self.exchangers[first.exchanger]
+        both = sorted((rows[exchanger.hot], rows[exchanger.cold]))
+        if len(nodes) == 2 or not {exchanger.hot, exchanger.cold} <= self.streams:
+            return (both[0], both[1])
+        return (row, self.tracks.labels) if first.key[0] == 'hot' else (self.tracks.slants, row)
 
-    def link(self) -> None:
-        for block in self.blocks:
-            block.left = set()
-        for node in self.course.nodes.values():
-            for one, other in left_of(node):
-                self.blocks[self.block_of[other.key]].left.add(self.block_of[one.key])
+    def left(self, block: Block) -> Iterator[Block]:
+        """The blocks left of this one, once for each node."""
+        return (self.blocks[self.block_of[one.key]] for node in block.nodes for one in self.before[node.key])
 
-    def ready(self, block: Block) -> bool:
-        return all(self.blocks[each].column is not None for each in block.left)
+    def count(self, at: int) -> None:
+        """Counts what a block waits for; one that waits for nothing may be placed."""
+        block = self.blocks[at]
+        block.waits = sum(each.column is None for each in self.left(block))
+        if not block.waits:
+            heappush(self.free.setdefault(block.zone, []), (block.order, at))
 
     def place(self, block: Block, base: int) -> None:
-        """Takes the first column that is free for the bar."""
-        at = max([base, *((self.blocks[each].column or 0) + 1 for each in block.left)])
+        """Takes the first column that is free for the bar; what waited for it may wait for nothing now."""
+        at = max([base, *((each.column or 0) + 1 for each in self.left(block))])
         while at < len(self.busy) and any(meets(block.span, span) for span in self.busy[at]):
             at += 1
         while len(self.busy) <= at:
             self.busy.append([])
         self.busy[at].append(block.span)
         block.column = at
+        for other in (self.block_of[other.key] for node in block.nodes for other in self.behind[node.key]):
+            held = self.blocks[other]
+            held.waits -= 1
+            if not held.waits:
+                heappush(self.free.setdefault(held.zone, []), (held.order, other))
 
-    def apart(self, waiting: list[Block]) -> None:
+    def apart(self, waiting: list[int]) -> None:
         """Where streams pass exchangers in contrary orders, one of these gets a column for each side."""
-        for block in waiting:
+        for at in waiting:
+            block = self.blocks[at]
             for node in block.nodes:
                 if len(block.nodes) == 2 and all(self.blocks[self.block_of[each.key]].column is not None
                                                  for each in self.before[node.key]):
                     block.nodes.remove(node)
                     block.span = self.span(block.nodes)
                     self.add([node])
-                    self.link()
+                    self.count(at)
+                    self.count(len(self.blocks) - 1)
                     return
         raise AssertionError('a stream that comes before itself')
 
     def zone(self, zone: int, base: int) -> None:
         """Places the blocks of a zone."""
-        while waiting := [each for each in self.blocks if each.zone == zone and each.column is None]:
-            free = [each for each in waiting if self.ready(each)]
-            if free:
-                self.place(min(free, key=lambda each: each.order), base)
-            else:
-                self.apart(waiting)
+        free = self.free.setdefault(zone, [])
+        while True:
+            while free:
+                self.place(self.blocks[heappop(free)[1]], base)
+            waiting = [at for at, each in enumerate(self.blocks) if each.zone == zone and each.column is None]
+            if not waiting:
+                return
+            self.apart(waiting)
 
 
-def before(course: Course) -> dict[Key, list[Node]]:
-    """The nodes that stand left of each."""
-    held: dict[Key, list[Node]] = {key: [] for key in course.nodes}
+def neighbours(course: Course) -> tuple[dict[Key, list[Node]], dict[Key, list[Node]]]:
+    """The nodes that stand left and those that stand right of each."""
+    before: dict[Key, list[Node]] = {key: [] for key in course.nodes}
+    behind: dict[Key, list[Node]] = {key: [] for key in course.nodes}
     for node in course.nodes.values():
         for one, other in left_of(node):
-            held[other.key].append(one)
-    return held
+            before[other.key].append(one)
+            behind[one.key].append(other)
+    return before, behind
 
 
 def meets(one: Span, other: Span) -> bool:

@@ -79,16 +79,20 @@ def course_of(followed: Followed, pinches: tuple[PinchPoint, ...]) -> Course:
             stream = followed.branches[inputs[0]].stream
             node = join(course, key_of(statement, at, stream, course.made), stream, statement)
             place(node, passages, pinches)
-    for node in reversed(list(course.nodes.values())):
-        draw_near(course, node)
+    draw_near(course)
     return course
 
 
-def draw_near(course: Course, node: Node) -> None:
-    """Puts a split as near to its branches as may be: one at a pinch stands on their side of it."""
-    zones = [each.zone for each in course.nodes.values() if node in each.behind and each.zone is not None]
-    if node.key[0] == 'split' and zones:
-        node.zone = min(zones) if node.stream.side is Side.HOT else max(zones)
+def draw_near(course: Course) -> None:
+    """Puts each split as near to its branches as may be: one at a pinch stands on their side of it."""
+    after: dict[Key, list[Node]] = {}
+    for node in course.nodes.values():
+        for each in node.behind:
+            after.setdefault(each.key, []).append(node)
+    for node in reversed(list(course.nodes.values())):
+        zones = [each.zone for each in after.get(node.key, ()) if each.zone is not None]
+        if node.key[0] == 'split' and zones:
+            node.zone = min(zones) if node.stream.side is Side.HOT else max(zones)
 
 
 def join(course: Course, key: Key, stream: Stream, statement: Statement) -> Node:

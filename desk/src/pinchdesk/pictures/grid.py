@@ -3,11 +3,14 @@ right to left, a bar for each exchanger, each pinch, and what the network really
 from __future__ import annotations
 
 import textwrap
+from collections.abc import Sequence
 from dataclasses import dataclass
 from typing import Any
 
 from matplotlib.axes import Axes
+from matplotlib.collections import LineCollection
 from matplotlib.figure import Figure
+from matplotlib.lines import Line2D
 
 from ..case import Side, Stream, Utility
 from ..errors import WordsError
@@ -20,6 +23,7 @@ from .gridplan import Plan, lane_heights, plan_of, reach, width
 from .gridstreams import put_streams
 from .style import ABOVE, ACROSS, BELOW, BETWEEN, FAULT, INK, NEUTRAL, PALE, blank, styled
 
+Piece = Sequence[tuple[float, float]]
 MOST = 60
 LEGEND = ((ABOVE, 'above the pinch'), (BETWEEN, 'between pinches'), (BELOW, 'below the pinch'),
           (ACROSS, 'across a pinch (↯ kW that cross it)'))
@@ -40,6 +44,12 @@ class Sheet:
     def write(self, x: float, y: float, text: str, **style: Any) -> None:
         given = {'fontsize': self.plan.type.size, 'ha': 'center', 'va': 'center', 'zorder': 8, **style}
         self.axes.text(x, y, text, **given)
+
+    def strokes(self, pieces: Sequence[Piece], colour: str, cap: str) -> None:
+        """Straight lines of streams; many are drawn much faster together than one by one."""
+        if pieces:
+            held = LineCollection(pieces, colors=colour, linewidths=1.8, zorder=3, capstyle=cap)
+            self.axes.add_collection(held, autolim=False)
 
     def is_fault(self, name: str) -> bool:
         """Whether the fault of a rejected network is at this stream or utility."""
@@ -158,6 +168,7 @@ def ends_at(sheet: Sheet, passage: Passage) -> tuple[tuple[float, float], tuple[
 
 def put_exchangers(sheet: Sheet) -> None:
     """The bar of each exchanger with a circle at both ends, its name, duty, and what it carries across."""
+    circles: dict[tuple[str, str, float], list[tuple[float, float]]] = {}
     for passage in sheet.plan.followed.passages:
         (x, y), (u, v) = ends_at(sheet, passage)
         colour = colour_of(passage, sheet.plan.pinches)
@@ -165,13 +176,15 @@ def put_exchangers(sheet: Sheet) -> None:
         ink, weight = (FAULT, 2.4) if bad else (colour, 1.2)
         bend = [y, v] if x == u else [y, sheet.slants + 0.12, sheet.slants - 0.12, v]
         across = [x, u] if x == u else [x, x, u, u]
-        sheet.axes.plot(across, bend, color=ink, linewidth=weight, zorder=4, solid_capstyle='butt')
-        for at, height, source in ((x, y, passage.hot.source), (u, v, passage.cold.source)):
+        sheet.axes.add_artist(Line2D(across, bend, color=ink, linewidth=weight, zorder=4, solid_capstyle='butt'))
+        for at, source in (((x, y), passage.hot.source), ((u, v), passage.cold.source)):
             heated = '#f5b7b1' if source.side is Side.HOT else '#aed6f1'
             fill = heated if isinstance(source, Utility) else 'white'
-            sheet.axes.plot([at], [height], 'o', markersize=sheet.plan.type.size * 0.8, markerfacecolor=fill,
-                            markeredgecolor=ink, markeredgewidth=weight, zorder=6)
+            circles.setdefault((fill, ink, weight), []).append(at)
         put_label(sheet, passage.exchanger.name, x, ink, bad)
+    for (fill, ink, weight), held in circles.items():
+        sheet.axes.plot(*zip(*held), 'o', markersize=sheet.plan.type.size * 0.8, markerfacecolor=fill,
+                        markeredgecolor=ink, markeredgewidth=weight, zorder=6)
 
 
 def put_label(sheet: Sheet, name: str, x: float, ink: str, bad: bool) -> None:

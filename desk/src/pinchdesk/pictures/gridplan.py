@@ -21,9 +21,22 @@ from .lanes import count_of, lanes_of, share_of
 ROOM, SIZES = 13.4, (8.5, 7.5, 6.5, 5.5, 5.0)
 
 
-@lru_cache(maxsize=4096)
+# All digits of the letters that are used take the same room, and only what is inked at both ends counts beside that.
+SAME = str.maketrans('123456789', '000000000')
+
+
 def width(text: str, size: float, bold: bool = False) -> float:
     """The width of a text in inches."""
+    return measured(shape(text), size, bold)
+
+
+def shape(text: str) -> str:
+    """A text that is as wide as this one, and as many others."""
+    return text[:1] + text[1:-1].translate(SAME) + text[1:][-1:]
+
+
+@lru_cache(maxsize=65536)
+def measured(text: str, size: float, bold: bool) -> float:
     font = FontProperties(family='DejaVu Sans', size=size, weight='bold' if bold else 'normal')
     found = measurer().get_text_width_height_descent(text, font, ismath=False)[0]
     return float(found) / 72
@@ -109,12 +122,13 @@ def rows_of(followed: Followed) -> tuple[list[Stream | Utility], int]:
 
 def type_of(columns: int, labels: dict[str, tuple[str, ...]], numbers: list[tuple[str, str]]) -> Type:
     """The largest letters with which all columns have room on the sheet: labels lie where they can, else they stand."""
-    lines = [line for each in labels.values() for line in each]
+    lines = {shape(line) for each in labels.values() for line in each}
+    states = [{shape(each[places]) for each in numbers} for places in (0, 1)]
     for upright in (False, True):
         for size in SIZES[:3] if not upright else SIZES[1:]:
+            flat = max((width(line, size, True) for line in lines), default=0.3)
             for places in (0, 1):
-                warm = max((width(each[places], size - 0.5) for each in numbers), default=0.2)
-                flat = max((width(line, size, True) for line in lines), default=0.3)
+                warm = max((width(each, size - 0.5) for each in states[places]), default=0.2)
                 # What stands upright is as wide as a line is high, and there are two in each column.
                 pitch = max(2 * size * 1.3 / 72, 0.2) if upright else max(warm + 0.05, flat + 0.06, 0.2)
                 if (columns + 1) * pitch <= ROOM or upright and size == SIZES[-1] and places:

@@ -38,6 +38,7 @@ def put_stream(sheet: Sheet, stream: Stream) -> None:
     first, last = reach(plan, stream)
     begin, finish = (first, last) if stream.side is Side.HOT else (last, first)
     ended = {each.branch for each in plan.followed.network.statements if isinstance(each, End)}
+    pieces = []
     for name in drawn_branches(plan.course, lanes):
         branch, y = plan.followed.branches[name], sheet.heights[stream.name][lanes[name]]
         made, used = node_at(plan.course, name)
@@ -46,11 +47,12 @@ def put_stream(sheet: Sheet, stream: Stream) -> None:
             u = column(sheet, used)
         else:
             u = finish if name in ended else x + (0.6 if stream.side is Side.HOT else -0.6) * plan.type.pitch
-        sheet.axes.plot([x, u], [y, y], color=colour, linewidth=1.8, zorder=3, solid_capstyle='round')
+        pieces.append(((x, y), (u, y)))
         if name in ended:
             tip = '>' if stream.side is Side.HOT else '<'
             sheet.axes.plot([u], [y], marker=tip, markersize=6, color=colour, zorder=5)
         put_state(sheet, branch, made, x, y, name in ended)
+    sheet.strokes(pieces, colour, 'round')
     put_joints(sheet, stream, lanes, colour)
 
 
@@ -76,12 +78,13 @@ def put_state(sheet: Sheet, branch: Branch, made: Node | None, x: float, y: floa
 
 def put_joints(sheet: Sheet, stream: Stream, lanes: Mapping[str, int], colour: str) -> None:
     """The upright line at each split and mix, from the first to the last of its lanes."""
-    course = sheet.plan.course
+    course, pieces = sheet.plan.course, []
+    drawn = drawn_branches(course, lanes)
     for node in course.nodes.values():
         if node.exchanger or node.stream.name != stream.name:
             continue
-        held = [lanes[name] for name in drawn_branches(course, lanes) if node in (course.made.get(name),
-                                                                                  course.used.get(name))]
+        held = [lanes[name] for name in drawn if node in (course.made.get(name), course.used.get(name))]
         x, heights = column(sheet, node), [sheet.heights[stream.name][each] for each in held]
         if heights:
-            sheet.axes.plot([x, x], [min(heights), max(heights)], color=colour, linewidth=1.8, zorder=3)
+            pieces.append(((x, min(heights)), (x, max(heights))))
+    sheet.strokes(pieces, colour, 'projecting')

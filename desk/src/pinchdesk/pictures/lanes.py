@@ -7,7 +7,7 @@ from fractions import Fraction
 from ..case import Side, Stream
 from ..states import Followed
 from .columns import Columns
-from .courses import Course, Node
+from .courses import Course, Key, Node
 
 
 def branches_of(followed: Followed, stream: Stream) -> list[str]:
@@ -20,10 +20,10 @@ def lanes_of(followed: Followed, course: Course, columns: Columns, stream: Strea
     nodes = [each for each in course.nodes.values() if each.stream.name == stream.name]
     nodes.sort(key=lambda each: columns.of[each.key], reverse=stream.side is Side.COLD)
     own = branches_of(followed, stream)
+    ending, beginning = at_nodes(course.used, own), at_nodes(course.made, own)
     lanes, taken = {stream.name: 0}, {0}
     for node in nodes:
-        inputs = [each for each in own if course.used.get(each) is node]
-        outputs = [each for each in own if course.made.get(each) is node]
+        inputs, outputs = ending.get(node.key, []), beginning.get(node.key, [])
         held = sorted({lanes[each] for each in inputs if each in lanes}) or [0]
         taken -= set(held)
         # Branches that begin and end at one place are not drawn.
@@ -32,6 +32,15 @@ def lanes_of(followed: Followed, course: Course, columns: Columns, stream: Strea
             lanes[name] = lane
             taken.add(lane)
     return lanes
+
+
+def at_nodes(nodes: Mapping[str, Node], branches: Iterable[str]) -> dict[Key, list[str]]:
+    """The branches at each node."""
+    held: dict[Key, list[str]] = {}
+    for each in branches:
+        if each in nodes:
+            held.setdefault(nodes[each].key, []).append(each)
+    return held
 
 
 def share_of(followed: Followed, branch: str) -> Fraction:
