@@ -1,10 +1,10 @@
 //! What is to be solved, with the arcs of its net.
-ghost use Rattle.std.specs.Prelude.{◌≡◌, ◌<◌, length, map, All, Contains};
-ghost use Rattle.flow_net.specs.Arc.{IsArc, arcs_at, way_of};
+ghost use Rattle.std.specs.Prelude.{◌≡◌, ◌<◌, All, Contains};
+ghost use Rattle.flow_net.specs.Arc.{IsArc, arcs_at};
 ghost use Rattle.flow_net.specs.Problem.{IsProblem};
 
 use crate::adjacency::Adjacency;
-use crate::arc::{Arc, Way};
+use crate::arc::Arc;
 use crate::net::Net;
 
 /// An amount to route through a net from the source to the sink, from the initial potentials on.
@@ -29,16 +29,5 @@ impl Problem<'_> {
             → Contains result.now a }
     {
         self.adjacency.arcs_from(node)
-    }
-
-    /// The ways of these arcs.
-    pub fn ways_from(&self, node: u32) -> &[Way]
-        requires problem { IsProblem self.now }
-        requires node { node < self.now.net.now.nodes }
-        ensures range { result.now ≡ map way_of (arcs_at self.now.adjacency node) }
-        ensures heads { All (λ w. w.head < self.now.net.now.nodes) result.now }
-        ensures links { All (λ w. w.link < length self.now.net.now.links) result.now }
-    {
-        self.adjacency.ways_from(node)
     }
 }
