@@ -8,8 +8,8 @@ use Rattle.flow_net.proofs.Words.{arc_of, carry, cases_eq, cases_lt, depth_at, d
 use Rattle.flow_net.proofs.Words.{get_or-set_same, get_or_past, get_or_read, height_at, height_of, inflow, ints, largest_cost, length-replicate, length-set, level_at}
 use Rattle.flow_net.proofs.Words.{link_at, mul-le, neg_ℤ-neg_ℤ, outflow, potential_at, reduced_cost, reduced_cost_of, residual_of, reverse-append}
 use Rattle.flow_net.proofs.Words.{sent_along, sent_along_path, sum_below, sum_by-set, turned, unsigned_abs}
-use Rattle.std.proofs.Common.{Bool, IsTrue, List, None, Option, [], ap, arith, cond, count_by, drop, false, get_or, inl, inr, is_some, length, pos, refl}
-use Rattle.std.proofs.Common.{replicate, reverse, set, subst, sym, take, true, ℕ, ℤ, ◌*◌, ◌++◌, ◌+ℤ◌, ◌+◌, ◌-ℤ◌, ◌<ℤ◌, ◌<◌, ◌==◌, ◌↔◌, ◌∙◌, ◌∷◌, ◌≡◌, ◌≢◌, ◌≤ℤ◌}
+use Rattle.std.proofs.Common.{Bool, List, None, Option, [], ap, arith, cond, count_by, drop, false, get_or, inl, inr, is_some, length, pos, refl}
+use Rattle.std.proofs.Common.{replicate, reverse, set, subst, sym, take, true, ℕ, ℤ, ◌*◌, ◌++◌, ◌+ℤ◌, ◌+◌, ◌-ℤ◌, ◌<ℤ◌, ◌<◌, ◌==◌, ◌∙◌, ◌∷◌, ◌≡◌, ◌≢◌, ◌≤ℤ◌}
 use Rattle.std.proofs.Common.{◌≤◌, ◌⊎◌}
 use Rattle.flow_net.proofs.Duality.{routing_from_surplus, surplus, surplus_is, when}
 use Rattle.flow_net.proofs.Lists.{set_cases, within_from}

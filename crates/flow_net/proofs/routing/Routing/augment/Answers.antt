@@ -1,5 +1,5 @@
 use Rattle.flow_net.proofs.FlowLemmas.{Stands-augmented, Stands-same, next_arc, next_carried, next_carries, next_rooms, next_sent, no_arc}
-use Rattle.flow_net.proofs.Words.{AreWays, CanCarry, IsBottleneck, IsWithinRooms, carry, ints, sent_along, sent_along_path, take_all}
+use Rattle.flow_net.proofs.Words.{AreWays, CanCarry, IsBottleneck, IsWithinRooms, carry, ints, sent_along_path, take_all}
 use Rattle.flow_net.proofs.Words.{to_z-of_z}
 use Rattle.std.proofs.Common.{ap, arith, drop, get_or, of_z, pos, rules, set, subst, sym, to_z, w64, ◌+ℤ◌, ◌+◌, ◌-ℤ◌, ◌∙◌, ◌≡◌, ◌≤ℤ◌}
 use Rattle.flow_net.proofs.routing.Routing.augment.Goals as goal
