@@ -35,24 +35,33 @@ impl Search {
     ghost use Rattle.flow_net.specs.Problem.{IsProblem, IsStanding, IsFreeArc};
     ghost use Rattle.flow_net.specs.Search.{IsSearch, IsFresh, HasQueue, IsDrained, IsSettling, IsAt, IsEntered, Improves, IsClosedAt, IsRelaxed, HasArrived, IsStuck, IsTree, IsTreeArc, IsTreePath, arc_at, distance_at, is_labelled, rise_of};
 
-    /// A search that has labelled the source alone.
+    /// A place for the label of each node. Nothing is labelled yet.
     pub fn new(alloc: Global, problem: &Problem) -> Result<Search, AllocError>
-        requires { IsProblem problem.now }
-        ensures { IfOk result (λ s. IsFresh problem.now s) }
+        ensures { IfOk result (λ s. length s.labels.items ≡ problem.now.net.now.nodes) }
     {
         let nodes = problem.net.nodes as usize;
-        let mut search = Search {
+        Ok(Search {
             labels: vec![in alloc; None; nodes]?,
             settled: vec![in alloc; false; nodes]?,
             queue: Queue::new(alloc),
-        };
+        })
+    }
+
+    /// Begins anew, whatever was searched before: the source alone is labelled.
+    pub fn restart(&mut self, problem: &Problem) -> Result<(), AllocError>
+        requires problem { IsProblem problem.now }
+        requires nodes { length self.old.labels.items ≡ problem.now.net.now.nodes }
+        ensures { OnOk result (IsFresh problem.now self.new) }
+    {
+        self.labels.fill(None);
+        self.settled.fill(false);
+        self.queue.clear();
         let label = Label {
             distance: 0,
             depth: 0,
             arc: None,
         };
-        search.enter(problem.source, label)?;
-        Ok(search)
+        self.enter(problem.source, label)
     }
 
     /// Searches until the sink is settled, and answers true, or until no node is left that a path
