@@ -408,6 +408,7 @@ IsTree-arrived p r s h =
     let labels = h.search.labels in record {
       one_each = labels.one_each;
       sink_settled = h.sink_settled;
+      indices = labels.indices;
       root = λ v hit. labels.root v (labels.settled_labelled v hit);
       head = λ v a last. (labels.by_arc v a last).head;
       tail_settled = λ v a last. (labels.by_arc v a last).tail_settled;
@@ -415,11 +416,11 @@ IsTree-arrived p r s h =
     }
 
 -- the path of the tree is a path along free arcs, where its arcs are free
-pub IsFreePath-tree : (p : Problem) (r : Routing) (s : Search) (path : List Arc) → IsTree p s → ((a : Arc) → IsTreeArc s a → IsFreeArc p r a)
+pub IsFreePath-tree : (p : Problem) (r : Routing) (s : Search) (path : List Arc) → IsTree p s → ((a : Arc) → IsTreeArc p s a → IsFreeArc p r a)
     → IsTreePath p s path → IsFreePath p r path
 IsFreePath-tree p r s path tree free h =
     IsFreePath-rising p r (depth_at s.labels.items) path h.walk
-    (All-weaker (IsTreeArc s) (λ a. IsFreeArc p r a × (depth_at s.labels.items a.tail < depth_at s.labels.items a.head))
+    (All-weaker (IsTreeArc p s) (λ a. IsFreeArc p r a × (depth_at s.labels.items a.tail < depth_at s.labels.items a.head))
     (λ a is. (free a is, (let e = tree.depth a.head a is.is_last in omega (arith, e)))) path h.arcs)
 
 -- Paths through a level graph, found from the sink.

@@ -6,10 +6,10 @@ pub use Rattle.flow_net.specs.Flow.{reduced_cost_of, residual_of, sent_along, se
 pub use Rattle.flow_net.specs.LevelGraph.{IsLevelGraph, StepsUp, height_at, height_of, level_at}
 pub use Rattle.flow_net.specs.Net.{AreBounded, AreEnds, AreProofOfLeast, IsCost, IsCutBelow, IsLeastRouting, IsRouting, IsWithinLimits, IsWithinRooms, cost_of}
 pub use Rattle.flow_net.specs.Net.{flow_on, greatest_size, inflow, is_in, largest_cost, leaves, link_at, outflow, potential_at, reduced_cost}
-pub use Rattle.flow_net.specs.Problem.{IsBottleneck, IsFreeArc, IsFreePath, IsProblem, IsResidualArc, IsStanding, Stands}
+pub use Rattle.flow_net.specs.Problem.{IsBottleneck, IsFreeArc, IsFreePath, IsProblem, IsRange, IsResidualArc, IsStanding, Stands, arc_by_index}
 pub use Rattle.flow_net.specs.Queue.{IsNext, entries_of, entry}
-pub use Rattle.flow_net.specs.Search.{HasArrived, HasQueue, Improves, IsAt, IsClosed, IsClosedAt, IsQueued, IsSearch, IsStuck, IsTree, IsTreeArc, IsTreePath}
-pub use Rattle.flow_net.specs.Search.{arc_at, depth_at, is_labelled, label_at, distance_at, rise_of, distance_of_label, rise_or}
+pub use Rattle.flow_net.specs.Search.{HasArrived, HasQueue, Improves, IsAt, IsClosed, IsClosedAt, IsQueued, IsRelaxed, IsSearch, IsStuck, IsTree, IsTreeArc, IsTreePath}
+pub use Rattle.flow_net.specs.Search.{arc_at, arc_of_label, depth_at, index_at, index_of_label, is_labelled, label_at, distance_at, rise_of, distance_of_label, rise_or}
 pub use Rattle.flow_net.specs.Sum.{sum_below}
 pub use Rattle.flow_net.specs.Threads.{AppendsThread, AreThreads, HaveSameArcs, IsNextOfTail, IsOfTail, StandOnce, arc_numbered}
 pub use Rattle.flow_net.specs.declared.adjacency.Adjacency.{Adjacency}
@@ -45,6 +45,7 @@ pub use Rattle.std.specs.Int.{int_min}
 pub use Rattle.std.specs.Int.RustNames.{unsigned_abs}
 pub use Rattle.std.specs.List.{All, AllPairs, Any, Contains}
 pub use Rattle.std.specs.List.Sorted.{IsNonDecreasingBy, IsPermutation}
+pub use Rattle.std.specs.Option.{option_map}
 pub use Rattle.std.specs.declared.cmp.Reverse.{Reverse}
 pub use Rattle.sums.proofs.IntegerLemmas.{strictly}
 pub use Rattle.sums.proofs.OrderLemmas.{AllPairs-append, Contains-cons}

@@ -1,5 +1,5 @@
 -- What is to be solved, and what stands while a part of the amount is routed.
-use Rattle.std.specs.Prelude.{◌≡◌, ℕ, ◌<◌, ℤ, pos, ◌-ℤ◌, ◌≤ℤ◌, ◌<ℤ◌, ◌⊎◌, List, All, Any}
+use Rattle.std.specs.Prelude.{◌≡◌, ℕ, ◌<◌, ◌≤◌, length, ℤ, pos, ◌-ℤ◌, ◌≤ℤ◌, ◌<ℤ◌, ◌⊎◌, List, All, Any}
 use Rattle.flow_net.specs.declared.arc.Arc.{Arc}
 use Rattle.flow_net.specs.declared.problem.Problem.{Problem}
 use Rattle.flow_net.specs.declared.routing.Routing.{Routing}
@@ -7,6 +7,7 @@ use Rattle.flow_net.specs.declared.way.Way.{Way}
 use Rattle.flow_net.specs.Net.{potential_at, IsRouting, AreProofOfLeast, AreBounded, IsRoom, IsWithinLimits, AreEnds, AreInitialPotentials}
 use Rattle.flow_net.specs.Arc.{IsArc, IsAdjacency}
 use Rattle.flow_net.specs.Flow.{residual_of, reduced_cost_of, AreWays, IsWalk, AreApart}
+use Rattle.flow_net.specs.Threads.{arc_numbered}
 
 -- a net within the limits with its arcs, its ends, an amount and initial potentials
 pub record IsProblem (p : Problem) : Type 0 where
@@ -15,6 +16,16 @@ pub record IsProblem (p : Problem) : Type 0 where
   pub ends : AreEnds p.net.now p.source p.sink
   pub amount : IsRoom p.amount
   pub start : AreInitialPotentials p.net.now p.start.now
+
+-- the arc at an index
+abbrev pub arc_by_index : Problem → ℕ → Arc
+arc_by_index p k = arc_numbered p.adjacency.arcs.items k
+
+-- the arcs at the indices from first up to end are those whose tail is node v
+pub record IsRange (p : Problem) (v first end : ℕ) : Type 0 where
+  pub within : end ≤ length p.adjacency.arcs.items
+  pub tails : (k : ℕ) → first ≤ k → k < end → (arc_by_index p k).tail ≡ v
+  pub complete : (a : Arc) → IsArc p.net.now.links a → a.tail ≡ v → (k : ℕ) × (first ≤ k) × (k < end) × (arc_by_index p k ≡ a)
 
 -- a part of the amount is routed at least cost. The source's potential is its initial one, no potential
 -- has fallen, and none has risen more than the sink's

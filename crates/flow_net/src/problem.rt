@@ -1,7 +1,7 @@
 //! What is to be solved, with the arcs of its net.
-ghost use Rattle.std.specs.Prelude.{◌≡◌, ◌<◌, All, Contains};
+ghost use Rattle.std.specs.Prelude.{◌≡◌, ◌<◌, length, All, Contains};
 ghost use Rattle.flow_net.specs.Arc.{IsArc, arcs_at};
-ghost use Rattle.flow_net.specs.Problem.{IsProblem};
+ghost use Rattle.flow_net.specs.Problem.{IsProblem, IsRange, arc_by_index};
 
 use crate::adjacency::Adjacency;
 use crate::arc::Arc;
@@ -29,5 +29,22 @@ impl Problem<'_> {
             → Contains result.now a }
     {
         self.adjacency.arcs_from(node)
+    }
+
+    /// The index of the first arc whose tail is this node, and the one past the last of them.
+    pub fn range_from(&self, node: u32) -> (usize, usize)
+        requires problem { IsProblem self.now }
+        requires node { node < self.now.net.now.nodes }
+        ensures { IsRange self.now node result.0 result.1 }
+    {
+        self.adjacency.range_from(node)
+    }
+
+    /// The arc at an index.
+    pub fn arc(&self, index: usize) -> &Arc
+        requires { index < length self.now.adjacency.arcs.items }
+        ensures { result.now ≡ arc_by_index self.now index }
+    {
+        self.adjacency.arc(index)
     }
 }

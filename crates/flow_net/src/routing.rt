@@ -2,7 +2,7 @@
 ghost use Rattle.std.specs.Prelude.{◌≡◌, ◌↔◌, ◌<◌, ◌-ℤ◌, ◌<ℤ◌, pos, length, replicate, slice_set, IfOk, IsTrue};
 ghost use Rattle.flow_net.specs.Arc.{IsArc, arcs_at};
 ghost use Rattle.flow_net.specs.Flow.{residual_of, reduced_cost_of, AreWays, IsPriced};
-ghost use Rattle.flow_net.specs.Problem.{IsProblem, IsStanding, IsResidualArc, IsFreeArc, IsFreePath, IsBottleneck};
+ghost use Rattle.flow_net.specs.Problem.{IsProblem, IsStanding, IsResidualArc, arc_by_index, IsFreeArc, IsFreePath, IsBottleneck};
 
 use crate::arc::Arc;
 use crate::problem::Problem;
@@ -65,8 +65,19 @@ impl Routing {
         problem.adjacency.ways_from(&self.ways, node)
     }
 
+    /// The way of the arc at an index.
+    pub fn way(&self, problem: &Problem, index: usize) -> Way
+        requires standing { IsStanding problem.now self.now }
+        requires index { index < length problem.now.adjacency.arcs.items }
+        ensures head { result.head ≡ (arc_by_index problem.now index).head }
+        ensures is_open { IsTrue result.is_open
+            ↔ IsResidualArc problem.now self.now (arc_by_index problem.now index) }
+    {
+        self.ways[index]
+    }
+
     /// Whether an arc can carry more.
-    pub fn is_residual(&self, problem: &Problem, arc: &Arc) -> bool
+    fn is_residual(&self, problem: &Problem, arc: &Arc) -> bool
         requires standing { IsStanding problem.now self.now }
         requires arc { IsArc problem.now.net.now.links arc.now }
         ensures { IsTrue result ↔ IsResidualArc problem.now self.now arc.now }
