@@ -1,15 +1,15 @@
 -- The arcs of a net, and what an amount sent along an arc, or along a path, keeps and changes; what stands while it is routed; and the paths of searches
 -- and level graphs.
-use Rattle.flow_net.proofs.Words.{All, All-cons, All-head, All-nil, All-permutation, All-tail, All-weaker, Arc, AreApart, AreOpenings, AreProofOfLeast}
-use Rattle.flow_net.proofs.Words.{CanCarry, HasArrived, IsArc, IsBottleneck, IsCost, IsFreeArc, IsFreePath, IsOpening, IsPermutation-reverse, IsPermutation-sym}
+use Rattle.flow_net.proofs.Words.{All, All-cons, All-head, All-nil, All-permutation, All-tail, All-weaker, Arc, AreApart, AreWays, AreProofOfLeast}
+use Rattle.flow_net.proofs.Words.{CanCarry, HasArrived, IsArc, IsBottleneck, IsCost, IsFreeArc, IsFreePath, IsPermutation-reverse, IsPermutation-sym}
 use Rattle.flow_net.proofs.Words.{IsPotential, IsPriced, IsProblem, IsResidualArc, IsStanding, IsTree, IsTreeArc, IsTreePath, IsWalk, IsWithinLimits}
-use Rattle.flow_net.proofs.Words.{IsWithinRooms, Link, MOST_COST, MOST_INITIAL_POTENTIAL, MOST_NODES, Net, Opening, Problem, Routing, Search, Stands, StepsUp}
+use Rattle.flow_net.proofs.Words.{IsWithinRooms, Link, MOST_COST, MOST_INITIAL_POTENTIAL, MOST_NODES, Net, Problem, Routing, Search, Stands, StepsUp, Way}
 use Rattle.flow_net.proofs.Words.{arc_of, carry, cases_eq, cases_lt, depth_at, drop_more, false≢true, flow_on, fold_more, get_or-replicate, get_or-set_other}
-use Rattle.flow_net.proofs.Words.{get_or-set_same, get_or_past, get_or_read, height_at, height_of, inflow, ints, is_open, largest_cost, length-replicate, length-set, level_at}
-use Rattle.flow_net.proofs.Words.{link_at, mul-le, neg_ℤ-neg_ℤ, opening_at, outflow, potential_at, reduced_cost, reduced_cost_of, residual_of, reverse-append}
+use Rattle.flow_net.proofs.Words.{get_or-set_same, get_or_past, get_or_read, height_at, height_of, inflow, ints, largest_cost, length-replicate, length-set, level_at}
+use Rattle.flow_net.proofs.Words.{link_at, mul-le, neg_ℤ-neg_ℤ, outflow, potential_at, reduced_cost, reduced_cost_of, residual_of, reverse-append}
 use Rattle.flow_net.proofs.Words.{sent_along, sent_along_path, sum_below, sum_by-set, turned, unsigned_abs}
-use Rattle.std.proofs.Common.{Bool, IsTrue, List, None, Option, [], ap, arith, cond, count_by, drop, false, get_or, inl, inr, is_some, length, pos, refl}
-use Rattle.std.proofs.Common.{replicate, reverse, set, subst, sym, take, true, ℕ, ℤ, ◌*◌, ◌++◌, ◌+ℤ◌, ◌+◌, ◌-ℤ◌, ◌<ℤ◌, ◌<◌, ◌==◌, ◌↔◌, ◌∙◌, ◌∷◌, ◌≡◌, ◌≢◌, ◌≤ℤ◌}
+use Rattle.std.proofs.Common.{Bool, List, None, Option, [], ap, arith, cond, count_by, drop, false, get_or, inl, inr, is_some, length, pos, refl}
+use Rattle.std.proofs.Common.{replicate, reverse, set, subst, sym, take, true, ℕ, ℤ, ◌*◌, ◌++◌, ◌+ℤ◌, ◌+◌, ◌-ℤ◌, ◌<ℤ◌, ◌<◌, ◌==◌, ◌∙◌, ◌∷◌, ◌≡◌, ◌≢◌, ◌≤ℤ◌}
 use Rattle.std.proofs.Common.{◌≤◌, ◌⊎◌}
 use Rattle.flow_net.proofs.Duality.{routing_from_surplus, surplus, surplus_is, when}
 use Rattle.flow_net.proofs.Lists.{set_cases, within_from}
@@ -57,15 +57,6 @@ reduced-not_negative links flow potentials proof = arc_cases links (λ a. pos 0 
     way k true below residual = proof.left_to_add k below (omega (arith, ints))
     way k false below residual = let h = proof.flowing k below residual in omega (arith, ints)
 
--- an arc can carry more where its way is open
-pub open-residual : (links : List Link) (flow : List ℤ) (openings : List Opening) → AreOpenings links flow openings → (a : Arc) → IsArc links a
-    → IsTrue (is_open (opening_at openings a.link) a.forward) ↔ (pos 0 <ℤ residual_of links flow a)
-open-residual links flow openings are = arc_cases links (λ a. IsTrue (is_open (opening_at openings a.link) a.forward) ↔ (pos 0 <ℤ residual_of links flow a)) way
-  where
-    way : OfWays links (λ a. IsTrue (is_open (opening_at openings a.link) a.forward) ↔ (pos 0 <ℤ residual_of links flow a))
-    way k true below = let o = (are.each k below).forward in (λ h. let left = o.0 h in omega (arith, ints, left), λ h. o.1 (omega (arith, ints, h)))
-    way k false below = (are.each k below).back
-
 -- one link's flow changed
 module _ (links : List Link) (flow : List ℤ) (k : ℕ) (below : k < length links) (one_each : length flow ≡ length links) (x : ℤ) where
   flow_here : flow_on (set flow k x) k ≡ x
@@ -102,16 +93,6 @@ module _ (links : List Link) (flow : List ℤ) (k : ℕ) (below : k < length lin
       ≡ surplus links flow v +ℤ (when ((link_at links k).from == v) (x -ℤ flow_on flow k) -ℤ when ((link_at links k).to == v) (x -ℤ flow_on flow k))
   changed_surplus v =
       let out = changed_sum (λ j. (link_at links j).from == v) in let into = changed_sum (λ j. (link_at links j).to == v) in omega (arith, ints, out, into)
-
-  changed_openings : (openings : List Opening) (o : Opening) → IsOpening (link_at links k) x o → AreOpenings links flow openings
-      → AreOpenings links (set flow k x) (set openings k o)
-  changed_openings openings o here are =
-      let none : Opening = record { forward = false; back = false } in let opening_here = get_or-set_same openings k o none (omega arith) in record {
-        one_each = length-set openings k o ∙ are.one_each;
-        each = λ j l.
-            each_link (λ i. IsOpening (link_at links i) (flow_on (set flow k x) i) (opening_at (set openings k o) i)) (rw (flow_here, opening_here) here) j
-            (λ ne. rw (flow_there j ne, get_or-set_other openings k j o none ne) (are.each j l));
-      }
 
   changed_proof : (potentials : List ℤ) → AreProofOfLeast links flow potentials → reduced_cost (link_at links k) potentials ≡ pos 0
       → AreProofOfLeast links (set flow k x) potentials
@@ -237,12 +218,6 @@ module _ (links : List Link) (flow : List ℤ) (path : List Arc) (m : ℤ) (i : 
   pub next_carries : CanCarry links (sent_along flow (get_or path i no_arc) m) (drop (i + 1) path) m
   next_carries = CanCarry-rest links flow (get_or path i no_arc) (drop (i + 1) path) m rooms next_can
 
-  pub next_openings : (openings : List Opening) (o : Opening)
-      → IsOpening (link_at links (get_or path i no_arc).link) (carry (get_or path i no_arc) (flow_on flow (get_or path i no_arc).link) m) o
-      → AreOpenings links flow openings → AreOpenings links (sent_along flow (get_or path i no_arc) m) (set openings (get_or path i no_arc).link o)
-  next_openings openings o here are =
-      let a = get_or path i no_arc in changed_openings links flow a.link next_arc.below rooms.one_each (carry a (flow_on flow a.link) m) openings o here are
-
   pub next_sent : (first : List ℤ) → flow ≡ sent_along_path first (take i path) m
       → sent_along flow (get_or path i no_arc) m ≡ sent_along_path first (take (i + 1) path) m
   next_sent first e = ap (λ f. sent_along f (get_or path i no_arc) m) e ∙ sym (fold_more (λ f a. sent_along f a m) first path i no_arc within)
@@ -255,11 +230,11 @@ largest_cost-small net limits =
     greatest-le (λ (l : Link). l.cost) net.links MOST_COST (record { from = 0; to = 0; room = pos 0; cost = pos 0 }) (λ k l. (limits.links k l).cost)
 
 -- the same lists and the same amount stand alike
-pub Stands-same : (p : Problem) (flow flow' potentials potentials' : List ℤ) (routed routed' : ℤ) (openings : List Opening) → flow' ≡ flow
-    → potentials' ≡ potentials → routed' ≡ routed → Stands p flow potentials routed openings → Stands p flow' potentials' routed' openings
-Stands-same p flow flow' potentials potentials' routed routed' openings e f g h =
-    subst (λ x. Stands p x potentials' routed' openings) (sym e)
-    (subst (λ x. Stands p flow x routed' openings) (sym f) (subst (λ x. Stands p flow potentials x openings) (sym g) h))
+pub Stands-same : (p : Problem) (flow flow' potentials potentials' : List ℤ) (routed routed' : ℤ) (ways : List Way) → flow' ≡ flow
+    → potentials' ≡ potentials → routed' ≡ routed → Stands p flow potentials routed ways → Stands p flow' potentials' routed' ways
+Stands-same p flow flow' potentials potentials' routed routed' ways e f g h =
+    subst (λ x. Stands p x potentials' routed' ways) (sym e)
+    (subst (λ x. Stands p flow x routed' ways) (sym f) (subst (λ x. Stands p flow potentials x ways) (sym g) h))
 
 module _ (p : Problem) (r : Routing) (standing : IsStanding p r) where
   pub IsPotential-standing : (v : ℕ) → v < p.net.now.nodes → IsPotential (potential_at r.potentials.items v)
@@ -292,9 +267,9 @@ module _ (p : Problem) (r : Routing) (standing : IsStanding p r) where
       residual = most.residual;
     }
 
-    pub Stands-augmented : (openings : List Opening) → AreOpenings p.net.now.links (sent_along_path r.flow.items path m) openings
-        → Stands p (sent_along_path r.flow.items path m) r.potentials.items (r.routed +ℤ m) openings
-    Stands-augmented openings are =
+    pub Stands-augmented : (ways : List Way) → AreWays p.net.now.links (sent_along_path r.flow.items path m) p.adjacency.arcs.items ways
+        → Stands p (sent_along_path r.flow.items path m) r.potentials.items (r.routed +ℤ m) ways
+    Stands-augmented ways are =
         let net = p.net.now in let from : pos 0 ≤ℤ m = omega (arith, ints) in let rooms = standing.routes.rooms in record {
           problem = standing.problem;
           routed_from = omega (arith, ints);
@@ -319,9 +294,10 @@ module _ (p : Problem) (r : Routing) (standing : IsStanding p r) where
         when-sum false x = refl
 
 -- nothing is routed yet
-pub Stands-none : (p : Problem) (openings : List Opening) → IsProblem p → AreOpenings p.net.now.links (replicate (length p.net.now.links) (pos 0)) openings
-    → Stands p (replicate (length p.net.now.links) (pos 0)) p.start.now (pos 0) openings
-Stands-none p openings h are = record {
+pub Stands-none : (p : Problem) (ways : List Way) → IsProblem p
+    → AreWays p.net.now.links (replicate (length p.net.now.links) (pos 0)) p.adjacency.arcs.items ways
+    → Stands p (replicate (length p.net.now.links) (pos 0)) p.start.now (pos 0) ways
+Stands-none p ways h are = record {
   problem = h;
   routed_from = omega (arith, ints);
   routed_upto = h.amount.from;
@@ -432,6 +408,7 @@ IsTree-arrived p r s h =
     let labels = h.search.labels in record {
       one_each = labels.one_each;
       sink_settled = h.sink_settled;
+      indices = labels.indices;
       root = λ v hit. labels.root v (labels.settled_labelled v hit);
       head = λ v a last. (labels.by_arc v a last).head;
       tail_settled = λ v a last. (labels.by_arc v a last).tail_settled;
@@ -439,11 +416,11 @@ IsTree-arrived p r s h =
     }
 
 -- the path of the tree is a path along free arcs, where its arcs are free
-pub IsFreePath-tree : (p : Problem) (r : Routing) (s : Search) (path : List Arc) → IsTree p s → ((a : Arc) → IsTreeArc s a → IsFreeArc p r a)
+pub IsFreePath-tree : (p : Problem) (r : Routing) (s : Search) (path : List Arc) → IsTree p s → ((a : Arc) → IsTreeArc p s a → IsFreeArc p r a)
     → IsTreePath p s path → IsFreePath p r path
 IsFreePath-tree p r s path tree free h =
     IsFreePath-rising p r (depth_at s.labels.items) path h.walk
-    (All-weaker (IsTreeArc s) (λ a. IsFreeArc p r a × (depth_at s.labels.items a.tail < depth_at s.labels.items a.head))
+    (All-weaker (IsTreeArc p s) (λ a. IsFreeArc p r a × (depth_at s.labels.items a.tail < depth_at s.labels.items a.head))
     (λ a is. (free a is, (let e = tree.depth a.head a is.is_last in omega (arith, e)))) path h.arcs)
 
 -- Paths through a level graph, found from the sink.
@@ -463,7 +440,7 @@ pub record IsStep (p : Problem) (r : Routing) (levels : List (Option ℕ)) (a : 
   pub up : height_at levels a.tail < height_at levels a.head
   pub has_level : is_some (level_at levels a.tail) ≡ true
 
-pub IsStep-up : (p : Problem) (r : Routing) (levels : List (Option ℕ)) (a : Arc) → IsFreeArc p r a → StepsUp levels a → IsStep p r levels a
+pub IsStep-up : (p : Problem) (r : Routing) (levels : List (Option ℕ)) (a : Arc) → IsFreeArc p r a → StepsUp levels a.tail a.head → IsStep p r levels a
 IsStep-up p r levels a free up =
     let from = ap height_of up.tail in
     let to = ap height_of up.head in

@@ -5,4 +5,5 @@ pub mod Lists
 pub mod SearchLemmas
 pub mod Sizes
 pub mod Sums
+pub mod WayLemmas
 pub mod Words

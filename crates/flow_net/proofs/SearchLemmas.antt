@@ -3,9 +3,9 @@ use Rattle.flow_net.proofs.Words.{All, All-append, All-cons, All-contains, All-h
 use Rattle.flow_net.proofs.Words.{AreProofOfLeast, Contains, Contains-append_right, Contains-cons, Contains-permutation, HasArrived, HasQueue, Improves, IsArc}
 use Rattle.flow_net.proofs.Words.{IsAt, IsClosedAt, IsCutBelow, IsFreeArc, IsNext, IsPermutation, IsPermutation-append_right, IsPermutation-middle}
 use Rattle.flow_net.proofs.Words.{IsPermutation-refl, IsPermutation-sym, IsPermutation-trans, IsQueued, IsResidualArc, IsSearch, IsStanding, IsStuck, IsTreeArc}
-use Rattle.flow_net.proofs.Words.{Label, MOST_COST, MOST_NODES, Problem, Queue, Reverse, Routing, Search, Stands, append_assoc, arc_at, arc_of, by_lt_z}
+use Rattle.flow_net.proofs.Words.{Label, MOST_COST, MOST_NODES, Problem, Queue, Reverse, Routing, Search, Stands, append_assoc, arc_at, arc_by_index, arc_of, arc_of_label, by_lt_z}
 use Rattle.flow_net.proofs.Words.{cases_Bool, cases_eq, count_by-le-length, depth_at, entries_of, entry, false≢true, flow_on, get_or-set_other, get_or-set_same}
-use Rattle.flow_net.proofs.Words.{heap_items, ints, is_in, is_labelled, label_at, largest_cost, length-replicate, length-set, link_at, map-append}
+use Rattle.flow_net.proofs.Words.{heap_items, index_of_label, ints, is_in, is_labelled, label_at, largest_cost, length-replicate, length-set, link_at, map-append}
 use Rattle.flow_net.proofs.Words.{most_path_cost, most_distance, mul-le, none-some, potential_at, reduced_cost_of, distance_at, rise_of, distance_of_label, rise_or}
 use Rattle.flow_net.proofs.Words.{same_Some, sum_by-set}
 use Rattle.std.proofs.Common.{Bool, FitsSigned, List, None, Option, Some, [], ap, arith, cond, false, inl, inr, is_some, length, map, pos, refl, replicate, set}
@@ -14,7 +14,7 @@ use Rattle.flow_net.proofs.Duality.{rooms_of_closed}
 use Rattle.flow_net.proofs.FlowLemmas.{IsPotential-standing, arc-cost, arc-nodes, largest_cost-small, reduced-residual}
 use Rattle.flow_net.proofs.Lists.{replicate_same, set_cases, within_from}
 use Rattle.flow_net.proofs.Sizes.{size-le-greatest, sizes}
-use Rattle.flow_net.specs.Search.{AreLabels, IsDrained, IsEntered, IsEntry, IsFresh, IsLabelledBy, IsNear, IsSettling, IsRelaxed, arc_of_label, depth_of_label}
+use Rattle.flow_net.specs.Search.{AreLabels, IsDrained, IsEntered, IsEntry, IsFresh, IsLabelledBy, IsNear, IsSettling, IsRelaxed, depth_of_label}
 use Rattle.flow_net.specs.Search.{settled_count, source_label}
 
 pub labelled_within : (labels : List (Option Label)) (v : ℕ) → is_labelled labels v ≡ true → v < length labels
@@ -75,13 +75,14 @@ AreLabels-settled p r labels settled v labelled free h = record {
   one_mark_each = length-set settled v true ∙ h.one_mark_each;
   source = h.source;
   settled_labelled = set_cases settled v true false within (λ u b. b ≡ true → is_labelled labels u ≡ true) (λ _. labelled) (λ u ne. h.settled_labelled u);
+  indices = h.indices;
   root = h.root;
   by_arc = λ u a e. let by = h.by_arc u a e in
       record { residual = by.residual; head = by.head; tail_settled = still a.tail by.tail_settled; distance = by.distance; depth = by.depth };
   risen = h.risen;
   near = h.near;
   depths = set_cases settled v true false within (λ u b. b ≡ true → depth_at labels u < settled_count (set settled v true))
-      (λ _. deep (arc_at labels v) refl) (λ u ne hit. let below = h.depths u hit in let more = one_more in omega arith);
+      (λ _. deep (arc_at p labels v) refl) (λ u ne hit. let below = h.depths u hit in let more = one_more in omega arith);
 }
   where
     within : v < length settled
@@ -95,7 +96,7 @@ AreLabels-settled p r labels settled v labelled free h = record {
         let change = sum_by-set (λ (b : Bool). cond b 1 0) settled v true false within in let was = ap {B = ℕ} (λ b. cond b 1 0) free in
         omega (arith, change, was)
 
-    deep : (o : Option Arc) → arc_at labels v ≡ o → depth_at labels v < settled_count (set settled v true)
+    deep : (o : Option Arc) → arc_at p labels v ≡ o → depth_at labels v < settled_count (set settled v true)
     deep None none = let root = ap (depth_at labels) (h.root v labelled none) in let depth = ap depth_of_label h.source in let more = one_more in omega arith
     deep (Some a) some = let by = h.by_arc v a some in let below = h.depths a.tail by.tail_settled in let more = one_more in omega arith
 
@@ -145,9 +146,10 @@ module _ (p : Problem) (r : Routing) (standing : IsStanding p r) (s : Search) (s
 
     module _ (residual : IsResidualArc p r a) (free : is_in s.settled.items a.head ≡ false)
         (better : is_labelled s.labels.items a.head ≡ true → distance <ℤ distance_at s.labels.items a.head)
-        (t : Search) (entered : IsEntered s t a.head (record { distance = distance; depth = l.depth + 1; arc = Some a })) where
+        (k : ℕ) (within : k < length p.adjacency.arcs.items) (numbered : a ≡ arc_by_index p k)
+        (t : Search) (entered : IsEntered s t a.head (record { distance = distance; depth = l.depth + 1; arc = Some k })) where
       abbrev label_by : Label
-      label_by = record { distance = distance; depth = l.depth + 1; arc = Some a }
+      label_by = record { distance = distance; depth = l.depth + 1; arc = Some k }
 
       head_in : a.head < length s.labels.items
       head_in = let nodes = arc-nodes p.net.now standing.problem.net a residual.arc in omega arith
@@ -205,10 +207,12 @@ module _ (p : Problem) (r : Routing) (standing : IsStanding p r) (s : Search) (s
         source = by_node (λ v o. v ≡ p.source → o ≡ Some source_label) (λ e. absurd (not_source e))
             (λ v _ e. ap (label_at s.labels.items) e ∙ search.labels.source) p.source refl;
         settled_labelled = λ v hit. labelled v (search.labels.settled_labelled v (sym (mark v) ∙ hit));
-        root = by_node (λ v o. is_some o ≡ true → arc_of_label o ≡ None → v ≡ p.source) (λ _ none. absurd (none-some a (sym none)))
+        indices = by_node (λ v o. (i : ℕ) → index_of_label o ≡ Some i → i < length p.adjacency.arcs.items)
+            (λ i e. subst (λ j. j < length p.adjacency.arcs.items) (same_Some k i e) within) (λ v _. search.labels.indices v);
+        root = by_node (λ v o. is_some o ≡ true → arc_of_label p o ≡ None → v ≡ p.source) (λ _ none. absurd (none-some (arc_by_index p k) (sym none)))
             (λ v _. search.labels.root v);
-        by_arc = by_node (λ v o. (b : Arc) → arc_of_label o ≡ Some b → IsLabelledBy p r t.labels.items t.settled.items v o b)
-            (λ b e. subst (IsLabelledBy p r t.labels.items t.settled.items a.head (Some label_by)) (same_Some a b e) by_arc_now)
+        by_arc = by_node (λ v o. (b : Arc) → arc_of_label p o ≡ Some b → IsLabelledBy p r t.labels.items t.settled.items v o b)
+            (λ b e. subst (IsLabelledBy p r t.labels.items t.settled.items a.head (Some label_by)) (numbered ∙ same_Some (arc_by_index p k) b e) by_arc_now)
             (λ v _ b e. let by = search.labels.by_arc v b e in record {
               residual = by.residual;
               head = by.head;
@@ -275,8 +279,10 @@ module _ (p : Problem) (r : Routing) (standing : IsStanding p r) (s : Search) (f
       one_mark_each = ap length fresh.settled ∙ length-replicate {A = Bool} p.net.now.nodes false;
       source = at_source;
       settled_labelled = λ v hit. absurd (never v hit);
-      root = by_source (λ v o. is_some o ≡ true → arc_of_label o ≡ None → v ≡ p.source) (λ _ _. refl) (λ v labelled. absurd (false≢true labelled));
-      by_arc = by_source (λ v o. (a : Arc) → arc_of_label o ≡ Some a → IsLabelledBy p r s.labels.items s.settled.items v o a) (λ a e. absurd (none-some a e))
+      indices = by_source (λ v o. (k : ℕ) → index_of_label o ≡ Some k → k < length p.adjacency.arcs.items) (λ k e. absurd (none-some k e))
+          (λ v k e. absurd (none-some k e));
+      root = by_source (λ v o. is_some o ≡ true → arc_of_label p o ≡ None → v ≡ p.source) (λ _ _. refl) (λ v labelled. absurd (false≢true labelled));
+      by_arc = by_source (λ v o. (a : Arc) → arc_of_label p o ≡ Some a → IsLabelledBy p r s.labels.items s.settled.items v o a) (λ a e. absurd (none-some a e))
           (λ v a e. absurd (none-some a e));
       risen = by_source (λ v o. pos 0 ≤ℤ distance_of_label o) (omega (arith, ints)) (λ v. omega (arith, ints));
       near = by_source (λ v o. is_some o ≡ true → IsNear p r v (distance_of_label o) (depth_of_label o))
@@ -459,7 +465,7 @@ module _ (p : Problem) (r : Routing) (s : Search) (standing : IsStanding p r) (a
         ]
 
     -- an arc of the tree has none any more
-    pub tree_reduced : (a : Arc) → IsTreeArc s a → IsResidualArc p r a × (reduced_cost_of potentials a ≡ pos 0)
+    pub tree_reduced : (a : Arc) → IsTreeArc p s a → IsResidualArc p r a × (reduced_cost_of potentials a ≡ pos 0)
     tree_reduced a last =
         let by = arrived.search.labels.by_arc a.head a last.is_last in let ends = raised_ends a by.residual.arc in
         let head = as_labelled a.head last.head_settled in let tail = as_labelled a.tail by.tail_settled in (by.residual, omega (arith, ints, ends, head, tail))
@@ -502,7 +508,7 @@ module _ (p : Problem) (r : Routing) (s : Search) (standing : IsStanding p r) (a
           let near = sink_near in omega (arith, sizes);
     }
 
-    pub Stands-raised : Stands p r.flow.items potentials r.routed r.openings.items
+    pub Stands-raised : Stands p r.flow.items potentials r.routed r.ways.items
     Stands-raised = record {
       problem = standing.problem;
       routed_from = standing.routed_from;
@@ -519,7 +525,7 @@ module _ (p : Problem) (r : Routing) (s : Search) (standing : IsStanding p r) (a
 
 -- where the sink rises by nothing, the tree's arcs have no reduced cost as it is
 pub tree_free : (p : Problem) (r : Routing) (s : Search) (standing : IsStanding p r) (arrived : HasArrived p r s) → s.queue.level ≡ pos 0 → (a : Arc)
-    → IsTreeArc s a → IsFreeArc p r a
+    → IsTreeArc p s a → IsFreeArc p r a
 tree_free p r s standing arrived level a last =
     let tree = tree_reduced p r s standing arrived r.potentials.items refl
     (λ v _. let h = rises p r s standing arrived v in omega (arith, ints, level)) a last in record { residual = tree.0; free = tree.1 }

@@ -1,35 +1,40 @@
 -- How much an arc can carry, what is left after it has carried some, and what it costs.
-use Rattle.std.specs.Prelude.{◌≡◌, ◌≢◌, ◌↔◌, ℕ, ◌+◌, ◌*◌, ◌<◌, ◌≤◌, ℤ, pos, ◌+ℤ◌, ◌-ℤ◌, ◌≤ℤ◌, ◌<ℤ◌, Bool, true, false, IsTrue, List, [], ◌∷◌, length, fold, slice_index_or, slice_set, All, if◌then◌else◌}
+use Rattle.std.specs.Prelude.{◌≡◌, ◌≢◌, ◌↔◌, ℕ, ◌+◌, ◌*◌, ◌<◌, ◌≤◌, ℤ, pos, ◌+ℤ◌, ◌-ℤ◌, ◌≤ℤ◌, ◌<ℤ◌, Bool, false, IsTrue, List, [], ◌∷◌, length, fold, slice_index_or, slice_set, All, if◌then◌else◌}
 use Rattle.std.specs.Int.RustNames.{unsigned_abs}
 use Rattle.flow_net.specs.declared.limits.TheConstants.{MOST_NODES, MOST_COST, MOST_INITIAL_POTENTIAL}
 use Rattle.flow_net.specs.declared.net.Link.{Link}
 use Rattle.flow_net.specs.declared.arc.Arc.{Arc}
-use Rattle.flow_net.specs.declared.opening.Opening.{Opening}
+use Rattle.flow_net.specs.declared.way.Way.{Way}
 use Rattle.flow_net.specs.Net.{link_at, flow_on, potential_at, IsCost}
 use Rattle.flow_net.specs.Arc.{IsArc, carry}
+use Rattle.flow_net.specs.Threads.{arc_numbered}
+
+-- how much more a link that carries x can carry forward, or back
+abbrev pub left_on : Link → ℤ → Bool → ℤ
+left_on link x forward = if forward then link.room -ℤ x else x
 
 -- how much more an arc can carry
 abbrev pub residual_of : List Link → List ℤ → Arc → ℤ
-residual_of links flow a = if a.forward then (link_at links a.link).room -ℤ flow_on flow a.link else flow_on flow a.link
+residual_of links flow a = left_on (link_at links a.link) (flow_on flow a.link) a.forward
 
--- whether a link with this opening can carry more forward, or back
-abbrev pub is_open : Opening → Bool → Bool
-is_open o true = o.forward
-is_open o false = o.back
+-- the way along a link that carries x, forward or back
+pub record IsWay (link : Link) (x : ℤ) (forward : Bool) (w : Way) : Type 0 where
+  pub head : w.head ≡ (if forward then link.to else link.from)
+  pub is_open : IsTrue w.is_open ↔ (pos 0 <ℤ left_on link x forward)
 
--- the opening of link k
-abbrev pub opening_at : List Opening → ℕ → Opening
-opening_at openings k = slice_index_or openings k (record { forward = false; back = false })
+-- the way at an index
+abbrev pub way_at : List Way → ℕ → Way
+way_at ways j = slice_index_or ways j (record { head = 0; is_open = false })
 
--- the opening of a link that carries x: more can go forward up to its room, and back what it carries
-pub record IsOpening (link : Link) (x : ℤ) (o : Opening) : Type 0 where
-  pub forward : IsTrue o.forward ↔ (x <ℤ link.room)
-  pub back : IsTrue o.back ↔ (pos 0 <ℤ x)
+-- the way of an arc
+pub record IsWayOf (links : List Link) (flow : List ℤ) (a : Arc) (w : Way) : Type 0 where
+  pub head : w.head ≡ a.head
+  pub is_open : IsTrue w.is_open ↔ (pos 0 <ℤ residual_of links flow a)
 
--- the openings of the links, with their flow
-pub record AreOpenings (links : List Link) (flow : List ℤ) (openings : List Opening) : Type 0 where
-  pub one_each : length openings ≡ length links
-  pub each : (k : ℕ) → k < length links → IsOpening (link_at links k) (flow_on flow k) (opening_at openings k)
+-- the ways of arcs, in their order
+pub record AreWays (links : List Link) (flow : List ℤ) (arcs : List Arc) (ways : List Way) : Type 0 where
+  pub one_each : length ways ≡ length arcs
+  pub each : (j : ℕ) → j < length arcs → IsWayOf links flow (arc_numbered arcs j) (way_at ways j)
 
 -- the flow after an arc has carried an amount more
 abbrev pub sent_along : List ℤ → Arc → ℤ → List ℤ

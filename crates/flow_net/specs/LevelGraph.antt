@@ -1,6 +1,5 @@
 -- Level graphs: nodes by how many free arcs lead to them from the source, and the sink above them.
 use Rattle.std.specs.Prelude.{◌≡◌, ℕ, ◌<◌, ◌≤◌, length, slice_index_or, List, Option, Some, None, All}
-use Rattle.flow_net.specs.declared.arc.Arc.{Arc}
 use Rattle.flow_net.specs.declared.level_graph.LevelGraph.{LevelGraph}
 use Rattle.flow_net.specs.declared.problem.Problem.{Problem}
 
@@ -15,12 +14,12 @@ height_of None = 0
 abbrev pub height_at : List (Option ℕ) → ℕ → ℕ
 height_at levels v = height_of (level_at levels v)
 
--- an arc from a level to a higher one
-pub record StepsUp (levels : List (Option ℕ)) (a : Arc) : Type 0 where
+-- node v stands on a higher level than node u
+pub record StepsUp (levels : List (Option ℕ)) (u v : ℕ) : Type 0 where
   pub low : ℕ
   pub high : ℕ
-  pub tail : level_at levels a.tail ≡ Some low
-  pub head : level_at levels a.head ≡ Some high
+  pub tail : level_at levels u ≡ Some low
+  pub head : level_at levels v ≡ Some high
   pub up : low < high
 
 -- each node may have a level, up to the number of nodes, and has a cursor, and nodes were entered

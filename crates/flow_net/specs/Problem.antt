@@ -1,12 +1,13 @@
 -- What is to be solved, and what stands while a part of the amount is routed.
-use Rattle.std.specs.Prelude.{◌≡◌, ℕ, ◌<◌, ℤ, pos, ◌-ℤ◌, ◌≤ℤ◌, ◌<ℤ◌, ◌⊎◌, List, All, Any}
+use Rattle.std.specs.Prelude.{◌≡◌, ℕ, ◌<◌, ◌≤◌, length, ℤ, pos, ◌-ℤ◌, ◌≤ℤ◌, ◌<ℤ◌, ◌⊎◌, List, All, Any}
 use Rattle.flow_net.specs.declared.arc.Arc.{Arc}
-use Rattle.flow_net.specs.declared.opening.Opening.{Opening}
 use Rattle.flow_net.specs.declared.problem.Problem.{Problem}
 use Rattle.flow_net.specs.declared.routing.Routing.{Routing}
+use Rattle.flow_net.specs.declared.way.Way.{Way}
 use Rattle.flow_net.specs.Net.{potential_at, IsRouting, AreProofOfLeast, AreBounded, IsRoom, IsWithinLimits, AreEnds, AreInitialPotentials}
 use Rattle.flow_net.specs.Arc.{IsArc, IsAdjacency}
-use Rattle.flow_net.specs.Flow.{residual_of, reduced_cost_of, AreOpenings, IsWalk, AreApart}
+use Rattle.flow_net.specs.Flow.{residual_of, reduced_cost_of, AreWays, IsWalk, AreApart}
+use Rattle.flow_net.specs.Threads.{arc_numbered}
 
 -- a net within the limits with its arcs, its ends, an amount and initial potentials
 pub record IsProblem (p : Problem) : Type 0 where
@@ -16,13 +17,23 @@ pub record IsProblem (p : Problem) : Type 0 where
   pub amount : IsRoom p.amount
   pub start : AreInitialPotentials p.net.now p.start.now
 
+-- the arc at an index
+abbrev pub arc_by_index : Problem → ℕ → Arc
+arc_by_index p k = arc_numbered p.adjacency.arcs.items k
+
+-- the arcs at the indices from first up to end are those whose tail is node v
+pub record IsRange (p : Problem) (v first end : ℕ) : Type 0 where
+  pub within : end ≤ length p.adjacency.arcs.items
+  pub tails : (k : ℕ) → first ≤ k → k < end → (arc_by_index p k).tail ≡ v
+  pub complete : (a : Arc) → IsArc p.net.now.links a → a.tail ≡ v → (k : ℕ) × (first ≤ k) × (k < end) × (arc_by_index p k ≡ a)
+
 -- a part of the amount is routed at least cost. The source's potential is its initial one, no potential
 -- has fallen, and none has risen more than the sink's
-pub record Stands (p : Problem) (flow potentials : List ℤ) (routed : ℤ) (openings : List Opening) : Type 0 where
+pub record Stands (p : Problem) (flow potentials : List ℤ) (routed : ℤ) (ways : List Way) : Type 0 where
   pub problem : IsProblem p
   pub routed_from : pos 0 ≤ℤ routed
   pub routed_upto : routed ≤ℤ p.amount
-  pub opened : AreOpenings p.net.now.links flow openings
+  pub opened : AreWays p.net.now.links flow p.adjacency.arcs.items ways
   pub routes : IsRouting p.net.now p.source p.sink routed flow
   pub proof : AreProofOfLeast p.net.now.links flow potentials
   pub bounded : AreBounded p.net.now p.start.now potentials
@@ -32,7 +43,7 @@ pub record Stands (p : Problem) (flow potentials : List ℤ) (routed : ℤ) (ope
       → (potential_at potentials v -ℤ potential_at p.start.now v) ≤ℤ (potential_at potentials p.sink -ℤ potential_at p.start.now p.sink)
 
 abbrev pub IsStanding : Problem → Routing → Type 0
-IsStanding p r = Stands p r.flow.items r.potentials.items r.routed r.openings.items
+IsStanding p r = Stands p r.flow.items r.potentials.items r.routed r.ways.items
 
 -- a residual arc: one that can carry more
 pub record IsResidualArc (p : Problem) (r : Routing) (a : Arc) : Type 0 where

@@ -1,6 +1,7 @@
 -- The search from the source over residual arcs: the labels of the nodes, and the nodes settled.
 use Rattle.std.specs.Prelude.{◌≡◌, ◌≢◌, ℕ, ◌+◌, ◌*◌, ◌<◌, ℤ, pos, ◌+ℤ◌, ◌≤ℤ◌, Bool, true, false, List, [], ◌∷◌, length, slice_index_or, slice_set, count_by, is_some, All, Contains, Option, Some, None, replicate}
 use Rattle.std.specs.List.Sorted.{IsPermutation}
+use Rattle.std.specs.Option.{option_map}
 use Rattle.std.specs.declared.cmp.Reverse.{Reverse}
 use Rattle.flow_net.specs.declared.arc.Arc.{Arc}
 use Rattle.flow_net.specs.declared.problem.Problem.{Problem}
@@ -10,7 +11,7 @@ use Rattle.flow_net.specs.declared.search.Search.{Search}
 use Rattle.flow_net.specs.Net.{potential_at, is_in, largest_cost}
 use Rattle.flow_net.specs.Arc.{IsArc}
 use Rattle.flow_net.specs.Flow.{reduced_cost_of, IsWalk}
-use Rattle.flow_net.specs.Problem.{IsResidualArc}
+use Rattle.flow_net.specs.Problem.{IsResidualArc, arc_by_index}
 use Rattle.flow_net.specs.Queue.{entry, entries_of}
 
 -- the label of node v, and whether there is one
@@ -20,7 +21,7 @@ label_at labels v = slice_index_or labels v None
 abbrev pub is_labelled : List (Option Label) → ℕ → Bool
 is_labelled labels v = is_some (label_at labels v)
 
--- the distance of a labelled node, how many arcs the path to it has, and the last of them
+-- the distance of a labelled node, how many arcs the path to it has, and the last of them with its index
 abbrev pub distance_of_label : Option Label → ℤ
 distance_of_label (Some l) = l.distance
 distance_of_label None = pos 0
@@ -35,12 +36,18 @@ depth_of_label None = 0
 abbrev pub depth_at : List (Option Label) → ℕ → ℕ
 depth_at labels v = depth_of_label (label_at labels v)
 
-abbrev pub arc_of_label : Option Label → Option Arc
-arc_of_label (Some l) = l.arc
-arc_of_label None = None
+abbrev pub index_of_label : Option Label → Option ℕ
+index_of_label (Some l) = l.arc
+index_of_label None = None
 
-abbrev pub arc_at : List (Option Label) → ℕ → Option Arc
-arc_at labels v = arc_of_label (label_at labels v)
+abbrev pub index_at : List (Option Label) → ℕ → Option ℕ
+index_at labels v = index_of_label (label_at labels v)
+
+abbrev pub arc_of_label : Problem → Option Label → Option Arc
+arc_of_label p o = option_map (arc_by_index p) (index_of_label o)
+
+abbrev pub arc_at : Problem → List (Option Label) → ℕ → Option Arc
+arc_at p labels v = arc_of_label p (label_at labels v)
 
 -- how far the potential of a node rises: by its distance where it is settled, and elsewhere by the level
 abbrev pub rise_or : Option Label → Bool → ℤ → ℤ
@@ -78,8 +85,9 @@ pub record AreLabels (p : Problem) (r : Routing) (labels : List (Option Label)) 
   pub one_mark_each : length settled ≡ p.net.now.nodes
   pub source : label_at labels p.source ≡ Some source_label
   pub settled_labelled : (v : ℕ) → is_in settled v ≡ true → is_labelled labels v ≡ true
-  pub root : (v : ℕ) → is_labelled labels v ≡ true → arc_at labels v ≡ None → v ≡ p.source
-  pub by_arc : (v : ℕ) (a : Arc) → arc_at labels v ≡ Some a → IsLabelledBy p r labels settled v (label_at labels v) a
+  pub indices : (v k : ℕ) → index_at labels v ≡ Some k → k < length p.adjacency.arcs.items
+  pub root : (v : ℕ) → is_labelled labels v ≡ true → arc_at p labels v ≡ None → v ≡ p.source
+  pub by_arc : (v : ℕ) (a : Arc) → arc_at p labels v ≡ Some a → IsLabelledBy p r labels settled v (label_at labels v) a
   pub risen : (v : ℕ) → pos 0 ≤ℤ distance_at labels v
   pub near : (v : ℕ) → is_labelled labels v ≡ true → IsNear p r v (distance_at labels v) (depth_at labels v)
   pub depths : (v : ℕ) → is_in settled v ≡ true → depth_at labels v < settled_count settled
@@ -176,20 +184,21 @@ pub record IsStuck (p : Problem) (r : Routing) (s : Search) : Type 0 where
   pub sink_out : is_in s.settled.items p.sink ≡ false
 
 -- arc a is the last arc to its head, which is settled
-pub record IsTreeArc (s : Search) (a : Arc) : Type 0 where
-  pub is_last : arc_at s.labels.items a.head ≡ Some a
+pub record IsTreeArc (p : Problem) (s : Search) (a : Arc) : Type 0 where
+  pub is_last : arc_at p s.labels.items a.head ≡ Some a
   pub head_settled : is_in s.settled.items a.head ≡ true
 
 -- the last arcs lead to the settled nodes from the source, and to the sink among them
 pub record IsTree (p : Problem) (s : Search) : Type 0 where
   pub one_each : length s.labels.items ≡ p.net.now.nodes
   pub sink_settled : is_in s.settled.items p.sink ≡ true
-  pub root : (v : ℕ) → is_in s.settled.items v ≡ true → arc_at s.labels.items v ≡ None → v ≡ p.source
-  pub head : (v : ℕ) (a : Arc) → arc_at s.labels.items v ≡ Some a → a.head ≡ v
-  pub tail_settled : (v : ℕ) (a : Arc) → arc_at s.labels.items v ≡ Some a → is_in s.settled.items a.tail ≡ true
-  pub depth : (v : ℕ) (a : Arc) → arc_at s.labels.items v ≡ Some a → depth_at s.labels.items v ≡ depth_at s.labels.items a.tail + 1
+  pub indices : (v k : ℕ) → index_at s.labels.items v ≡ Some k → k < length p.adjacency.arcs.items
+  pub root : (v : ℕ) → is_in s.settled.items v ≡ true → arc_at p s.labels.items v ≡ None → v ≡ p.source
+  pub head : (v : ℕ) (a : Arc) → arc_at p s.labels.items v ≡ Some a → a.head ≡ v
+  pub tail_settled : (v : ℕ) (a : Arc) → arc_at p s.labels.items v ≡ Some a → is_in s.settled.items a.tail ≡ true
+  pub depth : (v : ℕ) (a : Arc) → arc_at p s.labels.items v ≡ Some a → depth_at s.labels.items v ≡ depth_at s.labels.items a.tail + 1
 
 -- the path by which the sink was settled
 pub record IsTreePath (p : Problem) (s : Search) (path : List Arc) : Type 0 where
   pub walk : IsWalk path p.source p.sink
-  pub arcs : All (IsTreeArc s) path
+  pub arcs : All (IsTreeArc p s) path

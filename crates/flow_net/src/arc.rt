@@ -1,6 +1,6 @@
 //! The arcs of a net: each link is one way forward, and one way back.
 ghost use Rattle.std.specs.Prelude.{◌≡◌};
-ghost use Rattle.flow_net.specs.Arc.{arc_of, turned, carry, way_of};
+ghost use Rattle.flow_net.specs.Arc.{arc_of, turned, carry};
 ghost use Rattle.flow_net.specs.Net.{IsCost, IsRoom};
 
 use crate::net::Link;
@@ -16,15 +16,6 @@ pub(crate) struct Arc {
     pub forward: bool,
     /// What a unit more along the arc costs.
     pub cost: i64,
-}
-
-/// What a search asks of an arc first: where it leads, and which way along which link.
-#[derive(Clone, Copy, Debug)]
-pub(crate) struct Way {
-    pub head: u32,
-    /// The index of the link.
-    pub link: u32,
-    pub forward: bool,
 }
 
 impl Arc {
@@ -54,17 +45,6 @@ impl Arc {
             link: self.link,
             forward: !self.forward,
             cost: -self.cost,
-        }
-    }
-
-    /// Where it leads, and which way along which link.
-    pub fn way(&self) -> Way
-        ensures { result ≡ way_of self.now }
-    {
-        Way {
-            head: self.head,
-            link: self.link,
-            forward: self.forward,
         }
     }
 

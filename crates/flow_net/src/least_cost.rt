@@ -59,14 +59,15 @@ pub fn solve(
     };
     let mut routing = Routing::new(alloc, &problem)?;
     let mut graph = LevelGraph::new(alloc, &problem)?;
+    let mut search = Search::new(alloc, &problem)?;
     while routing.routed < amount {
-        let mut search = Search::new(alloc, &problem)?;
+        search.restart(&problem)?;
         if !search.run(&problem, &routing)? {
             return Ok(Solved::Blocked {
                 reached: Items::from_vec(search.settled),
             });
         }
-        advance(alloc, &problem, &mut routing, search, &mut graph)?;
+        advance(alloc, &problem, &mut routing, &search, &mut graph)?;
     }
     Ok(Solved::Routed {
         flow: Items::from_vec(routing.flow),
@@ -81,12 +82,12 @@ fn advance(
     alloc: Global,
     problem: &Problem,
     routing: &mut Routing,
-    search: Search,
+    search: &Search,
     graph: &mut LevelGraph,
 ) -> Result<(), AllocError>
     requires standing { IsStanding problem.now routing.old }
     requires graph { IsLevelGraph problem.now graph.old }
-    requires arrived { HasArrived problem.now routing.old search }
+    requires arrived { HasArrived problem.now routing.old search.now }
     requires short { routing.old.routed <ℤ problem.now.amount }
     ensures standing { OnOk result (IsStanding problem.now routing.new) }
     ensures graph { OnOk result (IsLevelGraph problem.now graph.new) }

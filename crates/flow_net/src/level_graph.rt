@@ -140,12 +140,9 @@ impl LevelGraph {
         ensures no_fewer { OnOk result (length self.old.entered.items ≤ length self.new.entered.items) }
     {
         let arcs = problem.arcs_from(node);
-        let ways = problem.ways_from(node);
+        let ways = routing.ways_from(problem, node);
         for (index, way) in ways.iter().enumerate() {
-            let left = !self.has_level(way.head);
-            if left & routing.is_open(way.link, way.forward)
-                && routing.reduced_cost(&arcs[index]) == 0
-            {
+            if way.is_open && !self.has_level(way.head) && routing.reduced_cost(&arcs[index]) == 0 {
                 self.enter(problem, way.head, level)?;
             }
         }
@@ -193,28 +190,31 @@ impl LevelGraph {
         ensures cursors { length self.new.cursors.items ≡ length self.old.cursors.items }
         ensures free { IfSome result (λ a. IsFreeArc problem.now routing.now a) }
         ensures head { IfSome result (λ a. a.head ≡ node) }
-        ensures steps_up { IfSome result (λ a. StepsUp self.old.levels.items a) }
+        ensures steps_up { IfSome result (λ a. StepsUp self.old.levels.items a.tail a.head) }
     {
         let arcs = problem.arcs_from(node);
+        let ways = routing.ways_from(problem, node);
         for index in self.cursors[node as usize]..arcs.len() {
-            let arc = arcs[index].turned();
-            if self.steps_up(&arc) && routing.is_free(problem, &arc) {
-                self.cursors[node as usize] = index;
-                return Some(arc);
+            if self.steps_up(ways[index].head, node) {
+                let arc = arcs[index].turned();
+                if routing.is_free(problem, &arc) {
+                    self.cursors[node as usize] = index;
+                    return Some(arc);
+                }
             }
         }
         self.cursors[node as usize] = arcs.len();
         None
     }
 
-    /// Whether an arc leads from a level to a higher one.
-    fn steps_up(&self, arc: &Arc) -> bool
-        requires tail { arc.now.tail < length self.now.levels.items }
-        requires head { arc.now.head < length self.now.levels.items }
-        ensures { IsTrue result ↔ StepsUp self.now.levels.items arc.now }
+    /// Whether an arc from the one node to the other leads from a level to a higher one.
+    fn steps_up(&self, tail: u32, head: u32) -> bool
+        requires tail { tail < length self.now.levels.items }
+        requires head { head < length self.now.levels.items }
+        ensures { IsTrue result ↔ StepsUp self.now.levels.items tail head }
     {
-        match (self.level(arc.tail), self.level(arc.head)) {
-            (Some(tail), Some(head)) => tail < head,
+        match (self.level(tail), self.level(head)) {
+            (Some(low), Some(high)) => low < high,
             _ => false,
         }
     }

@@ -1,10 +1,10 @@
 //! What is to be solved, with the arcs of its net.
-ghost use Rattle.std.specs.Prelude.{◌≡◌, ◌<◌, length, map, All, Contains};
-ghost use Rattle.flow_net.specs.Arc.{IsArc, arcs_at, way_of};
-ghost use Rattle.flow_net.specs.Problem.{IsProblem};
+ghost use Rattle.std.specs.Prelude.{◌≡◌, ◌<◌, length, All, Contains};
+ghost use Rattle.flow_net.specs.Arc.{IsArc, arcs_at};
+ghost use Rattle.flow_net.specs.Problem.{IsProblem, IsRange, arc_by_index};
 
 use crate::adjacency::Adjacency;
-use crate::arc::{Arc, Way};
+use crate::arc::Arc;
 use crate::net::Net;
 
 /// An amount to route through a net from the source to the sink, from the initial potentials on.
@@ -31,14 +31,20 @@ impl Problem<'_> {
         self.adjacency.arcs_from(node)
     }
 
-    /// The ways of these arcs.
-    pub fn ways_from(&self, node: u32) -> &[Way]
+    /// The index of the first arc whose tail is this node, and the one past the last of them.
+    pub fn range_from(&self, node: u32) -> (usize, usize)
         requires problem { IsProblem self.now }
         requires node { node < self.now.net.now.nodes }
-        ensures range { result.now ≡ map way_of (arcs_at self.now.adjacency node) }
-        ensures heads { All (λ w. w.head < self.now.net.now.nodes) result.now }
-        ensures links { All (λ w. w.link < length self.now.net.now.links) result.now }
+        ensures { IsRange self.now node result.0 result.1 }
     {
-        self.adjacency.ways_from(node)
+        self.adjacency.range_from(node)
+    }
+
+    /// The arc at an index.
+    pub fn arc(&self, index: usize) -> &Arc
+        requires { index < length self.now.adjacency.arcs.items }
+        ensures { result.now ≡ arc_by_index self.now index }
+    {
+        self.adjacency.arc(index)
     }
 }

@@ -33,6 +33,16 @@ impl Queue {
         }
     }
 
+    /// Takes out all nodes, and is at the level 0 again. The memory is kept.
+    pub fn clear(&mut self)
+        ensures level { self.new.level ≡ pos 0 }
+        ensures entries { entries_of self.new ≡ [] }
+    {
+        self.near.clear();
+        self.far.clear();
+        self.level = 0;
+    }
+
     /// Enters a node with its distance.
     pub fn push(&mut self, distance: i64, node: u32) -> Result<(), AllocError>
         requires { self.old.level ≤ℤ distance }

@@ -1,21 +1,20 @@
 //! A part of the amount routed at least cost, with potentials that prove it.
-ghost use Rattle.std.specs.Prelude.{◌≡◌, ◌↔◌, ◌<◌, ◌-ℤ◌, ◌<ℤ◌, pos, length, replicate, IfOk, IsTrue};
-ghost use Rattle.flow_net.specs.Arc.{IsArc};
-ghost use Rattle.flow_net.specs.Flow.{residual_of, reduced_cost_of, opening_at, is_open, AreOpenings, IsPriced};
-ghost use Rattle.flow_net.specs.Problem.{IsProblem, IsStanding, IsResidualArc, IsFreeArc, IsFreePath, IsBottleneck};
+ghost use Rattle.std.specs.Prelude.{◌≡◌, ◌↔◌, ◌<◌, ◌-ℤ◌, ◌<ℤ◌, pos, length, replicate, slice_set, IfOk, IsTrue};
+ghost use Rattle.flow_net.specs.Arc.{IsArc, arcs_at};
+ghost use Rattle.flow_net.specs.Flow.{residual_of, reduced_cost_of, AreWays, IsPriced};
+ghost use Rattle.flow_net.specs.Problem.{IsProblem, IsStanding, IsResidualArc, arc_by_index, IsFreeArc, IsFreePath, IsBottleneck};
 
 use crate::arc::Arc;
-use crate::net::Net;
-use crate::opening::Opening;
 use crate::problem::Problem;
+use crate::way::Way;
 use std::alloc::{AllocError, Global};
 
-/// The flow on each link, which ways along it can carry more, the potential of each node, and how much
-/// is routed.
+/// The flow on each link, the way of each arc in the order of the arcs, the potential of each node, and
+/// how much is routed.
 #[derive(Drop)]
 pub(crate) struct Routing {
     pub flow: Vec<i64>,
-    pub openings: Vec<Opening>,
+    pub ways: Vec<Way>,
     pub potentials: Vec<i64>,
     pub routed: i64,
 }
@@ -28,7 +27,7 @@ impl Routing {
     {
         Ok(Routing {
             flow: vec![in alloc; 0; problem.net.links.len()]?,
-            openings: openings_of(alloc, problem.net)?,
+            ways: ways_of(alloc, problem)?,
             potentials: Vec::from_slice(alloc, problem.start)?,
             routed: 0,
         })
@@ -56,21 +55,34 @@ impl Routing {
         arc.cost + self.potentials[arc.tail as usize] - self.potentials[arc.head as usize]
     }
 
-    /// Whether a link can carry more forward, or back.
-    pub fn is_open(&self, link: u32, forward: bool) -> bool
-        requires { link < length self.now.openings.items }
-        ensures { result ≡ is_open (opening_at self.now.openings.items link) forward }
+    /// The ways of the arcs whose tail is this node.
+    pub fn ways_from(&self, problem: &Problem, node: u32) -> &[Way]
+        requires standing { IsStanding problem.now self.now }
+        requires node { node < problem.now.net.now.nodes }
+        ensures { AreWays problem.now.net.now.links self.now.flow.items
+            (arcs_at problem.now.adjacency node) result.now }
     {
-        self.openings[link as usize].is_open(forward)
+        problem.adjacency.ways_from(&self.ways, node)
+    }
+
+    /// The way of the arc at an index.
+    pub fn way(&self, problem: &Problem, index: usize) -> Way
+        requires standing { IsStanding problem.now self.now }
+        requires index { index < length problem.now.adjacency.arcs.items }
+        ensures head { result.head ≡ (arc_by_index problem.now index).head }
+        ensures is_open { IsTrue result.is_open
+            ↔ IsResidualArc problem.now self.now (arc_by_index problem.now index) }
+    {
+        self.ways[index]
     }
 
     /// Whether an arc can carry more.
-    pub fn is_residual(&self, problem: &Problem, arc: &Arc) -> bool
+    fn is_residual(&self, problem: &Problem, arc: &Arc) -> bool
         requires standing { IsStanding problem.now self.now }
         requires arc { IsArc problem.now.net.now.links arc.now }
         ensures { IsTrue result ↔ IsResidualArc problem.now self.now arc.now }
     {
-        self.is_open(arc.link, arc.forward)
+        self.ways[problem.adjacency.place_of(arc)].is_open
     }
 
     /// Whether an arc can carry more and has no reduced cost.
@@ -93,12 +105,30 @@ impl Routing {
     {
         let amount = self.bottleneck(problem, path);
         for arc in path {
-            let link = arc.link as usize;
-            let carried = arc.carry(self.flow[link], amount);
-            self.flow[link] = carried;
-            self.openings[link] = Opening::at(&problem.net.links.as_slice()[link], carried);
+            let carried = arc.carry(self.flow[arc.link as usize], amount);
+            self.set_flow(problem, arc.link, carried);
         }
         self.routed += amount;
+    }
+
+    /// Sets what a link carries, and both ways along it.
+    fn set_flow(&mut self, problem: &Problem, link: u32, carried: i64)
+        requires problem { IsProblem problem.now }
+        requires link { link < length problem.now.net.now.links }
+        requires one_each { length self.old.flow.items ≡ length problem.now.net.now.links }
+        requires ways { AreWays problem.now.net.now.links self.old.flow.items
+            problem.now.adjacency.arcs.items self.old.ways.items }
+        ensures flow { self.new.flow.items ≡ slice_set self.old.flow.items link carried }
+        ensures ways { AreWays problem.now.net.now.links self.new.flow.items
+            problem.now.adjacency.arcs.items self.new.ways.items }
+        ensures potentials { self.new.potentials ≡ self.old.potentials }
+        ensures routed { self.new.routed ≡ self.old.routed }
+    {
+        let along = &problem.net.links.as_slice()[link as usize];
+        let places = problem.adjacency.places[link as usize];
+        self.flow[link as usize] = carried;
+        self.ways[places.forward] = Way::along(along, carried, true);
+        self.ways[places.back] = Way::along(along, carried, false);
     }
 
     /// The least that an arc of the path can carry more, and at most what is left to route.
@@ -116,14 +146,18 @@ impl Routing {
     }
 }
 
-/// The openings of the links of a net where nothing flows.
-fn openings_of(alloc: Global, net: &Net) -> Result<Vec<Opening>, AllocError>
-    ensures { IfOk result (λ o. AreOpenings net.now.links (replicate (length net.now.links) (pos 0))
-        o.items) }
+/// The ways of the arcs where nothing flows.
+fn ways_of(alloc: Global, problem: &Problem) -> Result<Vec<Way>, AllocError>
+    requires { IsProblem problem.now }
+    ensures { IfOk result (λ w. AreWays problem.now.net.now.links
+        (replicate (length problem.now.net.now.links) (pos 0)) problem.now.adjacency.arcs.items
+        w.items) }
 {
-    let mut openings = Vec::with_capacity(alloc, net.links.len())?;
-    for link in net.links.as_slice() {
-        openings.push(Opening::at(link, 0))?;
+    let arcs = problem.adjacency.arcs.as_slice();
+    let links = problem.net.links.as_slice();
+    let mut ways = Vec::with_capacity(alloc, arcs.len())?;
+    for arc in arcs {
+        ways.push(Way::along(&links[arc.link as usize], 0, arc.forward))?;
     }
-    Ok(openings)
+    Ok(ways)
 }

@@ -16,8 +16,8 @@ pub(crate) struct Label {
     pub distance: i64,
     /// How many arcs that path has.
     pub depth: u32,
-    /// The last of these arcs; none at the source.
-    pub arc: Option<Arc>,
+    /// The index of the last of these arcs; none at the source.
+    pub arc: Option<usize>,
 }
 
 /// The labels of the nodes, which nodes are settled, and the queue of those with tentative labels.
@@ -32,27 +32,36 @@ pub(crate) struct Search {
 impl Search {
     ghost use Rattle.std.specs.Prelude.{◌<◌, true, false, pos, ◌<ℤ◌, ◌≤ℤ◌, IfOk, OnOk, MatchBool, MatchOption};
     ghost use Rattle.flow_net.specs.Arc.{IsArc};
-    ghost use Rattle.flow_net.specs.Problem.{IsProblem, IsStanding, IsFreeArc};
-    ghost use Rattle.flow_net.specs.Search.{IsSearch, IsFresh, HasQueue, IsDrained, IsSettling, IsAt, IsEntered, Improves, IsClosedAt, IsRelaxed, HasArrived, IsStuck, IsTree, IsTreeArc, IsTreePath, arc_at, distance_at, is_labelled, rise_of};
+    ghost use Rattle.flow_net.specs.Problem.{IsProblem, IsStanding, IsFreeArc, arc_by_index};
+    ghost use Rattle.flow_net.specs.Search.{IsSearch, IsFresh, HasQueue, IsDrained, IsSettling, IsAt, IsEntered, Improves, IsClosedAt, IsRelaxed, HasArrived, IsStuck, IsTree, IsTreeArc, IsTreePath, arc_at, index_at, distance_at, is_labelled, rise_of};
 
-    /// A search that has labelled the source alone.
+    /// A place for the label of each node. Nothing is labelled yet.
     pub fn new(alloc: Global, problem: &Problem) -> Result<Search, AllocError>
-        requires { IsProblem problem.now }
-        ensures { IfOk result (λ s. IsFresh problem.now s) }
+        ensures { IfOk result (λ s. length s.labels.items ≡ problem.now.net.now.nodes) }
     {
         let nodes = problem.net.nodes as usize;
-        let mut search = Search {
+        Ok(Search {
             labels: vec![in alloc; None; nodes]?,
             settled: vec![in alloc; false; nodes]?,
             queue: Queue::new(alloc),
-        };
+        })
+    }
+
+    /// Begins anew, whatever was searched before: the source alone is labelled.
+    pub fn restart(&mut self, problem: &Problem) -> Result<(), AllocError>
+        requires problem { IsProblem problem.now }
+        requires nodes { length self.old.labels.items ≡ problem.now.net.now.nodes }
+        ensures { OnOk result (IsFresh problem.now self.new) }
+    {
+        self.labels.fill(None);
+        self.settled.fill(false);
+        self.queue.clear();
         let label = Label {
             distance: 0,
             depth: 0,
             arc: None,
         };
-        search.enter(problem.source, label)?;
-        Ok(search)
+        self.enter(problem.source, label)
     }
 
     /// Searches until the sink is settled, and answers true, or until no node is left that a path
@@ -106,29 +115,34 @@ impl Search {
             ((a : Arc) → IsArc problem.now.net.now.links a → a.tail ≡ node
             → IsClosedAt problem.now routing.now self.new a) }
     {
-        for arc in problem.arcs_from(node) {
-            self.relax(problem, routing, arc, label)?;
+        let (first, end) = problem.range_from(node);
+        for index in first..end {
+            self.relax(problem, routing, index, label)?;
         }
         Ok(())
     }
 
-    /// Labels the head of a residual arc from that node, where it has no label or one farther off.
+    /// Labels the head of a residual arc from that node, given by its index, where it has no label or one
+    /// farther off.
     fn relax(
         &mut self,
         problem: &Problem,
         routing: &Routing,
-        arc: &Arc,
+        index: usize,
         label: &Label,
     ) -> Result<(), AllocError>
         requires standing { IsStanding problem.now routing.now }
         requires search { IsSearch problem.now routing.now self.old }
-        requires arc { IsArc problem.now.net.now.links arc.now }
-        requires at { IsAt self.old arc.now.tail label.now }
-        ensures { OnOk result (IsRelaxed problem.now routing.now self.old self.new arc.now) }
+        requires index { index < length problem.now.adjacency.arcs.items }
+        requires at { IsAt self.old (arc_by_index problem.now index).tail label.now }
+        ensures { OnOk result
+            (IsRelaxed problem.now routing.now self.old self.new (arc_by_index problem.now index)) }
     {
-        if self.settled[arc.head as usize] || !routing.is_residual(problem, arc) {
+        let way = routing.way(problem, index);
+        if !way.is_open || self.settled[way.head as usize] {
             return Ok(());
         }
+        let arc = problem.arc(index);
         let distance = label.distance + routing.reduced_cost(arc);
         if !self.is_lower(arc.head, distance) {
             return Ok(());
@@ -136,7 +150,7 @@ impl Search {
         let label = Label {
             distance,
             depth: label.depth + 1,
-            arc: Some(*arc),
+            arc: Some(index),
         };
         self.enter(arc.head, label)
     }
@@ -172,7 +186,7 @@ impl Search {
         requires arrived { HasArrived problem.now routing.old self.now }
         ensures standing { IsStanding problem.now routing.new }
         ensures routed { routing.new.routed ≡ routing.old.routed }
-        ensures free { (a : Arc) → IsTreeArc self.now a → IsFreeArc problem.now routing.new a }
+        ensures free { (a : Arc) → IsTreeArc problem.now self.now a → IsFreeArc problem.now routing.new a }
     {
         if self.queue.level == 0 {
             return;
@@ -201,7 +215,7 @@ impl Search {
     {
         let mut path = Vec::new(alloc);
         let mut node = problem.sink;
-        while let Some(arc) = self.last_arc(node) {
+        while let Some(arc) = self.last_arc(problem, node) {
             path.push(arc)?;
             node = arc.tail;
         }
@@ -210,9 +224,19 @@ impl Search {
     }
 
     /// The last arc of the path to a node.
-    fn last_arc(&self, node: u32) -> Option<Arc>
+    fn last_arc(&self, problem: &Problem, node: u32) -> Option<Arc>
+        requires tree { IsTree problem.now self.now }
+        requires node { node < problem.now.net.now.nodes }
+        ensures { result ≡ arc_at problem.now self.now.labels.items node }
+    {
+        let index = self.last_index(node)?;
+        Some(*problem.arc(index))
+    }
+
+    /// The index of that arc.
+    fn last_index(&self, node: u32) -> Option<usize>
         requires { node < length self.now.labels.items }
-        ensures { result ≡ arc_at self.now.labels.items node }
+        ensures { result ≡ index_at self.now.labels.items node }
     {
         match self.labels[node as usize] {
             Some(label) => label.arc,

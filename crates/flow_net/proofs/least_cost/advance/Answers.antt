@@ -5,13 +5,13 @@ use Rattle.std.proofs.Common.{ap, arith, of_z, subst, sym, w64}
 use Rattle.flow_net.proofs.least_cost.advance.Goals as goal
 
 pub path-requires : goal.path-requires
-path-requires c = IsTree-arrived c.args.problem.now c.args.routing.now c.args.search c.requires.arrived
+path-requires c = IsTree-arrived c.args.problem.now c.args.routing.now c.args.search.now c.requires.arrived
 
 pub augment-requires-clause-path : goal.augment-requires-clause-path
 augment-requires-clause-path c =
-    let tree = IsTree-arrived c.args.problem.now c.args.routing.now c.args.search c.requires.arrived in
+    let tree = IsTree-arrived c.args.problem.now c.args.routing.now c.args.search.now c.requires.arrived in
     subst (IsFreePath c.args.problem.now c.raise.new.routing) (sym c.deref.ensures.value)
-    (IsFreePath-tree c.args.problem.now c.raise.new.routing c.args.search c.in_ok-path.path.items tree c.raise.ensures.free c.in_ok-path.ensures)
+    (IsFreePath-tree c.args.problem.now c.raise.new.routing c.args.search.now c.in_ok-path.path.items tree c.raise.ensures.free c.in_ok-path.ensures)
 
 pub returns-then-rises-clause-rises : goal.returns-then-rises-clause-rises
 returns-then-rises-clause-rises c = omega (arith, ints)

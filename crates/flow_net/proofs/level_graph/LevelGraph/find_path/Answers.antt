@@ -11,7 +11,7 @@ loop-node-preserved-in-Some c =
     let p = c.args.problem.now in let r = c.args.routing.now in let levels = c.last_arc.new.self.levels.items in let a = c.in-Some.arc in
     let inv = c.loop-node.invariant in let last = c.in-Some.ensures in let grown = c.in_ok-push.ensures.items in
     let steps = subst (λ t. All (IsStep p r t.items) c.loop-node.path.items) (sym last.levels) inv.steps in
-    let step = IsStep-up p r levels a last.free (subst (λ t. StepsUp t.items a) (sym last.levels) last.steps_up) in record {
+    let step = IsStep-up p r levels a last.free (subst (λ t. StepsUp t.items a.tail a.head) (sym last.levels) last.steps_up) in record {
       graph = record {
         one_level_each = ap (λ t. length t.items) last.levels ∙ inv.graph.one_level_each;
         one_cursor_each = last.cursors ∙ inv.graph.one_cursor_each;

@@ -1,5 +1,5 @@
-use Rattle.flow_net.proofs.FlowLemmas.{Stands-augmented, Stands-same, next_arc, next_carried, next_carries, next_openings, next_rooms, next_sent, no_arc}
-use Rattle.flow_net.proofs.Words.{AreOpenings, CanCarry, IsBottleneck, IsOpening, IsWithinRooms, carry, ints, link_at, sent_along, sent_along_path, take_all}
+use Rattle.flow_net.proofs.FlowLemmas.{Stands-augmented, Stands-same, next_arc, next_carried, next_carries, next_rooms, next_sent, no_arc}
+use Rattle.flow_net.proofs.Words.{AreWays, CanCarry, IsBottleneck, IsWithinRooms, carry, ints, sent_along_path, take_all}
 use Rattle.flow_net.proofs.Words.{to_z-of_z}
 use Rattle.std.proofs.Common.{ap, arith, drop, get_or, of_z, pos, rules, set, subst, sym, to_z, w64, ◌+ℤ◌, ◌+◌, ◌-ℤ◌, ◌∙◌, ◌≡◌, ◌≤ℤ◌}
 use Rattle.flow_net.proofs.routing.Routing.augment.Goals as goal
@@ -12,6 +12,11 @@ carry-carried-requires-clause-carried c =
     let from = inv.rooms.not_negative k is.below in let upto = inv.rooms.upto_room k is.below in
     let room = (c.requires.standing.problem.net.links k is.below).room.upto in record { from = omega (arith, ints); upto = omega (arith, ints) }
 
+pub set_flow-requires-clause-link : goal.set_flow-requires-clause-link
+set_flow-requires-clause-link c =
+    let inv = c.loop-arc.invariant in
+    (next_arc c.args.problem.now.net.now.links c.loop-arc.self.flow.items c.args.path.now _ c.loop-arc.arc-index c.loop-arc-test.true inv.rooms inv.can_carry).below
+
 pub loop-arc-preserved : goal.loop-arc-preserved
 loop-arc-preserved c =
     let links = c.args.problem.now.net.now.links in let path = c.args.path.now in let m = to_z w64 (of_z w64 c.bottleneck-amount.result) in
@@ -20,16 +25,13 @@ loop-arc-preserved c =
     let from : pos 0 ≤ℤ m = omega (arith, ints) in let kept_index = to_z-of_z w64 c.index.result.now (search rules) in
     let kept = to_z-of_z w64 c.carry-carried.result (search rules) in
     let value = kept ∙ (c.carry-carried.ensures ∙ ap (λ x. carry a x m) (kept_index ∙ read)) in
-    let sent : set flow a.link (to_z w64 (of_z w64 c.carry-carried.result)) ≡ sent_along flow a m = ap (set flow a.link) value in
-    let opened = subst (λ xs. IsOpening (link_at xs a.link) (to_z w64 (of_z w64 c.carry-carried.result)) c.at.result) c.as_slice.ensures c.at.ensures in
-    let opening = subst (λ z. IsOpening (link_at links a.link) z c.at.result) value opened in record {
+    let sent = c.set_flow.ensures.flow ∙ ap (set flow a.link) value in record {
       rooms = subst (IsWithinRooms links) (sym sent) (next_rooms links flow path m i within inv.rooms inv.can_carry from);
-      openings = subst (λ f. AreOpenings links f (set c.loop-arc.self.openings.items a.link c.at.result)) (sym sent)
-          (next_openings links flow path m i within inv.rooms inv.can_carry c.loop-arc.self.openings.items c.at.result opening inv.openings);
+      ways = c.set_flow.ensures.ways;
       can_carry = subst (λ f. CanCarry links f (drop (i + 1) path) m) (sym sent) (next_carries links flow path m i within inv.rooms inv.can_carry);
       sent = sent ∙ next_sent links flow path m i within inv.rooms inv.can_carry c.args.self.now.flow.items inv.sent;
-      potentials = inv.potentials;
-      routed = inv.routed;
+      potentials = c.set_flow.ensures.potentials ∙ inv.potentials;
+      routed = c.set_flow.ensures.routed ∙ inv.routed;
     }
 
 pub returns-clause-standing : goal.returns-clause-standing
@@ -38,7 +40,7 @@ returns-clause-standing c =
     let kept : to_z w64 (of_z w64 m) ≡ m = to_z-of_z w64 m (search rules) in let inv = c.loop-arc.invariant in
     let flow = inv.sent ∙ (ap (λ xs. sent_along_path r.flow.items xs (to_z w64 (of_z w64 m))) (take_all c.loop-arc.arc-index path c.loop-arc-test.false)
     ∙ ap (sent_along_path r.flow.items path) kept) in
-    let opened = subst (λ f. AreOpenings p.net.now.links f c.loop-arc.self.openings.items) flow inv.openings in
+    let opened = subst (λ f. AreWays p.net.now.links f p.adjacency.arcs.items c.loop-arc.self.ways.items) flow inv.ways in
     Stands-same p _ _ _ _ _ _ _ flow (ap (λ v. v.items) inv.potentials) (omega (arith, ints))
     (Stands-augmented p r c.requires.standing path c.requires.path m c.bottleneck-amount.ensures _ opened)
 

@@ -9,5 +9,5 @@ abbrev pub invariant-loop-arc : goal.invariant-loop-arc
 invariant-loop-arc l = record {
   settled : is_in l.self.settled.items l.node ≡ true;
   walk : IsWalk (reverse l.path.items) l.node l.problem.sink;
-  arcs : All (IsTreeArc l.self) l.path.items;
+  arcs : All (IsTreeArc l.problem l.self) l.path.items;
 }

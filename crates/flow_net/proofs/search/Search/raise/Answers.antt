@@ -37,7 +37,7 @@ loop-node-preserved c =
     let value = to_z-of_z w64 _ at.fits ∙ at.is in let potentials = c.loop-node.routing.potentials.items in let within : v < length potentials = omega arith in
     record {
       flow = inv.flow;
-      openings = inv.openings;
+      ways = inv.ways;
       routed = inv.routed;
       one_each = length-set potentials v _ ∙ inv.one_each;
       raised = set_cases potentials v _ (pos 0) within (λ u z. u < v + 1 → z ≡ potential_at r.potentials.items u +ℤ rise_of c.args.self.now u) (λ _. value)
@@ -50,7 +50,7 @@ pub returns-clause-standing : goal.returns-clause-standing
 returns-clause-standing c =
     let inv = c.loop-node.invariant in
     subst (λ v. Stands c.args.problem.now c.loop-node.routing.flow.items c.loop-node.routing.potentials.items c.loop-node.routing.routed v.items)
-    (sym inv.openings) (Stands-same c.args.problem.now _ _ _ _ _ _ _ (ap (λ v. v.items) inv.flow) refl inv.routed
+    (sym inv.ways) (Stands-same c.args.problem.now _ _ _ _ _ _ _ (ap (λ v. v.items) inv.flow) refl inv.routed
     (Stands-raised c.args.problem.now c.args.routing.now c.args.self.now c.requires.standing c.requires.arrived c.loop-node.routing.potentials.items
     inv.one_each (λ v within. inv.raised v (omega arith))))
 

@@ -1,10 +1,10 @@
-use Rattle.flow_net.proofs.Words.{All, Improves, IsClosedAt, IsSearch}
-use Rattle.std.proofs.Common.{take}
+use Rattle.flow_net.proofs.Words.{Improves, IsClosedAt, IsSearch, arc_by_index}
+use Rattle.std.proofs.Common.{ℕ, ◌<◌, ◌≤◌}
 use Rattle.flow_net.proofs.search.Search.scan.Given as goal
 
-abbrev pub invariant-loop-arc : goal.invariant-loop-arc
-invariant-loop-arc l = record {
+abbrev pub invariant-loop-index : goal.invariant-loop-index
+invariant-loop-index l = record {
   search : IsSearch l.problem l.routing l.self;
   improves : Improves l.initial.self l.self;
-  closed : All (IsClosedAt l.problem l.routing l.self) (take l.arc-index l.arc-items);
+  closed : (k : ℕ) → l.first ≤ k → k < l.index → IsClosedAt l.problem l.routing l.self (arc_by_index l.problem k);
 }

@@ -1,0 +1,34 @@
+use Rattle.flow_net.proofs.WayLemmas.{AreWays-set, link_place-within}
+use Rattle.flow_net.proofs.Words.{AreWays, IsProblem, IsWay, Places, Problem, get_or_read, link_at, place_in, places_at}
+use Rattle.std.proofs.Common.{Bool, arith, false, get_or, length, of_z, set, subst, sym, to_z, true, w64, ℕ, ◌<◌, ◌≡◌}
+use Rattle.flow_net.proofs.routing.Routing.set_flow.Goals as goal
+
+-- the places of a link's arcs, as the code reads them
+module _ (p : Problem) (is : IsProblem p) (k : ℕ) (below : k < length p.net.now.links) (r : Places) (e : r ≡ get_or p.adjacency.places.items k r) where
+  read : r ≡ places_at p.adjacency.places.items k
+  read = get_or_read p.adjacency.places.items k r (omega (arith, below, is.adjacency.places.one_each)) e (record { forward = 0; back = 0 })
+
+  within : (w : Bool) → place_in r w < length p.adjacency.arcs.items
+  within w = subst (λ q. place_in q w < length p.adjacency.arcs.items) (sym read)
+      (link_place-within p.net.now.nodes p.net.now.links p.adjacency is.adjacency k below w)
+
+pub index_mut-requires-2 : goal.index_mut-requires-2
+index_mut-requires-2 c =
+    let i = within c.args.problem.now c.requires.problem c.args.link c.requires.link c.index-places.result.now c.index-places.ensures true in
+    omega (arith, i, c.requires.ways.one_each)
+
+pub index_mut-requires-3 : goal.index_mut-requires-3
+index_mut-requires-3 c =
+    let i = within c.args.problem.now c.requires.problem c.args.link c.requires.link c.index-places.result.now c.index-places.ensures false in
+    omega (arith, i, c.requires.ways.one_each)
+
+pub returns-clause-ways : goal.returns-clause-ways
+returns-clause-ways c =
+    let p = c.args.problem.now in let links = p.net.now.links in let arcs = p.adjacency.arcs.items in let k = c.args.link in
+    let x = to_z w64 (of_z w64 c.args.carried) in let flow = c.args.self.now.flow.items in let ways = c.args.self.now.ways.items in
+    let forth = subst (λ xs. IsWay (link_at xs k) x true c.along.result) c.as_slice.ensures c.along.ensures in
+    let back = subst (λ xs. IsWay (link_at xs k) x false c.along-2.result) c.as_slice.ensures c.along-2.ensures in
+    let places = read p c.requires.problem k c.requires.link c.index-places.result.now c.index-places.ensures in
+    subst (λ (q : Places). AreWays links (set flow k x) arcs (set (set ways q.forward c.along.result) q.back c.along-2.result)) (sym places)
+    (AreWays-set p.net.now.nodes links p.adjacency c.requires.problem.adjacency flow ways k c.requires.link x c.along.result c.along-2.result
+    c.requires.one_each forth back c.requires.ways)
