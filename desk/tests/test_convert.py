@@ -68,6 +68,19 @@ def test_what_the_program_refuses_is_refused_by_the_row_of_the_table(pinch: Pinc
     assert fault.value.place == 'row 2'
 
 
+def test_a_textbook_sheet_meets_its_published_targets(pinch: Pinch) -> None:
+    """Case 4S1 of Shenoy (1995), with a title, units in a row of their own, duties beside CPs, a sum and a note."""
+    held = workbook([['Case 4S1'], [],
+                     ['Stream', 'Inlet temperature', 'Outlet temperature', 'Heat capacity flow', 'Duty'],
+                     ['', '°C', '°C', 'kW/°C', 'kW'], ['H1', 175, 45, 10, 1300], ['H2', 125, 65, 40, 2400],
+                     ['C1', 20, 155, 20, 2700], ['C2', 40, 112, 15, 1080], ['Sum', None, None, None, 7480],
+                     ['from the book']])
+    for difference, published in (('20', (605_000, 525_000, (1150,))), ('13', (360_000, 280_000, (1185,)))):
+        case = checked(made(held, Wanted(difference=difference), '4s1.xlsx'), pinch).case
+        targets = pinch.targets(case)
+        assert (targets.hot, targets.cold, targets.pinches) == published
+
+
 # Layouts.
 
 LAYOUTS = [
