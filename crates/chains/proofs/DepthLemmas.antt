@@ -1,13 +1,39 @@
 -- Depths: how many of the first ranks stand in a list, and that of two parts the deeper one has the greater rank.
 use Rattle.chains.proofs.Words.{All, All-head, All-map, All-tail, All-weaker, AreDepths, Contains, Contains-append_left, Contains-append_right}
-use Rattle.chains.proofs.Words.{Contains-get_or, Depths, Part, cases_lt, chain_length, count_by-le-length, count_by-map, depth_of, eq-eqb, get_or-map}
+use Rattle.chains.proofs.Words.{Contains-get_or, Depths, Part, cases_eq, cases_lt, chain_length, count_by-le-length, count_by-map, depth_of, eq-eqb, get_or-map}
 use Rattle.chains.proofs.Words.{length-map, list_any, list_any_at, map-append, range_with_len, rank_count, rank_of, ranks_used, used_among}
 use Rattle.std.proofs.Common.{Bool, List, [], ap, ap₂, arith, cond, eqb, get_or, length, map, max, refl, subst, suc, sym, zero, ℕ, ℤ, ⊎_elim, ◌*◌, ◌++◌, ◌+◌}
 use Rattle.std.proofs.Common.{◌-◌, ◌<◌, ◌∙◌, ◌∷◌, ◌≡◌, ◌≤◌}
+use Rattle.chains.proofs.Words.{get_or-set_other, get_or-set_same, length-set, list_any-append, ne_eqb, or-false, or-true, set, take-append-le, take_all, take_more}
+use Rattle.std.proofs.Common.{drop, false, take, true, ◌||◌}
 use Rattle.std.proofs.lemmas.List.FromFn.{get_or-map-range_with_len, length-range_with_len, sum_by-map-range_with_len_more}
 
 abbrev stands : List ℕ → ℕ → Bool
 stands ranks rank = list_any (λ r. eqb r rank) ranks
+
+-- a slice that is written whole
+pub overwritten : (xs ys : List Bool) (n : ℕ) → length xs ≡ n → length ys ≡ n → take n (ys ++ drop (length ys) xs) ≡ ys
+overwritten xs ys n own count = take-append-le n ys (drop (length ys) xs) (omega (arith, count)) ∙ take_all n ys (omega (arith, count))
+
+-- the ranks that stand in the list are marked beside those that were
+abbrev pub IsMarked : List Bool → List ℕ → List Bool → Type 0
+IsMarked before ranks used = (k : ℕ) → k < length used → get_or used k false ≡ (get_or before k false || stands ranks k)
+
+pub marked-more : (before used : List Bool) (ranks : List ℕ) (i : ℕ) → i < length ranks → get_or ranks i 0 < length used
+    → IsMarked before (take i ranks) used → IsMarked before (take (i + 1) ranks) (set used (get_or ranks i 0) true)
+marked-more before used ranks i within rank_in so_far k k_in =
+    let rank = get_or ranks i 0 in let was = get_or before k false in let early = stands (take i ranks) k in
+    let more : stands (take (i + 1) ranks) k ≡ (early || (eqb rank k || false))
+    = ap (λ rs. stands rs k) (take_more ranks i 0 within) ∙ list_any-append (λ r. eqb r k) (take i ranks) (rank ∷ []) in
+    ⊎_elim
+    (λ same.
+    let here = subst (λ n. get_or (set used rank true) n false ≡ true) same (get_or-set_same used rank true false rank_in) in
+    here ∙ sym (ap (λ b. was || b) (more ∙ ap (λ b. early || (b || false)) (eq-eqb rank k same) ∙ or-true early) ∙ or-true was))
+    (λ other.
+    let k_before : k < length used = omega (arith, k_in, length-set used rank true) in
+    get_or-set_other used rank k true false (λ e. other (sym e)) ∙ so_far k k_before
+    ∙ sym (ap (λ b. was || b) (more ∙ ap (λ b. early || (b || false)) (ne_eqb rank k other) ∙ or-false early)))
+    (cases_eq rank k)
 
 module _ (ranks : List ℕ) where
   -- one rank more
@@ -88,6 +114,11 @@ module _ (places : List ℤ) (hot cold : List Part) where
   within_all parts among high =
       All-map (λ n. n < chain_length places hot cold) depth parts
       (λ k d within. let p = get_or parts k d in depth-within p (among p (Contains-get_or parts k d within)) (high k d within))
+
+  pub ranks_high : (n : ℕ) (parts : List Part) (ranks : List ℕ) → n ≡ rank_count places → ranks ≡ map rank parts → All IsHigh parts
+      → All (λ r. r < n) ranks
+  ranks_high n parts ranks count is high =
+      subst (All (λ r. r < n)) (sym is) (All-map (λ r. r < n) rank parts (λ k d within. omega (arith, count, high k d within)))
 
   pub ranks_within : (parts : List Part) (ranks above : List ℕ) → ranks ≡ map rank parts → length above ≡ rank_count places + 1 → All IsHigh parts
       → All (λ r. r < length above) ranks

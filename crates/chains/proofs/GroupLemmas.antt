@@ -155,19 +155,6 @@ module _ (streams : List Stream) (utilities : List Utility) (side : Side) where
 
 -- Groups of hot sources, one hot source after another.
 
--- ---- partners
-
--- the tests of all cold sources are those of a list of them
-pub HaveSamePartners-all : (c : Case) (cold : List Source) (p q : Source) → ListsOnce (λ source. side_of c source ≡ Some Cold) cold
-    → All (λ source. is_forbidden c.forbids p source ≡ is_forbidden c.forbids q source) cold → HaveSamePartners c p q
-HaveSamePartners-all c cold p q lists same source side =
-    All-contains (λ s. is_forbidden c.forbids p s ≡ is_forbidden c.forbids q s) cold source same (lists.every source side)
-
-pub all-HaveSamePartners : (c : Case) (cold : List Source) (p q : Source) → ListsOnce (λ source. side_of c source ≡ Some Cold) cold → HaveSamePartners c p q
-    → All (λ source. is_forbidden c.forbids p source ≡ is_forbidden c.forbids q source) cold
-all-HaveSamePartners c cold p q lists same =
-    All-weaker (λ s. side_of c s ≡ Some Cold) (λ s. is_forbidden c.forbids p s ≡ is_forbidden c.forbids q s) (λ s side. same s side) cold lists.each
-
 -- ---- the groups so far
 
 -- the sources of a group are those to which the same is permitted as to one of these sources

@@ -3,6 +3,7 @@ pub mod FlatMaps
 mod GatherLemmas
 mod GroupLemmas
 pub mod NetLemmas
+mod PartnerLemmas
 mod SpreadLemmas
 mod StrideLemmas
 pub mod Words

@@ -192,7 +192,7 @@ abbrev pub IsPermitted : Case → Group → Source → Type 0
 IsPermitted c g cold = is_permitted c g cold ≡ true
 
 -- what is permitted to a group is permitted to each of its sources
-permitted-each : (c : Case) (g : Group) (cold source : Source) → is_permitted c g cold ≡ true → Contains g.sources source
+pub permitted-each : (c : Case) (g : Group) (cold source : Source) → is_permitted c g cold ≡ true → Contains g.sources source
     → is_forbidden c.forbids source cold ≡ false
 permitted-each c g cold source free_of found =
     let free = λ (hot : Source). not (is_forbidden c.forbids hot cold) in

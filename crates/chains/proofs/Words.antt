@@ -6,7 +6,7 @@ pub use Rattle.chains.specs.Depths.{AreDepths}
 pub use Rattle.chains.specs.Gathered.{AreGathered, AreOfOnePair, IsAdded, IsJoined, IsNotAfter, IsPushed, transfer_of}
 pub use Rattle.chains.specs.Groups.{AreGroups, HaveSamePartners, StandsIn, StartsChain}
 pub use Rattle.chains.specs.Inner.{IsHeatOf, IsInner, IsInnerLink}
-pub use Rattle.chains.specs.Making.{AreSources, IsLike, ListsOnce, streams_on, utilities_on}
+pub use Rattle.chains.specs.Making.{ArePartners, ArePermitted, AreSources, HasPartners, IsGroup, IsLike, ListsOnce, sources_in, streams_on, utilities_on}
 pub use Rattle.chains.specs.Path.{IsPath, LeadsTo, PathsAreReaches}
 pub use Rattle.chains.specs.Ranks.{place_index, rank_count, rank_of}
 pub use Rattle.chains.specs.Sizes.{IsSmall}
@@ -18,6 +18,7 @@ pub use Rattle.chains.specs.declared.links.TheConstants.{STRIDES}
 pub use Rattle.chains.specs.declared.net.Chains.{Chains}
 pub use Rattle.chains.specs.declared.net.Group.{Group}
 pub use Rattle.chains.specs.declared.net.TheConstants.{MOST_INNER_NODES}
+pub use Rattle.chains.specs.declared.partners.Partners.{Partners}
 pub use Rattle.chains.specs.declared.stock.Share.{Share}
 pub use Rattle.chains.specs.declared.ways.Way.{Way}
 pub use Rattle.flow_net.proofs.Sums.{sum_below-zero}
@@ -34,9 +35,11 @@ pub use Rattle.grid.specs.declared.part.Part.{Part}
 pub use Rattle.heat_flow.proofs.Blanks.{blank}
 pub use Rattle.heat_flow.proofs.CheckLemmas.{precedes-trans}
 pub use Rattle.heat_flow.proofs.ReachLemmas.{both_parts}
+pub use Rattle.heat_flow.specs.Cells.{ArePermissions, source_index}
 pub use Rattle.heat_flow.specs.Reach.{both_reach, passes_heat, reach_between}
 pub use Rattle.heat_flow.specs.declared.flow.Flow.{Flow}
 pub use Rattle.heat_flow.specs.declared.flow.Transfer.{Transfer}
+pub use Rattle.std.proofs.Math.Bool.{or-false, or-true}
 pub use Rattle.std.proofs.Math.ListN.{set}
 pub use Rattle.std.proofs.Math.Nat.{div-mul-le_self, le-div_iff_mul-le}
 pub use Rattle.std.proofs.Math.Path.{subst₂}
@@ -49,8 +52,8 @@ pub use Rattle.std.proofs.lemmas.Grind.{get_or-set_at}
 pub use Rattle.std.proofs.lemmas.Int.{by_lt_z, clamps, ints, to_z-of_z}
 pub use Rattle.std.proofs.lemmas.Iterator.Search.{position_from_yields_List}
 pub use Rattle.std.proofs.lemmas.List.{append-nil, flat_map_more, get_or-set_other, get_or-set_same, get_or-take, get_or_default, get_or_read, length-append}
-pub use Rattle.std.proofs.lemmas.List.{at_drop_all, at_drop_more, get_or-map, length-map, map-append}
-pub use Rattle.std.proofs.lemmas.List.{length-set, length-take, length-take-le, length_push, nil_from_length, take_all, take_more, take_more_set}
+pub use Rattle.std.proofs.lemmas.List.{at_drop_all, at_drop_more, get_or-map, get_or-replicate, length-map, map-append}
+pub use Rattle.std.proofs.lemmas.List.{length-replicate, length-set, same_lists, take-append-le, length-take, length-take-le, length_push, nil_from_length, take_all, take_more, take_more_set}
 pub use Rattle.std.proofs.lemmas.List.Concat.{length-flat_map}
 pub use Rattle.std.proofs.lemmas.List.Elements.{All-append, All-cons, All-contains, All-drop, All-head, All-map, All-nil, All-pop, All-push, All-set, All-tail}
 pub use Rattle.std.proofs.lemmas.List.Elements.{All-weaker, Contains-append_left, Contains-append_right, Contains-get_or, Contains-push, Contains-push_cases}
@@ -71,10 +74,10 @@ pub use Rattle.std.specs.List.{enumerate_from, find, flat_map, list_any, positio
 pub use Rattle.std.specs.List.Sorted.{IsNonDecreasingBy, IsPermutation, IsSortedByKey}
 pub use Rattle.std.specs.Ordering.{int_eq, is_lt, nat_cmp, ordering_then}
 pub use Rattle.std.specs.Prelude.{All, AllPairs, Any, Contains, count_by, if◌then◌else◌, int_lt, negsuc, pos, unwrap_or, ℤ, ◌*◌, ◌+ℤ◌, ◌-ℤ◌, ◌<ℤ◌, ◌≤ℤ◌}
-pub use Rattle.stream_case.proofs.CaseLemmas.{length-AreStreams}
+pub use Rattle.stream_case.proofs.CaseLemmas.{IsSourceOf-side, length-AreStreams}
 pub use Rattle.stream_case.proofs.CompleteLemmas.{AreStreams-IsComplete, StaysValid-IsComplete, length-utilities}
 pub use Rattle.stream_case.proofs.SourceLemmas.{own_side, same_side-true, same_source-same, same_source-true}
-pub use Rattle.stream_case.specs.Case.{IsComplete, is_forbidden, side_among, side_of}
+pub use Rattle.stream_case.specs.Case.{IsComplete, IsSourceOf, IsValidForbid, is_forbidden, side_among, side_of}
 pub use Rattle.stream_case.specs.Source.{same_side, same_source}
 pub use Rattle.stream_case.specs.Stream.{high_end, stream_ends}
 pub use Rattle.stream_case.specs.Utility.{shifted_level}

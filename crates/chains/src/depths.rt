@@ -1,6 +1,6 @@
 //! The depths of parts: at how many ranks above their own parts stand. A chain has a node for each
 //! of these ranks.
-ghost use Rattle.std.specs.Prelude.{◌≡◌, ◌+◌, ◌*◌, ◌<◌, ◌≤◌, ◌==◌, ◌++◌, ◌||◌, length, map, slice_index, All, IfOk};
+ghost use Rattle.std.specs.Prelude.{◌≡◌, ◌+◌, ◌*◌, ◌<◌, ◌≤◌, ◌==◌, ◌++◌, ◌||◌, false, length, map, slice_index, slice_index_or, All, EachIndex, IfOk};
 ghost use Rattle.std.specs.List.{list_any, range_with_len};
 ghost use Rattle.stream_case.specs.declared.limits.TheConstants.{MOST_PLACES};
 ghost use Rattle.chains.specs.Ranks.{rank_count, rank_of};
@@ -18,29 +18,51 @@ pub(crate) struct Depths {
     pub nodes: u32,
 }
 
-/// Whether a rank is one of those of the hot or the cold parts.
-fn is_used(hot: &[u32], cold: &[u32], rank: u32) -> bool
-    ensures { result ≡ (list_any (λ r. r == rank) hot.now || list_any (λ r. r == rank) cold.now) }
+/// Marks these ranks.
+fn mark(used: &mut [bool], ranks: &[u32])
+    requires { All (λ rank. rank < length used.old) ranks.now }
+    ensures { EachIndex used.new (λ k. slice_index_or used.new k false
+        ≡ (slice_index_or used.old k false || list_any (λ r. r == k) ranks.now)) }
 {
-    hot.contains(&rank) || cold.contains(&rank)
+    for rank in ranks {
+        used[*rank as usize] = true;
+    }
+}
+
+/// For each rank, whether it is one of those of the hot or the cold parts. They are marked, so
+/// that the parts are not gone through for each rank.
+fn used_ranks(alloc: Global, ranks: u32, hot: &[u32], cold: &[u32]) -> Result<Vec<bool>, AllocError>
+    requires hot { All (λ rank. rank < ranks) hot.now }
+    requires cold { All (λ rank. rank < ranks) cold.now }
+    ensures count { IfOk result (λ used. length used.items ≡ ranks) }
+    ensures each { IfOk result (λ used. EachIndex used.items (λ k.
+        slice_index_or used.items k false ≡ list_any (λ r. r == k) (hot.now ++ cold.now))) }
+{
+    let mut used = vec![in alloc; false; ranks as usize]?;
+    mark(&mut used, hot);
+    mark(&mut used, cold);
+    Ok(used)
 }
 
 /// For each rank, and behind the last one, how many of the ranks above it are those of hot or cold
 /// parts.
 fn used_above(alloc: Global, ranks: u32, hot: &[u32], cold: &[u32]) -> Result<Vec<u32>, AllocError>
     requires few { ranks ≤ 2 * MOST_PLACES }
+    requires hot { All (λ rank. rank < ranks) hot.now }
+    requires cold { All (λ rank. rank < ranks) cold.now }
     ensures { IfOk result (λ above.
         above.items ≡ map (used_among (hot.now ++ cold.now)) (range_with_len 0 (ranks + 1))) }
 {
+    let used = used_ranks(alloc, ranks, hot, cold)?;
     let mut above = Vec::with_capacity(alloc, ranks as usize + 1)?;
-    let mut used = 0;
-    for rank in 0..ranks {
-        above.push(used)?;
-        if is_used(hot, cold, rank) {
-            used += 1;
+    let mut count = 0;
+    for is_used in &used {
+        above.push(count)?;
+        if *is_used {
+            count += 1;
         }
     }
-    above.push(used)?;
+    above.push(count)?;
     Ok(above)
 }
 

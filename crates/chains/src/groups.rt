@@ -1,13 +1,14 @@
 //! The groups of the hot sources of a case.
 ghost use Rattle.std.specs.Prelude.{◌≡◌, ◌↔◌, ◌≤◌, ◌<◌, ◌+◌, ◌*◌, ◌^◌, ◌++◌, length, IsTrue, All, Any, Contains, IfOk, OnOk, Some};
 ghost use Rattle.stream_case.specs.declared.limits.TheConstants.{ALL_UTILITIES, MOST_PARTS, MOST_PLACES, MOST_STREAMS};
-ghost use Rattle.stream_case.specs.declared.source.Side.TheVariants.{Hot, Cold};
-ghost use Rattle.stream_case.specs.Case.{side_of, is_forbidden, IsComplete};
+ghost use Rattle.stream_case.specs.declared.source.Side.TheVariants.{Hot};
+ghost use Rattle.stream_case.specs.Case.{side_of, IsComplete};
 ghost use Rattle.chains.specs.ChainNet.{has_source, StandInLine};
 ghost use Rattle.chains.specs.Groups.{AreGroups};
-ghost use Rattle.chains.specs.Making.{streams_on, utilities_on, AreSources, IsLike, ListsOnce};
+ghost use Rattle.chains.specs.Making.{sources_in, streams_on, utilities_on, AreSources, HasPartners, IsLike, ListsOnce};
 
 use crate::net::Group;
+use crate::partners::{Partners, are_alike, partners_of};
 use std::alloc::{AllocError, Global};
 use stream_case::{Case, Items, Side, Source};
 
@@ -53,41 +54,25 @@ pub(crate) fn sources_of(alloc: Global, case: &Case, side: Side) -> Result<Vec<S
     Ok(sources)
 }
 
-/// Whether a cold source is permitted to both hot sources or to none of them.
-fn is_shared(case: &Case, first: Source, second: Source, cold: &Source) -> bool
-    ensures { IsTrue result
-        ↔ (is_forbidden case.now.forbids first cold.now
-        ≡ is_forbidden case.now.forbids second cold.now) }
-{
-    case.is_forbidden(first, *cold) == case.is_forbidden(second, *cold)
-}
-
-/// Whether the same of these cold sources are permitted to two hot sources.
-fn are_alike(case: &Case, cold: &[Source], first: Source, second: Source) -> bool
-    ensures { IsTrue result
-        ↔ All (λ source. is_forbidden case.now.forbids first source
-        ≡ is_forbidden case.now.forbids second source) cold.now }
-{
-    cold.iter()
-        .all(|source| is_shared(case, first, second, source))
-}
-
-/// The hot sources to which the same cold sources are permitted as to this one.
+/// The hot sources of the table to which the same cold sources are permitted as to the first one,
+/// whose partners stand in it too.
 fn sources_like(
     alloc: Global,
     case: &Case,
-    hot: &[Source],
-    cold: &[Source],
-    first: Source,
+    table: &[Partners],
+    first: &Partners,
 ) -> Result<Vec<Source>, AllocError>
-    requires hot { ListsOnce (λ source. side_of case.now source ≡ Some Hot) hot.now }
-    requires cold { ListsOnce (λ source. side_of case.now source ≡ Some Cold) cold.now }
-    ensures { IfOk result (λ sources. ListsOnce (IsLike case.now first) sources.items) }
+    requires complete { IsComplete case.now }
+    requires hot { ListsOnce (λ source. side_of case.now source ≡ Some Hot)
+        (sources_in table.now) }
+    requires table { All (HasPartners case.now) table.now }
+    requires first { HasPartners case.now first.now }
+    ensures { IfOk result (λ sources. ListsOnce (IsLike case.now first.now.source) sources.items) }
 {
     let mut sources = Vec::new(alloc);
-    for source in hot {
-        if are_alike(case, cold, first, *source) {
-            sources.push(*source)?;
+    for partners in table {
+        if are_alike(first, partners) {
+            sources.push(partners.source)?;
         }
     }
     Ok(sources)
@@ -129,12 +114,12 @@ pub(crate) fn groups_of(
     ensures few { IfOk result (λ groups. length groups.items ≤ MOST_STREAMS + ALL_UTILITIES) }
 {
     let hot = sources_of(alloc, case, Side::Hot)?;
-    let cold = sources_of(alloc, case, Side::Cold)?;
+    let table = partners_of(alloc, case, &hot)?;
     let mut groups = Vec::new(alloc);
-    for source in &hot {
-        if !stands_in_one(groups.as_slice(), *source) {
+    for partners in &table {
+        if !stands_in_one(groups.as_slice(), partners.source) {
             let first_node = first + groups.len() as u32 * nodes;
-            let sources = sources_like(alloc, case, hot.as_slice(), cold.as_slice(), *source)?;
+            let sources = sources_like(alloc, case, &table, partners)?;
             groups.push(Group {
                 sources: Items::from_vec(sources),
                 first_node,

@@ -13,6 +13,7 @@ mod groups;
 mod links;
 mod making;
 mod net;
+mod partners;
 mod ranks;
 mod spreading;
 mod stock;

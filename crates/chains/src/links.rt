@@ -1,15 +1,16 @@
 //! The links of a net of chains.
-ghost use Rattle.std.specs.Prelude.{◌≡◌, ◌↔◌, ◌≤◌, ◌+◌, ◌-◌, ◌*◌, ◌++◌, true, length, map, IsTrue, IfOk, OnOk, All, Contains, Some};
-ghost use Rattle.stream_case.specs.declared.source.Source.{Source};
+ghost use Rattle.std.specs.Prelude.{◌≡◌, ◌≤◌, ◌+◌, ◌-◌, ◌*◌, ◌++◌, length, map, OnOk, All, Some};
 ghost use Rattle.stream_case.specs.declared.limits.TheConstants.{MOST_PLACES};
 ghost use Rattle.stream_case.specs.declared.source.Side.TheVariants.{Cold};
 ghost use Rattle.stream_case.specs.Case.{side_of, IsComplete};
 ghost use Rattle.chains.specs.declared.net.TheConstants.{MOST_INNER_NODES};
 ghost use Rattle.chains.specs.Depths.{depth_of};
-ghost use Rattle.chains.specs.ChainNet.{entering, first_node_of, is_permitted, leaving, onward, open_link, stride_links};
+ghost use Rattle.chains.specs.Making.{IsGroup};
+ghost use Rattle.chains.specs.ChainNet.{entering, first_node_of, leaving, onward, open_link, stride_links};
 
-use crate::groups::{has_source, sources_of};
+use crate::groups::has_source;
 use crate::net::Group;
+use crate::partners::{is_permitted, permitted_to};
 use flow_net::{Link, MOST_ROOM};
 use grid::Parts;
 use std::alloc::{AllocError, Global};
@@ -114,40 +115,6 @@ pub(crate) fn push_onward(
     Ok(())
 }
 
-/// Whether a cold source is permitted to each source of a group.
-fn is_permitted(case: &Case, group: &Group, cold: Source) -> bool
-    ensures { result ≡ is_permitted case.now group.now cold }
-{
-    group
-        .sources
-        .as_slice()
-        .iter()
-        .all(|hot| !case.is_forbidden(*hot, cold))
-}
-
-/// The cold sources that are permitted to each source of a group.
-fn permitted_to(alloc: Global, case: &Case, group: &Group) -> Result<Vec<Source>, AllocError>
-    requires { IsComplete case.now }
-    ensures { IfOk result (λ permitted. (cold : Source) → side_of case.now cold ≡ Some Cold
-        → (Contains permitted.items cold ↔ (is_permitted case.now group.now cold ≡ true))) }
-{
-    let cold = sources_of(alloc, case, Side::Cold)?;
-    let mut permitted = Vec::new(alloc);
-    for source in &cold {
-        if is_permitted(case, group, *source) {
-            permitted.push(*source)?;
-        }
-    }
-    Ok(permitted)
-}
-
-/// Whether a source is one of these.
-fn is_one_of(sources: &[Source], source: Source) -> bool
-    ensures { IsTrue result ↔ Contains sources.now source }
-{
-    sources.contains(&source)
-}
-
 /// Appends a link from a group's chain, at the part's depth, to each cold part whose source is
 /// permitted to the group. Beside the cold parts stand their depths, given the places.
 pub(crate) fn push_leaving(
@@ -160,6 +127,7 @@ pub(crate) fn push_leaving(
     parts: &Parts,
 ) -> Result<(), AllocError>
     requires complete { IsComplete case.now }
+    requires group { IsGroup case.now group.now }
     requires depths { depths.now
         ≡ map (depth_of places.now parts.now.hot parts.now.cold) parts.now.cold }
     requires small { All (λ depth. depth ≤ 2 * MOST_PLACES) depths.now }
@@ -173,7 +141,7 @@ pub(crate) fn push_leaving(
     let permitted = permitted_to(alloc, case, group)?;
     let hots = parts.hot.len() as u32;
     for (index, part) in parts.cold.as_slice().iter().enumerate() {
-        if is_one_of(permitted.as_slice(), part.source) {
+        if is_permitted(case, &permitted, part.source) {
             let node = group.first_node + depths[index];
             links.push(open_link(node, hots + index as u32))?;
         }

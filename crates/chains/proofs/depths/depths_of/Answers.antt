@@ -1,9 +1,21 @@
 -- The depths are read at the ranks of the parts.
-use Rattle.chains.proofs.DepthLemmas.{AreDepths-read, ranks_within}
+use Rattle.chains.proofs.DepthLemmas.{AreDepths-read, ranks_high, ranks_within}
 use Rattle.chains.proofs.Words.{get_or_default, range_with_len, rank_count, rank_of, used_among}
 use Rattle.std.proofs.Common.{ap, ap₂, arith, get_or, length, map, max, ◌++◌, ◌+◌, ◌<◌, ◌∙◌, ◌≡◌}
 use Rattle.std.proofs.lemmas.List.FromFn.{length-map-range_with_len}
 use Rattle.chains.proofs.depths.depths_of.Goals as goal
+
+pub used_above-requires-clause-hot : goal.used_above-requires-clause-hot
+used_above-requires-clause-hot c =
+    let places = c.args.places.now in let hot = c.args.parts.now.hot in
+    ranks_high places hot c.args.parts.now.cold _ hot _ c.rank_count-ranks.ensures
+    (c.deref.ensures.value ∙ (c.in_ok-hot.ensures.value ∙ ap (map (rank_of places)) c.as_slice.ensures)) c.requires.hot
+
+pub used_above-requires-clause-cold : goal.used_above-requires-clause-cold
+used_above-requires-clause-cold c =
+    let places = c.args.places.now in let cold = c.args.parts.now.cold in
+    ranks_high places c.args.parts.now.hot cold _ cold _ c.rank_count-ranks.ensures
+    (c.deref-2.ensures.value ∙ (c.in_ok-cold.ensures.value ∙ ap (map (rank_of places)) c.as_slice-2.ensures)) c.requires.cold
 
 pub at_ranks-requires : goal.at_ranks-requires
 at_ranks-requires c =

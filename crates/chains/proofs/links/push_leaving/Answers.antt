@@ -1,9 +1,10 @@
 -- One cold part more.
 use Rattle.chains.proofs.FlatMaps.{enumerated-step}
-use Rattle.chains.proofs.links.push_leaving.Goals.{else-is_one_of, then-is_one_of+in_ok-push}
-use Rattle.chains.proofs.Words.{Cold, Contains, append-nil, blank, cons_if, depth_of, false_from_ne_true, get_or-map, get_or_default, is_permitted, leaving_at}
-use Rattle.chains.proofs.Words.{length-map, not_from_Decides, open_link, side_of}
-use Rattle.std.proofs.Common.{Bool, Some, [], ap, ap₂, arith, get_or, length, subst, sym, true, ◌++◌, ◌+◌, ◌<◌, ◌∙◌, ◌∷◌, ◌≡◌}
+use Rattle.chains.proofs.PartnerLemmas.{source_on}
+use Rattle.chains.proofs.links.push_leaving.Goals.{else-is_permitted, then-is_permitted+in_ok-push}
+use Rattle.chains.proofs.Words.{Cold, append-nil, blank, cons_if, depth_of, get_or-map, get_or_default, is_permitted, leaving_at}
+use Rattle.chains.proofs.Words.{length-map, open_link, side_of, source_index}
+use Rattle.std.proofs.Common.{Bool, Some, [], ap, ap₂, arith, false, get_or, length, subst, sym, ◌++◌, ◌+◌, ◌<◌, ◌∙◌, ◌∷◌, ◌≡◌}
 use Rattle.chains.proofs.links.push_leaving.Goals as goal
 
 pub overflow_add-node : goal.overflow_add-node
@@ -14,6 +15,17 @@ overflow_add-node c =
     let small = c.requires.small c.loop-index.index 0 (omega (arith, each, within)) in
     omega (arith, c.requires.node, small)
 
+pub is_permitted-requires : goal.is_permitted-requires
+is_permitted-requires c =
+    let case = c.args.case.now in let slice = c.as_slice-part-items in let i = c.loop-index.index in
+    let within = subst (λ xs. i < length xs) slice.ensures c.loop-index-test.true in let p = get_or slice.result.now i blank in
+    let is = get_or_default slice.result.now i blank p c.loop-index-test.true ∙ ap (λ xs. get_or xs i p) slice.ensures in
+    record {
+      complete = c.requires.complete;
+      source = source_on case Cold p.source (subst (λ q. side_of case q.source ≡ Some Cold) (sym is) (c.requires.cold i p within));
+      count = ap length c.deref.ensures.value ∙ c.in_ok-permitted.ensures.count;
+    }
+
 pub loop-index-preserved : goal.loop-index-preserved
 loop-index-preserved c =
     let case = c.args.case.now in let places = c.args.places.now in let hot = c.args.parts.now.hot in
@@ -22,20 +34,19 @@ loop-index-preserved c =
     let p = get_or slice.result.now i blank in
     let is = get_or_default slice.result.now i blank p c.loop-index-test.true ∙ ap (λ xs. get_or xs i p) slice.ensures in
     let side = subst (λ q. side_of case q.source ≡ Some Cold) (sym is) (c.requires.cold i p within) in
-    let permitted = c.in_ok-permitted.ensures p.source side in let after = c.loop-index.links.items in
+    let after = c.loop-index.links.items in
+    let test : c.is_permitted.result ≡ is_permitted case g p.source
+    = c.is_permitted.ensures ∙ ap (λ xs. get_or xs (source_index case p.source) false) c.deref.ensures.value ∙ c.in_ok-permitted.ensures.each p.source side in
     let depth = depth_of places hot cold in let out = open_link (g.first_node + depth p) (length hot + i) in
     let pushes = λ (b : Bool). after ++ cons_if b out [] in
     let deep : get_or c.args.depths.now i 0 ≡ depth p = ap (λ xs. get_or xs i 0) c.requires.depths
     ∙ (get_or-map depth cold i p 0 within ∙ ap depth (sym is)) in
-    elim c.if-is_one_of.branch [
-      | then-is_one_of+in_ok-push w ↦
-          let found = subst (λ xs. Contains xs p.source) c.as_slice.ensures.value (c.is_one_of.ensures.0 w.if-is_one_of.true) in
+    elim c.if-is_permitted.branch [
+      | then-is_permitted+in_ok-push w ↦
           let link = w.open_link.ensures ∙ ap₂ (λ r n. open_link (g.first_node + r) (n + i)) deep c.len-hots.ensures in
           enumerated-step cold i p _ after _ within is (leaving_at case depth (length hot) g) c.loop-index.invariant
-          (ap (λ v. v.items) w.links-is ∙ w.in_ok-push.ensures.items ∙ ap (λ l. after ++ l ∷ []) link ∙ ap pushes (sym (permitted.0 found)))
-      | else-is_one_of w ↦
-          let other = λ (free : is_permitted case g p.source ≡ true). not_from_Decides _ c.is_one_of.ensures w.if-is_one_of.false
-          (subst (λ xs. Contains xs p.source) (sym c.as_slice.ensures.value) (permitted.1 free)) in
+          (ap (λ v. v.items) w.links-is ∙ w.in_ok-push.ensures.items ∙ ap (λ l. after ++ l ∷ []) link ∙ ap pushes (sym w.if-is_permitted.true ∙ test))
+      | else-is_permitted w ↦
           enumerated-step cold i p _ after _ within is (leaving_at case depth (length hot) g) c.loop-index.invariant
-          (ap (λ v. v.items) w.links-is ∙ sym (append-nil after) ∙ ap pushes (sym (false_from_ne_true (is_permitted case g p.source) other)))
+          (ap (λ v. v.items) w.links-is ∙ sym (append-nil after) ∙ ap pushes (sym w.if-is_permitted.false ∙ test))
     ]

@@ -3,11 +3,12 @@ use Rattle.chains.proofs.FlatMaps.{flat_map-step}
 use Rattle.chains.proofs.GroupLemmas.{few_chain_nodes}
 use Rattle.chains.proofs.DepthLemmas.{chain_length-le, chain_length-some}
 use Rattle.chains.proofs.NetLemmas.{AreChains, AreChains-made, AreForChains, first_nodes_few, on_places, places_some, rank_within}
+use Rattle.chains.proofs.PartnerLemmas.{IsGroup-AreGroups}
 use Rattle.chains.proofs.making.chains_of.Goals.{After-as_slice-places, After-drop-grid-2, After-len-2, After-len-3, In-loop-group}
 use Rattle.chains.proofs.making.chains_of.Goals.{In_ok-depths, In_ok-groups}
 use Rattle.chains.proofs.Words.{All, All-weaker, AreGroups, Cold, Group, Hot, IsOnPlaces, chain_length, depth_of, IsGrid, MOST_INNER_NODES, MOST_PARTS, MOST_PLACES, StandInLine, append-nil, chain_links, entering}
-use Rattle.chains.proofs.Words.{flat_map, leaving, length-grid, links_of_group, onward, rank_count, rank_of, take_all}
-use Rattle.std.proofs.Common.{List, ap, append_assoc, ap₂, arith, get_or, length, subst, subst₂, sym, ℕ, ◌*◌, ◌++◌, ◌+◌, ◌<◌, ◌∙◌, ◌≡◌, ◌≤◌}
+use Rattle.chains.proofs.Words.{flat_map, leaving, length-grid, links_of_group, onward, rank_count, rank_of, slice_get_read, take_all}
+use Rattle.std.proofs.Common.{List, ap, append_assoc, ap₂, arith, get_or, length, refl, subst, subst₂, sym, ℕ, ◌*◌, ◌++◌, ◌+◌, ◌<◌, ◌∙◌, ◌≡◌, ◌≤◌}
 use Rattle.chains.proofs.making.chains_of.Goals as goal
 
 grid : (c : After-as_slice-places) → IsGrid c.args.case.now c.as_slice-places.result.now
@@ -111,6 +112,13 @@ push_leaving-requires-clause-node c = first_node (goal.at.push_leaving-requires-
 
 pub push_leaving-requires-clause-cold : goal.push_leaving-requires-clause-cold
 push_leaving-requires-clause-cold c = λ k d within. (c.requires.parts.cold_parts k d within).source
+
+pub push_leaving-requires-clause-group : goal.push_leaving-requires-clause-group
+push_leaving-requires-clause-group c =
+    let case = c.args.case.now in let groups = c.deref-group-items.result.now in let i = c.loop-group.group-index in
+    let within = c.loop-group-test.true in let g = c.group-item.result in
+    let are = subst (AreGroups case) (sym c.deref-group-items.ensures.value) c.in_ok-groups.ensures.groups in
+    IsGroup-AreGroups case groups are i g within (slice_get_read groups (length groups) i g refl within c.group-item.is)
 
 pub loop-group-preserved : goal.loop-group-preserved
 loop-group-preserved c =
