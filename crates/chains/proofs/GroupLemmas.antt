@@ -1,11 +1,11 @@
 -- Lists of exactly the values that meet a predicate, each once: one value more, and what a loop over such a list keeps; the sources of a side, and groups.
 use Rattle.chains.proofs.Words.{ALL_UTILITIES, All, All-append, All-cons_if, All-contains, All-enumerated, All-flat_map, All-nil, All-push, All-slice_get}
 use Rattle.chains.proofs.Words.{All-weaker, AllPairs, AllPairs-append, AllPairs-before, AllPairs-cons_if, AllPairs-nil, Any, Any-push, AreGroups, AreSources}
-use Rattle.chains.proofs.Words.{AreStreams-IsComplete, Case, Cold, Contains, Contains-append_left, Contains-append_right, Contains-flat_map, Contains-push}
+use Rattle.chains.proofs.Words.{AreStreams-IsComplete, Case, Contains, Contains-append_left, Contains-append_right, Contains-flat_map, Contains-push}
 use Rattle.chains.proofs.Words.{Contains-push_cases, Group, HaveSamePartners, Hot, IsComplete, IsLike, Lists-same, ListsOnce, MOST_INNER_NODES, MOST_PARTS}
 use Rattle.chains.proofs.Words.{MOST_PLACES, MOST_STREAMS, Side, Source, StandInLine, StandsIn, Stream, Utility, all_pairs_push, cases_order, append-nil}
 use Rattle.chains.proofs.Words.{cons_if, count_by, count_by-cons, count_by-le-length, enumerate_from, false_from_ne_true, false≢true, flat_map, get_or_default}
-use Rattle.chains.proofs.Words.{get_or_from_slice_get, is_forbidden, length-take, length-utilities, length_push, mul-le, own_side, same_Some, same_side}
+use Rattle.chains.proofs.Words.{get_or_from_slice_get, length-take, length-utilities, length_push, mul-le, own_side, same_Some, same_side}
 use Rattle.chains.proofs.Words.{same_side-true, side_among, side_of, slice_get_push, slice_get_read, slice_get_within, streams_on, take_all, utilities_on}
 use Rattle.std.proofs.Common.{Bool, List, None, Option, Some, [], ap, arith, cond, false, get_or, inl, inr, length, length-append, option_map, refl, slice_get}
 use Rattle.std.proofs.Common.{subst, subst₂, sym, take, true, ℕ, ⊎_elim, ◌*◌, ◌++◌, ◌+◌, ◌<◌, ◌∙◌, ◌∷◌, ◌≡◌, ◌≢◌, ◌≤◌, ◌⊎◌}

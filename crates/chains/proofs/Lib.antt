@@ -4,6 +4,7 @@ mod GatherLemmas
 mod GroupLemmas
 pub mod NetLemmas
 mod PartnerLemmas
+mod PlaceLemmas
 mod SpreadLemmas
 mod StrideLemmas
 pub mod Words

@@ -2,9 +2,12 @@
 use Rattle.chains.proofs.Words.{All-contains, Any-from_list_any, AreGroups, ArePermissions, ArePermitted, Case, Cold, Group, HaveSamePartners, Hot}
 use Rattle.chains.proofs.Words.{IsComplete, IsGroup, IsSourceOf, IsSourceOf-side, IsValidForbid, Side, Source, StaysValid-IsComplete, and_parts, cases_lt}
 use Rattle.chains.proofs.Words.{false_from_ne_true, false≢true, get_or_default, get_or_from_slice_get, is_forbidden, is_permitted, same_lists, same_source}
-use Rattle.chains.proofs.Words.{same_source-true, side_of, slice_get_within, source_index}
-use Rattle.std.proofs.Common.{Bool, Contains, List, None, Option, Some, ap, arith, false, get_or, inl, inr, is_some, length, not, refl, slice_get, subst, sym}
-use Rattle.std.proofs.Common.{true, ℕ, ⊎_elim, ◌&&◌, ◌+◌, ◌-◌, ◌<◌, ◌∙◌, ◌≡◌, ◌≤◌}
+use Rattle.chains.proofs.Words.{same_source-true, side_of, source_at, source_index}
+use Rattle.std.proofs.Common.{Bool, Contains, List, None, Option, Some, ap, arith, false, get_or, if◌then◌else◌, is_some, length, ltb, map, not, refl, slice_get, subst, sym}
+use Rattle.std.proofs.Common.{true, ℕ, ⊎_elim, ◌&&◌, ◌+◌, ◌-◌, ◌<◌, ◌∙◌, ◌≡◌}
+use Rattle.chains.proofs.Words.{first_node_of, range_with_len}
+use Rattle.std.proofs.lemmas.Bool.Decides.{Decides-ltb}
+use Rattle.std.proofs.lemmas.List.FromFn.{get_or-map-range_with_len}
 use Rattle.chains.proofs.NetLemmas.{permitted-all, permitted-each}
 use Rattle.stream_case.specs.declared.case.Forbid.{Forbid}
 use Rattle.stream_case.specs.declared.source.Source.TheVariants.{Stream as of_stream, Utility as of_utility}
@@ -18,6 +21,27 @@ not-same false false e = refl
 module _ (c : Case) where
   pub source_on : (side : Side) (source : Source) → side_of c source ≡ Some side → IsSourceOf c source
   source_on side source on = IsSourceOf-side c source (ap is_some on)
+
+  pub source_at-index : (source : Source) → IsSourceOf c source → source_at c (source_index c source) ≡ source
+  source_at-index (of_stream i) there = ap (λ b. if b then of_stream i else of_utility (i - length c.streams)) ((Decides-ltb i (length c.streams)).1 there)
+  source_at-index (of_utility i) there =
+      let n = length c.streams in let back : (n + i) - n ≡ i = omega arith in
+      ap (λ b. if b then of_stream (n + i) else of_utility ((n + i) - n)) (false_from_ne_true (ltb (n + i) n) (λ e. absurd (omega (arith, (Decides-ltb (n + i) n).0 e))))
+      ∙ ap of_utility back
+
+  source_index-within : (source : Source) → IsSourceOf c source → source_index c source < length c.streams + length c.utilities
+  source_index-within (of_stream i) there = omega (arith, there)
+  source_index-within (of_utility i) there = omega (arith, there)
+
+  -- what stands at a source in a list of the first nodes of all sources
+  pub first_nodes-at : (groups : List Group) (nodes : List (Option ℕ))
+      → nodes ≡ map (λ index. first_node_of groups (source_at c index)) (range_with_len 0 (length c.streams + length c.utilities))
+      → (source : Source) → IsSourceOf c source → get_or nodes (source_index c source) None ≡ first_node_of groups source
+  first_nodes-at groups nodes are source there =
+      let index = source_index c source in let node = λ (i : ℕ). first_node_of groups (source_at c i) in
+      ap (λ xs. get_or xs index None) are
+      ∙ get_or-map-range_with_len node 0 (length c.streams + length c.utilities) index index None (source_index-within source there) (omega arith)
+      ∙ ap (first_node_of groups) (source_at-index source there)
 
   -- ---- two hot sources
 

@@ -1,6 +1,6 @@
 -- The words and lemmas from elsewhere that the proofs of this crate speak in, passed on from one place. Declares nothing.
 unfoldable pub use Rattle.chains.specs.ChainNet.{StandInLine, chain_links, entering, entering_at, first_node_of, has_source, is_permitted, leaving, leaving_at}
-unfoldable pub use Rattle.chains.specs.ChainNet.{links_of_group, onward, open_link, stride_link, stride_links, strides_within}
+unfoldable pub use Rattle.chains.specs.ChainNet.{links_of_group, onward, open_link, source_at, stride_link, stride_links, strides_within}
 unfoldable pub use Rattle.chains.specs.Depths.{chain_length, depth_of, ranks_used, used_among}
 pub use Rattle.chains.specs.Depths.{AreDepths}
 pub use Rattle.chains.specs.Gathered.{AreGathered, AreOfOnePair, IsAdded, IsJoined, IsNotAfter, IsPushed, transfer_of}

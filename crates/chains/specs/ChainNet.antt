@@ -1,7 +1,8 @@
 -- The links of a net of chains, as one list. The chain of a group has a node for each rank at which a part stands, in order.
-use Rattle.std.specs.Prelude.{◌≡◌, ℕ, ◌+◌, ◌-◌, ◌*◌, ◌/◌, nat_le, Bool, not, ℤ, pos, List, [], ◌∷◌, ◌++◌, length, map, if◌then◌else◌, Option, Some, option_map, option_to_list, slice_get}
+use Rattle.std.specs.Prelude.{◌≡◌, ℕ, ◌+◌, ◌-◌, ◌*◌, ◌/◌, nat_le, nat_lt, Bool, not, ℤ, pos, List, [], ◌∷◌, ◌++◌, length, map, if◌then◌else◌, Option, Some, option_map, option_to_list, slice_get}
 use Rattle.std.specs.List.{enumerate_from, find, flat_map, list_all, list_any, range_with_len}
 use Rattle.stream_case.specs.declared.source.Source.{Source}
+use Rattle.stream_case.specs.declared.source.Source.TheVariants.{Stream as of_stream, Utility as of_utility}
 use Rattle.stream_case.specs.declared.case.Case.{Case}
 use Rattle.stream_case.specs.Case.{is_forbidden}
 use Rattle.stream_case.specs.Source.{same_source}
@@ -29,6 +30,10 @@ has_source source g = list_any (λ other. same_source other source) g.sources
 -- the first node of the first group in which a source stands
 abbrev pub first_node_of : List Group → Source → Option ℕ
 first_node_of groups source = option_map (λ g. g.first_node) (find (has_source source) groups)
+
+-- the source at an index among the streams of the case and then its utilities
+abbrev pub source_at : Case → ℕ → Source
+source_at c index = if nat_lt index (length c.streams) then of_stream index else of_utility (index - length c.streams)
 
 -- from a hot part, which stands beside its index, into the chain of its source's group, at the depth of the part
 abbrev pub entering_at : (Part → ℕ) → List Group → ℕ × Part → List Link

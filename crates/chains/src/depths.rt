@@ -1,6 +1,6 @@
 //! The depths of parts: at how many ranks above their own parts stand. A chain has a node for each
 //! of these ranks.
-ghost use Rattle.std.specs.Prelude.{◌≡◌, ◌+◌, ◌*◌, ◌<◌, ◌≤◌, ◌==◌, ◌++◌, ◌||◌, false, length, map, slice_index, slice_index_or, All, EachIndex, IfOk};
+ghost use Rattle.std.specs.Prelude.{◌≡◌, ◌+◌, ◌*◌, ◌<◌, ◌≤◌, ◌<ℤ◌, ◌==◌, ◌++◌, ◌||◌, false, length, map, slice_index, slice_index_or, All, AllPairs, EachIndex, IfOk};
 ghost use Rattle.std.specs.List.{list_any, range_with_len};
 ghost use Rattle.stream_case.specs.declared.limits.TheConstants.{MOST_PLACES};
 ghost use Rattle.chains.specs.Ranks.{rank_count, rank_of};
@@ -81,6 +81,7 @@ fn at_ranks(alloc: Global, above: &[u32], ranks: &[u32]) -> Result<Vec<u32>, All
 /// The depths of parts whose ends stand among the places.
 pub(crate) fn depths_of(alloc: Global, places: &[i32], parts: &Parts) -> Result<Depths, AllocError>
     requires few { length places.now ≤ MOST_PLACES }
+    requires falls { AllPairs (λ a b. b <ℤ a) places.now }
     requires hot { All (λ p. rank_of places.now p < rank_count places.now) parts.now.hot }
     requires cold { All (λ p. rank_of places.now p < rank_count places.now) parts.now.cold }
     ensures { IfOk result (λ depths. AreDepths places.now parts.now.hot parts.now.cold depths) }

@@ -9,6 +9,7 @@
 #![tactic(auto)]
 
 mod depths;
+mod first_nodes;
 mod groups;
 mod links;
 mod making;

@@ -1,20 +1,20 @@
 //! The links of a net of chains.
 ghost use Rattle.std.specs.Prelude.{◌≡◌, ◌≤◌, ◌+◌, ◌-◌, ◌*◌, ◌++◌, length, map, OnOk, All, Some};
 ghost use Rattle.stream_case.specs.declared.limits.TheConstants.{MOST_PLACES};
-ghost use Rattle.stream_case.specs.declared.source.Side.TheVariants.{Cold};
+ghost use Rattle.stream_case.specs.declared.source.Side.TheVariants.{Cold, Hot};
 ghost use Rattle.stream_case.specs.Case.{side_of, IsComplete};
 ghost use Rattle.chains.specs.declared.net.TheConstants.{MOST_INNER_NODES};
 ghost use Rattle.chains.specs.Depths.{depth_of};
 ghost use Rattle.chains.specs.Making.{IsGroup};
-ghost use Rattle.chains.specs.ChainNet.{entering, first_node_of, leaving, onward, open_link, stride_links};
+ghost use Rattle.chains.specs.ChainNet.{entering, leaving, onward, open_link, stride_links};
 
-use crate::groups::has_source;
+use crate::first_nodes::{first_nodes_of, node_of};
 use crate::net::Group;
 use crate::partners::{is_permitted, permitted_to};
 use flow_net::{Link, MOST_ROOM};
 use grid::Parts;
 use std::alloc::{AllocError, Global};
-use stream_case::{Case, Side, Source};
+use stream_case::Case;
 
 /// How many nodes the links down a chain lead on.
 const STRIDES: [u32; 5] = [1, 3, 9, 27, 81];
@@ -31,25 +31,19 @@ fn open_link(from: u32, to: u32) -> Link
     }
 }
 
-/// The first node of the first group in which a source stands, if it stands in one.
-fn first_node_of(groups: &[Group], source: Source) -> Option<u32>
-    ensures { result ≡ first_node_of groups.now source }
-{
-    groups
-        .iter()
-        .find(|group| has_source(group, source))
-        .map(|group| group.first_node)
-}
-
 /// Appends a link from each hot part into the chain of its source's group, at the part's depth.
 /// Beside the hot parts stand their depths, given the places.
 pub(crate) fn push_entering(
     links: &mut Vec<Link>,
+    alloc: Global,
+    case: &Case,
     groups: &[Group],
     places: &[i32],
     depths: &[u32],
     parts: &Parts,
 ) -> Result<(), AllocError>
+    requires complete { IsComplete case.now }
+    requires hot { All (λ part. side_of case.now part.source ≡ Some Hot) parts.now.hot }
     requires depths { depths.now
         ≡ map (depth_of places.now parts.now.hot parts.now.cold) parts.now.hot }
     requires small { All (λ depth. depth ≤ 2 * MOST_PLACES) depths.now }
@@ -58,8 +52,9 @@ pub(crate) fn push_entering(
         (links.new.items ≡ links.old.items
         ++ entering (depth_of places.now parts.now.hot parts.now.cold) groups.now parts.now.hot) }
 {
+    let first_nodes = first_nodes_of(alloc, case, groups)?;
     for (index, part) in parts.hot.as_slice().iter().enumerate() {
-        if let Some(first_node) = first_node_of(groups, part.source) {
+        if let Some(first_node) = node_of(case, &first_nodes, part.source) {
             let node = first_node + depths[index];
             links.push(open_link(index as u32, node))?;
         }

@@ -43,7 +43,15 @@ pub fn chains_of(alloc: Global, case: &Case, parts: &Parts) -> Result<Chains, Al
     let groups = groups_of(alloc, case, first, depths.nodes)?;
     let room = 2 * places.len() as u32;
     let mut links = Vec::new(alloc);
-    push_entering(&mut links, groups.as_slice(), places, &depths.hot, parts)?;
+    push_entering(
+        &mut links,
+        alloc,
+        case,
+        groups.as_slice(),
+        places,
+        &depths.hot,
+        parts,
+    )?;
     for group in &groups {
         push_onward(&mut links, group, depths.nodes, room)?;
         push_leaving(&mut links, alloc, case, group, places, &depths.cold, parts)?;

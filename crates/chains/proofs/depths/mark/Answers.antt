@@ -1,7 +1,7 @@
 -- One rank more is marked.
 use Rattle.chains.proofs.DepthLemmas.{marked-more}
 use Rattle.chains.proofs.Words.{or-false}
-use Rattle.std.proofs.Common.{arith, false, get_or, length, subst, sym, take, ◌∙◌}
+use Rattle.std.proofs.Common.{arith, false, get_or, sym}
 use Rattle.chains.proofs.depths.mark.Goals as goal
 
 pub loop-rank-init : goal.loop-rank-init

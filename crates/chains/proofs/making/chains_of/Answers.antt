@@ -45,6 +45,7 @@ depths_of-requires c =
     let places = c.as_slice-places.result.now in let falls = (grid p).ordered in
     record {
       few = few_places p;
+      falls = falls;
       hot = All-weaker (IsOnPlaces case places Hot) (λ q. rank_of places q < rank_count places) (λ q stands. rank_within case places falls Hot q stands)
           c.args.parts.now.hot (on p).0;
       cold = All-weaker (IsOnPlaces case places Cold) (λ q. rank_of places q < rank_count places) (λ q stands. rank_within case places falls Cold q stands)
@@ -65,6 +66,9 @@ overflow_cast-room c = let few = few_places (goal.at.overflow_cast-room c).After
 
 pub overflow_mul-room : goal.overflow_mul-room
 overflow_mul-room c = let few = few_places (goal.at.overflow_mul-room c).After-as_slice-places in omega (arith, few)
+
+pub push_entering-requires-clause-hot : goal.push_entering-requires-clause-hot
+push_entering-requires-clause-hot c = λ k d within. (c.requires.parts.hot_parts k d within).source
 
 pub push_entering-requires-clause-depths : goal.push_entering-requires-clause-depths
 push_entering-requires-clause-depths c = c.deref.ensures.value ∙ c.in_ok-depths.ensures.hot_depths

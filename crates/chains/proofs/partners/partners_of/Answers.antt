@@ -1,6 +1,6 @@
 -- One hot source more.
 use Rattle.chains.proofs.Words.{All, All-push, ArePartners, HasPartners, Partners, map-append, take_all, take_more}
-use Rattle.std.proofs.Common.{[], ap, ap₂, get_or, map, refl, subst, sym, take, ◌++◌, ◌∙◌, ◌∷◌}
+use Rattle.std.proofs.Common.{[], ap, get_or, map, subst, sym, ◌++◌, ◌∙◌, ◌∷◌}
 use Rattle.chains.proofs.partners.partners_of.Goals as goal
 use Rattle.stream_case.specs.declared.source.Source.TheVariants.{Stream as of_stream}
 

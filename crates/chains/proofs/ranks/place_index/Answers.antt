@@ -1,20 +1,33 @@
--- The position of the first place that is the temperature.
-use Rattle.chains.proofs.Words.{int_eq, is_position_or_len, nat_tests, place_index, position_from_yields_List, position_or_len, prefix_len-le-length, unwrap_or}
-use Rattle.std.proofs.Common.{None, Some, ap, arith, cond, length, ltb, refl, rules, suc, sym, tests, ℕ, ◌+◌, ◌∙◌, ◌≡◌, ◌≤◌}
-use Rattle.std.proofs.lemmas.Iterator.{YieldsList-from_slice}
+-- The place at the temperature is the first one that is not above it.
+use Rattle.chains.proofs.PlaceLemmas.{IsParted-falls, place_index-none, place_index-there}
+use Rattle.chains.proofs.Words.{IsPartitionPoint-from_clause, get_or_default, int_lt, pos}
+use Rattle.chains.proofs.ranks.place_index.Goals.{After-partition_point-index, else-index-places-via-else-index-places}
+use Rattle.chains.proofs.ranks.place_index.Goals.{else-index-places-via-then-index-places+else-places-index}
+use Rattle.std.proofs.Common.{arith, false, get_or, length, rules, sym, true, ℕ, ℤ, ◌<◌, ◌∙◌, ◌≡◌, ◌≤◌}
 use Rattle.chains.proofs.ranks.place_index.Goals as goal
 
--- the first of n places, or n itself
-first_or_all : (k n : ℕ) → k ≤ n → unwrap_or (cond (ltb k n) (Some k) None) n ≡ k
-first_or_all k n within = grind (arith, nat_tests)
+-- how many places are above the temperature
+parted : (c : After-partition_point-index) → ((j : ℕ) (d : ℤ) → j < c.partition_point-index.result → int_lt c.args.temperature (get_or c.args.places.now j d) ≡ true)
+    × ((j : ℕ) (d : ℤ) → c.partition_point-index.result ≤ j → j < length c.args.places.now → int_lt c.args.temperature (get_or c.args.places.now j d) ≡ false)
+parted c =
+    let places = c.args.places.now in let t = c.args.temperature in let k = c.partition_point-index.result in
+    let point = IsPartitionPoint-from_clause (λ place. int_lt t place) places k c.partition_point-index.ensures.partitioned
+    (IsParted-falls places c.requires t) (λ a r q k. search rules) in
+    (λ j d less. point.0 j d (omega (arith, less, c.partition_point-index.ensures.bound)) less, λ j d upto within. point.1 j d upto within)
 
-pub returns-clause-value : goal.returns-clause-value
-returns-clause-value c =
-    let places = c.args.places.now in let t = c.args.temperature in
-    let found = position_from_yields_List (λ place. int_eq place t) _ _ c.position.result c.position.ensures.ran (YieldsList-from_slice places cc)
-    (λ x b q k. search (rules, tests)) in
-    let next : (n : ℕ) → suc n ≡ 1 + n = λ n. omega arith in
-    let index = is_position_or_len (λ ps. place_index ps t) (λ place. int_eq place t) refl
-    (λ place ps. ap (λ n. cond (int_eq place t) 0 n) (next (place_index ps t))) places in
-    let few : position_or_len (λ place. int_eq place t) places ≤ length places = prefix_len-le-length _ places in
-    c.unwrap_or.ensures ∙ ap (λ o. unwrap_or o (length places)) found ∙ first_or_all _ (length places) few ∙ sym index
+pub returns-then-places-index-clause-value : goal.returns-then-places-index-clause-value
+returns-then-places-index-clause-value c =
+    let places = c.args.places.now in let t = c.args.temperature in let k = c.partition_point-index.result in
+    let point = parted (goal.at.returns-then-places-index-clause-value c).After-partition_point-index in
+    let is : get_or places k (pos 0) ≡ t = search rules in
+    sym (place_index-there places c.requires t k point.0 point.1 c.if-index-places.true (get_or_default places k t (pos 0) c.if-index-places.true ∙ is))
+
+pub returns-else-index-places-clause-value : goal.returns-else-index-places-clause-value
+returns-else-index-places-clause-value c =
+    let places = c.args.places.now in let t = c.args.temperature in let k = c.partition_point-index.result in
+    let point = parted (goal.at.returns-else-index-places-clause-value c).After-partition_point-index in
+    sym (place_index-none places c.requires t k point.0 point.1 (elim c.else-index-places.branch [
+      | else-index-places-via-then-index-places+else-places-index w ↦
+          λ within is. let at = get_or_default places k (pos 0) t within ∙ is in w.if-places-index.false (cc at)
+      | else-index-places-via-else-index-places w ↦ λ within is. absurd (omega (arith, within, w.if-index-places.false))
+    ]))
