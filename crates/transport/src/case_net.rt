@@ -20,7 +20,7 @@ use stream_case::Case;
 /// The chains of the parts of a case, made once for many prices of its utilities.
 #[derive(Debug, Drop)]
 pub struct CaseNet {
-    chains: Chains,
+    pub chains: Chains,
 }
 
 impl CaseNet {
