@@ -1,3 +1,4 @@
+pub mod CaseNetLemmas
 pub mod CutLemmas
 pub mod LoopLemmas
 pub mod NetAround

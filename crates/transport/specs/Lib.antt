@@ -1,5 +1,6 @@
 pub mod Answer
 pub mod Around
+pub mod CaseNet
 pub mod Members
 pub mod Offer
 pub mod Pairs

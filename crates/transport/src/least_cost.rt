@@ -1,13 +1,10 @@
 //! The heat flow of least cost, or a cut.
 ghost use Rattle.std.specs.Prelude.{◌≡◌, ℕ, Bool, ◌+◌, ◌*◌, ◌≤◌, length, All, IfOk};
-ghost use Rattle.stream_case.specs.Case.{IsComplete};
 ghost use Rattle.heat_flow.specs.Checks.{HasCost};
-ghost use Rattle.heat_flow.specs.Reach.{reach_between};
 ghost use Rattle.heat_flow.specs.Table.{HasSizes, reaches};
 ghost use Rattle.chains.specs.declared.net.TheConstants.{MOST_INNER_LINKS, MOST_INNER_NODES};
 ghost use Rattle.chains.specs.Inner.{IsInner};
 ghost use Rattle.chains.specs.Path.{PathsAreReaches};
-ghost use Rattle.grid.specs.OnGrid.{AreOnGrid};
 ghost use Rattle.transport.specs.Answer.{IsAnswer};
 ghost use Rattle.transport.specs.Priced.{priced};
 ghost use Rattle.transport.specs.Around.{IsNodePotential, RoutesMost};
@@ -15,16 +12,15 @@ ghost use Rattle.transport.specs.Around.{IsNodePotential, RoutesMost};
 use crate::answer::Answer;
 use crate::cut::{blocked_members, cut_of, other_parts};
 use crate::flow::front_of;
-use crate::offer::case_offer;
 use crate::pairs::pairs_of;
 use crate::prices::part_prices;
 use crate::route::route;
-use chains::{Chains, chains_of, spread};
+use chains::{Chains, spread};
 use flow_net::Solved;
 use grid::Parts;
 use heat_flow::{Flow, Reach, cost_of, offer_of};
 use std::alloc::{AllocError, Global};
-use stream_case::{Case, Items};
+use stream_case::Items;
 
 /// The most pairs of a hot and a cold part that `least` takes.
 pub const MOST_PAIRS: usize = 900_000;
@@ -53,7 +49,7 @@ fn priced(
 
 /// The answer where the most of all parts is routed through the net around one of chains: what its
 /// flow carries from part to part, and the prices from its potentials.
-fn routed(
+pub(crate) fn routed(
     alloc: Global,
     parts: &Parts,
     chains: &Chains,
@@ -98,29 +94,6 @@ pub fn least(alloc: Global, parts: &Parts, reach: &Reach) -> Result<Answer, Allo
             let others = other_parts(members.kind, parts);
             let indexes = members.indexes.as_slice();
             let offer = offer_of(members.kind.side(), reach, others, indexes);
-            Ok(Answer::Stuck(cut_of(parts, members, offer)))
-        }
-    }
-}
-
-/// The heat flow of least cost between parts on the grid of a case, or a cut, as `least` gives it
-/// by the table of the pairs of the case. No table is made: heat passes through chains, one for
-/// all hot sources with the same permitted partners (residual heat of Papoulias and Grossmann
-/// 1983), so the number of pairs does not matter.
-pub fn least_case(alloc: Global, case: &Case, parts: &Parts) -> Result<Answer, AllocError>
-    requires complete { IsComplete case.now }
-    requires parts { AreOnGrid case.now parts.now.hot parts.now.cold }
-    ensures { IfOk result (IsAnswer (reach_between case.now parts.now.hot parts.now.cold)
-        parts.now.hot parts.now.cold) }
-{
-    let chains = chains_of(alloc, case, parts)?;
-    match route(alloc, parts, &chains.net)? {
-        Solved::Routed { flow, potentials } => {
-            routed(alloc, parts, &chains, &flow, potentials.as_slice())
-        }
-        Solved::Blocked { reached } => {
-            let members = blocked_members(alloc, parts, &chains.net, reached.as_slice())?;
-            let offer = case_offer(alloc, case, parts, &members)?;
             Ok(Answer::Stuck(cut_of(parts, members, offer)))
         }
     }

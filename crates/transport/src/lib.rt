@@ -8,6 +8,7 @@
 #![tactic(auto)]
 
 mod answer;
+mod case_net;
 mod cut;
 mod flow;
 mod least_cost;
@@ -18,4 +19,5 @@ mod prices;
 mod route;
 
 pub use answer::Answer;
-pub use least_cost::{MOST_PAIRS, least, least_case};
+pub use case_net::{CaseNet, least_case};
+pub use least_cost::{MOST_PAIRS, least};
