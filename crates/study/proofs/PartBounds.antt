@@ -51,14 +51,6 @@ bounded-priced prices all parts h = all_priced IsBounded prices (λ p b. record 
   free = λ i e. ap (λ s. price_of prices s p.price) e ∙ b.free i e;
 }) parts h
 
-pub grid-priced : (c : Case) (prices : List ℤ) (hot cold : List Part) → AreOnGrid c hot cold → AreOnGrid c (priced prices hot) (priced prices cold)
-grid-priced c prices hot cold h = record {
-  grid = h.grid;
-  is_grid = h.is_grid;
-  hot_parts = all_priced (IsOnPlaces c h.grid Hot) prices (λ p on. record { source = on.source; ends = on.ends }) hot h.hot_parts;
-  cold_parts = all_priced (IsOnPlaces c h.grid Cold) prices (λ p on. record { source = on.source; ends = on.ends }) cold h.cold_parts;
-}
-
 -- ---- the prices of a case, with another price of one utility
 
 prices_of : (us : List Utility) → All IsPlaced us → All IsPrice (map (λ u. u.price) us)

@@ -101,5 +101,7 @@ pub use Rattle.sums.proofs.ListLemmas.{slice_get-append}
 pub use Rattle.sums.proofs.OrderLemmas.{AllPairs-map}
 pub use Rattle.sums.proofs.ProductLemmas.{*ℤ-+ℤ, *ℤ_assoc, neg_ℤ-*ℤ, one_times, ≤ℤ_from_*ℤ}
 pub use Rattle.sums.proofs.SumLemmas.{int_sum_from-single}
+pub use Rattle.transport.proofs.CaseNetLemmas.{IsCaseNet-alike}
+pub use Rattle.transport.specs.CaseNet.{IsCaseNet}
 pub use Rattle.transport.specs.declared.answer.Answer.TheVariants.{Least}
 pub use Rattle.std.proofs.Math.IntN.{*ℤ_comm}

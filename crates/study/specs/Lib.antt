@@ -4,6 +4,7 @@ pub mod CostRange
 pub mod Draws
 pub mod Plan
 pub mod Priced
+pub mod PricedCase
 pub mod Row
 pub mod Sample
 pub mod SampleRow

@@ -1,15 +1,20 @@
 //! The least cost of a case at other prices of its utilities.
 ghost use Rattle.std.specs.Prelude.{◌≡◌, ◌<◌, length, map, All, IfOk, IfSome};
-ghost use Rattle.stream_case.specs.Case.{IsComplete};
 ghost use Rattle.stream_case.specs.Limits.{IsPrice};
-ghost use Rattle.grid.specs.Part.{AreCaseParts};
-ghost use Rattle.study.specs.Priced.{IsCostAt, priced, priced_part, prices_with};
-ghost use Rattle.study.specs.CostRange.{IsCost};
+ghost use Rattle.study.specs.Priced.{priced, priced_part, prices_with};
 
 use grid::{Part, Parts};
 use std::alloc::{AllocError, Global};
 use stream_case::{Case, Items, Source, Utility};
-use transport::{Answer, least_case};
+use transport::{Answer, CaseNet};
+
+/// A completed case with its parts and their net, all made once for many prices of its utilities.
+#[derive(Clone, Copy)]
+pub(crate) struct PricedCase<'a> {
+    pub case: &'a Case,
+    pub parts: &'a Parts,
+    pub net: &'a CaseNet,
+}
 
 /// The part at these prices of the utilities.
 fn priced_part(prices: &[i64], part: &Part) -> Part
@@ -48,27 +53,6 @@ fn priced_parts(alloc: Global, prices: &[i64], parts: &Parts) -> Result<Parts, A
     })
 }
 
-/// The least cost of the heat flows of a completed case at these prices of its utilities, or none
-/// exactly where it has no heat flow.
-pub(crate) fn cost_at(
-    alloc: Global,
-    case: &Case,
-    parts: &Parts,
-    prices: &[i64],
-) -> Result<Option<i128>, AllocError>
-    requires complete { IsComplete case.now }
-    requires parts { AreCaseParts case.now parts.now.hot parts.now.cold }
-    requires prices { All IsPrice prices.now }
-    ensures cost { IfOk result (IsCostAt case.now prices.now) }
-    ensures range { IfOk result (λ cost. IfSome cost IsCost) }
-{
-    let priced = priced_parts(alloc, prices, parts)?;
-    match least_case(alloc, case, &priced)? {
-        Answer::Least { cost, .. } => Ok(Some(cost)),
-        Answer::Stuck(_) => Ok(None),
-    }
-}
-
 /// The prices of the utilities of the case.
 pub(crate) fn case_prices(alloc: Global, utilities: &[Utility]) -> Result<Vec<i64>, AllocError>
     ensures { IfOk result (λ prices. prices.items ≡ map (λ u. u.price) utilities.now) }
@@ -86,22 +70,42 @@ fn prices_with(alloc: Global, case: &Case, utility: u32, price: i64) -> Result<V
     Ok(prices)
 }
 
-/// The least cost of the heat flows of a completed case with this price of one utility, by its
-/// index, or none exactly where it has no heat flow.
-pub(crate) fn cost_with(
-    alloc: Global,
-    case: &Case,
-    parts: &Parts,
-    utility: u32,
-    price: i64,
-) -> Result<Option<i128>, AllocError>
-    requires complete { IsComplete case.now }
-    requires parts { AreCaseParts case.now parts.now.hot parts.now.cold }
-    requires utility { utility < length case.now.utilities }
-    requires price { IsPrice price }
-    ensures cost { IfOk result (IsCostAt case.now (prices_with case.now utility price)) }
-    ensures range { IfOk result (λ cost. IfSome cost IsCost) }
-{
-    let prices = prices_with(alloc, case, utility, price)?;
-    cost_at(alloc, case, parts, prices.as_slice())
+impl<'a> PricedCase<'a> {
+    ghost use Rattle.study.specs.Priced.{IsCostAt};
+    ghost use Rattle.study.specs.PricedCase.{IsPricedCase};
+    ghost use Rattle.study.specs.CostRange.{IsCost};
+
+    /// The least cost of the heat flows of the case at these prices of its utilities, or none
+    /// exactly where it has no heat flow.
+    pub fn cost_at(&self, alloc: Global, prices: &[i64]) -> Result<Option<i128>, AllocError>
+        requires priced { IsPricedCase self.now }
+        requires prices { All IsPrice prices.now }
+        ensures cost { IfOk result (IsCostAt self.now.case.now prices.now) }
+        ensures range { IfOk result (λ cost. IfSome cost IsCost) }
+    {
+        let priced = priced_parts(alloc, prices, self.parts)?;
+        match self.net.answer(alloc, self.case, &priced)? {
+            Answer::Least { cost, .. } => Ok(Some(cost)),
+            Answer::Stuck(_) => Ok(None),
+        }
+    }
+
+    /// The least cost of the heat flows of the case with this price of one utility, by its index,
+    /// or none exactly where it has no heat flow.
+    pub fn cost_with(
+        &self,
+        alloc: Global,
+        utility: u32,
+        price: i64,
+    ) -> Result<Option<i128>, AllocError>
+        requires priced { IsPricedCase self.now }
+        requires utility { utility < length self.now.case.now.utilities }
+        requires price { IsPrice price }
+        ensures cost { IfOk result
+            (IsCostAt self.now.case.now (prices_with self.now.case.now utility price)) }
+        ensures range { IfOk result (λ cost. IfSome cost IsCost) }
+    {
+        let prices = prices_with(alloc, self.case, utility, price)?;
+        self.cost_at(alloc, prices.as_slice())
+    }
 }

@@ -1,17 +1,15 @@
 //! The segments of the least cost over a span of prices of one utility.
 ghost use Rattle.std.specs.Prelude.{◌≡◌, ◌<◌, pos, ◌+ℤ◌, ◌≤ℤ◌, ◌<ℤ◌, length, IfOk};
-ghost use Rattle.stream_case.specs.Case.{IsComplete};
 ghost use Rattle.stream_case.specs.Limits.{IsPrice};
-ghost use Rattle.grid.specs.Part.{AreCaseParts};
 ghost use Rattle.study.specs.CostRange.{IsCost};
+ghost use Rattle.study.specs.PricedCase.{IsPricedCase};
 ghost use Rattle.study.specs.Spans.{AreCostSegments, CostsWith, HasFlowWith, IsCostSegment, IsLine, IsLineEnd, IsSmallLine, TellsOnLine, line_at};
 ghost use Rattle.study.specs.Study.{AreSpanSegments, IsSpan};
 
-use crate::priced::cost_with;
+use crate::priced::PricedCase;
 use crate::study_item::Segment;
-use grid::Parts;
 use std::alloc::{AllocError, Global};
-use stream_case::{Case, Items};
+use stream_case::Items;
 
 /// A line through the least costs at a price and at the next one.
 #[derive(Clone, Copy)]
@@ -34,20 +32,18 @@ fn line_at(line: Line, price: i64) -> i128
 /// The least cost of a case that has a heat flow, with this price of one utility.
 fn known_cost(
     alloc: Global,
-    case: &Case,
-    parts: &Parts,
+    priced: &PricedCase,
     utility: u32,
     price: i64,
 ) -> Result<i128, AllocError>
-    requires complete { IsComplete case.now }
-    requires parts { AreCaseParts case.now parts.now.hot parts.now.cold }
-    requires utility { utility < length case.now.utilities }
+    requires priced { IsPricedCase priced.now }
+    requires utility { utility < length priced.now.case.now.utilities }
     requires price { IsPrice price }
-    requires flow { HasFlowWith case.now utility }
-    ensures cost { IfOk result (CostsWith case.now utility price) }
+    requires flow { HasFlowWith priced.now.case.now utility }
+    ensures cost { IfOk result (CostsWith priced.now.case.now utility price) }
     ensures range { IfOk result IsCost }
 {
-    match cost_with(alloc, case, parts, utility, price)? {
+    match priced.cost_with(alloc, utility, price)? {
         Some(cost) => Ok(cost),
         None => unreachable!(),
     }
@@ -56,22 +52,20 @@ fn known_cost(
 /// The line through the least costs at a price and at the next one.
 fn line_from(
     alloc: Global,
-    case: &Case,
-    parts: &Parts,
+    priced: &PricedCase,
     utility: u32,
     from: i64,
 ) -> Result<Line, AllocError>
-    requires complete { IsComplete case.now }
-    requires parts { AreCaseParts case.now parts.now.hot parts.now.cold }
-    requires utility { utility < length case.now.utilities }
+    requires priced { IsPricedCase priced.now }
+    requires utility { utility < length priced.now.case.now.utilities }
     requires first { IsPrice from }
     requires next { IsPrice (from +ℤ pos 1) }
-    requires flow { HasFlowWith case.now utility }
+    requires flow { HasFlowWith priced.now.case.now utility }
     ensures from { IfOk result (λ line. line.from ≡ from) }
-    ensures line { IfOk result (IsLine case.now utility) }
+    ensures line { IfOk result (IsLine priced.now.case.now utility) }
 {
-    let cost = known_cost(alloc, case, parts, utility, from)?;
-    let next = known_cost(alloc, case, parts, utility, from + 1)?;
+    let cost = known_cost(alloc, priced, utility, from)?;
+    let next = known_cost(alloc, priced, utility, from + 1)?;
     Ok(Line {
         from,
         cost,
@@ -82,21 +76,19 @@ fn line_from(
 /// Whether the least cost at a price is on a line.
 fn is_on_line(
     alloc: Global,
-    case: &Case,
-    parts: &Parts,
+    priced: &PricedCase,
     utility: u32,
     line: Line,
     price: i64,
 ) -> Result<bool, AllocError>
-    requires complete { IsComplete case.now }
-    requires parts { AreCaseParts case.now parts.now.hot parts.now.cold }
-    requires utility { utility < length case.now.utilities }
-    requires flow { HasFlowWith case.now utility }
+    requires priced { IsPricedCase priced.now }
+    requires utility { utility < length priced.now.case.now.utilities }
+    requires flow { HasFlowWith priced.now.case.now utility }
     requires line { IsSmallLine line }
     requires price { IsPrice price }
-    ensures { IfOk result (TellsOnLine case.now utility line price) }
+    ensures { IfOk result (TellsOnLine priced.now.case.now utility line price) }
 {
-    let cost = known_cost(alloc, case, parts, utility, price)?;
+    let cost = known_cost(alloc, priced, utility, price)?;
     Ok(cost == line_at(line, price))
 }
 
@@ -104,26 +96,24 @@ fn is_on_line(
 /// cost never rises faster at a higher price, so that once it has left the line it never returns.
 fn line_end(
     alloc: Global,
-    case: &Case,
-    parts: &Parts,
+    priced: &PricedCase,
     utility: u32,
     line: Line,
     to: i64,
 ) -> Result<i64, AllocError>
-    requires complete { IsComplete case.now }
-    requires parts { AreCaseParts case.now parts.now.hot parts.now.cold }
-    requires utility { utility < length case.now.utilities }
-    requires flow { HasFlowWith case.now utility }
-    requires line { IsLine case.now utility line }
+    requires priced { IsPricedCase priced.now }
+    requires utility { utility < length priced.now.case.now.utilities }
+    requires flow { HasFlowWith priced.now.case.now utility }
+    requires line { IsLine priced.now.case.now utility line }
     requires ahead { line.from <ℤ to }
     requires last { IsPrice to }
-    ensures { IfOk result (IsLineEnd case.now utility line to) }
+    ensures { IfOk result (IsLineEnd priced.now.case.now utility line to) }
 {
     let mut on = line.from + 1;
     let mut off = to + 1;
     while off - on > 1 {
         let middle = on + (off - on) / 2;
-        if is_on_line(alloc, case, parts, utility, line, middle)? {
+        if is_on_line(alloc, priced, utility, line, middle)? {
             on = middle;
         } else {
             off = middle;
@@ -135,23 +125,21 @@ fn line_end(
 /// The segment of one price.
 fn last_segment(
     alloc: Global,
-    case: &Case,
-    parts: &Parts,
+    priced: &PricedCase,
     utility: u32,
     price: i64,
 ) -> Result<Segment, AllocError>
-    requires complete { IsComplete case.now }
-    requires parts { AreCaseParts case.now parts.now.hot parts.now.cold }
-    requires utility { utility < length case.now.utilities }
-    requires flow { HasFlowWith case.now utility }
+    requires priced { IsPricedCase priced.now }
+    requires utility { utility < length priced.now.case.now.utilities }
+    requires flow { HasFlowWith priced.now.case.now utility }
     requires price { IsPrice price }
     ensures from { IfOk result (λ segment. segment.from ≡ price) }
-    ensures segment { IfOk result (IsCostSegment case.now utility price) }
+    ensures segment { IfOk result (IsCostSegment priced.now.case.now utility price) }
 {
     Ok(Segment {
         from: price,
         to: price,
-        base: known_cost(alloc, case, parts, utility, price)?,
+        base: known_cost(alloc, priced, utility, price)?,
         slope: 0,
     })
 }
@@ -159,27 +147,25 @@ fn last_segment(
 /// The segment that begins at a price, in a span up to `to`.
 fn segment_from(
     alloc: Global,
-    case: &Case,
-    parts: &Parts,
+    priced: &PricedCase,
     utility: u32,
     from: i64,
     to: i64,
 ) -> Result<Segment, AllocError>
-    requires complete { IsComplete case.now }
-    requires parts { AreCaseParts case.now parts.now.hot parts.now.cold }
-    requires utility { utility < length case.now.utilities }
-    requires flow { HasFlowWith case.now utility }
+    requires priced { IsPricedCase priced.now }
+    requires utility { utility < length priced.now.case.now.utilities }
+    requires flow { HasFlowWith priced.now.case.now utility }
     requires order { from ≤ℤ to }
     requires first { IsPrice from }
     requires last { IsPrice to }
     ensures from { IfOk result (λ segment. segment.from ≡ from) }
-    ensures segment { IfOk result (IsCostSegment case.now utility to) }
+    ensures segment { IfOk result (IsCostSegment priced.now.case.now utility to) }
 {
     if from == to {
-        return last_segment(alloc, case, parts, utility, from);
+        return last_segment(alloc, priced, utility, from);
     }
-    let line = line_from(alloc, case, parts, utility, from)?;
-    let end = line_end(alloc, case, parts, utility, line, to)?;
+    let line = line_from(alloc, priced, utility, from)?;
+    let end = line_end(alloc, priced, utility, line, to)?;
     Ok(Segment {
         from,
         to: end,
@@ -191,22 +177,20 @@ fn segment_from(
 /// The segments of a span of a case that has a heat flow.
 fn known_segments(
     alloc: Global,
-    case: &Case,
-    parts: &Parts,
+    priced: &PricedCase,
     utility: u32,
     from: i64,
     to: i64,
 ) -> Result<Items<Segment>, AllocError>
-    requires complete { IsComplete case.now }
-    requires parts { AreCaseParts case.now parts.now.hot parts.now.cold }
-    requires span { IsSpan case.now utility from to }
-    requires flow { HasFlowWith case.now utility }
-    ensures { IfOk result (AreSpanSegments case.now utility from to) }
+    requires priced { IsPricedCase priced.now }
+    requires span { IsSpan priced.now.case.now utility from to }
+    requires flow { HasFlowWith priced.now.case.now utility }
+    ensures { IfOk result (AreSpanSegments priced.now.case.now utility from to) }
 {
     let mut segments = Items::new(alloc);
     let mut next = from;
     while next <= to {
-        let segment = segment_from(alloc, case, parts, utility, next, to)?;
+        let segment = segment_from(alloc, priced, utility, next, to)?;
         segments.push(segment)?;
         next = segment.to + 1;
     }
@@ -217,19 +201,17 @@ fn known_segments(
 /// index, from a first price to a last one; none exactly where the case has no heat flow.
 pub(crate) fn span_segments(
     alloc: Global,
-    case: &Case,
-    parts: &Parts,
+    priced: &PricedCase,
     utility: u32,
     from: i64,
     to: i64,
 ) -> Result<Items<Segment>, AllocError>
-    requires complete { IsComplete case.now }
-    requires parts { AreCaseParts case.now parts.now.hot parts.now.cold }
-    requires span { IsSpan case.now utility from to }
-    ensures { IfOk result (AreSpanSegments case.now utility from to) }
+    requires priced { IsPricedCase priced.now }
+    requires span { IsSpan priced.now.case.now utility from to }
+    ensures { IfOk result (AreSpanSegments priced.now.case.now utility from to) }
 {
-    match cost_with(alloc, case, parts, utility, from)? {
-        Some(_) => known_segments(alloc, case, parts, utility, from, to),
+    match priced.cost_with(alloc, utility, from)? {
+        Some(_) => known_segments(alloc, priced, utility, from, to),
         None => Ok(Items::new(alloc)),
     }
 }

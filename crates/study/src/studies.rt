@@ -1,38 +1,37 @@
 //! Price studies by several workers.
 ghost use Rattle.std.specs.Prelude.{◌≤◌, ◌<◌, length, IfOk};
 ghost use Rattle.stream_case.specs.Case.{IsComplete};
-ghost use Rattle.grid.specs.Part.{AreCaseParts};
 ghost use Rattle.study.specs.declared.limits.TheConstants.{MOST_WORKERS};
+ghost use Rattle.study.specs.PricedCase.{IsPricedCase};
 ghost use Rattle.study.specs.Study.{AreAnswers, IsAnswerAt, IsItem, IsItemAnswer, IsStudy, OneAnswer, RisesFall};
 
-use crate::priced::cost_at;
+use crate::priced::PricedCase;
 use crate::segments::span_segments;
 use crate::study_item::{Study, StudyAnswer, StudyItem};
-use grid::{Parts, case_parts};
+use grid::case_parts;
 use std::alloc::{AllocError, Global};
 use std::thread::Threads;
 use stream_case::{Case, Items};
+use transport::CaseNet;
 use workers::{Gate, items_by_workers};
 
 /// The answer to an item of a study.
 fn item_answer(
     alloc: Global,
-    case: &Case,
-    parts: &Parts,
+    priced: &PricedCase,
     item: &StudyItem,
 ) -> Result<StudyAnswer, AllocError>
-    requires complete { IsComplete case.now }
-    requires parts { AreCaseParts case.now parts.now.hot parts.now.cold }
-    requires item { IsItem case.now item.now }
-    ensures { IfOk result (IsItemAnswer case.now item.now) }
+    requires priced { IsPricedCase priced.now }
+    requires item { IsItem priced.now.case.now item.now }
+    ensures { IfOk result (IsItemAnswer priced.now.case.now item.now) }
 {
     match item {
         StudyItem::Scenario { prices, .. } => {
-            let cost = cost_at(alloc, case, parts, prices.as_slice())?;
+            let cost = priced.cost_at(alloc, prices.as_slice())?;
             Ok(StudyAnswer::Cost(cost))
         }
         StudyItem::Span { utility, from, to } => {
-            let segments = span_segments(alloc, case, parts, *utility, *from, *to)?;
+            let segments = span_segments(alloc, priced, *utility, *from, *to)?;
             Ok(StudyAnswer::Segments(segments))
         }
     }
@@ -41,18 +40,16 @@ fn item_answer(
 /// The answer to the item of a number, from 0.
 fn numbered_answer(
     alloc: Global,
-    case: &Case,
-    parts: &Parts,
+    priced: &PricedCase,
     study: &Study,
     number: u32,
 ) -> Result<StudyAnswer, AllocError>
-    requires complete { IsComplete case.now }
-    requires parts { AreCaseParts case.now parts.now.hot parts.now.cold }
-    requires study { IsStudy case.now study.now }
+    requires priced { IsPricedCase priced.now }
+    requires study { IsStudy priced.now.case.now study.now }
     requires item { number < length study.now.items }
-    ensures { IfOk result (IsAnswerAt case.now study.now number) }
+    ensures { IfOk result (IsAnswerAt priced.now.case.now study.now number) }
 {
-    item_answer(alloc, case, parts, &study.items.as_slice()[number as usize])
+    item_answer(alloc, priced, &study.items.as_slice()[number as usize])
 }
 
 /// The answers to the items of a study, in their order: what each scenario costs at least, and the
@@ -74,18 +71,22 @@ pub fn price_study<R: Threads + Sync, G: Gate + Sync>(
     ensures { IfOk result (AreAnswers case.now study.now) }
 {
     let parts = case_parts(alloc, case)?;
-    let parts = &parts;
+    let net = CaseNet::new(alloc, case, &parts)?;
+    let priced = &PricedCase {
+        case,
+        parts: &parts,
+        net: &net,
+    };
     items_by_workers(
         rt,
         alloc,
         gate,
         &|number: u32| -> Result<StudyAnswer, AllocError>
-            requires complete { IsComplete case.now }
-            requires parts { AreCaseParts case.now parts.now.hot parts.now.cold }
-            requires study { IsStudy case.now study.now }
+            requires priced { IsPricedCase priced.now }
+            requires study { IsStudy priced.now.case.now study.now }
             requires item { number < length study.now.items }
-            ensures { IfOk result (IsAnswerAt case.entry.now study.entry.now number) }
-        { numbered_answer(alloc, case, parts, study, number) },
+            ensures { IfOk result (IsAnswerAt priced.entry.now.case.now study.entry.now number) }
+        { numbered_answer(alloc, priced, study, number) },
         study.items.len() as u32,
         workers,
     )

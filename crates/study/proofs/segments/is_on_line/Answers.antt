@@ -5,7 +5,7 @@ use Rattle.study.proofs.segments.is_on_line.Goals as goal
 
 pub returns : goal.returns
 returns c =
-    let case = c.args.case.now in let i = c.args.utility in let cost = c.in_ok-cost.cost in let on = c.line_at.result in
+    let case = c.args.priced.now.case.now in let i = c.args.utility in let cost = c.in_ok-cost.cost in let on = c.line_at.result in
     let fits : FitsSigned w128 cost = search rules in let fits_on : FitsSigned w128 on = search rules in
     let least = subst (λ p. CostsWith case i p cost) (to_z-of_z w64 c.args.price c.ranges.price) c.in_ok-cost.ensures.cost in
     let is : on ≡ line_at c.args.line c.args.price = c.line_at.ensures ∙ ap (line_at c.args.line) (to_z-of_z w64 c.args.price c.ranges.price) in

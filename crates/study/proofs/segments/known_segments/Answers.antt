@@ -11,7 +11,7 @@ loop-next-smaller c =
 
 pub loop-next-preserved : goal.loop-next-preserved
 loop-next-preserved c =
-    let case = c.args.case.now in let i = c.args.utility in
+    let case = c.args.priced.now.case.now in let i = c.args.utility in
     let segment = c.in_ok-segment.segment in let is = c.in_ok-segment.ensures.segment in let at = c.in_ok-segment.ensures.from in
     let d = c.requires.span.last.from in let e = c.requires.span.last.upto in
     let f = c.requires.span.first.from in let g = c.loop-next.invariant.from in let h = c.loop-next.invariant.upto in
@@ -26,7 +26,7 @@ loop-next-preserved c =
 
 pub returns : goal.returns
 returns c =
-    let case = c.args.case.now in let i = c.args.utility in
+    let case = c.args.priced.now.case.now in let i = c.args.utility in
     let upto = c.loop-next.invariant.upto in let d = c.requires.span.last.from in let e = c.requires.span.last.upto in
     let to_is = to_z-of_z w64 c.args.to c.ranges.to in let from_is = to_z-of_z w64 c.args.from c.ranges.from in
     let end : to_z w64 c.loop-next.next-bits ≡ c.args.to +ℤ pos 1 = grind (arith, ints) in

@@ -3,7 +3,7 @@ use Rattle.study.proofs.segments.known_segments.Given as goal
 
 abbrev pub invariant-loop-next : goal.invariant-loop-next
 invariant-loop-next l =
-    record { from : l.fn.from ≤ℤ l.next; upto : l.next ≤ℤ (l.to +ℤ pos 1); segments : AreCostSegments l.case l.utility l.to l.fn.from l.next l.segments }
+    record { from : l.fn.from ≤ℤ l.next; upto : l.next ≤ℤ (l.to +ℤ pos 1); segments : AreCostSegments l.priced.case.now l.utility l.to l.fn.from l.next l.segments }
 
 abbrev pub decreases-loop-next : goal.decreases-loop-next
 decreases-loop-next l = unsigned_abs (l.to +ℤ pos 1 -ℤ l.next)

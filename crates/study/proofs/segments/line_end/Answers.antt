@@ -5,7 +5,7 @@ use Rattle.study.proofs.segments.line_end.Goals as goal
 
 pub loop-off-init : goal.loop-off-init
 loop-off-init c =
-    let case = c.args.case.now in let i = c.args.utility in let line = c.args.line in
+    let case = c.args.priced.now.case.now in let i = c.args.utility in let line = c.args.line in
     let a = c.requires.line.small.from.from in let b = c.requires.line.small.from.upto in
     let d = c.requires.last.from in let e = c.requires.last.upto in let ahead = c.requires.ahead in
     let second : to_z w64 (of_z w64 (to_z w64 (of_z w64 line.from) +ℤ pos 1)) ≡ line.from +ℤ pos 1 = omega (arith, ints) in
@@ -58,7 +58,7 @@ loop-off-preserved c =
 
 pub returns : goal.returns
 returns c =
-    let case = c.args.case.now in let i = c.args.utility in let line = c.args.line in
+    let case = c.args.priced.now.case.now in let i = c.args.utility in let line = c.args.line in
     let on = to_z w64 c.loop-off.on-bits in let off = to_z w64 c.loop-off.off-bits in
     let a = c.requires.line.small.from.from in let ahead = c.loop-off.invariant.ahead in
     let order = c.loop-off.invariant.order in let last = c.loop-off.invariant.last in let d = c.requires.last.from in let e = c.requires.last.upto in

@@ -6,8 +6,8 @@ invariant-loop-off l = record {
   ahead : (l.line.from +ℤ pos 1) ≤ℤ l.on;
   order : l.on <ℤ l.off;
   last : l.off ≤ℤ (l.to +ℤ pos 1);
-  inside : CostsWith l.case l.utility l.on (line_at l.line l.on);
-  outside : l.off ≤ℤ l.to → CostsWith l.case l.utility l.off (line_at l.line l.off) → ⊥;
+  inside : CostsWith l.priced.case.now l.utility l.on (line_at l.line l.on);
+  outside : l.off ≤ℤ l.to → CostsWith l.priced.case.now l.utility l.off (line_at l.line l.off) → ⊥;
 }
 
 abbrev pub decreases-loop-off : goal.decreases-loop-off

@@ -5,7 +5,7 @@ use Rattle.study.proofs.segments.line_from.Goals as goal
 
 pub returns-clause-line : goal.returns-clause-line
 returns-clause-line c =
-    let case = c.args.case.now in let i = c.args.utility in let from = c.args.from in let cost = c.in_ok-cost.cost in let next = c.in_ok-next.next in
+    let case = c.args.priced.now.case.now in let i = c.args.utility in let from = c.args.from in let cost = c.in_ok-cost.cost in let next = c.in_ok-next.next in
     let fits : FitsSigned w128 cost = search rules in let own = c.in_ok-cost.ensures.range in let other = c.in_ok-next.ensures.range in
     let low = c.requires.next.from in let high = c.requires.next.upto in
     let from_is = to_z-of_z w64 from c.ranges.from in let cost_is = to_z-of_z w128 cost fits in

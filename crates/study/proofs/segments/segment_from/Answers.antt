@@ -5,7 +5,7 @@ use Rattle.study.proofs.segments.segment_from.Goals as goal
 
 pub returns-clause-segment : goal.returns-clause-segment
 returns-clause-segment c =
-    let case = c.args.case.now in let i = c.args.utility in
+    let case = c.args.priced.now.case.now in let i = c.args.utility in
     let line = c.in_ok-line.line in let is = c.in_ok-line.ensures.line in let from = c.in_ok-line.ensures.from in
     let end_fits : FitsSigned w64 c.in_ok-end.end = search rules in let cost_fits : FitsSigned w128 c.line_at.result = search rules in
     let slope_fits : FitsSigned w128 line.slope = omega (arith, ints) in
