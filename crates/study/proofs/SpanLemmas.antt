@@ -1,16 +1,18 @@
 -- The least cost over a span of prices: heat flows of priced parts, least costs, lines and segments, and the one list of answers of a study.
 use Rattle.study.proofs.Words.{*ℤ-+ℤ, *ℤ--ℤ, *ℤ-zero, *ℤ-≤ℤ_right, *ℤ_assoc, *ℤ_comm, +ℤ-*ℤ, -ℤ-*ℤ, All, All-slice_get, AreCostSegments, AreSegments, one_times}
 use Rattle.study.proofs.Words.{AreSpanSegments, Case, Cold, Cost, CostsWith, HasFlowWith, HasNoFlow, HasNoFlowAt, HoldsOfParts, HoldsOfParts-some, Hot}
-use Rattle.study.proofs.Words.{IsBetween, IsCost, IsCostFunction, IsCostSegment, IsHeatFlow, IsItem, IsItemAnswer, IsLeastCost, IsLine, IsLineEnd, IsPrice}
-use Rattle.study.proofs.Words.{IsSegment, IsSmallLine, IsWithin, KeepsRanges, Line, MatchBool, MatchOption, OneAnswer, Part, RisesFall, Scenario, Segment}
+use Rattle.study.proofs.Words.{IsBetween, IsCost, IsCostFunction, IsCostSegment, IsGap, IsHeatFlow, IsItem, IsItemAnswer, IsLeastCost, IsLine, IsLineEnd, IsPrice}
+use Rattle.study.proofs.Words.{IsSegment, IsSmallLine, IsWithin, KeepsRanges, Line, MatchOption, OneAnswer, Part, RisesFall, Scenario, Segment}
 use Rattle.study.proofs.Words.{Segments, Side, Source, Span, StudyAnswer, StudyItem, Transfer, blank, both_reach, by_lt_z, case_prices, cases_eq, cost_of}
-use Rattle.study.proofs.Words.{eq-eqb, eqb-true, false≢true, heat_at, if◌then◌else◌, int_div, int_le, int_le-false, int_le-from, int_sum_from, ints, length-map}
-use Rattle.study.proofs.Words.{line_at, nat_eq, neg_ℤ, neg_ℤ-*ℤ, on_line, part_index, pos, price_at, price_of, priced, priced_part, prices_with, product_within}
-use Rattle.study.proofs.Words.{quot-rem, reach_between, rem_below, same_Some, same_lists, set, side_cost, slice_get-get_or, slice_get-map, slice_get_within}
+use Rattle.study.proofs.Words.{heat_at, if◌then◌else◌, int_div, int_le, int_le-false, int_le-from, int_sum_from, ints, length-map}
+use Rattle.study.proofs.Words.{line_at, neg_ℤ, neg_ℤ-*ℤ, on_line, part_index, pos, price_at, price_of, priced, priced_part, prices_with, product_within}
+use Rattle.study.proofs.Words.{reach_between, same_Some, same_lists, set, side_cost, slice_get-get_or, slice_get-map, slice_get_within}
 use Rattle.study.proofs.Words.{to_z-of_z, w128, ℤ, ≤ℤ_from_*ℤ, ◌*ℤ◌, ◌+ℤ◌, ◌-ℤ◌, ◌<ℤ◌, ◌≤ℤ◌}
-use Rattle.std.proofs.Common.{Bool, FitsSigned, List, None, Option, Some, [], ap, ap₂, arith, false, get_or, inl, inr, length, map, of_z, option_map, refl}
-use Rattle.std.proofs.Common.{slice_get, subst, suc, sym, to_z, true, w64, ℕ, ⊎_elim, ◌*◌, ◌++◌, ◌<◌, ◌∙◌, ◌∷◌, ◌≡◌, ◌≢◌}
+use Rattle.std.proofs.Common.{Bool, FitsSigned, List, None, Option, Some, [], ap, ap₂, arith, get_or, inl, inr, length, map, of_z, option_map, refl}
+use Rattle.std.proofs.Common.{slice_get, subst, suc, sym, to_z, ℕ, ⊎_elim, ◌*◌, ◌++◌, ◌<◌, ◌∙◌, ◌∷◌, ◌≡◌, ◌≢◌, ◌^◌}
+use Rattle.std.proofs.Math.Nat.{div-le_self}
 use Rattle.std.proofs.lemmas.List.{get_or-set_other, get_or-set_same}
+use Rattle.std.specs.Prelude.{negsuc}
 use Rattle.stream_case.specs.declared.source.Source.TheVariants.{Stream as of_stream, Utility as of_utility}
 
 -- ---- which parts reach which
@@ -169,28 +171,8 @@ module _ (own : List ℤ) (i : ℕ) (there : i < length own) where
         ∙ omega (arith, ints) in
         omega (arith, ints, below, above, down, up, back, on, middle.costs)
 
-    -- least costs on one line at p, at the next price and at q: each price between has its least cost there
-    module _ (p q v s : ℤ) (first : Least p v) (next : Least (p +ℤ pos 1) (v +ℤ s)) (last : Least q (v +ℤ s *ℤ (q -ℤ p))) where
-      abbrev middle : List Transfer
-      middle = next.transfers
-
-      steep : (p +ℤ pos 1) <ℤ q → rise middle ≡ s
-      steep behind =
-          let m = p +ℤ pos 1 in let u = rise middle in let below = first.least middle (flow-moves m p middle next.flow) in
-          let above = last.least middle (flow-moves m q middle next.flow) in let down = cost-moves m p middle in let up = cost-moves m q middle in
-          let back : u *ℤ (p -ℤ m) ≡ neg_ℤ u = ap (λ z. u *ℤ z) {x = p -ℤ m} {y = neg_ℤ (pos 1)} (omega (arith, ints)) ∙ omega (arith, ints) in
-          let length_is : s *ℤ (q -ℤ p) ≡ s *ℤ (q -ℤ m) +ℤ s = ap (λ z. s *ℤ z) {x = q -ℤ p} {y = (q -ℤ m) +ℤ pos 1} (omega (arith, ints))
-          ∙ *ℤ-+ℤ s (q -ℤ m) (pos 1) ∙ omega (arith, ints) in
-          let upto : u ≤ℤ s = omega (arith, ints) in let from : s ≤ℤ u = ≤ℤ_from_*ℤ (q -ℤ m) s u (omega (arith, ints)) (omega (arith, ints)) in
-          omega (arith, ints)
-
-      between-costs : (r : ℤ) → (p +ℤ pos 1) <ℤ q → cost r middle ≡ v +ℤ s *ℤ (r -ℤ p)
-      between-costs r behind =
-          let m = p +ℤ pos 1 in let moved = cost-moves m r middle ∙ ap (λ z. cost m middle +ℤ z *ℤ (r -ℤ m)) (steep behind) in
-          let length_is : s *ℤ (r -ℤ p) ≡ s *ℤ (r -ℤ m) +ℤ s = ap (λ z. s *ℤ z) {x = r -ℤ p} {y = (r -ℤ m) +ℤ pos 1} (omega (arith, ints))
-          ∙ *ℤ-+ℤ s (r -ℤ m) (pos 1) ∙ omega (arith, ints) in
-          omega (arith, ints)
-
+    -- least costs on one line at p and at q: no flow costs less than that line at a price between
+    module _ (p q v s : ℤ) (first : Least p v) (last : Least q (v +ℤ s *ℤ (q -ℤ p))) where
       between-least : (r : ℤ) → p ≤ℤ r → r ≤ℤ q → (ts : List Transfer) → Flow r ts → (v +ℤ s *ℤ (r -ℤ p)) ≤ℤ cost r ts
       between-least r from upto ts flow =
           let w = rise ts in let below = first.least ts (flow-moves r p ts flow) in let above = last.least ts (flow-moves r q ts flow) in
@@ -200,13 +182,36 @@ module _ (own : List ℤ) (i : ℕ) (there : i < length own) where
           let w_down = *ℤ--ℤ w r q in let w_more = *ℤ--ℤ w q r in let s_more = *ℤ--ℤ s q r in
           omega (arith, ints)) (λ not_less. let more = *ℤ-≤ℤ_right (r -ℤ p) s w (omega (arith, ints)) not_less in omega (arith, ints))
 
+      -- where the least cost at a price m between the two is on the line, so is that at each
+      module _ (m : ℤ) (after : p <ℤ m) (before : m <ℤ q) (third : Least m (v +ℤ s *ℤ (m -ℤ p))) where
+        steep : rise third.transfers ≡ s
+        steep =
+            let ts = third.transfers in let u = rise ts in let below = first.least ts (flow-moves m p ts third.flow) in
+            let above = last.least ts (flow-moves m q ts third.flow) in let down = cost-moves m p ts in let up = cost-moves m q ts in
+            let at = third.costs in let u_down = *ℤ--ℤ u p m in let u_back = *ℤ--ℤ u m p in let u_up = *ℤ--ℤ u q m in
+            let s_back = *ℤ--ℤ s m p in let s_whole = *ℤ--ℤ s q p in let s_up = *ℤ--ℤ s q m in
+            let upto : u ≤ℤ s = ≤ℤ_from_*ℤ (m -ℤ p) u s (omega (arith, ints)) (omega (arith, ints)) in
+            let from : s ≤ℤ u = ≤ℤ_from_*ℤ (q -ℤ m) s u (omega (arith, ints)) (omega (arith, ints)) in omega (arith, ints)
+
+        third-costs : (r : ℤ) → cost r third.transfers ≡ v +ℤ s *ℤ (r -ℤ p)
+        third-costs r =
+            let moved = cost-moves m r third.transfers ∙ ap (λ z. cost m third.transfers +ℤ z *ℤ (r -ℤ m)) steep in let at = third.costs in
+            let s_back = *ℤ--ℤ s m p in let s_on = *ℤ--ℤ s r m in let s_whole = *ℤ--ℤ s r p in omega (arith, ints)
+
+        pub between-three : (r : ℤ) → p ≤ℤ r → r ≤ℤ q → Least r (v +ℤ s *ℤ (r -ℤ p))
+        between-three r from upto = record {
+          transfers = third.transfers;
+          flow = flow-moves m r third.transfers third.flow;
+          costs = third-costs r;
+          least = between-least r from upto;
+        }
+
+    -- least costs on one line at p, at the next price and at q: each price between has its least cost there
+    module _ (p q v s : ℤ) (first : Least p v) (next : Least (p +ℤ pos 1) (v +ℤ s)) (last : Least q (v +ℤ s *ℤ (q -ℤ p))) where
       pub between : (r : ℤ) → p <ℤ q → p ≤ℤ r → r ≤ℤ q → Least r (v +ℤ s *ℤ (r -ℤ p))
-      between r ahead from upto = by_lt_z (p +ℤ pos 1) q (λ behind. record {
-        transfers = middle;
-        flow = flow-moves (p +ℤ pos 1) r middle next.flow;
-        costs = between-costs r behind;
-        least = between-least r from upto;
-      }) (λ adjacent.
+      between r ahead from upto = by_lt_z (p +ℤ pos 1) q
+          (λ behind. between-three p q v s first last (p +ℤ pos 1) (omega (arith, ints)) behind (subst (Least (p +ℤ pos 1)) (ap (λ z. v +ℤ z) one_step) next) r
+          from upto) (λ adjacent.
           by_lt_z p r (λ later. let is : p +ℤ pos 1 ≡ r = omega (arith, ints) in
           subst (λ x. Least x (v +ℤ s *ℤ (x -ℤ p))) is (subst (Least (p +ℤ pos 1)) (ap (λ z. v +ℤ z) one_step) next))
           (λ not_later. let is : p ≡ r = omega (arith, ints) in subst (λ x. Least x (v +ℤ s *ℤ (x -ℤ p))) is (subst (Least p) no_step first)))
@@ -276,6 +281,25 @@ module _ (c : Case) (i : ℕ) (there : i < length c.utilities) where
       HoldsOfParts-some c
       (λ h k. IsLeastCost (reach_between c h k) (priced (prices_with c i p) h) (priced (prices_with c i p) k) (line_at line p)) hot cold parts
       (subst (IsLeastCost (reach_between c hot cold) (priced (prices_with c i p) hot) (priced (prices_with c i p) cold)) (turn p) least)
+
+  -- a line on which the least costs at its first price and at two further ones are is on the next one too
+  pub line_of-three : (line : Line) (near far : ℤ) → IsSmallLine line → line.from <ℤ near → near <ℤ far → CostsWith c i line.from line.cost
+      → CostsWith c i near (line_at line near) → CostsWith c i far (line_at line far) → IsLine c i line
+  line_of-three line near far small after before first third last =
+      let (hot, cold, parts) = first.some in let turn = λ (r : ℤ). ap (λ z. line.cost +ℤ z) (*ℤ_comm (r -ℤ line.from) line.slope) in
+      let Least = λ (r x : ℤ). IsLeastCost (reach_between c hot cold) (priced (prices_with c i r) hot) (priced (prices_with c i r) cold) x in
+      let next = between-three (case_prices c) i utility_there (reach_between c hot cold) hot cold line.from far line.cost line.slope
+      (first.each hot cold parts) (subst (Least far) (turn far) (last.each hot cold parts)) near after before
+      (subst (Least near) (turn near) (third.each hot cold parts)) (line.from +ℤ pos 1) (omega (arith, ints)) (omega (arith, ints)) in
+      let step = *ℤ_comm line.slope (line.from +ℤ pos 1 -ℤ line.from) in let one = one_times (line.from +ℤ pos 1 -ℤ line.from) line.slope (omega (arith, ints)) in
+      let is : line.cost +ℤ line.slope *ℤ (line.from +ℤ pos 1 -ℤ line.from) ≡ line.cost +ℤ line.slope = omega (arith, ints) in
+      record {
+        small = small;
+        first = first;
+        next = HoldsOfParts-some c
+            (λ h k. IsLeastCost (reach_between c h k) (priced (prices_with c i (line.from +ℤ pos 1)) h) (priced (prices_with c i (line.from +ℤ pos 1)) k)
+            (line.cost +ℤ line.slope)) hot cold parts (subst (Least (line.from +ℤ pos 1)) is next);
+      }
 
 pub rises_fall : (c : Case) → RisesFall c
 rises_fall c i p first middle last there one two three = rises-fall_with c i there p first middle last one two three
@@ -369,7 +393,7 @@ module _ (c : Case) (i : ℕ) (to : ℤ) where
       cost_in-costs from (to +ℤ pos 1) segments are p within.from (omega (arith, ints)) in
       inl (f, costs, segments_of from f costs from segments (omega (arith, ints)) are)
 
--- Lines through least costs: how large their numbers are, and how their end is found by halving.
+-- Lines through least costs: how large their numbers are, and how far they lie above least costs.
 
 -- a product of numbers that are each within a bound, on both sides of 0
 product_both_within : (a b : ℤ) (m n : ℕ) → IsWithin (pos m) a → IsWithin (pos n) b → IsWithin (pos (m * n)) (a *ℤ b)
@@ -414,42 +438,30 @@ module _ (line : Line) (price : ℤ) (small : IsSmallLine line) (is : IsPrice pr
         ≡ line_at line price
     cost-told = rw (cost_is, rise_is) (to_z-of_z w128 (line_at line price) whole_cost_fits)
 
+-- a quotient is not further from 0 than what is divided
+pub quotient-within : (n : ℕ) (a b : ℤ) → pos 0 <ℤ b → IsWithin (pos n) a → IsWithin (pos n) (int_div a b)
+quotient-within n (pos a) (pos b) some is = let low = is.from in let high = is.upto in let less = div-le_self a b in
+    record { from = omega (arith, ints); upto = omega (arith, ints) }
+quotient-within n (negsuc a) (pos b) some is = let low = is.from in let high = is.upto in let less = div-le_self (suc a) b in
+    record { from = omega (arith, ints); upto = omega (arith, ints) }
+quotient-within n a (negsuc b) some is = absurd (omega (arith, ints))
+
+-- how far a line is above a cost at a price
+pub gap-within : (line : Line) (price cost on : ℤ) → IsSmallLine line → IsPrice price → IsCost cost → on ≡ line_at line price → IsGap (on -ℤ cost)
+gap-within line price cost on small is near at =
+    let rise = rise_within line price small is in let a = rise.from in let b = rise.upto in
+    let d = small.cost.from in let e = small.cost.upto in let f = near.from in let g = near.upto in
+    record { from = omega (arith, ints); upto = omega (arith, ints) }
+
+-- what is left of such a gap times a way between two prices, less 1, fits
+pub gap-times : (run gap : ℤ) → IsWithin (pos 2000000) run → IsGap gap → IsWithin (pos (2000000 * 2 ^ 100)) (run *ℤ gap)
+gap-times run gap way is = product_both_within run gap 2000000 (2 ^ 100) way is
+
 -- a line costs at its second price what it costs at its first one, and its slope
 pub line-second : (line : Line) → line_at line (line.from +ℤ pos 1) ≡ line.cost +ℤ line.slope
 line-second line = ap (λ z. line.cost +ℤ z) (one_times (line.from +ℤ pos 1 -ℤ line.from) line.slope (omega (arith, ints)))
 
--- the half of a number from 2 on is at least 1 and less than it
-pub half-between : (a : ℤ) → pos 1 <ℤ a → (pos 0 <ℤ int_div a (pos 2)) × (int_div a (pos 2) <ℤ a)
-half-between a h = let whole = quot-rem a (pos 2) in let rest = rem_below a (pos 2) (omega arith) in (omega (arith, ints), omega (arith, ints))
-
--- a number that is more than 0 and less than their distance, added to the lower of two numbers, lies between them
-sum_between : (on off more : ℤ) → IsBetween (neg_ℤ (pos 2000000)) (pos 2000000) on → IsBetween (neg_ℤ (pos 2000000)) (pos 2000000) off → pos 0 <ℤ more
-    → more <ℤ (off -ℤ on) → (on <ℤ to_z w64 (of_z w64 (on +ℤ to_z w64 (of_z w64 more)))) × (to_z w64 (of_z w64 (on +ℤ to_z w64 (of_z w64 more))) <ℤ off)
-sum_between on off more low high some less = let a = low.from in (omega (arith, ints), omega (arith, ints))
-
--- the middle of two prices that are not neighbours lies between them
-pub middle-between : (on off : ℤ) → IsBetween (neg_ℤ (pos 2000000)) (pos 2000000) on → IsBetween (neg_ℤ (pos 2000000)) (pos 2000000) off → pos 1 <ℤ (off -ℤ on)
-    → (on <ℤ to_z w64 (of_z w64 (on +ℤ to_z w64 (of_z w64 (int_div (to_z w64 (of_z w64 (off -ℤ on))) (pos 2))))))
-    × (to_z w64 (of_z w64 (on +ℤ to_z w64 (of_z w64 (int_div (to_z w64 (of_z w64 (off -ℤ on))) (pos 2))))) <ℤ off)
-middle-between on off low high apart =
-    let width : to_z w64 (of_z w64 (off -ℤ on)) ≡ off -ℤ on = omega (arith, ints) in let half = half-between (off -ℤ on) apart in
-    let is = ap (λ z. int_div z (pos 2)) (sym width) in
-    sum_between on off (int_div (to_z w64 (of_z w64 (off -ℤ on))) (pos 2)) low high (subst (λ z. pos 0 <ℤ z) is half.0)
-    (subst (λ z. z <ℤ (off -ℤ on)) is half.1)
-
 module _ (c : Case) (i : ℕ) where
-  -- whether the least cost at a price is this one
-  same_cost : (price cost on : ℤ) (same : Bool) → CostsWith c i price cost → (same ≡ true → cost ≡ on) → (cost ≡ on → same ≡ true)
-      → MatchBool same (CostsWith c i price on) (CostsWith c i price on → ⊥)
-  same_cost price cost on true least is only = subst (CostsWith c i price) (is refl) least
-  same_cost price cost on false least is only = λ other. false≢true (only (one_cost c (priced (prices_with c i price)) cost on least other))
-
-  pub told_cost : (price cost on : ℤ) → FitsSigned w128 cost → FitsSigned w128 on → CostsWith c i price cost
-      → MatchBool (nat_eq (of_z w128 cost) (of_z w128 on)) (CostsWith c i price on) (CostsWith c i price on → ⊥)
-  told_cost price cost on fits fits_on least = same_cost price cost on (nat_eq (of_z w128 cost) (of_z w128 on)) least
-      (λ same. sym (to_z-of_z w128 cost fits) ∙ ap (to_z w128) (eqb-true (of_z w128 cost) (of_z w128 on) same) ∙ to_z-of_z w128 on fits_on)
-      (λ is. eq-eqb (of_z w128 cost) (of_z w128 on) (ap (of_z w128) is))
-
   -- the line through two least costs
   pub line_of : (line : Line) (next : ℤ) → IsPrice line.from → IsCost line.cost → IsCost next → line.slope ≡ next -ℤ line.cost
       → CostsWith c i line.from line.cost → CostsWith c i (line.from +ℤ pos 1) next → IsLine c i line
