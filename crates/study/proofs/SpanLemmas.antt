@@ -4,15 +4,13 @@ use Rattle.study.proofs.Words.{AreSpanSegments, Case, Cold, Cost, CostsWith, Has
 use Rattle.study.proofs.Words.{IsBetween, IsCost, IsCostFunction, IsCostSegment, IsGap, IsHeatFlow, IsItem, IsItemAnswer, IsLeastCost, IsLine, IsLineEnd, IsPrice}
 use Rattle.study.proofs.Words.{IsSegment, IsSmallLine, IsWithin, KeepsRanges, Line, MatchOption, OneAnswer, Part, RisesFall, Scenario, Segment}
 use Rattle.study.proofs.Words.{Segments, Side, Source, Span, StudyAnswer, StudyItem, Transfer, blank, both_reach, by_lt_z, case_prices, cases_eq, cost_of}
-use Rattle.study.proofs.Words.{heat_at, if◌then◌else◌, int_div, int_le, int_le-false, int_le-from, int_sum_from, ints, length-map}
+use Rattle.study.proofs.Words.{heat_at, if◌then◌else◌, int_le, int_le-false, int_le-from, int_sum_from, ints, length-map}
 use Rattle.study.proofs.Words.{line_at, neg_ℤ, neg_ℤ-*ℤ, on_line, part_index, pos, price_at, price_of, priced, priced_part, prices_with, product_within}
 use Rattle.study.proofs.Words.{reach_between, same_Some, same_lists, set, side_cost, slice_get-get_or, slice_get-map, slice_get_within}
 use Rattle.study.proofs.Words.{to_z-of_z, w128, ℤ, ≤ℤ_from_*ℤ, ◌*ℤ◌, ◌+ℤ◌, ◌-ℤ◌, ◌<ℤ◌, ◌≤ℤ◌}
 use Rattle.std.proofs.Common.{Bool, FitsSigned, List, None, Option, Some, [], ap, ap₂, arith, get_or, inl, inr, length, map, of_z, option_map, refl}
 use Rattle.std.proofs.Common.{slice_get, subst, suc, sym, to_z, ℕ, ⊎_elim, ◌*◌, ◌++◌, ◌<◌, ◌∙◌, ◌∷◌, ◌≡◌, ◌≢◌, ◌^◌}
-use Rattle.std.proofs.Math.Nat.{div-le_self}
 use Rattle.std.proofs.lemmas.List.{get_or-set_other, get_or-set_same}
-use Rattle.std.specs.Prelude.{negsuc}
 use Rattle.stream_case.specs.declared.source.Source.TheVariants.{Stream as of_stream, Utility as of_utility}
 
 -- ---- which parts reach which
@@ -171,8 +169,28 @@ module _ (own : List ℤ) (i : ℕ) (there : i < length own) where
         ∙ omega (arith, ints) in
         omega (arith, ints, below, above, down, up, back, on, middle.costs)
 
-    -- least costs on one line at p and at q: no flow costs less than that line at a price between
-    module _ (p q v s : ℤ) (first : Least p v) (last : Least q (v +ℤ s *ℤ (q -ℤ p))) where
+    -- least costs on one line at p, at the next price and at q: each price between has its least cost there
+    module _ (p q v s : ℤ) (first : Least p v) (next : Least (p +ℤ pos 1) (v +ℤ s)) (last : Least q (v +ℤ s *ℤ (q -ℤ p))) where
+      abbrev middle : List Transfer
+      middle = next.transfers
+
+      steep : (p +ℤ pos 1) <ℤ q → rise middle ≡ s
+      steep behind =
+          let m = p +ℤ pos 1 in let u = rise middle in let below = first.least middle (flow-moves m p middle next.flow) in
+          let above = last.least middle (flow-moves m q middle next.flow) in let down = cost-moves m p middle in let up = cost-moves m q middle in
+          let back : u *ℤ (p -ℤ m) ≡ neg_ℤ u = ap (λ z. u *ℤ z) {x = p -ℤ m} {y = neg_ℤ (pos 1)} (omega (arith, ints)) ∙ omega (arith, ints) in
+          let length_is : s *ℤ (q -ℤ p) ≡ s *ℤ (q -ℤ m) +ℤ s = ap (λ z. s *ℤ z) {x = q -ℤ p} {y = (q -ℤ m) +ℤ pos 1} (omega (arith, ints))
+          ∙ *ℤ-+ℤ s (q -ℤ m) (pos 1) ∙ omega (arith, ints) in
+          let upto : u ≤ℤ s = omega (arith, ints) in let from : s ≤ℤ u = ≤ℤ_from_*ℤ (q -ℤ m) s u (omega (arith, ints)) (omega (arith, ints)) in
+          omega (arith, ints)
+
+      between-costs : (r : ℤ) → (p +ℤ pos 1) <ℤ q → cost r middle ≡ v +ℤ s *ℤ (r -ℤ p)
+      between-costs r behind =
+          let m = p +ℤ pos 1 in let moved = cost-moves m r middle ∙ ap (λ z. cost m middle +ℤ z *ℤ (r -ℤ m)) (steep behind) in
+          let length_is : s *ℤ (r -ℤ p) ≡ s *ℤ (r -ℤ m) +ℤ s = ap (λ z. s *ℤ z) {x = r -ℤ p} {y = (r -ℤ m) +ℤ pos 1} (omega (arith, ints))
+          ∙ *ℤ-+ℤ s (r -ℤ m) (pos 1) ∙ omega (arith, ints) in
+          omega (arith, ints)
+
       between-least : (r : ℤ) → p ≤ℤ r → r ≤ℤ q → (ts : List Transfer) → Flow r ts → (v +ℤ s *ℤ (r -ℤ p)) ≤ℤ cost r ts
       between-least r from upto ts flow =
           let w = rise ts in let below = first.least ts (flow-moves r p ts flow) in let above = last.least ts (flow-moves r q ts flow) in
@@ -182,36 +200,13 @@ module _ (own : List ℤ) (i : ℕ) (there : i < length own) where
           let w_down = *ℤ--ℤ w r q in let w_more = *ℤ--ℤ w q r in let s_more = *ℤ--ℤ s q r in
           omega (arith, ints)) (λ not_less. let more = *ℤ-≤ℤ_right (r -ℤ p) s w (omega (arith, ints)) not_less in omega (arith, ints))
 
-      -- where the least cost at a price m between the two is on the line, so is that at each
-      module _ (m : ℤ) (after : p <ℤ m) (before : m <ℤ q) (third : Least m (v +ℤ s *ℤ (m -ℤ p))) where
-        steep : rise third.transfers ≡ s
-        steep =
-            let ts = third.transfers in let u = rise ts in let below = first.least ts (flow-moves m p ts third.flow) in
-            let above = last.least ts (flow-moves m q ts third.flow) in let down = cost-moves m p ts in let up = cost-moves m q ts in
-            let at = third.costs in let u_down = *ℤ--ℤ u p m in let u_back = *ℤ--ℤ u m p in let u_up = *ℤ--ℤ u q m in
-            let s_back = *ℤ--ℤ s m p in let s_whole = *ℤ--ℤ s q p in let s_up = *ℤ--ℤ s q m in
-            let upto : u ≤ℤ s = ≤ℤ_from_*ℤ (m -ℤ p) u s (omega (arith, ints)) (omega (arith, ints)) in
-            let from : s ≤ℤ u = ≤ℤ_from_*ℤ (q -ℤ m) s u (omega (arith, ints)) (omega (arith, ints)) in omega (arith, ints)
-
-        third-costs : (r : ℤ) → cost r third.transfers ≡ v +ℤ s *ℤ (r -ℤ p)
-        third-costs r =
-            let moved = cost-moves m r third.transfers ∙ ap (λ z. cost m third.transfers +ℤ z *ℤ (r -ℤ m)) steep in let at = third.costs in
-            let s_back = *ℤ--ℤ s m p in let s_on = *ℤ--ℤ s r m in let s_whole = *ℤ--ℤ s r p in omega (arith, ints)
-
-        pub between-three : (r : ℤ) → p ≤ℤ r → r ≤ℤ q → Least r (v +ℤ s *ℤ (r -ℤ p))
-        between-three r from upto = record {
-          transfers = third.transfers;
-          flow = flow-moves m r third.transfers third.flow;
-          costs = third-costs r;
-          least = between-least r from upto;
-        }
-
-    -- least costs on one line at p, at the next price and at q: each price between has its least cost there
-    module _ (p q v s : ℤ) (first : Least p v) (next : Least (p +ℤ pos 1) (v +ℤ s)) (last : Least q (v +ℤ s *ℤ (q -ℤ p))) where
       pub between : (r : ℤ) → p <ℤ q → p ≤ℤ r → r ≤ℤ q → Least r (v +ℤ s *ℤ (r -ℤ p))
-      between r ahead from upto = by_lt_z (p +ℤ pos 1) q
-          (λ behind. between-three p q v s first last (p +ℤ pos 1) (omega (arith, ints)) behind (subst (Least (p +ℤ pos 1)) (ap (λ z. v +ℤ z) one_step) next) r
-          from upto) (λ adjacent.
+      between r ahead from upto = by_lt_z (p +ℤ pos 1) q (λ behind. record {
+        transfers = middle;
+        flow = flow-moves (p +ℤ pos 1) r middle next.flow;
+        costs = between-costs r behind;
+        least = between-least r from upto;
+      }) (λ adjacent.
           by_lt_z p r (λ later. let is : p +ℤ pos 1 ≡ r = omega (arith, ints) in
           subst (λ x. Least x (v +ℤ s *ℤ (x -ℤ p))) is (subst (Least (p +ℤ pos 1)) (ap (λ z. v +ℤ z) one_step) next))
           (λ not_later. let is : p ≡ r = omega (arith, ints) in subst (λ x. Least x (v +ℤ s *ℤ (x -ℤ p))) is (subst (Least p) no_step first)))
@@ -281,25 +276,6 @@ module _ (c : Case) (i : ℕ) (there : i < length c.utilities) where
       HoldsOfParts-some c
       (λ h k. IsLeastCost (reach_between c h k) (priced (prices_with c i p) h) (priced (prices_with c i p) k) (line_at line p)) hot cold parts
       (subst (IsLeastCost (reach_between c hot cold) (priced (prices_with c i p) hot) (priced (prices_with c i p) cold)) (turn p) least)
-
-  -- a line on which the least costs at its first price and at two further ones are is on the next one too
-  pub line_of-three : (line : Line) (near far : ℤ) → IsSmallLine line → line.from <ℤ near → near <ℤ far → CostsWith c i line.from line.cost
-      → CostsWith c i near (line_at line near) → CostsWith c i far (line_at line far) → IsLine c i line
-  line_of-three line near far small after before first third last =
-      let (hot, cold, parts) = first.some in let turn = λ (r : ℤ). ap (λ z. line.cost +ℤ z) (*ℤ_comm (r -ℤ line.from) line.slope) in
-      let Least = λ (r x : ℤ). IsLeastCost (reach_between c hot cold) (priced (prices_with c i r) hot) (priced (prices_with c i r) cold) x in
-      let next = between-three (case_prices c) i utility_there (reach_between c hot cold) hot cold line.from far line.cost line.slope
-      (first.each hot cold parts) (subst (Least far) (turn far) (last.each hot cold parts)) near after before
-      (subst (Least near) (turn near) (third.each hot cold parts)) (line.from +ℤ pos 1) (omega (arith, ints)) (omega (arith, ints)) in
-      let step = *ℤ_comm line.slope (line.from +ℤ pos 1 -ℤ line.from) in let one = one_times (line.from +ℤ pos 1 -ℤ line.from) line.slope (omega (arith, ints)) in
-      let is : line.cost +ℤ line.slope *ℤ (line.from +ℤ pos 1 -ℤ line.from) ≡ line.cost +ℤ line.slope = omega (arith, ints) in
-      record {
-        small = small;
-        first = first;
-        next = HoldsOfParts-some c
-            (λ h k. IsLeastCost (reach_between c h k) (priced (prices_with c i (line.from +ℤ pos 1)) h) (priced (prices_with c i (line.from +ℤ pos 1)) k)
-            (line.cost +ℤ line.slope)) hot cold parts (subst (Least (line.from +ℤ pos 1)) is next);
-      }
 
 pub rises_fall : (c : Case) → RisesFall c
 rises_fall c i p first middle last there one two three = rises-fall_with c i there p first middle last one two three
@@ -437,14 +413,6 @@ module _ (line : Line) (price : ℤ) (small : IsSmallLine line) (is : IsPrice pr
         (of_z w128 (to_z w128 (of_z w128 line.cost) +ℤ to_z w128 (of_z w128 (to_z w128 (of_z w128 z) *ℤ to_z w128 (of_z w128 line.slope)))))
         ≡ line_at line price
     cost-told = rw (cost_is, rise_is) (to_z-of_z w128 (line_at line price) whole_cost_fits)
-
--- a quotient is not further from 0 than what is divided
-pub quotient-within : (n : ℕ) (a b : ℤ) → pos 0 <ℤ b → IsWithin (pos n) a → IsWithin (pos n) (int_div a b)
-quotient-within n (pos a) (pos b) some is = let low = is.from in let high = is.upto in let less = div-le_self a b in
-    record { from = omega (arith, ints); upto = omega (arith, ints) }
-quotient-within n (negsuc a) (pos b) some is = let low = is.from in let high = is.upto in let less = div-le_self (suc a) b in
-    record { from = omega (arith, ints); upto = omega (arith, ints) }
-quotient-within n a (negsuc b) some is = absurd (omega (arith, ints))
 
 -- how far a line is above a cost at a price
 pub gap-within : (line : Line) (price cost on : ℤ) → IsSmallLine line → IsPrice price → IsCost cost → on ≡ line_at line price → IsGap (on -ℤ cost)

@@ -65,7 +65,7 @@ pub use Rattle.stream_case.specs.declared.source.Source.{Source}
 pub use Rattle.stream_case.specs.declared.stream.Stream.{Stream}
 pub use Rattle.stream_case.specs.declared.utility.Utility.{Utility}
 pub use Rattle.study.specs.Cost.{IsCaseCut, IsCostOf}
-pub use Rattle.study.specs.CostCurve.{IsCostCurve, IsLineThrough, IsPoint, IsPointOf, IsSmallPoint}
+pub use Rattle.study.specs.CostCurve.{IsCostCurve, IsPoint, IsPointOf, IsSmallPoint}
 pub use Rattle.study.specs.CostRange.{IsCost}
 pub use Rattle.study.specs.Draws.{draw, next_state, state_after}
 pub use Rattle.study.specs.Plan.{IsSweepPlan, contribution_at, has_row}

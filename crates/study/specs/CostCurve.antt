@@ -1,13 +1,12 @@
 -- The least cost of a case over the price of one utility, and its points.
-use Rattle.std.specs.Prelude.{◌≡◌, ℕ, ◌<◌, ◌<ℤ◌, length}
+use Rattle.std.specs.Prelude.{ℕ, ◌<◌, length}
 use Rattle.stream_case.specs.Limits.{IsPrice}
 use Rattle.stream_case.specs.declared.case.Case.{Case}
 use Rattle.study.specs.CostRange.{IsCost}
 use Rattle.study.specs.PricedCase.{IsPricedCase}
-use Rattle.study.specs.Spans.{CostsWith, HasFlowWith, IsSmallLine, line_at}
+use Rattle.study.specs.Spans.{CostsWith, HasFlowWith}
 use Rattle.study.specs.declared.cost_curve.CostCurve.{CostCurve}
 use Rattle.study.specs.declared.cost_curve.Point.{Point}
-use Rattle.study.specs.declared.lines.Line.{Line}
 
 -- a completed case that has a heat flow, with its parts, their net, and one of its utilities
 pub record IsCostCurve (curve : CostCurve) : Type 0 where
@@ -27,13 +26,3 @@ pub record IsPoint (c : Case) (i : ℕ) (point : Point) : Type 0 where
 
 abbrev pub IsPointOf : CostCurve → Point → Type 0
 IsPointOf curve = IsPoint curve.priced.case.now curve.utility
-
--- a line from the first of three points, one behind the other, through the other two
-pub record IsLineThrough (first near far : Point) (line : Line) : Type 0 where
-  pub small : IsSmallLine line
-  pub from : line.from ≡ first.price
-  pub cost : line.cost ≡ first.cost
-  pub after : first.price <ℤ near.price
-  pub before : near.price <ℤ far.price
-  pub through_near : near.cost ≡ line_at line near.price
-  pub through_far : far.cost ≡ line_at line far.price

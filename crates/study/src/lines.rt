@@ -1,7 +1,7 @@
 //! Lines through least costs, and where the least cost may leave one.
-ghost use Rattle.std.specs.Prelude.{◌≡◌, pos, ◌+ℤ◌, ◌-ℤ◌, ◌≤ℤ◌, ◌<ℤ◌, All, IfSome};
+ghost use Rattle.std.specs.Prelude.{◌≡◌, pos, ◌+ℤ◌, ◌-ℤ◌, ◌≤ℤ◌, ◌<ℤ◌, All};
 ghost use Rattle.stream_case.specs.Limits.{IsPrice};
-ghost use Rattle.study.specs.CostCurve.{IsLineThrough, IsSmallPoint};
+ghost use Rattle.study.specs.CostCurve.{IsSmallPoint};
 ghost use Rattle.study.specs.Spans.{IsGap, IsSmallLine, line_at};
 
 use crate::cost_curve::Point;
@@ -28,32 +28,9 @@ pub(crate) fn line_at(line: Line, price: i64) -> i128
 fn gap(line: Line, point: Point) -> i128
     requires line { IsSmallLine line }
     requires point { IsSmallPoint point }
-    ensures value { result ≡ line_at line point.price -ℤ point.cost }
-    ensures range { IsGap result }
+    ensures { IsGap result }
 {
     line_at(line, point.price) - point.cost
-}
-
-/// The line through three points, one behind the other, where there is one of whole slope.
-pub(crate) fn line_through(first: Point, near: Point, far: Point) -> Option<Line>
-    requires first { IsSmallPoint first }
-    requires near { IsSmallPoint near }
-    requires far { IsSmallPoint far }
-    ensures { IfSome result (IsLineThrough first near far) }
-{
-    if near.price <= first.price || far.price <= near.price {
-        return None;
-    }
-    let line = Line {
-        from: first.price,
-        cost: first.cost,
-        slope: (near.cost - first.cost) / i128::from(near.price - first.price),
-    };
-    if gap(line, near) == 0 && gap(line, far) == 0 {
-        Some(line)
-    } else {
-        None
-    }
 }
 
 /// How many whole prices lie between a point below a line and the last price at which the line

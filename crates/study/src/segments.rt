@@ -1,5 +1,5 @@
 //! The segments of the least cost over a span of prices of one utility.
-ghost use Rattle.std.specs.Prelude.{◌≡◌, ◌<◌, pos, ◌+ℤ◌, ◌≤ℤ◌, ◌<ℤ◌, length, All, IfOk, IfSome};
+ghost use Rattle.std.specs.Prelude.{◌≡◌, ◌<◌, pos, ◌+ℤ◌, ◌≤ℤ◌, ◌<ℤ◌, length, All, IfOk};
 ghost use Rattle.stream_case.specs.Limits.{IsPrice};
 ghost use Rattle.study.specs.CostCurve.{IsCostCurve, IsPointOf};
 ghost use Rattle.study.specs.PricedCase.{IsPricedCase};
@@ -7,7 +7,7 @@ ghost use Rattle.study.specs.Spans.{AreCostSegments, IsCostSegment, IsLine, IsLi
 ghost use Rattle.study.specs.Study.{AreSpanSegments, IsSpan};
 
 use crate::cost_curve::{CostCurve, Point};
-use crate::lines::{Line, line_at, line_through, next_price};
+use crate::lines::{Line, line_at, next_price};
 use crate::priced::PricedCase;
 use crate::study_item::Segment;
 use std::alloc::{AllocError, Global};
@@ -36,22 +36,7 @@ fn take_point(
     }
 }
 
-/// The line from a point through the two nearest ahead, where they are on one. Then the point at
-/// the next price is on it too, since the least cost never rises faster at a higher price.
-fn line_ahead(curve: &CostCurve, ahead: &[Point], first: Point) -> Option<Line>
-    requires curve { IsCostCurve curve.now }
-    requires ahead { All (IsPointOf curve.now) ahead.now }
-    requires first { IsPointOf curve.now first }
-    ensures from { IfSome result (λ line. line.from ≡ first.price) }
-    ensures line { IfSome result (IsLine curve.now.priced.case.now curve.now.utility) }
-{
-    match ahead {
-        [.., far, near] => line_through(first, *near, *far),
-        _ => None,
-    }
-}
-
-/// The line through a point and that at the next price, which is only looked at where it must be.
+/// The line through a point and that at the next price.
 fn line_from(
     alloc: Global,
     curve: &CostCurve,
@@ -66,9 +51,6 @@ fn line_from(
     ensures line { IfOk result (IsLine curve.now.priced.case.now curve.now.utility) }
     ensures ahead { All (IsPointOf curve.now) ahead.new.items }
 {
-    if let Some(line) = line_ahead(curve, ahead.as_slice(), first) {
-        return Ok(line);
-    }
     let next = take_point(alloc, curve, ahead, first.price + 1)?;
     Ok(Line {
         from: first.price,

@@ -10,16 +10,9 @@ overflow_sub-result c =
     let is = gap-within line point.price point.cost c.line_at.result c.requires.line c.requires.point.price c.requires.point.cost on in
     let low = is.from in let high = is.upto in omega (arith, ints)
 
-pub returns-clause-range : goal.returns-clause-range
-returns-clause-range c =
+pub returns : goal.returns
+returns c =
     let line = c.args.line in let point = c.args.point in let fits : FitsSigned w64 point.price = search rules in
     let on = c.line_at.ensures ∙ ap (line_at line) (to_z-of_z w64 point.price fits) in
     let is = gap-within line point.price point.cost c.line_at.result c.requires.line c.requires.point.price c.requires.point.cost on in
     let low = is.from in let high = is.upto in record { from = omega (arith, ints); upto = omega (arith, ints) }
-
-pub returns-clause-value : goal.returns-clause-value
-returns-clause-value c =
-    let line = c.args.line in let point = c.args.point in let fits : FitsSigned w64 point.price = search rules in
-    let on = c.line_at.ensures ∙ ap (line_at line) (to_z-of_z w64 point.price fits) in
-    let is = gap-within line point.price point.cost c.line_at.result c.requires.line c.requires.point.price c.requires.point.cost on in
-    let low = is.from in let high = is.upto in omega (arith, ints, on)

@@ -18,21 +18,21 @@ module _ (run gap : ℤ) (way : IsWithin (pos 2000000) run) (is : IsGap gap) whe
 pub overflow_mul-result : goal.overflow_mul-result
 overflow_mul-result c =
     let a = c.requires.near.price.from in let b = c.requires.near.price.upto in let d = c.requires.far.price.from in let e = c.requires.far.price.upto in
-    let low = c.gap-near_gap.ensures.range.from in let high = c.gap-near_gap.ensures.range.upto in
+    let low = c.gap-near_gap.ensures.from in let high = c.gap-near_gap.ensures.upto in
     product_fits (to_z w128 (of_z w128 c.from-run.result)) (to_z w128 (of_z w128 c.gap-near_gap.result))
     (record { from = omega (arith, ints); upto = omega (arith, ints) }) (record { from = omega (arith, ints); upto = omega (arith, ints) })
 
 pub overflow_sub-result : goal.overflow_sub-result
 overflow_sub-result c =
     let a = c.requires.near.price.from in let b = c.requires.near.price.upto in let d = c.requires.far.price.from in let e = c.requires.far.price.upto in
-    let low = c.gap-near_gap.ensures.range.from in let high = c.gap-near_gap.ensures.range.upto in
+    let low = c.gap-near_gap.ensures.from in let high = c.gap-near_gap.ensures.upto in
     less_fits (to_z w128 (of_z w128 c.from-run.result)) (to_z w128 (of_z w128 c.gap-near_gap.result))
     (record { from = omega (arith, ints); upto = omega (arith, ints) }) (record { from = omega (arith, ints); upto = omega (arith, ints) })
 
 pub nonzero_div-result : goal.nonzero_div-result
 nonzero_div-result c =
     let a = c.requires.near.price.from in let b = c.requires.near.price.upto in let d = c.requires.far.price.from in let e = c.requires.far.price.upto in
-    let low = c.gap-near_gap.ensures.range.from in let high = c.gap-near_gap.ensures.range.upto in let most = c.max.ensures.value in
+    let low = c.gap-near_gap.ensures.from in let high = c.gap-near_gap.ensures.upto in let most = c.max.ensures.value in
     let fits : FitsSigned w128 c.max.result = search rules in let is = to_z-of_z w128 c.max.result fits in
     let one : pos 0 <ℤ c.max.result = omega (arith, ints, clamps, most) in (
       omega (arith, ints, one),
