@@ -1,15 +1,15 @@
 -- The least cost over a span of prices: heat flows of priced parts, least costs, lines and segments, and the one list of answers of a study.
 use Rattle.study.proofs.Words.{*ℤ-+ℤ, *ℤ--ℤ, *ℤ-zero, *ℤ-≤ℤ_right, *ℤ_assoc, *ℤ_comm, +ℤ-*ℤ, -ℤ-*ℤ, All, All-slice_get, AreCostSegments, AreSegments, one_times}
 use Rattle.study.proofs.Words.{AreSpanSegments, Case, Cold, Cost, CostsWith, HasFlowWith, HasNoFlow, HasNoFlowAt, HoldsOfParts, HoldsOfParts-some, Hot}
-use Rattle.study.proofs.Words.{IsBetween, IsCost, IsCostFunction, IsCostSegment, IsHeatFlow, IsItem, IsItemAnswer, IsLeastCost, IsLine, IsLineEnd, IsPrice}
-use Rattle.study.proofs.Words.{IsSegment, IsSmallLine, IsWithin, KeepsRanges, Line, MatchBool, MatchOption, OneAnswer, Part, RisesFall, Scenario, Segment}
+use Rattle.study.proofs.Words.{IsBetween, IsCost, IsCostFunction, IsCostSegment, IsGap, IsHeatFlow, IsItem, IsItemAnswer, IsLeastCost, IsLine, IsLineEnd, IsPrice}
+use Rattle.study.proofs.Words.{IsSegment, IsSmallLine, IsWithin, KeepsRanges, Line, MatchOption, OneAnswer, Part, RisesFall, Scenario, Segment}
 use Rattle.study.proofs.Words.{Segments, Side, Source, Span, StudyAnswer, StudyItem, Transfer, blank, both_reach, by_lt_z, case_prices, cases_eq, cost_of}
-use Rattle.study.proofs.Words.{eq-eqb, eqb-true, false≢true, heat_at, if◌then◌else◌, int_div, int_le, int_le-false, int_le-from, int_sum_from, ints, length-map}
-use Rattle.study.proofs.Words.{line_at, nat_eq, neg_ℤ, neg_ℤ-*ℤ, on_line, part_index, pos, price_at, price_of, priced, priced_part, prices_with, product_within}
-use Rattle.study.proofs.Words.{quot-rem, reach_between, rem_below, same_Some, same_lists, set, side_cost, slice_get-get_or, slice_get-map, slice_get_within}
+use Rattle.study.proofs.Words.{heat_at, if◌then◌else◌, int_le, int_le-false, int_le-from, int_sum_from, ints, length-map}
+use Rattle.study.proofs.Words.{line_at, neg_ℤ, neg_ℤ-*ℤ, on_line, part_index, pos, price_at, price_of, priced, priced_part, prices_with, product_within}
+use Rattle.study.proofs.Words.{reach_between, same_Some, same_lists, set, side_cost, slice_get-get_or, slice_get-map, slice_get_within}
 use Rattle.study.proofs.Words.{to_z-of_z, w128, ℤ, ≤ℤ_from_*ℤ, ◌*ℤ◌, ◌+ℤ◌, ◌-ℤ◌, ◌<ℤ◌, ◌≤ℤ◌}
-use Rattle.std.proofs.Common.{Bool, FitsSigned, List, None, Option, Some, [], ap, ap₂, arith, false, get_or, inl, inr, length, map, of_z, option_map, refl}
-use Rattle.std.proofs.Common.{slice_get, subst, suc, sym, to_z, true, w64, ℕ, ⊎_elim, ◌*◌, ◌++◌, ◌<◌, ◌∙◌, ◌∷◌, ◌≡◌, ◌≢◌}
+use Rattle.std.proofs.Common.{Bool, FitsSigned, List, None, Option, Some, [], ap, ap₂, arith, get_or, inl, inr, length, map, of_z, option_map, refl}
+use Rattle.std.proofs.Common.{slice_get, subst, suc, sym, to_z, ℕ, ⊎_elim, ◌*◌, ◌++◌, ◌<◌, ◌∙◌, ◌∷◌, ◌≡◌, ◌≢◌, ◌^◌}
 use Rattle.std.proofs.lemmas.List.{get_or-set_other, get_or-set_same}
 use Rattle.stream_case.specs.declared.source.Source.TheVariants.{Stream as of_stream, Utility as of_utility}
 
@@ -369,7 +369,7 @@ module _ (c : Case) (i : ℕ) (to : ℤ) where
       cost_in-costs from (to +ℤ pos 1) segments are p within.from (omega (arith, ints)) in
       inl (f, costs, segments_of from f costs from segments (omega (arith, ints)) are)
 
--- Lines through least costs: how large their numbers are, and how their end is found by halving.
+-- Lines through least costs: how large their numbers are, and how far they lie above least costs.
 
 -- a product of numbers that are each within a bound, on both sides of 0
 product_both_within : (a b : ℤ) (m n : ℕ) → IsWithin (pos m) a → IsWithin (pos n) b → IsWithin (pos (m * n)) (a *ℤ b)
@@ -414,42 +414,22 @@ module _ (line : Line) (price : ℤ) (small : IsSmallLine line) (is : IsPrice pr
         ≡ line_at line price
     cost-told = rw (cost_is, rise_is) (to_z-of_z w128 (line_at line price) whole_cost_fits)
 
+-- how far a line is above a cost at a price
+pub gap-within : (line : Line) (price cost on : ℤ) → IsSmallLine line → IsPrice price → IsCost cost → on ≡ line_at line price → IsGap (on -ℤ cost)
+gap-within line price cost on small is near at =
+    let rise = rise_within line price small is in let a = rise.from in let b = rise.upto in
+    let d = small.cost.from in let e = small.cost.upto in let f = near.from in let g = near.upto in
+    record { from = omega (arith, ints); upto = omega (arith, ints) }
+
+-- what is left of such a gap times a way between two prices, less 1, fits
+pub gap-times : (run gap : ℤ) → IsWithin (pos 2000000) run → IsGap gap → IsWithin (pos (2000000 * 2 ^ 100)) (run *ℤ gap)
+gap-times run gap way is = product_both_within run gap 2000000 (2 ^ 100) way is
+
 -- a line costs at its second price what it costs at its first one, and its slope
 pub line-second : (line : Line) → line_at line (line.from +ℤ pos 1) ≡ line.cost +ℤ line.slope
 line-second line = ap (λ z. line.cost +ℤ z) (one_times (line.from +ℤ pos 1 -ℤ line.from) line.slope (omega (arith, ints)))
 
--- the half of a number from 2 on is at least 1 and less than it
-pub half-between : (a : ℤ) → pos 1 <ℤ a → (pos 0 <ℤ int_div a (pos 2)) × (int_div a (pos 2) <ℤ a)
-half-between a h = let whole = quot-rem a (pos 2) in let rest = rem_below a (pos 2) (omega arith) in (omega (arith, ints), omega (arith, ints))
-
--- a number that is more than 0 and less than their distance, added to the lower of two numbers, lies between them
-sum_between : (on off more : ℤ) → IsBetween (neg_ℤ (pos 2000000)) (pos 2000000) on → IsBetween (neg_ℤ (pos 2000000)) (pos 2000000) off → pos 0 <ℤ more
-    → more <ℤ (off -ℤ on) → (on <ℤ to_z w64 (of_z w64 (on +ℤ to_z w64 (of_z w64 more)))) × (to_z w64 (of_z w64 (on +ℤ to_z w64 (of_z w64 more))) <ℤ off)
-sum_between on off more low high some less = let a = low.from in (omega (arith, ints), omega (arith, ints))
-
--- the middle of two prices that are not neighbours lies between them
-pub middle-between : (on off : ℤ) → IsBetween (neg_ℤ (pos 2000000)) (pos 2000000) on → IsBetween (neg_ℤ (pos 2000000)) (pos 2000000) off → pos 1 <ℤ (off -ℤ on)
-    → (on <ℤ to_z w64 (of_z w64 (on +ℤ to_z w64 (of_z w64 (int_div (to_z w64 (of_z w64 (off -ℤ on))) (pos 2))))))
-    × (to_z w64 (of_z w64 (on +ℤ to_z w64 (of_z w64 (int_div (to_z w64 (of_z w64 (off -ℤ on))) (pos 2))))) <ℤ off)
-middle-between on off low high apart =
-    let width : to_z w64 (of_z w64 (off -ℤ on)) ≡ off -ℤ on = omega (arith, ints) in let half = half-between (off -ℤ on) apart in
-    let is = ap (λ z. int_div z (pos 2)) (sym width) in
-    sum_between on off (int_div (to_z w64 (of_z w64 (off -ℤ on))) (pos 2)) low high (subst (λ z. pos 0 <ℤ z) is half.0)
-    (subst (λ z. z <ℤ (off -ℤ on)) is half.1)
-
 module _ (c : Case) (i : ℕ) where
-  -- whether the least cost at a price is this one
-  same_cost : (price cost on : ℤ) (same : Bool) → CostsWith c i price cost → (same ≡ true → cost ≡ on) → (cost ≡ on → same ≡ true)
-      → MatchBool same (CostsWith c i price on) (CostsWith c i price on → ⊥)
-  same_cost price cost on true least is only = subst (CostsWith c i price) (is refl) least
-  same_cost price cost on false least is only = λ other. false≢true (only (one_cost c (priced (prices_with c i price)) cost on least other))
-
-  pub told_cost : (price cost on : ℤ) → FitsSigned w128 cost → FitsSigned w128 on → CostsWith c i price cost
-      → MatchBool (nat_eq (of_z w128 cost) (of_z w128 on)) (CostsWith c i price on) (CostsWith c i price on → ⊥)
-  told_cost price cost on fits fits_on least = same_cost price cost on (nat_eq (of_z w128 cost) (of_z w128 on)) least
-      (λ same. sym (to_z-of_z w128 cost fits) ∙ ap (to_z w128) (eqb-true (of_z w128 cost) (of_z w128 on) same) ∙ to_z-of_z w128 on fits_on)
-      (λ is. eq-eqb (of_z w128 cost) (of_z w128 on) (ap (of_z w128) is))
-
   -- the line through two least costs
   pub line_of : (line : Line) (next : ℤ) → IsPrice line.from → IsCost line.cost → IsCost next → line.slope ≡ next -ℤ line.cost
       → CostsWith c i line.from line.cost → CostsWith c i (line.from +ℤ pos 1) next → IsLine c i line

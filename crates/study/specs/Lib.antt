@@ -1,5 +1,6 @@
 pub mod Answer
 pub mod Cost
+pub mod CostCurve
 pub mod CostRange
 pub mod Draws
 pub mod Plan

@@ -1,12 +1,12 @@
 -- Lines through the least costs over a span, which its segments are made of.
-use Rattle.std.specs.Prelude.{◌≡◌, ℕ, Bool, MatchBool, ℤ, pos, ◌+ℤ◌, ◌-ℤ◌, ◌*ℤ◌, ◌<ℤ◌, List, [], ◌∷◌}
+use Rattle.std.specs.Prelude.{◌≡◌, ℕ, ◌^◌, ℤ, pos, ◌+ℤ◌, ◌-ℤ◌, ◌*ℤ◌, ◌<ℤ◌, List, [], ◌∷◌}
 use Rattle.heat_flow.specs.Ranges.{IsWithin}
 use Rattle.stream_case.specs.Limits.{IsBetween, IsPrice}
 use Rattle.stream_case.specs.declared.case.Case.{Case}
 use Rattle.study.specs.CostRange.{IsCost, most_cost}
 use Rattle.study.specs.Priced.{HasNoFlowAt, IsLeastCostAt, prices_with}
 use Rattle.study.specs.Segments.{on_line}
-use Rattle.study.specs.declared.segments.Line.{Line}
+use Rattle.study.specs.declared.lines.Line.{Line}
 use Rattle.study.specs.declared.study_item.Segment.{Segment}
 
 -- the least cost of the case with the price p of utility number i
@@ -21,13 +21,13 @@ HasFlowWith c i = (p : ℤ) → HasNoFlowAt c (prices_with c i p) → ⊥
 abbrev pub line_at : Line → ℤ → ℤ
 line_at line p = line.cost +ℤ (p -ℤ line.from) *ℤ line.slope
 
--- an answer that says whether the least cost at a price is on a line
-abbrev pub TellsOnLine : Case → ℕ → Line → ℤ → Bool → Type 0
-TellsOnLine c i line p on = let here = CostsWith c i p (line_at line p) in MatchBool on here (here → ⊥)
-
 -- how much a line can rise for each 1 of the price
 abbrev pub IsSlope : ℤ → Type 0
 IsSlope slope = IsWithin (pos 2 *ℤ most_cost) slope
+
+-- how far a line can be above a least cost, or below it
+abbrev pub IsGap : ℤ → Type 0
+IsGap gap = IsWithin (pos (2 ^ 100)) gap
 
 -- numbers of a line that are within the limits
 pub record IsSmallLine (line : Line) : Type 0 where

@@ -10,8 +10,10 @@
 mod answer;
 mod contribution;
 mod cost;
+mod cost_curve;
 mod generator;
 mod limits;
+mod lines;
 mod plan;
 mod priced;
 mod row;

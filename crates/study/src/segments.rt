@@ -1,196 +1,151 @@
 //! The segments of the least cost over a span of prices of one utility.
-ghost use Rattle.std.specs.Prelude.{◌≡◌, ◌<◌, pos, ◌+ℤ◌, ◌≤ℤ◌, ◌<ℤ◌, length, IfOk};
+ghost use Rattle.std.specs.Prelude.{◌≡◌, ◌<◌, pos, ◌+ℤ◌, ◌≤ℤ◌, ◌<ℤ◌, length, All, IfOk};
 ghost use Rattle.stream_case.specs.Limits.{IsPrice};
-ghost use Rattle.study.specs.CostRange.{IsCost};
+ghost use Rattle.study.specs.CostCurve.{IsCostCurve, IsPointOf};
 ghost use Rattle.study.specs.PricedCase.{IsPricedCase};
-ghost use Rattle.study.specs.Spans.{AreCostSegments, CostsWith, HasFlowWith, IsCostSegment, IsLine, IsLineEnd, IsSmallLine, TellsOnLine, line_at};
+ghost use Rattle.study.specs.Spans.{AreCostSegments, IsCostSegment, IsLine, IsLineEnd};
 ghost use Rattle.study.specs.Study.{AreSpanSegments, IsSpan};
 
+use crate::cost_curve::{CostCurve, Point};
+use crate::lines::{Line, line_at, next_price};
 use crate::priced::PricedCase;
 use crate::study_item::Segment;
 use std::alloc::{AllocError, Global};
 use stream_case::Items;
 
-/// A line through the least costs at a price and at the next one.
-#[derive(Clone, Copy)]
-pub(crate) struct Line {
-    from: i64,
-    /// What it costs at the price `from`.
-    cost: i128,
-    slope: i128,
-}
-
-/// What a line costs at a price.
-fn line_at(line: Line, price: i64) -> i128
-    requires line { IsSmallLine line }
-    requires price { IsPrice price }
-    ensures { result ≡ line_at line price }
-{
-    line.cost + i128::from(price - line.from) * line.slope
-}
-
-/// The least cost of a case that has a heat flow, with this price of one utility.
-fn known_cost(
+/// The point at a price: the nearest of those ahead, which is then no longer ahead, or a new one.
+fn take_point(
     alloc: Global,
-    priced: &PricedCase,
-    utility: u32,
+    curve: &CostCurve,
+    ahead: &mut Vec<Point>,
     price: i64,
-) -> Result<i128, AllocError>
-    requires priced { IsPricedCase priced.now }
-    requires utility { utility < length priced.now.case.now.utilities }
+) -> Result<Point, AllocError>
+    requires curve { IsCostCurve curve.now }
+    requires ahead { All (IsPointOf curve.now) ahead.old.items }
     requires price { IsPrice price }
-    requires flow { HasFlowWith priced.now.case.now utility }
-    ensures cost { IfOk result (CostsWith priced.now.case.now utility price) }
-    ensures range { IfOk result IsCost }
+    ensures price { IfOk result (λ point. point.price ≡ price) }
+    ensures point { IfOk result (IsPointOf curve.now) }
+    ensures ahead { All (IsPointOf curve.now) ahead.new.items }
 {
-    match priced.cost_with(alloc, utility, price)? {
-        Some(cost) => Ok(cost),
-        None => unreachable!(),
+    match ahead.last().copied() {
+        Some(point) if point.price == price => {
+            ahead.pop();
+            Ok(point)
+        }
+        _ => curve.point(alloc, price),
     }
 }
 
-/// The line through the least costs at a price and at the next one.
+/// The line through a point and that at the next price.
 fn line_from(
     alloc: Global,
-    priced: &PricedCase,
-    utility: u32,
-    from: i64,
+    curve: &CostCurve,
+    ahead: &mut Vec<Point>,
+    first: Point,
 ) -> Result<Line, AllocError>
-    requires priced { IsPricedCase priced.now }
-    requires utility { utility < length priced.now.case.now.utilities }
-    requires first { IsPrice from }
-    requires next { IsPrice (from +ℤ pos 1) }
-    requires flow { HasFlowWith priced.now.case.now utility }
-    ensures from { IfOk result (λ line. line.from ≡ from) }
-    ensures line { IfOk result (IsLine priced.now.case.now utility) }
+    requires curve { IsCostCurve curve.now }
+    requires ahead { All (IsPointOf curve.now) ahead.old.items }
+    requires first { IsPointOf curve.now first }
+    requires next { IsPrice (first.price +ℤ pos 1) }
+    ensures from { IfOk result (λ line. line.from ≡ first.price) }
+    ensures line { IfOk result (IsLine curve.now.priced.case.now curve.now.utility) }
+    ensures ahead { All (IsPointOf curve.now) ahead.new.items }
 {
-    let cost = known_cost(alloc, priced, utility, from)?;
-    let next = known_cost(alloc, priced, utility, from + 1)?;
+    let next = take_point(alloc, curve, ahead, first.price + 1)?;
     Ok(Line {
-        from,
-        cost,
-        slope: next - cost,
+        from: first.price,
+        cost: first.cost,
+        slope: next.cost - first.cost,
     })
 }
 
-/// Whether the least cost at a price is on a line.
-fn is_on_line(
-    alloc: Global,
-    priced: &PricedCase,
-    utility: u32,
-    line: Line,
-    price: i64,
-) -> Result<bool, AllocError>
-    requires priced { IsPricedCase priced.now }
-    requires utility { utility < length priced.now.case.now.utilities }
-    requires flow { HasFlowWith priced.now.case.now utility }
-    requires line { IsSmallLine line }
-    requires price { IsPrice price }
-    ensures { IfOk result (TellsOnLine priced.now.case.now utility line price) }
-{
-    let cost = known_cost(alloc, priced, utility, price)?;
-    Ok(cost == line_at(line, price))
-}
-
-/// The last price up to `to` at which the least cost is on a line, found by halving: the least
-/// cost never rises faster at a higher price, so that once it has left the line it never returns.
+/// The last price up to `to` at which the least cost is on a line. Once it has left the line it
+/// never returns, so the end lies between a price that is on it and one that is not; each price
+/// between the two that is looked at brings them nearer to each other.
 fn line_end(
     alloc: Global,
-    priced: &PricedCase,
-    utility: u32,
+    curve: &CostCurve,
+    ahead: &mut Vec<Point>,
     line: Line,
     to: i64,
 ) -> Result<i64, AllocError>
-    requires priced { IsPricedCase priced.now }
-    requires utility { utility < length priced.now.case.now.utilities }
-    requires flow { HasFlowWith priced.now.case.now utility }
-    requires line { IsLine priced.now.case.now utility line }
-    requires ahead { line.from <ℤ to }
+    requires curve { IsCostCurve curve.now }
+    requires known { All (IsPointOf curve.now) ahead.old.items }
+    requires line { IsLine curve.now.priced.case.now curve.now.utility line }
+    requires order { line.from <ℤ to }
     requires last { IsPrice to }
-    ensures { IfOk result (IsLineEnd priced.now.case.now utility line to) }
+    ensures end { IfOk result (IsLineEnd curve.now.priced.case.now curve.now.utility line to) }
+    ensures ahead { All (IsPointOf curve.now) ahead.new.items }
 {
     let mut on = line.from + 1;
     let mut off = to + 1;
     while off - on > 1 {
-        let middle = on + (off - on) / 2;
-        if is_on_line(alloc, priced, utility, line, middle)? {
-            on = middle;
+        let price = next_price(line, ahead.as_slice(), on, off);
+        let point = take_point(alloc, curve, ahead, price)?;
+        if point.cost == line_at(line, price) {
+            on = price;
         } else {
-            off = middle;
+            off = price;
+            ahead.push(point)?;
         }
     }
     Ok(on)
 }
 
-/// The segment of one price.
-fn last_segment(
-    alloc: Global,
-    priced: &PricedCase,
-    utility: u32,
-    price: i64,
-) -> Result<Segment, AllocError>
-    requires priced { IsPricedCase priced.now }
-    requires utility { utility < length priced.now.case.now.utilities }
-    requires flow { HasFlowWith priced.now.case.now utility }
-    requires price { IsPrice price }
-    ensures from { IfOk result (λ segment. segment.from ≡ price) }
-    ensures segment { IfOk result (IsCostSegment priced.now.case.now utility price) }
-{
-    Ok(Segment {
-        from: price,
-        to: price,
-        base: known_cost(alloc, priced, utility, price)?,
-        slope: 0,
-    })
-}
-
-/// The segment that begins at a price, in a span up to `to`.
+/// The segment that begins at a point, in a span up to `to`.
 fn segment_from(
     alloc: Global,
-    priced: &PricedCase,
-    utility: u32,
-    from: i64,
+    curve: &CostCurve,
+    ahead: &mut Vec<Point>,
+    first: Point,
     to: i64,
 ) -> Result<Segment, AllocError>
-    requires priced { IsPricedCase priced.now }
-    requires utility { utility < length priced.now.case.now.utilities }
-    requires flow { HasFlowWith priced.now.case.now utility }
-    requires order { from ≤ℤ to }
-    requires first { IsPrice from }
+    requires curve { IsCostCurve curve.now }
+    requires known { All (IsPointOf curve.now) ahead.old.items }
+    requires first { IsPointOf curve.now first }
+    requires order { first.price ≤ℤ to }
     requires last { IsPrice to }
-    ensures from { IfOk result (λ segment. segment.from ≡ from) }
-    ensures segment { IfOk result (IsCostSegment priced.now.case.now utility to) }
+    ensures from { IfOk result (λ segment. segment.from ≡ first.price) }
+    ensures segment { IfOk result (IsCostSegment curve.now.priced.case.now curve.now.utility to) }
+    ensures ahead { All (IsPointOf curve.now) ahead.new.items }
 {
-    if from == to {
-        return last_segment(alloc, priced, utility, from);
+    if first.price == to {
+        return Ok(Segment {
+            from: to,
+            to,
+            base: first.cost,
+            slope: 0,
+        });
     }
-    let line = line_from(alloc, priced, utility, from)?;
-    let end = line_end(alloc, priced, utility, line, to)?;
+    let line = line_from(alloc, curve, ahead, first)?;
+    let end = line_end(alloc, curve, ahead, line, to)?;
     Ok(Segment {
-        from,
+        from: line.from,
         to: end,
         base: line_at(line, 0),
         slope: line.slope,
     })
 }
 
-/// The segments of a span of a case that has a heat flow.
+/// The segments of a span of a case that has a heat flow. Points that are known ahead go on from
+/// one segment to the next.
 fn known_segments(
     alloc: Global,
-    priced: &PricedCase,
-    utility: u32,
+    curve: &CostCurve,
+    mut ahead: Vec<Point>,
     from: i64,
     to: i64,
 ) -> Result<Items<Segment>, AllocError>
-    requires priced { IsPricedCase priced.now }
-    requires span { IsSpan priced.now.case.now utility from to }
-    requires flow { HasFlowWith priced.now.case.now utility }
-    ensures { IfOk result (AreSpanSegments priced.now.case.now utility from to) }
+    requires curve { IsCostCurve curve.now }
+    requires ahead { All (IsPointOf curve.now) ahead.items }
+    requires span { IsSpan curve.now.priced.case.now curve.now.utility from to }
+    ensures { IfOk result (AreSpanSegments curve.now.priced.case.now curve.now.utility from to) }
 {
     let mut segments = Items::new(alloc);
     let mut next = from;
     while next <= to {
-        let segment = segment_from(alloc, priced, utility, next, to)?;
+        let begin = take_point(alloc, curve, &mut ahead, next)?;
+        let segment = segment_from(alloc, curve, &mut ahead, begin, to)?;
         segments.push(segment)?;
         next = segment.to + 1;
     }
@@ -210,8 +165,16 @@ pub(crate) fn span_segments(
     requires span { IsSpan priced.now.case.now utility from to }
     ensures { IfOk result (AreSpanSegments priced.now.case.now utility from to) }
 {
+    let curve = CostCurve {
+        priced: *priced,
+        utility,
+    };
     match priced.cost_with(alloc, utility, from)? {
-        Some(_) => known_segments(alloc, priced, utility, from, to),
+        Some(cost) => {
+            let mut ahead = Vec::new(alloc);
+            ahead.push(Point { price: from, cost })?;
+            known_segments(alloc, &curve, ahead, from, to)
+        }
         None => Ok(Items::new(alloc)),
     }
 }

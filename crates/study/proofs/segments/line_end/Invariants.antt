@@ -1,4 +1,4 @@
-use Rattle.study.proofs.Words.{CostsWith, line_at, pos, unsigned_abs, ◌+ℤ◌, ◌-ℤ◌, ◌<ℤ◌, ◌≤ℤ◌}
+use Rattle.study.proofs.Words.{All, CostsWith, IsPointOf, line_at, pos, unsigned_abs, ◌+ℤ◌, ◌-ℤ◌, ◌<ℤ◌, ◌≤ℤ◌}
 use Rattle.study.proofs.segments.line_end.Given as goal
 
 abbrev pub invariant-loop-off : goal.invariant-loop-off
@@ -6,8 +6,9 @@ invariant-loop-off l = record {
   ahead : (l.line.from +ℤ pos 1) ≤ℤ l.on;
   order : l.on <ℤ l.off;
   last : l.off ≤ℤ (l.to +ℤ pos 1);
-  inside : CostsWith l.priced.case.now l.utility l.on (line_at l.line l.on);
-  outside : l.off ≤ℤ l.to → CostsWith l.priced.case.now l.utility l.off (line_at l.line l.off) → ⊥;
+  inside : CostsWith l.curve.priced.case.now l.curve.utility l.on (line_at l.line l.on);
+  outside : l.off ≤ℤ l.to → CostsWith l.curve.priced.case.now l.curve.utility l.off (line_at l.line l.off) → ⊥;
+  points : All (IsPointOf l.curve) l.ahead.items;
 }
 
 abbrev pub decreases-loop-off : goal.decreases-loop-off

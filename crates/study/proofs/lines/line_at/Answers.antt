@@ -1,7 +1,7 @@
 use Rattle.std.proofs.Common.{arith, of_z, to_z, ◌≡◌}
 use Rattle.study.proofs.Words.{ints, w128, ◌-ℤ◌}
 use Rattle.study.proofs.SpanLemmas.{cost-fits, cost-told, rise-fits}
-use Rattle.study.proofs.segments.line_at.Goals as goal
+use Rattle.study.proofs.lines.line_at.Goals as goal
 
 pub overflow_mul-result : goal.overflow_mul-result
 overflow_mul-result c =

@@ -1,0 +1,76 @@
+//! Lines through least costs, and where the least cost may leave one.
+ghost use Rattle.std.specs.Prelude.{◌≡◌, pos, ◌+ℤ◌, ◌-ℤ◌, ◌≤ℤ◌, ◌<ℤ◌, All};
+ghost use Rattle.stream_case.specs.Limits.{IsPrice};
+ghost use Rattle.study.specs.CostCurve.{IsSmallPoint};
+ghost use Rattle.study.specs.Spans.{IsGap, IsSmallLine, line_at};
+
+use crate::cost_curve::Point;
+
+/// A line through the least costs at a price and at the next one.
+#[derive(Clone, Copy)]
+pub(crate) struct Line {
+    pub from: i64,
+    /// What it costs at the price `from`.
+    pub cost: i128,
+    pub slope: i128,
+}
+
+/// What a line costs at a price.
+pub(crate) fn line_at(line: Line, price: i64) -> i128
+    requires line { IsSmallLine line }
+    requires price { IsPrice price }
+    ensures { result ≡ line_at line price }
+{
+    line.cost + i128::from(price - line.from) * line.slope
+}
+
+/// How far a line is above a point.
+fn gap(line: Line, point: Point) -> i128
+    requires line { IsSmallLine line }
+    requires point { IsSmallPoint point }
+    ensures { IsGap result }
+{
+    line_at(line, point.price) - point.cost
+}
+
+/// How many whole prices lie between a point below a line and the last price at which the line
+/// is not above that through the point and one further ahead.
+fn prices_back(line: Line, near: Point, far: Point) -> i128
+    requires line { IsSmallLine line }
+    requires near { IsSmallPoint near }
+    requires far { IsSmallPoint far }
+{
+    let run = i128::from(far.price - near.price);
+    let near_gap = gap(line, near);
+    let opening = gap(line, far) - near_gap;
+    (run * near_gap - 1) / opening.max(1)
+}
+
+/// A number of prices, or the nearest to it that is not negative and at most `most`.
+fn within(count: i128, most: i64) -> i64
+    requires { pos 0 ≤ℤ most }
+    ensures low { pos 0 ≤ℤ result }
+    ensures high { result ≤ℤ most }
+{
+    count.max(0).min(i128::from(most)) as i64
+}
+
+/// The price to look at next between one at which the least cost is on a line and one at which it
+/// is not, or which is behind the last: that of the nearest point ahead, or the last whole price
+/// before the line through the two nearest points meets the first line. Behind the meeting the
+/// least cost is on neither line, since it never rises faster at a higher price.
+pub(crate) fn next_price(line: Line, ahead: &[Point], on: i64, off: i64) -> i64
+    requires line { IsSmallLine line }
+    requires ahead { All IsSmallPoint ahead.now }
+    requires first { IsPrice on }
+    requires last { IsPrice (off -ℤ pos 1) }
+    requires apart { (on +ℤ pos 1) <ℤ off }
+    ensures behind { on <ℤ result }
+    ensures before { result <ℤ off }
+{
+    match ahead {
+        [.., near] if on < near.price && near.price < off => near.price,
+        [.., far, near] => off - 1 - within(prices_back(line, *near, *far), off - on - 2),
+        _ => off - 1,
+    }
+}
