@@ -86,7 +86,8 @@ fn check_flow(
     ensures first { IfOk result (IsFirstOf flow_causes (HoldsOfFlow setting.now.case.now
         (hot_parts setting.now) (cold_parts setting.now) cost uses.now moves.now gives.now
         takes.now)) }
-    ensures memory { OnErr result (ArePricesOf setting.now.case.now (hot_parts setting.now) gives.now
+    ensures memory { OnErr result
+        (ArePricesOf setting.now.case.now (hot_parts setting.now) gives.now
         × ArePricesOf setting.now.case.now (cold_parts setting.now) takes.now) }
 {
     let hot = setting.parts.hot.as_slice();

@@ -47,7 +47,8 @@ impl Draft {
         }
     }
 
-    /// The same with one statement more. What may not come next changes nothing, and takes no memory.
+    /// The same with one statement more. What may not come next changes nothing, and takes no
+    /// memory.
     pub fn with(self, alloc: Global, entry: Entry) -> Result<Draft, AllocError>
         ensures with { IfOk result (λ draft. draft ≡ with_entry self entry) }
         ensures memory { OnErr result (Lengthens self entry) }
