@@ -1,12 +1,12 @@
 //! What the rows that were read gave.
 
-ghost use Rattle.std.specs.Prelude.{◌≡◌, [], ◌∷◌, Some, length, map, is_some, IfOk, OnOk, MatchOption, None};
+ghost use Rattle.std.specs.Prelude.{◌≡◌, [], ◌∷◌, Some, length, map, is_some, IfOk, OnOk, MatchOption, None, OnErr};
 ghost use Rattle.first_fault.specs.Checks.{Checked};
 ghost use Rattle.stream_case.specs.Case.{is_forbidden, side_of, source_named};
 ghost use Rattle.stream_case.specs.Stream.{count_on};
 ghost use Rattle.case_text.specs.Given.{case_of, case_with, nothing, source_at, stream_of, utility_of, with_entry};
 ghost use Rattle.case_text.specs.Checks.{end_checks, is_source, is_taken};
-ghost use Rattle.case_text.specs.Answers.{IsFresh};
+ghost use Rattle.case_text.specs.Answers.{IsFresh, TakesMemory};
 
 use crate::entry::{Entry, StreamData, UtilityData};
 use crate::fault::CaseWhy;
@@ -120,10 +120,11 @@ impl Found {
         self.forbids.contains(&forbid)
     }
 
-    /// Takes what a row gave.
+    /// Takes what a row gave. A row that is passed over takes no memory, nor does a contribution.
     pub fn add(&mut self, entry: Entry) -> Result<(), AllocError>
         requires { IsFresh self.old entry }
-        ensures { OnOk result (self.new ≡ with_entry self.old entry) }
+        ensures added { OnOk result (self.new ≡ with_entry self.old entry) }
+        ensures memory { OnErr result (TakesMemory entry) }
     {
         match entry {
             Entry::Nothing => {}

@@ -1,5 +1,5 @@
 -- What the statements of a report say, and the report that they give.
-use Rattle.std.specs.Prelude.{ℕ, ◌+◌, ℤ, pos, Bool, true, false, ◌==◌, ◌&&◌, List, [], ◌∷◌, ◌++◌, length, Option, Some, None, unwrap_or, if◌then◌else◌, codes}
+use Rattle.std.specs.Prelude.{ℕ, ◌+◌, ℤ, pos, Bool, true, false, ◌==◌, ◌&&◌, List, [], ◌∷◌, ◌++◌, length, Option, Some, None, unwrap_or, if◌then◌else◌, codes, ⊤}
 use Rattle.std.specs.Str.{bytes_eq}
 use Rattle.heat_flow.specs.declared.cut.CutKind.{CutKind}
 use Rattle.heat_flow.specs.declared.cut.CutKind.TheVariants as cut
@@ -120,6 +120,15 @@ with_entry draft.Nothing entry.Infeasible = draft.Infeasible
 with_entry draft.Infeasible (entry.Cut kind need offer) = draft.Whole (report.Cut kind need offer [])
 with_entry (draft.Whole r) e = draft.Whole (lengthened r e)
 with_entry d e = d
+
+-- a statement that a list of the report is lengthened by, which takes memory
+abbrev pub Lengthens : Draft → Entry → Type 0
+Lengthens (draft.Whole (report.Flow cost uses moves gives takes)) (entry.Use u) = ⊤
+Lengthens (draft.Whole (report.Flow cost uses moves gives takes)) (entry.Move m) = ⊤
+Lengthens (draft.Whole (report.Flow cost uses moves gives takes)) (entry.Give g) = ⊤
+Lengthens (draft.Whole (report.Flow cost uses moves gives takes)) (entry.Take t) = ⊤
+Lengthens (draft.Whole (report.Cut kind need offer parts)) (entry.Part p) = ⊤
+Lengthens d e = ⊥
 
 abbrev pub with_any : Draft → Option Entry → Draft
 with_any given None = given

@@ -1,8 +1,8 @@
 //! Whether a report proves what it says.
 
-ghost use Rattle.std.specs.Prelude.{◌≡◌, All, IfOk, length};
+ghost use Rattle.std.specs.Prelude.{◌≡◌, All, IfOk, OnErr, length};
 ghost use Rattle.stream_case.specs.Case.{IsComplete};
-ghost use Rattle.certify.specs.Answers.{HasPartPrices, HoldsOfCut, HoldsOfFlow, HoldsOfTransfers, IsAnswer, IsAnswerOver, IsFirstOf, Proves, cut_causes, flow_causes, prices_of, transfer_causes};
+ghost use Rattle.certify.specs.Answers.{ArePricesOf, HasPartPrices, HoldsOfCut, HoldsOfFlow, HoldsOfTransfers, IsAnswer, IsAnswerOver, IsFirstOf, Proves, cut_causes, flow_causes, prices_of, transfer_causes};
 ghost use Rattle.certify.specs.Setting.{IsSound, cold_parts, hot_parts};
 ghost use Rattle.stream_case.specs.Limits.{IsPartPrice};
 
@@ -69,7 +69,8 @@ fn check_transfers(
     Checked::Yes
 }
 
-/// The first check that fails of a report of a heat flow.
+/// The first check that fails of a report of a heat flow. That prices are those of the parts is
+/// looked at before memory is taken.
 fn check_flow(
     alloc: Global,
     setting: &Setting,
@@ -82,9 +83,12 @@ fn check_flow(
     requires setting { IsSound setting.now }
     requires gives { All (λ g. IsPartPrice g.price) gives.now }
     requires takes { All (λ g. IsPartPrice g.price) takes.now }
-    ensures { IfOk result (IsFirstOf flow_causes (HoldsOfFlow setting.now.case.now
+    ensures first { IfOk result (IsFirstOf flow_causes (HoldsOfFlow setting.now.case.now
         (hot_parts setting.now) (cold_parts setting.now) cost uses.now moves.now gives.now
         takes.now)) }
+    ensures memory { OnErr result
+        (ArePricesOf setting.now.case.now (hot_parts setting.now) gives.now
+        × ArePricesOf setting.now.case.now (cold_parts setting.now) takes.now) }
 {
     let hot = setting.parts.hot.as_slice();
     let cold = setting.parts.cold.as_slice();

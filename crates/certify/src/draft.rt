@@ -1,7 +1,7 @@
 //! What the statements read so far give.
 
-ghost use Rattle.std.specs.Prelude.{◌≡◌, IfOk};
-ghost use Rattle.certify.specs.Given.{admits, lengthened, with_entry};
+ghost use Rattle.std.specs.Prelude.{◌≡◌, IfOk, OnErr};
+ghost use Rattle.certify.specs.Given.{Lengthens, admits, lengthened, with_entry};
 ghost use Rattle.certify.specs.declared.draft.Draft.TheVariants as draft;
 
 use crate::entry::Entry;
@@ -47,9 +47,11 @@ impl Draft {
         }
     }
 
-    /// The same with one statement more. What may not come next changes nothing.
+    /// The same with one statement more. What may not come next changes nothing, and takes no
+    /// memory.
     pub fn with(self, alloc: Global, entry: Entry) -> Result<Draft, AllocError>
-        ensures { IfOk result (λ draft. draft ≡ with_entry self entry) }
+        ensures with { IfOk result (λ draft. draft ≡ with_entry self entry) }
+        ensures memory { OnErr result (Lengthens self entry) }
     {
         match self {
             Draft::Nothing => Ok(opened(alloc, entry)),
@@ -93,7 +95,8 @@ fn opened_cut(alloc: Global, entry: Entry) -> Draft
 
 /// A report with one statement more.
 fn lengthened(mut report: Report, entry: Entry) -> Result<Report, AllocError>
-    ensures { IfOk result (λ longer. longer ≡ lengthened report entry) }
+    ensures longer { IfOk result (λ longer. longer ≡ lengthened report entry) }
+    ensures memory { OnErr result (Lengthens (draft.Whole report) entry) }
 {
     match (&mut report, entry) {
         (Report::Flow { uses, .. }, Entry::Use(used)) => uses.push(used)?,

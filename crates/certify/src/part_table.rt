@@ -1,6 +1,6 @@
 //! A table of the parts of a side, by what a report names them by.
 
-ghost use Rattle.std.specs.Prelude.{◌≡◌, ◌≤◌, ◌++◌, ℕ, List, All, IfOk, OnOk, length};
+ghost use Rattle.std.specs.Prelude.{◌≡◌, ◌<◌, ◌≤◌, ◌++◌, ℕ, List, All, None, IfOk, OnErr, OnOk, length};
 ghost use Rattle.stream_case.specs.Case.{IsSourceOf};
 ghost use Rattle.stream_case.specs.declared.limits.TheConstants.{MOST_PARTS};
 ghost use Rattle.certify.specs.Answers.{span_of};
@@ -55,9 +55,10 @@ fn key_of(case: &Case, parts: &[Part]) -> TextKey
     TextKey::of_digest(digest)
 }
 
-/// Adds the span of a part. A span that is there keeps its index.
+/// Adds the span of a part. A span that is there keeps its index, and takes no memory.
 fn add_span(table: &mut PartTable, span: Span, index: u32) -> Result<(), AllocError>
-    ensures { OnOk result (IsWithSpan span index table.old table.new) }
+    ensures added { OnOk result (IsWithSpan span index table.old table.new) }
+    ensures memory { OnErr result (index_in table.old span ≡ None) }
 {
     if table.contains_key(&span) {
         return Ok(());
@@ -70,7 +71,8 @@ fn add_span(table: &mut PartTable, span: Span, index: u32) -> Result<(), AllocEr
 pub fn table_of(alloc: Global, case: &Case, parts: &[Part]) -> Result<PartTable, AllocError>
     requires few { length parts.now ≤ MOST_PARTS }
     requires sources { All (λ p. IsSourceOf case.now p.source) parts.now }
-    ensures { IfOk result (IsTableOf case.now parts.now) }
+    ensures table { IfOk result (IsTableOf case.now parts.now) }
+    ensures memory { OnErr result (0 < length parts.now) }
 {
     let mut table = IndexMap::with_hasher(alloc, key_of(case, parts));
     for (index, part) in parts.iter().enumerate() {

@@ -1,5 +1,5 @@
 //! Completion with the standard utilities.
-ghost use Rattle.std.specs.Prelude.{◌≡◌, ◌↔◌, ◌++◌, [], ◌∷◌, IsTrue, IfOk, OnOk};
+ghost use Rattle.std.specs.Prelude.{◌≡◌, ◌↔◌, ◌++◌, [], ◌∷◌, false, IsTrue, IfOk, OnErr, OnOk};
 ghost use Rattle.stream_case.specs.Stream.{stream_ends, HasValidStreams};
 ghost use Rattle.stream_case.specs.Limits.{IsContribution, IsShifted};
 ghost use Rattle.stream_case.specs.Case.{IsValid, IsComplete, IsStandard, completed, has_utility, outer_of, outermost, standard_utility, unless_given, with_utilities, without_last};
@@ -75,7 +75,7 @@ fn has_utility(side: Side, utilities: &[Utility]) -> bool
     utilities.iter().any(|utility| utility.side == side)
 }
 
-/// Appends the standard utility of a side, if the case gives none there.
+/// Appends the standard utility of a side, if the case gives none there; else it takes no memory.
 fn push_unless_given(
     utilities: &mut Items<Utility>,
     side: Side,
@@ -83,7 +83,8 @@ fn push_unless_given(
 ) -> Result<(), AllocError>
     requires streams { HasValidStreams case.now.streams }
     requires contribution { IsContribution case.now.contribution }
-    ensures { OnOk result (utilities.new ≡ utilities.old ++ unless_given side case.now) }
+    ensures added { OnOk result (utilities.new ≡ utilities.old ++ unless_given side case.now) }
+    ensures memory { OnErr result (has_utility side case.now.utilities ≡ false) }
 {
     if !has_utility(side, case.utilities.as_slice()) {
         utilities.push(standard_utility(side, case))?;

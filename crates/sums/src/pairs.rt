@@ -1,5 +1,5 @@
 //! Two lists of amounts, paired.
-ghost use Rattle.std.specs.Prelude.{◌≡◌, ◌<◌, ◌^◌, ◌++◌, [], pos, ◌+ℤ◌, ◌-ℤ◌, length, slice_index_or, IfOk, OnOk};
+ghost use Rattle.std.specs.Prelude.{◌≡◌, ◌<◌, ◌^◌, ◌++◌, [], pos, ◌+ℤ◌, ◌-ℤ◌, ◌<ℤ◌, length, slice_index_or, IfOk, OnErr, OnOk};
 ghost use Rattle.sums.specs.Pairing.{IsWithin, cons_positive, progress_after};
 ghost use Rattle.sums.specs.Spans.{NotNegative, ListsOverlaps};
 
@@ -49,15 +49,16 @@ impl Progress {
     }
 }
 
-/// Appends a pair, if its amount is positive.
+/// Appends a pair, if its amount is positive; else it takes no memory.
 fn push_positive(
     pairs: &mut Vec<Pair>,
     first: u32,
     second: u32,
     amount: i64,
 ) -> Result<(), AllocError>
-    ensures { OnOk result (pairs.new.items
+    ensures pairs { OnOk result (pairs.new.items
         ≡ pairs.old.items ++ cons_positive first second amount []) }
+    ensures memory { OnErr result (pos 0 <ℤ amount) }
 {
     if amount > 0 {
         pairs.push(Pair {

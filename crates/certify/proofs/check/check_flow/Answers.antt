@@ -11,8 +11,8 @@ pub check_transfers-requires-clause-cold_range : goal.check_transfers-requires-c
 check_transfers-requires-clause-cold_range c =
     rw (c.from_vec-2.ensures, c.in_ok-prices_of-2.ensures) (All-map IsPartPrice (λ (g : Priced). g.price) c.args.takes.now c.requires.takes)
 
-pub returns : goal.returns
-returns c =
+pub returns-clause-first : goal.returns-clause-first
+returns-clause-first c =
     let s = c.args.setting.now in let hot = rw c.as_slice-hot.ensures at (c.if-not-are_prices_of.ensures.0 refl) in
     let cold = rw c.as_slice-cold.ensures at (c.if-not-are_prices_of-2.ensures.0 refl) in let known = c.in_ok-flow.ensures.some.0 (rw c.in-Some.is refl) in
     let transfers = rw c.in-Some.is at c.in_ok-flow.ensures.transfers in let fits : FitsSigned w128 c.args.cost = search rules in

@@ -25,7 +25,7 @@ loop-rest-preserved c =
     let counts = sym c.is_passed_over.ensures ∙ c.if-is_passed_over.false in
     let at = statement_next c.loop-rest.rest.now c.first_line.result.0.now c.first_line.result.1.now c.first_line.ensures.line
     c.in_ok-statement.ensures counts in
-    let next = c.in_ok-draft-in-Ok.ensures ∙ sym (ap (with_any c.loop-rest.draft) c.in-Ok.ensures.1) in
+    let next = c.in_ok-draft-in-Ok.ensures.with ∙ sym (ap (with_any c.loop-rest.draft) c.in-Ok.ensures.1) in
     record {
       reads = one_more c.loop-rest.invariant.reads at c.in-Ok.ensures.0 next;
       few = omega (arith, c.loop-rest.invariant.few, c.first_line.ensures.shorter);

@@ -39,7 +39,7 @@ loop-first-preserved c =
     let step =
     IsWalk-more c.args.firsts.now c.args.seconds.now c.requires.firsts c.requires.seconds _ _ _ _ c.loop-first-test.true c.if-second-seconds.true is
     c.loop-first.invariant in
-    rw (c.after-first.ensures, c.after-second.ensures, c.in_ok-push_positive.ensures) step.walk
+    rw (c.after-first.ensures, c.after-second.ensures, c.in_ok-push_positive.ensures.pairs) step.walk
 
 pub returns : goal.returns
 returns c =
