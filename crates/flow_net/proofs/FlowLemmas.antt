@@ -2,7 +2,7 @@
 -- and level graphs.
 use Rattle.flow_net.proofs.Words.{All, All-cons, All-head, All-nil, All-permutation, All-tail, All-weaker, Arc, AreApart, AreWays, AreProofOfLeast}
 use Rattle.flow_net.proofs.Words.{CanCarry, HasArrived, IsArc, IsBottleneck, IsCost, IsFreeArc, IsFreePath, IsPermutation-reverse, IsPermutation-sym}
-use Rattle.flow_net.proofs.Words.{IsPotential, IsPriced, IsProblem, IsResidualArc, IsStanding, IsTree, IsTreeArc, IsTreePath, IsWalk, IsWithinLimits}
+use Rattle.flow_net.proofs.Words.{IsPotential, IsPriced, IsPricedBetween, IsProblem, IsResidualArc, IsStanding, IsTree, IsTreeArc, IsTreePath, IsWalk, IsWithinLimits}
 use Rattle.flow_net.proofs.Words.{IsWithinRooms, Link, MOST_COST, MOST_INITIAL_POTENTIAL, MOST_NODES, Net, Problem, Routing, Search, Stands, StepsUp, Way}
 use Rattle.flow_net.proofs.Words.{arc_of, carry, cases_eq, cases_lt, depth_at, drop_more, false≢true, flow_on, fold_more, get_or-replicate, get_or-set_other}
 use Rattle.flow_net.proofs.Words.{get_or-set_same, get_or_past, get_or_read, height_at, height_of, inflow, ints, largest_cost, length-replicate, length-set, level_at}
@@ -254,6 +254,11 @@ module _ (p : Problem) (r : Routing) (standing : IsStanding p r) where
         at_tail = IsPotential-standing a.tail nodes.0;
         at_head = IsPotential-standing a.head nodes.1;
       }
+
+  -- the same where its ends and its cost are read elsewhere
+  pub IsPriced-between : (a : Arc) → IsArc p.net.now.links a → (tail head : ℕ) (cost : ℤ) → a.tail ≡ tail → head ≡ a.head → cost ≡ a.cost
+      → IsPricedBetween r.potentials.items tail head cost
+  IsPriced-between a is tail head cost from to at = rw (sym from, to, at) (IsPriced-arc a is)
 
   pub reduced-residual : (a : Arc) → IsResidualArc p r a → pos 0 ≤ℤ reduced_cost_of r.potentials.items a
   reduced-residual a is = reduced-not_negative p.net.now.links r.flow.items r.potentials.items standing.proof a is.arc is.residual

@@ -80,7 +80,7 @@ ArePlaces-all n arcs i places past h = record { one_each = h.one_each; own = λ 
 
 -- what the code reads past the end of a list of ways
 abbrev pub no_way : Way
-no_way = record { head = 0; is_open = false }
+no_way = record { head = 0; is_open = false; cost = pos 0 }
 
 -- the way along its link is an arc's way
 pub IsWayOf-along : (links : List Link) (flow : List ℤ) (a : Arc) (w : Way) → IsArc links a
@@ -88,8 +88,8 @@ pub IsWayOf-along : (links : List Link) (flow : List ℤ) (a : Arc) (w : Way) �
 IsWayOf-along links flow a w is h = subst (λ b. IsWayOf links flow b w) (sym is.is) (each a.link a.forward h)
   where
     each : (k : ℕ) (forward : Bool) → IsWay (link_at links k) (flow_on flow k) forward w → IsWayOf links flow (arc_of (link_at links k) k forward) w
-    each k true h = record { head = h.head; is_open = h.is_open }
-    each k false h = record { head = h.head; is_open = h.is_open }
+    each k true h = record { head = h.head; is_open = h.is_open; cost = h.cost }
+    each k false h = record { head = h.head; is_open = h.is_open; cost = h.cost }
 
 -- the ways where nothing flows
 pub AreWays-none : (links : List Link) (arcs : List Arc) (ways : List Way) → All (IsArc links) arcs → length ways ≡ length arcs
@@ -211,4 +211,4 @@ module _ (n : ℕ) (links : List Link) (adjacency : Adjacency) (sound : IsAdjace
         there m not_i not_j within =
             let a = arc_numbered adjacency.arcs.items m in
             let same = get_or-set_other flow k a.link x (pos 0) (other_link m within not_i not_j) in
-            let old = are.each m within in record { head = old.head; is_open = rw same old.is_open }
+            let old = are.each m within in record { head = old.head; is_open = rw same old.is_open; cost = old.cost }

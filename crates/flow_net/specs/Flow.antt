@@ -1,5 +1,5 @@
 -- How much an arc can carry, what is left after it has carried some, and what it costs.
-use Rattle.std.specs.Prelude.{◌≡◌, ◌≢◌, ◌↔◌, ℕ, ◌+◌, ◌*◌, ◌<◌, ◌≤◌, ℤ, pos, ◌+ℤ◌, ◌-ℤ◌, ◌≤ℤ◌, ◌<ℤ◌, Bool, false, IsTrue, List, [], ◌∷◌, length, fold, slice_index_or, slice_set, All, if◌then◌else◌}
+use Rattle.std.specs.Prelude.{◌≡◌, ◌≢◌, ◌↔◌, ℕ, ◌+◌, ◌*◌, ◌<◌, ◌≤◌, ℤ, pos, ◌+ℤ◌, ◌-ℤ◌, ◌≤ℤ◌, ◌<ℤ◌, neg_ℤ, Bool, false, IsTrue, List, [], ◌∷◌, length, fold, slice_index_or, slice_set, All, if◌then◌else◌}
 use Rattle.std.specs.Int.RustNames.{unsigned_abs}
 use Rattle.flow_net.specs.declared.limits.TheConstants.{MOST_NODES, MOST_COST, MOST_INITIAL_POTENTIAL}
 use Rattle.flow_net.specs.declared.net.Link.{Link}
@@ -21,15 +21,17 @@ residual_of links flow a = left_on (link_at links a.link) (flow_on flow a.link) 
 pub record IsWay (link : Link) (x : ℤ) (forward : Bool) (w : Way) : Type 0 where
   pub head : w.head ≡ (if forward then link.to else link.from)
   pub is_open : IsTrue w.is_open ↔ (pos 0 <ℤ left_on link x forward)
+  pub cost : w.cost ≡ (if forward then link.cost else neg_ℤ link.cost)
 
 -- the way at an index
 abbrev pub way_at : List Way → ℕ → Way
-way_at ways j = slice_index_or ways j (record { head = 0; is_open = false })
+way_at ways j = slice_index_or ways j (record { head = 0; is_open = false; cost = pos 0 })
 
 -- the way of an arc
 pub record IsWayOf (links : List Link) (flow : List ℤ) (a : Arc) (w : Way) : Type 0 where
   pub head : w.head ≡ a.head
   pub is_open : IsTrue w.is_open ↔ (pos 0 <ℤ residual_of links flow a)
+  pub cost : w.cost ≡ a.cost
 
 -- the ways of arcs, in their order
 pub record AreWays (links : List Link) (flow : List ℤ) (arcs : List Arc) (ways : List Way) : Type 0 where
@@ -44,9 +46,12 @@ sent_along flow a amount = slice_set flow a.link (carry a (flow_on flow a.link) 
 abbrev pub sent_along_path : List ℤ → List Arc → ℤ → List ℤ
 sent_along_path flow path amount = fold (λ f a. sent_along f a amount) flow path
 
--- the reduced cost of an arc
+-- the reduced cost of an arc, and of one given by its ends and its cost
+abbrev pub reduced_between : List ℤ → ℕ → ℕ → ℤ → ℤ
+reduced_between potentials tail head cost = (cost +ℤ potential_at potentials tail) -ℤ potential_at potentials head
+
 abbrev pub reduced_cost_of : List ℤ → Arc → ℤ
-reduced_cost_of potentials a = (a.cost +ℤ potential_at potentials a.tail) -ℤ potential_at potentials a.head
+reduced_cost_of potentials a = reduced_between potentials a.tail a.head a.cost
 
 -- the arcs lead from node u to node v
 abbrev pub IsWalk : List Arc → ℕ → ℕ → Type 0
@@ -80,10 +85,13 @@ most_distance = 2 * most_potential + most_path_cost
 abbrev pub IsPotential : ℤ → Type 0
 IsPotential z = unsigned_abs z ≤ most_potential
 
--- an arc with a cost, and potentials at its ends, within the limits
-pub record IsPriced (potentials : List ℤ) (a : Arc) : Type 0 where
-  pub tail_in : a.tail < length potentials
-  pub head_in : a.head < length potentials
-  pub cost : IsCost a.cost
-  pub at_tail : IsPotential (potential_at potentials a.tail)
-  pub at_head : IsPotential (potential_at potentials a.head)
+-- an arc, given by its ends and its cost, with that cost and the potentials at its ends within the limits
+pub record IsPricedBetween (potentials : List ℤ) (tail head : ℕ) (unit_cost : ℤ) : Type 0 where
+  pub tail_in : tail < length potentials
+  pub head_in : head < length potentials
+  pub cost : IsCost unit_cost
+  pub at_tail : IsPotential (potential_at potentials tail)
+  pub at_head : IsPotential (potential_at potentials head)
+
+abbrev pub IsPriced : List ℤ → Arc → Type 0
+IsPriced potentials a = IsPricedBetween potentials a.tail a.head a.cost

@@ -139,10 +139,8 @@ impl LevelGraph {
         ensures graph { OnOk result (IsLevelGraph problem.now self.new) }
         ensures no_fewer { OnOk result (length self.old.entered.items ≤ length self.new.entered.items) }
     {
-        let arcs = problem.arcs_from(node);
-        let ways = routing.ways_from(problem, node);
-        for (index, way) in ways.iter().enumerate() {
-            if way.is_open && !self.has_level(way.head) && routing.reduced_cost(&arcs[index]) == 0 {
+        for way in routing.ways_from(problem, node) {
+            if way.is_open && !self.has_level(way.head) && routing.cost_along(node, way) == 0 {
                 self.enter(problem, way.head, level)?;
             }
         }

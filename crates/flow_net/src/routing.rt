@@ -1,7 +1,7 @@
 //! A part of the amount routed at least cost, with potentials that prove it.
 ghost use Rattle.std.specs.Prelude.{◌≡◌, ◌↔◌, ◌<◌, ◌-ℤ◌, ◌<ℤ◌, pos, length, replicate, slice_set, IfOk, IsTrue};
 ghost use Rattle.flow_net.specs.Arc.{IsArc, arcs_at};
-ghost use Rattle.flow_net.specs.Flow.{residual_of, reduced_cost_of, AreWays, IsPriced};
+ghost use Rattle.flow_net.specs.Flow.{residual_of, reduced_cost_of, reduced_between, AreWays, IsPriced, IsPricedBetween};
 ghost use Rattle.flow_net.specs.Problem.{IsProblem, IsStanding, IsResidualArc, arc_by_index, IsFreeArc, IsFreePath, IsBottleneck};
 
 use crate::arc::Arc;
@@ -48,11 +48,20 @@ impl Routing {
     }
 
     /// The cost of an arc with the potential of its tail, less that of its head.
-    pub fn reduced_cost(&self, arc: &Arc) -> i64
+    fn reduced_cost(&self, arc: &Arc) -> i64
         requires { IsPriced self.now.potentials.items arc.now }
         ensures { result ≡ reduced_cost_of self.now.potentials.items arc.now }
     {
         arc.cost + self.potentials[arc.tail as usize] - self.potentials[arc.head as usize]
+    }
+
+    /// The same of an arc from this node that is given by its way.
+    pub fn cost_along(&self, node: u32, way: &Way) -> i64
+        requires { IsPricedBetween self.now.potentials.items node way.now.head way.now.cost }
+        ensures { result
+            ≡ reduced_between self.now.potentials.items node way.now.head way.now.cost }
+    {
+        way.cost + self.potentials[node as usize] - self.potentials[way.head as usize]
     }
 
     /// The ways of the arcs whose tail is this node.
@@ -72,6 +81,7 @@ impl Routing {
         ensures head { result.head ≡ (arc_by_index problem.now index).head }
         ensures is_open { IsTrue result.is_open
             ↔ IsResidualArc problem.now self.now (arc_by_index problem.now index) }
+        ensures cost { result.cost ≡ (arc_by_index problem.now index).cost }
     {
         self.ways[index]
     }

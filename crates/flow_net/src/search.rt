@@ -117,23 +117,25 @@ impl Search {
     {
         let (first, end) = problem.range_from(node);
         for index in first..end {
-            self.relax(problem, routing, index, label)?;
+            self.relax(problem, routing, node, index, label)?;
         }
         Ok(())
     }
 
-    /// Labels the head of a residual arc from that node, given by its index, where it has no label or one
+    /// Labels the head of a residual arc from a node, given by its index, where it has no label or one
     /// farther off.
     fn relax(
         &mut self,
         problem: &Problem,
         routing: &Routing,
+        node: u32,
         index: usize,
         label: &Label,
     ) -> Result<(), AllocError>
         requires standing { IsStanding problem.now routing.now }
         requires search { IsSearch problem.now routing.now self.old }
         requires index { index < length problem.now.adjacency.arcs.items }
+        requires tail { (arc_by_index problem.now index).tail ≡ node }
         requires at { IsAt self.old (arc_by_index problem.now index).tail label.now }
         ensures { OnOk result
             (IsRelaxed problem.now routing.now self.old self.new (arc_by_index problem.now index)) }
@@ -142,9 +144,8 @@ impl Search {
         if !way.is_open || self.settled[way.head as usize] {
             return Ok(());
         }
-        let arc = problem.arc(index);
-        let distance = label.distance + routing.reduced_cost(arc);
-        if !self.is_lower(arc.head, distance) {
+        let distance = label.distance + routing.cost_along(node, &way);
+        if !self.is_lower(way.head, distance) {
             return Ok(());
         }
         let label = Label {
@@ -152,7 +153,7 @@ impl Search {
             depth: label.depth + 1,
             arc: Some(index),
         };
-        self.enter(arc.head, label)
+        self.enter(way.head, label)
     }
 
     /// Whether a node has no label, or one at a greater distance than this.

@@ -1,6 +1,6 @@
 use Rattle.flow_net.proofs.WayLemmas.{AreWays-set, link_place-within}
-use Rattle.flow_net.proofs.Words.{AreWays, IsProblem, IsWay, Places, Problem, get_or_read, link_at, place_in, places_at}
-use Rattle.std.proofs.Common.{Bool, arith, false, get_or, length, of_z, set, subst, sym, to_z, true, w64, ℕ, ◌<◌, ◌≡◌}
+use Rattle.flow_net.proofs.Words.{AreWays, IsCost, IsProblem, IsWay, Link, Places, Problem, get_or_read, link_at, place_in, places_at}
+use Rattle.std.proofs.Common.{Bool, List, arith, false, get_or, length, of_z, set, subst, sym, to_z, true, w64, ℕ, ◌<◌, ◌≡◌}
 use Rattle.flow_net.proofs.routing.Routing.set_flow.Goals as goal
 
 -- the places of a link's arcs, as the code reads them
@@ -11,6 +11,16 @@ module _ (p : Problem) (is : IsProblem p) (k : ℕ) (below : k < length p.net.no
   within : (w : Bool) → place_in r w < length p.adjacency.arcs.items
   within w = subst (λ q. place_in q w < length p.adjacency.arcs.items) (sym read)
       (link_place-within p.net.now.nodes p.net.now.links p.adjacency is.adjacency k below w)
+
+-- the cost of a link, as the code reads it, is within the limits
+link-cost : (p : Problem) → IsProblem p → (k : ℕ) → k < length p.net.now.links → (links : List Link) → links ≡ p.net.now.links → IsCost (link_at links k).cost
+link-cost p is k below links same = subst (λ xs. IsCost (link_at xs k).cost) (sym same) (is.net.links k below).cost
+
+pub along-requires : goal.along-requires
+along-requires c = link-cost c.args.problem.now c.requires.problem c.args.link c.requires.link c.as_slice.result.now c.as_slice.ensures
+
+pub along-requires-2 : goal.along-requires-2
+along-requires-2 c = link-cost c.args.problem.now c.requires.problem c.args.link c.requires.link c.as_slice.result.now c.as_slice.ensures
 
 pub index_mut-requires-2 : goal.index_mut-requires-2
 index_mut-requires-2 c =

@@ -16,6 +16,9 @@ read c =
 pub returns-clause-head : goal.returns-clause-head
 returns-clause-head c = (read (goal.at.returns-clause-head c).After-index).head
 
+pub returns-clause-cost : goal.returns-clause-cost
+returns-clause-cost c = (read (goal.at.returns-clause-cost c).After-index).cost
+
 pub returns-clause-is_open : goal.returns-clause-is_open
 returns-clause-is_open c =
     let way = read (goal.at.returns-clause-is_open c).After-index in

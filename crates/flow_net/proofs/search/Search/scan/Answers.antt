@@ -6,6 +6,9 @@ use Rattle.flow_net.proofs.search.Search.scan.Goals as goal
 pub loop-index-init : goal.loop-index-init
 loop-index-init c = record { search = c.requires.search; improves = Improves-refl c.args.self.now; closed = λ k low high. absurd (omega (arith, low, high)) }
 
+pub relax-requires-clause-tail : goal.relax-requires-clause-tail
+relax-requires-clause-tail c = c.range_from-first.ensures.tails c.loop-index.index (omega arith) (omega arith)
+
 pub relax-requires-clause-at : goal.relax-requires-clause-at
 relax-requires-clause-at c =
     subst (λ v. IsAt c.loop-index.self v c.args.label.now) (sym (c.range_from-first.ensures.tails c.loop-index.index (omega arith) (omega arith)))
