@@ -32,7 +32,8 @@ exchangers-are hot cold n (t ∷ ts) = ap (λ es. exchanger_of hot cold (n, t) �
 
 -- the exchanger of a transfer has the utility
 abbrev pub joins_utility : List Part → List Part → ℕ → Transfer → Bool
-joins_utility hot cold index t = same_source (source_in hot t.hot) (source.Utility index) || same_source (source_in cold t.cold) (source.Utility index)
+joins_utility hot cold index t =
+    same_source (source_in hot t.hot) (source.Utility index) || same_source (source_in cold t.cold) (source.Utility index)
 
 -- the heat of a transfer with the utility
 abbrev pub utility_heat : List Part → List Part → ℕ → Transfer → ℤ
@@ -60,7 +61,8 @@ one_more false heat rest count duties is have =
 duties_have : (hot cold : List Part) (index n : ℕ) (ts : List Transfer) → All (λ t. IsHeat t.heat) ts
     → HaveSum (filter_map (duty_with index) (map (exchanger_of hot cold) (enumerate_from n ts))) (length ts)
     (int_sum_by (utility_heat hot cold index) ts)
-duties_have hot cold index n [] heats = record { sum = refl; few = omega arith; each = All-nil (IsSized 1 (unsigned_abs MOST_HEAT)) }
+duties_have hot cold index n [] heats =
+    record { sum = refl; few = omega arith; each = All-nil (IsSized 1 (unsigned_abs MOST_HEAT)) }
 duties_have hot cold index n (t ∷ ts) heats =
     let duties = filter_map (duty_with index) (map (exchanger_of hot cold) (enumerate_from (n + 1) ts)) in
     one_more (joins_utility hot cold index t) t.heat (int_sum_by (utility_heat hot cold index) ts) (length ts) duties
@@ -82,17 +84,20 @@ module _ (case : Case) (hot cold : List Part) (ts : List Transfer) (given : IsCa
   own = source.Utility index
 
   -- the source at an index is the utility exactly where the index is that of its part
-  own_place : (of : Side) (a b : ℕ) → slice_get (on_side of hot cold) a ≡ Some (utility_part index u) → b < length (on_side of hot cold)
+  own_place : (of : Side) (a b : ℕ) → slice_get (on_side of hot cold) a ≡ Some (utility_part index u)
+      → b < length (on_side of hot cold)
       → same_source (source_in (on_side of hot cold) b) own ≡ (b == a)
   own_place of a b there within =
-      let parts = on_side of hot cold in let (q, at) = part_there parts b within in
+      let parts = on_side of hot cold in
+      let (q, at) = part_there parts b within in
       ap (λ x. same_source x own) (source_there parts b q at)
       ∙ ⊎_elim (λ same.
       let part_is = same_Some q (utility_part index u) (sym at ∙ ap (slice_get parts) same ∙ there) in
       ap (λ (r : Part). same_source r.source own) part_is ∙ same_source-same own ∙ sym (eq-eqb b a same))
       (λ other.
       false_from_ne_true (same_source q.source own) (λ holds.
-      let grid = places case hot cold ts given in let part = part_on case hot cold ts given of b q at in
+      let grid = places case hot cold ts given in
+      let part = part_on case hot cold ts given of b q at in
       let is = part_of_utility {streams = case.streams} grid of index u q here part (same_source-true q.source own holds) in
       let twice = at ∙ ap (λ (r : Part). Some r) is in
       other (one_place {utilities = case.utilities} grid of parts b a (utility_part index u) (side_parts case hot cold ts given of) twice there))
@@ -100,7 +105,8 @@ module _ (case : Case) (hot cold : List Part) (ts : List Transfer) (given : IsCa
       (cases_eq b a)
 
   -- a source of the other side is not the utility
-  other_source : (of : Side) (b : ℕ) → u.side ≢ of → b < length (on_side of hot cold) → same_source (source_in (on_side of hot cold) b) own ≡ false
+  other_source : (of : Side) (b : ℕ) → u.side ≢ of → b < length (on_side of hot cold)
+      → same_source (source_in (on_side of hot cold) b) own ≡ false
   other_source of b other within =
       let a = source_in (on_side of hot cold) b in
       false_from_ne_true (same_source a own) (λ holds.
@@ -112,7 +118,8 @@ module _ (case : Case) (hot cold : List Part) (ts : List Transfer) (given : IsCa
   or_none false = refl
 
   -- a transfer is the utility's where it is one of the utility's part
-  its_transfer : (of : Side) (a number : ℕ) (t : Transfer) → u.side ≡ of → slice_get (on_side of hot cold) a ≡ Some (utility_part index u)
+  its_transfer : (of : Side) (a number : ℕ) (t : Transfer) → u.side ≡ of
+      → slice_get (on_side of hot cold) a ≡ Some (utility_part index u)
       → slice_get ts number ≡ Some t → joins_utility hot cold index t ≡ (part_index of t == a)
   its_transfer side.Hot a number t side_is there at =
       let within = All-slice_get (λ (v : Transfer). v.hot < length hot) ts number t given.flow.hot_indexes at in
@@ -125,9 +132,11 @@ module _ (case : Case) (hot cold : List Part) (ts : List Transfer) (given : IsCa
       let other = other_source side.Hot t.hot (λ same. let clash : side.Cold ≡ side.Hot = sym side_is ∙ same in cc clash) hot_within in
       λ i. other i || own_place side.Cold a t.cold there within i
 
-  pub utility_has_heat : length ts ≤ most_transfers → HasUtilityHeat (part_sources hot) (part_sources cold) (map (exchange_of hot cold) ts) index u
+  pub utility_has_heat : length ts ≤ most_transfers
+      → HasUtilityHeat (part_sources hot) (part_sources cold) (map (exchange_of hot cold) ts) index u
   utility_has_heat few_ts =
-      let of = u.side in let part = utility_part index u in
+      let of = u.side in
+      let part = utility_part index u in
       let duties = heats_with (part_sources hot) (part_sources cold) (map (exchange_of hot cold) ts) index in
       let are = side_parts case hot cold ts given of in
       let (a, within, is) = are.every part (inr (index, u, record { utility = here; side_is = refl; is = refl })) in
@@ -137,7 +146,9 @@ module _ (case : Case) (hot cold : List Part) (ts : List Transfer) (given : IsCa
       int_sum_by-same (utility_heat hot cold index) (λ t. if part_index of t == a then t.heat else pos 0) ts (λ k d inside.
       let t = get_or ts k d in
       ap (λ b. if b then t.heat else pos 0) (its_transfer of a k t refl there (slice_get-get_or ts k d inside))) in
-      let have = heats-have hot cold ts index given.heats in let few = have.few in let total = have.sum ∙ ap whole sum in
+      let have = heats-have hot cold ts index given.heats in
+      let few = have.few in
+      let total = have.sum ∙ ap whole sum in
       record {
         den = 1;
         most = unsigned_abs MOST_HEAT;
@@ -184,12 +195,16 @@ duty-part heat (source.Stream i) = refl
 duty-part heat (source.Utility i) = refl
 
 -- a sum over the exchangers of transfers
-exchanger-sum : (hot cold : List Part) (f : Exchanger → Rational) (g : Transfer → ℤ) → ((n : ℕ) (t : Transfer) → f (exchanger_of hot cold (n, t)) ≡ whole (g t))
-    → (n : ℕ) (ts : List Transfer) → rational_sum_by f (map (exchanger_of hot cold) (enumerate_from n ts)) ≡ whole (int_sum_by g ts)
+exchanger-sum : (hot cold : List Part) (f : Exchanger → Rational) (g : Transfer → ℤ)
+    → ((n : ℕ) (t : Transfer) → f (exchanger_of hot cold (n, t)) ≡ whole (g t))
+    → (n : ℕ) (ts : List Transfer)
+    → rational_sum_by f (map (exchanger_of hot cold) (enumerate_from n ts)) ≡ whole (int_sum_by g ts)
 exchanger-sum hot cold f g same n [] = refl
-exchanger-sum hot cold f g same n (t ∷ ts) = ap₂ plus (same n t) (exchanger-sum hot cold f g same (n + 1) ts) ∙ whole-plus (g t) (int_sum_by g ts)
+exchanger-sum hot cold f g same n (t ∷ ts) =
+    ap₂ plus (same n t) (exchanger-sum hot cold f g same (n + 1) ts) ∙ whole-plus (g t) (int_sum_by g ts)
 
-side-heat : (of : Side) (hot cold parts : List Part) (ts : List Transfer) (source_on : Exchanger → Source) → HaveParts of parts ts
+side-heat : (of : Side) (hot cold parts : List Part) (ts : List Transfer) (source_on : Exchanger → Source)
+    → HaveParts of parts ts
     → ((n : ℕ) (t : Transfer) → source_on (exchanger_of hot cold (n, t)) ≡ source_in parts (part_index of t))
     → rational_sum_by (λ x. utility_duty x.duty (source_on x)) (exchangers_for (part_sources hot) (part_sources cold) (map (exchange_of hot cold) ts))
     ≡ whole (utilities_heat of parts ts)
@@ -205,11 +220,13 @@ side-heat of hot cold parts ts source_on within same =
 abbrev worth : Source → ℤ → ℕ → Utility → ℤ
 worth a heat index u = u.price *ℤ (if same_source a (source.Utility index) then heat else pos 0)
 
-worth-none : (a : Source) (heat : ℤ) (index : ℕ) (u : Utility) → same_source a (source.Utility index) ≡ false → worth a heat index u ≡ pos 0
+worth-none : (a : Source) (heat : ℤ) (index : ℕ) (u : Utility) → same_source a (source.Utility index) ≡ false
+    → worth a heat index u ≡ pos 0
 worth-none a heat index u other = ap (λ b. u.price *ℤ (if b then heat else pos 0)) other ∙ *ℤ-zero u.price
 
 -- the price of a part is that of its source
-part-worth : (case : Case) (grid : List ℤ) (of : Side) (p : Part) (heat : ℤ) → IsPartOf case.streams case.utilities grid of p
+part-worth : (case : Case) (grid : List ℤ) (of : Side) (p : Part) (heat : ℤ)
+    → IsPartOf case.streams case.utilities grid of p
     → int_sum_from (worth p.source heat) 0 case.utilities ≡ p.price *ℤ heat
 part-worth case grid of p heat (inl (i, s, is)) =
     ap (λ a. int_sum_from (worth a heat) 0 case.utilities) (ap (λ (q : Part). q.source) is.is)
@@ -223,13 +240,15 @@ part-worth case grid of p heat (inr (i, u, is)) =
     (λ j v other. worth-none (source.Utility i) heat j v (ne_eqb i j (λ same. other (sym same))))
     ∙ ap (λ k. worth (source.Utility i) heat i (get_or case.utilities k u)) first
     ∙ ap (worth (source.Utility i) heat i) (get_or_from_slice_get case.utilities i u u is.utility)
-    ∙ ap (λ b. u.price *ℤ (if b then heat else pos 0)) (eq-eqb i i refl) ∙ sym (ap (λ (q : Part). q.price *ℤ heat) is.is)
+    ∙ ap (λ b. u.price *ℤ (if b then heat else pos 0)) (eq-eqb i i refl)
+    ∙ sym (ap (λ (q : Part). q.price *ℤ heat) is.is)
 
 -- ---- both sources of an exchanger
 
 -- a utility is one of them at most
 apart : (x y : Bool) (price heat : ℤ) → (x ≡ true → y ≡ true → ⊥)
-    → price *ℤ (if x || y then heat else pos 0) ≡ price *ℤ (if x then heat else pos 0) +ℤ price *ℤ (if y then heat else pos 0)
+    → price *ℤ (if x || y then heat else pos 0)
+    ≡ price *ℤ (if x then heat else pos 0) +ℤ price *ℤ (if y then heat else pos 0)
 apart true true price heat one = absurd (one refl refl)
 apart true false price heat one = omega (arith, ints)
 apart false true price heat one = omega (arith, ints)
@@ -242,7 +261,8 @@ differ case a b index hot cold one other =
     let clash : Some side.Hot ≡ Some side.Cold = sym hot ∙ ap (side_of case) same ∙ cold in
     cc clash
 
-sum-enumerated : {X : Type 0} (f : ℕ × X → ℤ) (n : ℕ) (xs : List X) → int_sum_by f (enumerate_from n xs) ≡ int_sum_from (λ i x. f (i, x)) n xs
+sum-enumerated : {X : Type 0} (f : ℕ × X → ℤ) (n : ℕ) (xs : List X)
+    → int_sum_by f (enumerate_from n xs) ≡ int_sum_from (λ i x. f (i, x)) n xs
 sum-enumerated f n [] = refl
 sum-enumerated f n (x ∷ xs) =
     let next : n + 1 ≡ suc n = omega arith in
@@ -250,9 +270,11 @@ sum-enumerated f n (x ∷ xs) =
 
 module _ (case : Case) (hot cold : List Part) (ts : List Transfer) (given : IsCaseFlow case hot cold ts) where
   index-worth : (of : Side) (index : ℕ) (heat : ℤ) → index < length (on_side of hot cold)
-      → int_sum_from (worth (source_in (on_side of hot cold) index) heat) 0 case.utilities ≡ part_price (on_side of hot cold) index *ℤ heat
+      → int_sum_from (worth (source_in (on_side of hot cold) index) heat) 0 case.utilities
+      ≡ part_price (on_side of hot cold) index *ℤ heat
   index-worth of index heat within =
-      let parts = on_side of hot cold in let (p, at) = part_there parts index within in
+      let parts = on_side of hot cold in
+      let (p, at) = part_there parts index within in
       ap (λ a. int_sum_from (worth a heat) 0 case.utilities) (source_there parts index p at)
       ∙ part-worth case (places case hot cold ts given) of p heat (part_on case hot cold ts given of index p at)
       ∙ sym (ap (λ (q : Part). q.price *ℤ heat) (get_or_from_slice_get parts index p blank at))
@@ -262,9 +284,11 @@ module _ (case : Case) (hot cold : List Part) (ts : List Transfer) (given : IsCa
   utility_worth e t = e.1.price *ℤ utility_heat hot cold e.0 t
 
   transfer-worth : (number : ℕ) (t : Transfer) → slice_get ts number ≡ Some t
-      → int_sum_by (λ e. utility_worth e t) (enumerate_from 0 case.utilities) ≡ part_price hot t.hot *ℤ t.heat +ℤ part_price cold t.cold *ℤ t.heat
+      → int_sum_by (λ e. utility_worth e t) (enumerate_from 0 case.utilities)
+      ≡ part_price hot t.hot *ℤ t.heat +ℤ part_price cold t.cold *ℤ t.heat
   transfer-worth number t at =
-      let a = source_in hot t.hot in let b = source_in cold t.cold in
+      let a = source_in hot t.hot in
+      let b = source_in cold t.cold in
       let hot_within = All-slice_get (λ (u : Transfer). u.hot < length hot) ts number t given.flow.hot_indexes at in
       let cold_within = All-slice_get (λ (u : Transfer). u.cold < length cold) ts number t given.flow.cold_indexes at in
       let hot_side = source_side case hot cold ts given side.Hot t.hot hot_within in
@@ -275,12 +299,15 @@ module _ (case : Case) (hot cold : List Part) (ts : List Transfer) (given : IsCa
       ∙ int_sum_from-add (worth a t.heat) (worth b t.heat) 0 case.utilities
       ∙ ap₂ ◌+ℤ◌ (index-worth side.Hot t.hot t.heat hot_within) (index-worth side.Cold t.cold t.heat cold_within)
 
-  utility-worth : (e : ℕ × Utility) (us : List Transfer) → e.1.price *ℤ int_sum_by (utility_heat hot cold e.0) us ≡ int_sum_by (utility_worth e) us
+  utility-worth : (e : ℕ × Utility) (us : List Transfer)
+      → e.1.price *ℤ int_sum_by (utility_heat hot cold e.0) us ≡ int_sum_by (utility_worth e) us
   utility-worth e [] = omega (arith, ints)
   utility-worth e (t ∷ us) =
-      *ℤ-+ℤ e.1.price (utility_heat hot cold e.0 t) (int_sum_by (utility_heat hot cold e.0) us) ∙ ap (λ x. utility_worth e t +ℤ x) (utility-worth e us)
+      *ℤ-+ℤ e.1.price (utility_heat hot cold e.0 t) (int_sum_by (utility_heat hot cold e.0) us)
+      ∙ ap (λ x. utility_worth e t +ℤ x) (utility-worth e us)
 
-  cost-is : (exchange_balance case (part_sources hot) (part_sources cold) (map (exchange_of hot cold) ts)).cost ≡ whole (cost_of hot cold ts)
+  cost-is : (exchange_balance case (part_sources hot) (part_sources cold) (map (exchange_of hot cold) ts)).cost
+      ≡ whole (cost_of hot cold ts)
   cost-is =
       let us = enumerate_from 0 case.utilities in
       let priced : ℕ × Utility → ℤ = λ e. int_sum_by (utility_worth e) ts in
@@ -289,7 +316,8 @@ module _ (case : Case) (hot cold : List Part) (ts : List Transfer) (given : IsCa
       rational_sum_by-same (λ e. times (whole e.1.price) (rational_sum (heats_with (part_sources hot) (part_sources cold) (map (exchange_of hot cold) ts) e.0)))
       (λ e. whole (priced e)) us (λ k d within.
       let e = get_or us k d in
-      ap (times (whole e.1.price)) (heats-have hot cold ts e.0 given.heats).sum ∙ whole-times e.1.price (int_sum_by (utility_heat hot cold e.0) ts)
+      ap (times (whole e.1.price)) (heats-have hot cold ts e.0 given.heats).sum
+      ∙ whole-times e.1.price (int_sum_by (utility_heat hot cold e.0) ts)
       ∙ ap whole (utility-worth e ts))
       ∙ rational_sum_by-whole priced (int_sum_by priced) refl (λ e es. refl) us
       ∙ ap whole
@@ -299,7 +327,8 @@ module _ (case : Case) (hot cold : List Part) (ts : List Transfer) (given : IsCa
       ∙ int_sum_by-add hot_cost cold_cost ts
       ∙ ap₂ ◌+ℤ◌ (side_cost-transfers side.Hot hot ts given.flow.hot_indexes) (side_cost-transfers side.Cold cold ts given.flow.cold_indexes))
 
-  pub balance-is : exchange_balance case (part_sources hot) (part_sources cold) (map (exchange_of hot cold) ts) ≡ flow_balance case hot cold ts
+  pub balance-is : exchange_balance case (part_sources hot) (part_sources cold) (map (exchange_of hot cold) ts)
+      ≡ flow_balance case hot cold ts
   balance-is =
       let target = hot_target case.streams in
       let gives = side-heat side.Hot hot cold hot ts (λ x. x.hot) given.flow.hot_indexes (λ n t. refl) in
@@ -322,10 +351,12 @@ standard-price side.Cold case = refl
 abbrev standard_cost : Side → Source → ℤ → ℤ
 standard_cost of a heat = if is_stream a then pos 0 else unit_price of *ℤ heat
 
-part-cost : (case : Case) (grid : List ℤ) (of : Side) (p : Part) (heat : ℤ) → IsStandard case → IsPartOf case.streams case.utilities grid of p
+part-cost : (case : Case) (grid : List ℤ) (of : Side) (p : Part) (heat : ℤ) → IsStandard case
+    → IsPartOf case.streams case.utilities grid of p
     → p.price *ℤ heat ≡ standard_cost of p.source heat
 part-cost case grid of p heat standard (inl (i, s, is)) =
-    zero_times p.price heat (ap (λ (q : Part). q.price) is.is) ∙ sym (ap (λ (q : Part). standard_cost of q.source heat) is.is)
+    zero_times p.price heat (ap (λ (q : Part). q.price) is.is)
+    ∙ sym (ap (λ (q : Part). standard_cost of q.source heat) is.is)
 part-cost case grid of p heat standard (inr (i, u, is)) =
     let price : p.price ≡ unit_price of =
     ap (λ (q : Part). q.price) is.is ∙ ap (λ (v : Utility). v.price) (own_utility case standard i u is.utility)
@@ -333,7 +364,8 @@ part-cost case grid of p heat standard (inr (i, u, is)) =
     ap (λ x. x *ℤ heat) price ∙ sym (ap (λ (q : Part). standard_cost of q.source heat) is.is)
 
 side-cost : (case : Case) (grid : List ℤ) (of : Side) (parts : List Part) (ts : List Transfer) → IsStandard case
-    → AreParts case.streams case.utilities grid of parts → side_cost of parts ts ≡ int_sum_from (λ a p. standard_cost of p.source (heat_at of ts a)) 0 parts
+    → AreParts case.streams case.utilities grid of parts
+    → side_cost of parts ts ≡ int_sum_from (λ a p. standard_cost of p.source (heat_at of ts a)) 0 parts
 side-cost case grid of parts ts standard are =
     int_sum_from-same_each (λ a p. p.price *ℤ heat_at of ts a) (λ a p. standard_cost of p.source (heat_at of ts a)) parts
     (λ a p at. part-cost case grid of p (heat_at of ts a) standard (All-slice_get (IsPartOf case.streams case.utilities grid of) parts a p are.each at))
@@ -359,7 +391,8 @@ standard-cost case hot cold ts standard parts =
 pub no_excess : (case : Case) (hot cold : List Part) (ts : List Transfer) → IsStandard case → AreCaseParts case hot cold
     → cost_of hot cold ts ≡ hot_target case.streams → (flow_balance case hot cold ts).excess ≡ rational_zero
 no_excess case hot cold ts standard parts costs =
-    let same : utilities_heat side.Hot hot ts ≡ hot_target case.streams = sym (standard-cost case hot cold ts standard parts) ∙ costs in
+    let same : utilities_heat side.Hot hot ts ≡ hot_target case.streams
+    = sym (standard-cost case hot cold ts standard parts) ∙ costs in
     ap whole (difference (utilities_heat side.Hot hot ts) (hot_target case.streams) same)
   where
     difference : (x y : ℤ) → x ≡ y → x -ℤ y ≡ pos 0

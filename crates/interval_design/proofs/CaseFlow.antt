@@ -17,7 +17,8 @@ part_there (q ∷ parts) index within = (get_or (q ∷ parts) index q, slice_get
 abbrev pub source_in : List Part → ℕ → Source
 source_in parts index = source_at (part_sources parts) index
 
-pub source_there : (parts : List Part) (index : ℕ) (p : Part) → slice_get parts index ≡ Some p → source_in parts index ≡ p.source
+pub source_there : (parts : List Part) (index : ℕ) (p : Part) → slice_get parts index ≡ Some p
+    → source_in parts index ≡ p.source
 source_there parts index p at =
     ap (λ o. unwrap_or o (source.Stream 0)) (slice_get-map (λ (q : Part). q.source) parts index ∙ ap (option_map (λ (q : Part). q.source)) at)
 
@@ -35,7 +36,8 @@ module _ (case : Case) (hot cold : List Part) (ts : List Transfer) (given : IsCa
   places_fall = given.parts.is_grid.ordered
 
   pub valid_stream : (number : ℕ) (s : Stream) → slice_get case.streams number ≡ Some s → IsValidStream s
-  valid_stream number s here = All-slice_get IsValidStream case.streams number s (AreStreams-IsComplete case given.complete).each here
+  valid_stream number s here =
+      All-slice_get IsValidStream case.streams number s (AreStreams-IsComplete case given.complete).each here
 
   pub side_parts : (of : Side) → AreParts case.streams case.utilities places of (on_side of hot cold)
   side_parts side.Hot = given.parts.hot_parts
@@ -49,18 +51,23 @@ module _ (case : Case) (hot cold : List Part) (ts : List Transfer) (given : IsCa
   side_indexes side.Hot = given.flow.hot_indexes
   side_indexes side.Cold = given.flow.cold_indexes
 
-  pub part_on : (of : Side) (index : ℕ) (p : Part) → slice_get (on_side of hot cold) index ≡ Some p → IsPartOf case.streams case.utilities places of p
-  part_on of index p at = All-slice_get (IsPartOf case.streams case.utilities places of) (on_side of hot cold) index p (side_parts of).each at
+  pub part_on : (of : Side) (index : ℕ) (p : Part) → slice_get (on_side of hot cold) index ≡ Some p
+      → IsPartOf case.streams case.utilities places of p
+  part_on of index p at =
+      All-slice_get (IsPartOf case.streams case.utilities places of) (on_side of hot cold) index p (side_parts of).each at
 
-  pub source_side : (of : Side) (index : ℕ) → index < length (on_side of hot cold) → side_of case (source_in (on_side of hot cold) index) ≡ Some of
+  pub source_side : (of : Side) (index : ℕ) → index < length (on_side of hot cold)
+      → side_of case (source_in (on_side of hot cold) index) ≡ Some of
   source_side of index within =
       let (p, at) = part_there (on_side of hot cold) index within in
-      ap (side_of case) (source_there (on_side of hot cold) index p at) ∙ side_of_part case places of p (part_on of index p at)
+      ap (side_of case) (source_there (on_side of hot cold) index p at)
+      ∙ side_of_part case places of p (part_on of index p at)
 
 -- ---- parts of a side in their order: each stands at one place of the list, and a source tells whose part one is
 
 -- what holds of each item and each later one holds of two at indexes
-pub pairs_at : {X : Type 0} (R : X → X → Type 0) (xs : List X) (i j : ℕ) (x y : X) → AllPairs R xs → slice_get xs i ≡ Some x → slice_get xs j ≡ Some y
+pub pairs_at : {X : Type 0} (R : X → X → Type 0) (xs : List X) (i j : ℕ) (x y : X) → AllPairs R xs
+    → slice_get xs i ≡ Some x → slice_get xs j ≡ Some y
     → i < j → R x y
 pairs_at R xs i j x y pairs one other less =
     subst₂ R (get_or_from_slice_get xs i x y one) (get_or_from_slice_get xs j y y other) (pairs i j y less (slice_get_within xs j y other))
@@ -87,7 +94,8 @@ module _ {streams : List Stream} {utilities : List Utility} (grid : List ℤ) (o
       (cases_order a b)
 
   -- whose part one is
-  pub part_of_stream : (number : ℕ) (s : Stream) (p : Part) → slice_get streams number ≡ Some s → IsPartOf streams utilities grid of p
+  pub part_of_stream : (number : ℕ) (s : Stream) (p : Part) → slice_get streams number ≡ Some s
+      → IsPartOf streams utilities grid of p
       → p.source ≡ source.Stream number → IsStreamPart streams grid of number s p
   part_of_stream number s p here (inl (i, r, is)) own =
       let both : source.Stream i ≡ source.Stream number = sym (ap (λ (q : Part). q.source) is.is) ∙ own in
@@ -95,12 +103,15 @@ module _ {streams : List Stream} {utilities : List Utility} (grid : List ℤ) (o
       let same : r ≡ s = same_Some r s (sym is.stream ∙ ap (slice_get streams) number_is ∙ here) in
       subst₂ (λ k t. IsStreamPart streams grid of k t p) number_is same is
   part_of_stream number s p here (inr (i, u, is)) own =
-      let clash : source.Utility i ≡ source.Stream number = sym (ap (λ (q : Part). q.source) is.is) ∙ own in absurd (cc clash)
+      let clash : source.Utility i ≡ source.Stream number = sym (ap (λ (q : Part). q.source) is.is) ∙ own in
+      absurd (cc clash)
 
-  pub part_of_utility : (index : ℕ) (u : Utility) (p : Part) → slice_get utilities index ≡ Some u → IsPartOf streams utilities grid of p
+  pub part_of_utility : (index : ℕ) (u : Utility) (p : Part) → slice_get utilities index ≡ Some u
+      → IsPartOf streams utilities grid of p
       → p.source ≡ source.Utility index → p ≡ utility_part index u
   part_of_utility index u p here (inl (i, s, is)) own =
-      let clash : source.Stream i ≡ source.Utility index = sym (ap (λ (q : Part). q.source) is.is) ∙ own in absurd (cc clash)
+      let clash : source.Stream i ≡ source.Utility index = sym (ap (λ (q : Part). q.source) is.is) ∙ own in
+      absurd (cc clash)
   part_of_utility index u p here (inr (i, v, is)) own =
       let both : source.Utility i ≡ source.Utility index = sym (ap (λ (q : Part). q.source) is.is) ∙ own in
       let number : i ≡ index = cc both in
@@ -119,9 +130,12 @@ key-rises columns s t within (inl later) =
     let row : t.hot ≡ s.hot + 1 + (t.hot - s.hot - 1) = omega arith in
     let product = ap (λ n. n * columns) row in
     omega arith
-key-rises columns s t within (inr (same, later)) = let product = ap (λ n. n * columns) same in omega arith
+key-rises columns s t within (inr (same, later)) =
+    let product = ap (λ n. n * columns) same in
+    omega arith
 
-index-le-key : (columns : ℕ) (ts : List Transfer) → AllPairs precedes ts → All (λ t. t.cold < columns) ts → (i : ℕ) (d : Transfer)
+index-le-key : (columns : ℕ) (ts : List Transfer) → AllPairs precedes ts → All (λ t. t.cold < columns) ts
+    → (i : ℕ) (d : Transfer)
     → i < length ts → i ≤ key columns (get_or ts i d)
 index-le-key columns ts pairs cold zero d within = omega arith
 index-le-key columns ts pairs cold (suc i) d within =
@@ -136,7 +150,8 @@ key-below rows columns t hot cold =
     let product = ap (λ n. n * columns) row in
     omega arith
 
-few_transfers : (hot cold : List Part) (ts : List Transfer) → AllPairs precedes ts → HaveParts side.Hot hot ts → HaveParts side.Cold cold ts
+few_transfers : (hot cold : List Part) (ts : List Transfer) → AllPairs precedes ts
+    → HaveParts side.Hot hot ts → HaveParts side.Cold cold ts
     → length ts ≤ length hot * length cold
 few_transfers hot cold [] pairs rows columns = omega arith
 few_transfers hot cold (t ∷ ts) pairs rows columns =

@@ -28,7 +28,8 @@ record IsWarm (case : Case) (of : Side) (p : Part) : Type 0 where
   left : temperature case p.source (piece_of case p).after ≡ place_temperature case of p.source (left_at of p)
 
 -- a level is the temperature of its place
-at_level : (case : Case) (of : Side) (p : Part) (level contribution : ℤ) (state : Rational) → contribution_of case p.source ≡ contribution
+at_level : (case : Case) (of : Side) (p : Part) (level contribution : ℤ) (state : Rational)
+    → contribution_of case p.source ≡ contribution
     → temperature case p.source state ≡ whole level → (place : ℤ) → place ≡ shifted of level contribution
     → temperature case p.source state ≡ place_temperature case of p.source place
 at_level case of p level contribution state contribution_is fixed place is =
@@ -39,12 +40,16 @@ at_level case of p level contribution state contribution_is fixed place is =
     back side.Cold = omega (arith, ints)
 
 -- a part at one level
-level_warm : (case : Case) (of : Side) (p : Part) (level contribution : ℤ) → contribution_of case p.source ≡ contribution
-    → ((state : Rational) → temperature case p.source state ≡ whole level) → p.high ≡ shifted of level contribution → p.low ≡ shifted of level contribution
+level_warm : (case : Case) (of : Side) (p : Part) (level contribution : ℤ)
+    → contribution_of case p.source ≡ contribution
+    → ((state : Rational) → temperature case p.source state ≡ whole level)
+    → p.high ≡ shifted of level contribution → p.low ≡ shifted of level contribution
     → IsWarm case of p
 level_warm case of p level contribution contribution_is fixed high low = record {
-  entered = at_level case of p level contribution (piece_of case p).before contribution_is (fixed (piece_of case p).before) (entered_at of p) (ends of).0;
-  left = at_level case of p level contribution (piece_of case p).after contribution_is (fixed (piece_of case p).after) (left_at of p) (ends of).1;
+  entered =
+      at_level case of p level contribution (piece_of case p).before contribution_is (fixed (piece_of case p).before) (entered_at of p) (ends of).0;
+  left =
+      at_level case of p level contribution (piece_of case p).after contribution_is (fixed (piece_of case p).after) (left_at of p) (ends of).1;
 }
   where
     ends : (on : Side) → (entered_at on p ≡ shifted of level contribution) × (left_at on p ≡ shifted of level contribution)
@@ -52,30 +57,38 @@ level_warm case of p level contribution contribution_is fixed high low = record 
     ends side.Cold = (low, high)
 
 module _ (case : Case) (grid : List ℤ) (of : Side) (p : Part) (falls : AllPairs (λ a b. b <ℤ a) grid) where
-  stream_warm : (number : ℕ) (s : Stream) → IsValidStream s → IsStreamPart case.streams grid of number s p → IsWarm case of p
+  stream_warm : (number : ℕ) (s : Stream) → IsValidStream s → IsStreamPart case.streams grid of number s p
+      → IsWarm case of p
   stream_warm number s valid is = by (lies grid s p valid falls is)
     where
       own : p.source ≡ source.Stream number
       own = ap (λ (q : Part). q.source) is.is
 
       contribution : contribution_of case p.source ≡ s.contribution
-      contribution = ap (contribution_of case) own ∙ ap (λ o. option_map_or (λ (r : Stream). r.contribution) o (pos 0)) is.stream
+      contribution =
+          ap (contribution_of case) own ∙ ap (λ o. option_map_or (λ (r : Stream). r.contribution) o (pos 0)) is.stream
 
       by : LiesOnInterval grid s p ⊎ LiesAtLevel s p → IsWarm case of p
       by (inl on) =
           let free : (state : Rational) → temperature case p.source state ≡ state = λ state.
-          ap (λ a. temperature case a state) own ∙ ap (level_in state) (fixed_level-sensible case number s is.stream on.sensible) in
+          ap (λ a. temperature case a state) own
+          ∙ ap (level_in state) (fixed_level-sensible case number s is.stream on.sensible) in
           let given = sym contribution in
           record {
-            entered = free (piece_of case p).before ∙ state_is (entered_state p) case p.source number s is.stream own ∙ entered-sensible s p on.sensible
+            entered =
+                free (piece_of case p).before
+                ∙ state_is (entered_state p) case p.source number s is.stream own ∙ entered-sensible s p on.sensible
                 ∙ (λ i. whole (unshifted (is.side_is i) (entered_at (is.side_is i) p) (given i)));
-            left = free (piece_of case p).after ∙ state_is (left_state p) case p.source number s is.stream own ∙ left-sensible s p on.sensible
+            left =
+                free (piece_of case p).after ∙ state_is (left_state p) case p.source number s is.stream own
+                ∙ left-sensible s p on.sensible
                 ∙ (λ i. whole (unshifted (is.side_is i) (left_at (is.side_is i) p) (given i)));
           }
       by (inr at) =
           let place = high_end-latent s at.latent ∙ ap (λ d. shifted d s.supply s.contribution) is.side_is in
           level_warm case of p s.supply s.contribution contribution (λ state.
-          ap (λ a. temperature case a state) own ∙ ap (level_in state) (fixed_level-latent case number s is.stream at.latent))
+          ap (λ a. temperature case a state) own
+          ∙ ap (level_in state) (fixed_level-latent case number s is.stream at.latent))
           (at.high ∙ place) (at.low ∙ place)
 
   part_warm : IsComplete case → IsPartOf case.streams case.utilities grid of p → IsWarm case of p
@@ -83,7 +96,8 @@ module _ (case : Case) (grid : List ℤ) (of : Side) (p : Part) (falls : AllPair
       stream_warm number s (All-slice_get IsValidStream case.streams number s (AreStreams-IsComplete case complete).each is.stream) is
   part_warm complete (inr (index, u, is)) =
       let own = ap (λ (q : Part). q.source) is.is in
-      let contribution = ap (contribution_of case) own ∙ ap (λ o. option_map_or (λ (v : Utility). v.contribution) o (pos 0)) is.utility in
+      let contribution = ap (contribution_of case) own
+      ∙ ap (λ o. option_map_or (λ (v : Utility). v.contribution) o (pos 0)) is.utility in
       level_warm case of p u.level u.contribution contribution
       (λ state. ap (λ a. temperature case a state) own ∙ ap (λ o. whole (option_map_or (λ (v : Utility). v.level) o (pos 0))) is.utility)
       (ap (λ (q : Part). q.high) is.is ∙ ap (λ d. shifted d u.level u.contribution) is.side_is)
@@ -97,24 +111,29 @@ module _ (case : Case) (grid : List ℤ) (of : Side) (p : Part) (falls : AllPair
   part_narrow complete (inl (number, s, is)) =
       let valid = All-slice_get IsValidStream case.streams number s (AreStreams-IsComplete case complete).each is.stream in
       let narrow = (fits grid s p valid falls is).narrow in omega arith
-  part_narrow complete (inr (i, u, is)) = omega (arith, ints, ap (λ (q : Part). q.high) is.is, ap (λ (q : Part). q.low) is.is)
+  part_narrow complete (inr (i, u, is)) =
+      omega (arith, ints, ap (λ (q : Part). q.high) is.is, ap (λ (q : Part). q.low) is.is)
 
 -- ---- approaches
 
 -- at neither end does the hot part lie below a cold part that it passes heat to
-passes-order : (p q : Part) → p.low ≤ℤ p.high → q.low ≤ℤ q.high → passes_heat p q ≡ true → (q.high ≤ℤ p.high) × (q.low ≤ℤ p.low)
+passes-order : (p q : Part) → p.low ≤ℤ p.high → q.low ≤ℤ q.high → passes_heat p q ≡ true
+    → (q.high ≤ℤ p.high) × (q.low ≤ℤ p.low)
 passes-order p q hot_order cold_order passes =
     ⊎_elim
     (λ above. let from = int_le-true q.high p.low above in (omega (arith, ints), omega (arith, ints)))
     (λ same.
     let tests = and_parts (int_eq p.high q.high) (int_eq p.low q.low) same in
-    let high = (Decides-int_eq p.high q.high).0 tests.0 in let low = (Decides-int_eq p.low q.low).0 tests.1 in
+    let high = (Decides-int_eq p.high q.high).0 tests.0 in
+    let low = (Decides-int_eq p.low q.low).0 tests.1 in
     (omega (arith, ints), omega (arith, ints)))
     (or_cases (int_le q.high p.low) (int_eq p.high q.high && int_eq p.low q.low) passes)
 
 -- a cold temperature and the approach are at most the hot temperature, where the cold place is at most the hot one
-apart : (taken given : Rational) (low high hot_contribution cold_contribution : ℤ) → taken ≡ whole (low -ℤ cold_contribution)
-    → given ≡ whole (high +ℤ hot_contribution) → low ≤ℤ high → IsAtMost (plus taken (whole (hot_contribution +ℤ cold_contribution))) given
+apart : (taken given : Rational) (low high hot_contribution cold_contribution : ℤ)
+    → taken ≡ whole (low -ℤ cold_contribution)
+    → given ≡ whole (high +ℤ hot_contribution) → low ≤ℤ high
+    → IsAtMost (plus taken (whole (hot_contribution +ℤ cold_contribution))) given
 apart taken given low high hot_contribution cold_contribution taken_is given_is order =
     let approach = hot_contribution +ℤ cold_contribution in
     let sum : plus taken (whole approach) ≡ whole ((low -ℤ cold_contribution) +ℤ approach) =
@@ -134,8 +153,10 @@ record JoinsParts (case : Case) (hot cold : List Part) (t : Transfer) (p q : Par
 joined_parts : (case : Case) (hot cold : List Part) (t : Transfer) → t.hot < length hot → t.cold < length cold
     → IsTrue (reach_between case hot cold t.hot t.cold) → (p : Part) × (q : Part) × JoinsParts case hot cold t p q
 joined_parts case hot cold t hot_within cold_within reach =
-    let (p, hot_part) = part_there hot t.hot hot_within in let (q, cold_part) = part_there cold t.cold cold_within in
-    let reached : reach_between case hot cold t.hot t.cold ≡ part_reaches case p q = λ i. both_reach case (hot_part i) (cold_part i) in
+    let (p, hot_part) = part_there hot t.hot hot_within in
+    let (q, cold_part) = part_there cold t.cold cold_within in
+    let reached : reach_between case hot cold t.hot t.cold ≡ part_reaches case p q
+    = λ i. both_reach case (hot_part i) (cold_part i) in
     let both = and_parts (passes_heat p q) (not (is_forbidden case.forbids p.source q.source)) (sym reached ∙ reach) in
     (p, q, record { hot_part = hot_part; cold_part = cold_part; passes = both.0; permitted = refused (is_forbidden case.forbids p.source q.source) both.1 })
   where
@@ -144,7 +165,8 @@ joined_parts case hot cold t hot_within cold_within reach =
     refused false holds = cc
 
 -- the heat of a transfer over the width of a part
-size-positive : (heat : ℤ) (parts : List Part) (index : ℕ) (p : Part) → slice_get parts index ≡ Some p → width_of p < 2 ^ 32
+size-positive : (heat : ℤ) (parts : List Part) (index : ℕ) (p : Part) → slice_get parts index ≡ Some p
+    → width_of p < 2 ^ 32
     → pos 0 <ℤ heat → IsHeat heat → IsPositive (ratio heat (width_at parts index))
 size-positive heat parts index p at narrow above is =
     let width : width_at parts index ≡ width_of p = ap (λ o. option_map_or width_of o 1) at in
@@ -158,7 +180,8 @@ module _ (case : Case) (hot cold : List Part) (ts : List Transfer) (given : IsCa
   grid = places case hot cold ts given
 
   -- the two pieces of a transfer may meet
-  pieces_apart : (p q : Part) → IsPartOf case.streams case.utilities grid side.Hot p → IsPartOf case.streams case.utilities grid side.Cold q
+  pieces_apart : (p q : Part) → IsPartOf case.streams case.utilities grid side.Hot p
+      → IsPartOf case.streams case.utilities grid side.Cold q
       → passes_heat p q ≡ true → AreApart case (piece_of case p) (piece_of case q)
   pieces_apart p q hot_part cold_part passes =
       let falls = places_fall case hot cold ts given in
@@ -168,19 +191,25 @@ module _ (case : Case) (hot cold : List Part) (ts : List Transfer) (given : IsCa
       let keeps = λ (taken gives : Rational) (low high : ℤ). apart taken gives low high (contribution_of case p.source) (contribution_of case q.source) in
       let warm = λ (r : Part) (state : Rational). temperature case r.source state in
       record {
-        hot_end = keeps (warm q (piece_of case q).after) (warm p (piece_of case p).before) q.high p.high taking.left giving.entered order.0;
-        cold_end = keeps (warm q (piece_of case q).before) (warm p (piece_of case p).after) q.low p.low taking.entered giving.left order.1;
+        hot_end =
+            keeps (warm q (piece_of case q).after) (warm p (piece_of case p).before) q.high p.high taking.left giving.entered order.0;
+        cold_end =
+            keeps (warm q (piece_of case q).before) (warm p (piece_of case p).after) q.low p.low taking.entered giving.left order.1;
       }
 
   -- each exchange joins a hot and a cold piece that may meet
   pub exchanges_join : All (JoinsPieces case (map (piece_of case) hot) (map (piece_of case) cold)) (map (exchange_of hot cold) ts)
-  exchanges_join = All-map (JoinsPieces case (map (piece_of case) hot) (map (piece_of case) cold)) (exchange_of hot cold) ts (λ k d within.
-      let t = get_or ts k d in let positive = given.flow.positive k d within in let heat = given.heats k d within in
+  exchanges_join =
+      All-map (JoinsPieces case (map (piece_of case) hot) (map (piece_of case) cold)) (exchange_of hot cold) ts (λ k d within.
+      let t = get_or ts k d in
+      let positive = given.flow.positive k d within in
+      let heat = given.heats k d within in
       let flow = given.flow in
       let (p, q, joined) = joined_parts case hot cold t (flow.hot_indexes k d within) (flow.cold_indexes k d within) (flow.joined k d within) in
       let hot_part = part_on case hot cold ts given side.Hot t.hot p joined.hot_part in
       let cold_part = part_on case hot cold ts given side.Cold t.cold q joined.cold_part in
-      let falls = places_fall case hot cold ts given in let piece = piece_of case in
+      let falls = places_fall case hot cold ts given in
+      let piece = piece_of case in
       record {
         hot_piece = piece p;
         cold_piece = piece q;
@@ -203,19 +232,22 @@ module _ (case : Case) (hot cold : List Part) (ts : List Transfer) (given : IsCa
 pub sources-are : (case : Case) (parts : List Part) → sources_of (map (piece_of case) parts) ≡ part_sources parts
 sources-are case parts = map-map (λ p. p.source) (piece_of case) parts
 
-piece_on-exchange : (of : Side) (hot cold : List Part) (t : Transfer) → piece_on of (exchange_of hot cold t) ≡ part_index of t
+piece_on-exchange : (of : Side) (hot cold : List Part) (t : Transfer)
+    → piece_on of (exchange_of hot cold t) ≡ part_index of t
 piece_on-exchange side.Hot hot cold t = refl
 piece_on-exchange side.Cold hot cold t = refl
 
 -- the pieces of exchanges stand among the sources
 pub pieces_within : (of : Side) (hot cold : List Part) (ts : List Transfer) (sources : List Source) (exchanges : List Exchange)
-    → sources ≡ part_sources (on_side of hot cold) → exchanges ≡ map (exchange_of hot cold) ts → HaveParts of (on_side of hot cold) ts
+    → sources ≡ part_sources (on_side of hot cold) → exchanges ≡ map (exchange_of hot cold) ts
+    → HaveParts of (on_side of hot cold) ts
     → All (λ e. piece_on of e < length sources) exchanges
 pieces_within of hot cold ts sources exchanges sources_are exchanges_are have =
     subst₂ (λ (ss : List Source) (es : List Exchange). All (λ e. piece_on of e < length ss) es) (sym sources_are) (sym exchanges_are)
     (All-map (λ e. piece_on of e < length (part_sources (on_side of hot cold))) (exchange_of hot cold) ts (λ k d within.
     let long = length-map (on_side of hot cold) (λ (p : Part). p.source) in
-    let index = have k d within in let same = piece_on-exchange of hot cold (get_or ts k d) in
+    let index = have k d within in
+    let same = piece_on-exchange of hot cold (get_or ts k d) in
     omega arith))
 
 module _ (case : Case) (hot cold : List Part) (ts : List Transfer) (given : IsCaseFlow case hot cold ts) (few : length ts ≤ most_transfers) where
@@ -229,7 +261,8 @@ module _ (case : Case) (hot cold : List Part) (ts : List Transfer) (given : IsCa
   exchanges = map (exchange_of hot cold) ts
 
   stream_led : (stream : ℕ) (s : Stream) (index : ℕ) (p : Piece) → slice_get case.streams stream ≡ Some s
-      → slice_get (on_side s.side hots colds) index ≡ Some p → p.source ≡ source.Stream stream → IsStreamPiece s.side exchanges index p s
+      → slice_get (on_side s.side hots colds) index ≡ Some p → p.source ≡ source.Stream stream
+      → IsStreamPiece s.side exchanges index p s
   stream_led stream s index p here there own =
       let (part, at, is) = mapped_item (piece_of case) (on_side s.side hot cold) index p
       (ap (λ ps. slice_get ps index) (sym (on_side-ap s.side (map (piece_of case)) hot cold)) ∙ there) in
@@ -243,6 +276,7 @@ module _ (case : Case) (hot cold : List Part) (ts : List Transfer) (given : IsCa
     each = exchanges_join case hot cold ts given;
     pieces = λ stream s index p here there own used. stream_led stream s index p here there own;
     joined = λ stream s here. joined case hot cold ts given stream s here;
-    utilities = λ index u here. subst₂ (λ hs cs. HasUtilityHeat hs cs exchanges index u) (sym (sources-are case hot)) (sym (sources-are case cold))
+    utilities =
+        λ index u here. subst₂ (λ hs cs. HasUtilityHeat hs cs exchanges index u) (sym (sources-are case hot)) (sym (sources-are case cold))
         (utility_has_heat case hot cold ts given index u here few);
   }

@@ -34,22 +34,29 @@ pub record LiesAtLevel (s : Stream) (p : Part) : Type 0 where
   pub high : p.high ≡ high_end s
   pub low : p.low ≡ high_end s
 
-pub sensible_interval : (places : List ℤ) (s : Stream) (high low : ℤ) → IsSensible s → IsPiece places s high low → IsInterval places high low
+pub sensible_interval : (places : List ℤ) (s : Stream) (high low : ℤ) → IsSensible s
+    → IsPiece places s high low → IsInterval places high low
 sensible_interval places s high low sensible (inl interval) = interval
 sensible_interval places s high low sensible (inr latent) =
-    let none = sensible.load in let some = latent.0.load.from in absurd (omega (arith, ints))
+    let none = sensible.load in
+    let some = latent.0.load.from in
+    absurd (omega (arith, ints))
 
-pub latent_level : (places : List ℤ) (s : Stream) (p : Part) → IsLatent s → AllPairs (λ a b. b <ℤ a) places → IsPiece places s p.high p.low
+pub latent_level : (places : List ℤ) (s : Stream) (p : Part) → IsLatent s → AllPairs (λ a b. b <ℤ a) places
+    → IsPiece places s p.high p.low
     → low_end s ≤ℤ p.low → p.high ≤ℤ high_end s → LiesAtLevel s p
 latent_level places s p latent falls (inl interval) from upto =
-    let level = level-latent s latent in let less = interval_falls places p.high p.low falls interval in
+    let level = level-latent s latent in
+    let less = interval_falls places p.high p.low falls interval in
     absurd (omega (arith, ints))
 latent_level places s p latent falls (inr is) from upto =
-    let level = level-latent s latent in let same = is.1 in
+    let level = level-latent s latent in
+    let same = is.1 in
     record { latent = latent; high = omega (arith, ints); low = omega (arith, ints) }
 
 pub lies : {streams : List Stream} {of : Side} {number : ℕ} (places : List ℤ) (s : Stream) (p : Part) → IsValidStream s
-    → AllPairs (λ a b. b <ℤ a) places → IsStreamPart streams places of number s p → LiesOnInterval places s p ⊎ LiesAtLevel s p
+    → AllPairs (λ a b. b <ℤ a) places → IsStreamPart streams places of number s p
+    → LiesOnInterval places s p ⊎ LiesAtLevel s p
 lies places s p valid falls is =
     ⊎_elim (λ sensible. inl (record { sensible = sensible; interval = sensible_interval places s p.high p.low sensible is.piece }))
     (λ latent. inr (latent_level places s p latent falls is.piece is.from is.upto)) valid.heat
@@ -69,20 +76,25 @@ high_end-latent s h = by s.side s.supply s.target s.contribution h.level
 abbrev pub own_temperature : Stream → ℤ → Rational
 own_temperature s place = whole (unshifted s.side place s.contribution)
 
-pub entered-sensible : (s : Stream) (p : Part) → IsSensible s → entered_state p s ≡ own_temperature s (entered_at s.side p)
-entered-sensible s p h = ap (λ b. if b then first_state s else own_temperature s (entered_at s.side p)) (is_latent-sensible s h)
+pub entered-sensible : (s : Stream) (p : Part) → IsSensible s
+    → entered_state p s ≡ own_temperature s (entered_at s.side p)
+entered-sensible s p h =
+    ap (λ b. if b then first_state s else own_temperature s (entered_at s.side p)) (is_latent-sensible s h)
 
 pub left-sensible : (s : Stream) (p : Part) → IsSensible s → left_state p s ≡ own_temperature s (left_at s.side p)
-left-sensible s p h = ap (λ b. if b then last_state s else own_temperature s (left_at s.side p)) (is_latent-sensible s h)
+left-sensible s p h =
+    ap (λ b. if b then last_state s else own_temperature s (left_at s.side p)) (is_latent-sensible s h)
 
 pub entered-latent : (s : Stream) (p : Part) → IsLatent s → entered_state p s ≡ first_state s
-entered-latent s p h = ap (λ b. if b then first_state s else own_temperature s (entered_at s.side p)) (is_latent-latent s h)
+entered-latent s p h =
+    ap (λ b. if b then first_state s else own_temperature s (entered_at s.side p)) (is_latent-latent s h)
 
 pub left-latent : (s : Stream) (p : Part) → IsLatent s → left_state p s ≡ last_state s
 left-latent s p h = ap (λ b. if b then last_state s else own_temperature s (left_at s.side p)) (is_latent-latent s h)
 
 change_over : (of : Side) (p : Part) (c : ℤ)
-    → change of (whole (unshifted of (entered_at of p) c)) (whole (unshifted of (left_at of p) c)) ≡ whole (p.high -ℤ p.low)
+    → change of (whole (unshifted of (entered_at of p) c)) (whole (unshifted of (left_at of p) c))
+    ≡ whole (p.high -ℤ p.low)
 change_over side.Hot p c =
     let same : (p.high +ℤ c) -ℤ (p.low +ℤ c) ≡ p.high -ℤ p.low = omega (arith, ints) in
     whole-minus (p.high +ℤ c) (p.low +ℤ c) ∙ ap whole same
@@ -106,8 +118,10 @@ pub record FitsStream (s : Stream) (p : Part) : Type 0 where
   pub narrow : width_of p ≤ unsigned_abs LONGEST_RANGE
 
 fits_heat : {streams : List Stream} {places : List ℤ} {of : Side} {number : ℕ} (s : Stream) (p : Part)
-    → IsStreamPart streams places of number s p → pos 0 <ℤ (s.cp +ℤ s.load) → piece_heat p.high p.low s ≡ (s.cp +ℤ s.load) *ℤ pos (width_of p)
-    → change s.side (entered_state p s) (left_state p s) ≡ whole (pos (width_of p)) → width_of p ≤ unsigned_abs LONGEST_RANGE → FitsStream s p
+    → IsStreamPart streams places of number s p → pos 0 <ℤ (s.cp +ℤ s.load)
+    → piece_heat p.high p.low s ≡ (s.cp +ℤ s.load) *ℤ pos (width_of p)
+    → change s.side (entered_state p s) (left_state p s) ≡ whole (pos (width_of p))
+    → width_of p ≤ unsigned_abs LONGEST_RANGE → FitsStream s p
 fits_heat s p is some heat change_is narrow = record {
   least = ap (λ (q : Part). q.least) is.is ∙ heat;
   most = ap (λ (q : Part). q.most) is.is ∙ heat;
@@ -123,16 +137,20 @@ fits places s p valid falls is = by (lies places s p valid falls is)
     by : LiesOnInterval places s p ⊎ LiesAtLevel s p → FitsStream s p
     by (inl on) =
         let less = interval_falls places p.high p.low falls on.interval in
-        let flow = on.sensible.cp.from in let none = on.sensible.load in let long = (range-length s valid).upto in
+        let flow = on.sensible.cp.from in
+        let none = on.sensible.load in
+        let long = (range-length s valid).upto in
         let width : p.high -ℤ p.low ≡ pos (width_of p) = omega (arith, ints, less) in
         let no_load : piece_heat p.high p.low s ≡ s.cp *ℤ (p.high -ℤ p.low) = omega (arith, ints, none) in
         let size : s.cp ≡ s.cp +ℤ s.load = omega (arith, ints, none) in
-        let entered = entered-sensible s p on.sensible in let left = left-sensible s p on.sensible in
+        let entered = entered-sensible s p on.sensible in
+        let left = left-sensible s p on.sensible in
         fits_heat s p is (omega (arith, ints, flow, none)) (no_load ∙ (λ i. size i *ℤ width i))
         ((λ i. change s.side (entered i) (left i)) ∙ change_over s.side p s.contribution ∙ ap whole width)
         (omega (arith, ints, less, is.from, is.upto, long))
     by (inr at) =
-        let some = at.latent.load.from in let none = at.latent.cp in
+        let some = at.latent.load.from in
+        let none = at.latent.cp in
         let one : width_of p ≡ 1 = omega (arith, ints, at.high, at.low) in
         let no_flow : s.cp *ℤ (p.high -ℤ p.low) ≡ pos 0 *ℤ (p.high -ℤ p.low) = ap (λ c. c *ℤ (p.high -ℤ p.low)) none in
         let load : piece_heat p.high p.low s ≡ (s.cp +ℤ s.load) *ℤ pos 1 = omega (arith, ints, no_flow, none) in
@@ -145,7 +163,8 @@ fits places s p valid falls is = by (lies places s p valid falls is)
 
 -- the share of an own transfer, over the width of the part
 abbrev pub own_share : Side → ℕ → ℕ → ℕ × Transfer → Option Share
-own_share of index width (number, t) = if part_index of t == index then Some (record { exchanger = number; cp = ratio t.heat width }) else None
+own_share of index width (number, t) =
+    if part_index of t == index then Some (record { exchanger = number; cp = ratio t.heat width }) else None
 
 share_over : (size : ℕ → Rational) (k index n : ℕ)
     → ◌≡◌ {A = Option Share} (if k == index then Some (record { exchanger = n; cp = size k }) else None)
@@ -168,13 +187,16 @@ shares-are : (hot cold : List Part) (of : Side) (index n : ℕ) (ts : List Trans
     → filter_map (share_of of index) (enumerate_from n (map (exchange_of hot cold) ts))
     ≡ filter_map (own_share of index (width_at (on_side of hot cold) index)) (enumerate_from n ts)
 shares-are hot cold of index n [] = refl
-shares-are hot cold of index n (t ∷ ts) = λ i. cons_option (share-is hot cold of index n t i) (shares-are hot cold of index (n + 1) ts i)
+shares-are hot cold of index n (t ∷ ts) =
+    λ i. cons_option (share-is hot cold of index n t i) (shares-are hot cold of index (n + 1) ts i)
 
 one_size : (b : Bool) (number width : ℕ) (heat others : ℤ) (rest : List Share) → size_of rest ≡ ratio others width
     → size_of (cons_option (if b then Some (record { exchanger = number; cp = ratio heat width }) else None) rest)
     ≡ ratio ((if b then heat else pos 0) +ℤ others) width
 one_size true number width heat others rest is = ap (plus (ratio heat width)) is ∙ plus-ratio_same_den heat others width
-one_size false number width heat others rest is = let same : others ≡ pos 0 +ℤ others = omega (arith, ints) in is ∙ ap (λ h. ratio h width) same
+one_size false number width heat others rest is =
+    let same : others ≡ pos 0 +ℤ others = omega (arith, ints) in
+    is ∙ ap (λ h. ratio h width) same
 
 -- together they are the heat of the part over its width
 size-shares : (of : Side) (index width n : ℕ) (ts : List Transfer)
@@ -185,25 +207,32 @@ size-shares of index width n (t ∷ ts) =
     (size-shares of index width (n + 1) ts)
 
 -- shares of some size
-some_share : (shares : List Share) (size : Rational) → size_of shares ≡ size → IsBelow rational_zero size → 0 < length shares
-some_share [] size is some = let none = subst (IsBelow rational_zero) (sym is) some in absurd (omega (arith, ints))
+some_share : (shares : List Share) (size : Rational) → size_of shares ≡ size → IsBelow rational_zero size
+    → 0 < length shares
+some_share [] size is some =
+    let none = subst (IsBelow rational_zero) (sym is) some in
+    absurd (omega (arith, ints))
 some_share (share ∷ shares) size is some = omega arith
 
 size_on-exchange : (of : Side) (hot cold : List Part) (t : Transfer)
-    → size_on of (exchange_of hot cold t) ≡ ratio t.heat (width_at (on_side of hot cold) (piece_on of (exchange_of hot cold t)))
+    → size_on of (exchange_of hot cold t)
+    ≡ ratio t.heat (width_at (on_side of hot cold) (piece_on of (exchange_of hot cold t)))
 size_on-exchange side.Hot hot cold t = refl
 size_on-exchange side.Cold hot cold t = refl
 
 -- ---- states
 
-pub state_is : (state : Stream → Rational) (case : Case) (a : Source) (number : ℕ) (s : Stream) → slice_get case.streams number ≡ Some s
+pub state_is : (state : Stream → Rational) (case : Case) (a : Source) (number : ℕ) (s : Stream)
+    → slice_get case.streams number ≡ Some s
     → a ≡ source.Stream number → source_state state case a ≡ state s
-state_is state case a number s here own = ap (source_state state case) own ∙ ap (λ o. option_map_or state o rational_zero) here
+state_is state case a number s here own =
+    ap (source_state state case) own ∙ ap (λ o. option_map_or state o rational_zero) here
 
 abbrev highest : ℕ
 highest = unsigned_abs HIGHEST_LEVEL
 
-either_sized : (b : Bool) (x y : Rational) → IsSized 1 highest x → IsSized 1 highest y → IsSized 1 highest (if b then x else y)
+either_sized : (b : Bool) (x y : Rational) → IsSized 1 highest x → IsSized 1 highest y
+    → IsSized 1 highest (if b then x else y)
 either_sized true x y one other = one
 either_sized false x y one other = other
 
@@ -220,16 +249,21 @@ last_part-sized side.Hot = sized-whole 1 highest (pos 0) (omega arith) (omega ar
 last_part-sized side.Cold = sized-whole 1 highest (pos 1) (omega arith) (omega arith)
 
 last_part : (of : Side) → IsPartOfLoad (last_part_of_load of)
-last_part side.Hot = record { least = at_most-whole (pos 0) (pos 0) (omega (arith, ints)); most = at_most-whole (pos 0) (pos 1) (omega (arith, ints)) }
-last_part side.Cold = record { least = at_most-whole (pos 0) (pos 1) (omega (arith, ints)); most = at_most-whole (pos 1) (pos 1) (omega (arith, ints)) }
+last_part side.Hot =
+    record { least = at_most-whole (pos 0) (pos 0) (omega (arith, ints)); most = at_most-whole (pos 0) (pos 1) (omega (arith, ints)) }
+last_part side.Cold =
+    record { least = at_most-whole (pos 0) (pos 1) (omega (arith, ints)); most = at_most-whole (pos 1) (pos 1) (omega (arith, ints)) }
 
 both_ends : (P : ℤ → Type 0) (of : Side) (p : Part) → P p.high → P p.low → P (entered_at of p) × P (left_at of p)
 both_ends P side.Hot p high low = (high, low)
 both_ends P side.Cold p high low = (low, high)
 
 -- neither end of a part lies above the other's place
-pub piece_falls : {places : List ℤ} (s : Stream) (p : Part) → AllPairs (λ a b. b <ℤ a) places → IsPiece places s p.high p.low → p.low ≤ℤ p.high
-piece_falls {places} s p falls (inl interval) = let less = interval_falls places p.high p.low falls interval in omega (arith, ints)
+pub piece_falls : {places : List ℤ} (s : Stream) (p : Part) → AllPairs (λ a b. b <ℤ a) places
+    → IsPiece places s p.high p.low → p.low ≤ℤ p.high
+piece_falls {places} s p falls (inl interval) =
+    let less = interval_falls places p.high p.low falls interval in
+    omega (arith, ints)
 piece_falls s p falls (inr latent) = let level = latent.1 in omega (arith, ints)
 
 -- ---- a part of a stream
@@ -276,7 +310,8 @@ module _ (case : Case) (hot cold : List Part) (ts : List Transfer) (number : ℕ
   full : size_of shares ≡ full_size s
   unfolding shares_of
   full =
-      ap size_of (shares-are hot cold s.side index 0 ts) ∙ size-shares s.side index (width_at (on_side s.side hot cold) index) 0 ts
+      ap size_of (shares-are hot cold s.side index 0 ts)
+      ∙ size-shares s.side index (width_at (on_side s.side hot cold) index) 0 ts
       ∙ (λ i. ratio (own.heat i) (width_is i)) ∙ ratio-multiple (s.cp +ℤ s.load) (width_of p) wide
 
   pub has_share : 0 < length shares
@@ -291,25 +326,34 @@ module _ (case : Case) (hot cold : List Part) (ts : List Transfer) (number : ℕ
       let (t, at_t, is) = mapped_item (exchange_of hot cold) ts k e there in
       let size : size_on s.side e ≡ ratio t.heat (width_of p) =
       sym (ap (size_on s.side) is) ∙ size_on-exchange s.side hot cold t
-      ∙ ap (λ k. ratio t.heat (width_at (on_side s.side hot cold) k)) (ap (piece_on s.side) is ∙ own_piece) ∙ ap (ratio t.heat) width_is in
+      ∙ ap (λ k. ratio t.heat (width_at (on_side s.side hot cold) k)) (ap (piece_on s.side) is ∙ own_piece)
+      ∙ ap (ratio t.heat) width_is in
       (λ i. times (size i) (change_is i)) ∙ ratio-times_den t.heat (width_of p) wide ∙ ap (λ (x : Exchange). x.heat) is
 
   load : is_latent s ≡ true → IsPartOfLoad piece.after
   load latent =
       let temperature = own_temperature s (left_at s.side p) in
       let last : piece.after ≡ last_part_of_load s.side =
-      after_is ∙ ap (λ b. if b then last_state s else temperature) latent ∙ ap (λ b. if b then last_part_of_load s.side else whole s.target) latent in
+      after_is ∙ ap (λ b. if b then last_state s else temperature) latent
+      ∙ ap (λ b. if b then last_part_of_load s.side else whole s.target) latent in
       subst IsPartOfLoad (sym last) (last_part s.side)
 
   fine : IsFine s.side (map (exchange_of hot cold) ts) index piece s
   unfolding shares_of
   fine =
-      let width = width_at (on_side s.side hot cold) index in let ends = AreEnds-IsValidStream s valid in
-      let lowest = ends.from in let top = ends.upto in let from = own.from in let upto = own.upto in let order = own.order in
+      let width = width_at (on_side s.side hot cold) index in
+      let ends = AreEnds-IsValidStream s valid in
+      let lowest = ends.from in
+      let top = ends.upto in
+      let from = own.from in
+      let upto = own.upto in
+      let order = own.order in
       let high : IsShifted p.high = record { from = omega (arith, ints); upto = omega (arith, ints) } in
       let low : IsShifted p.low = record { from = omega (arith, ints); upto = omega (arith, ints) } in
       let places = both_ends IsShifted s.side p high low in
-      let target = valid.target in let least = target.from in let most = target.upto in
+      let target = valid.target in
+      let least = target.from in
+      let most = target.upto in
       let last = either_sized (is_latent s) (last_part_of_load s.side) (whole s.target) (last_part-sized s.side)
       (sized-whole 1 highest s.target (omega arith) (omega (arith, ints))) in
       let Over : Share → Type 0 = λ share. (num : ℤ) × (share.cp ≡ ratio num (width_of p)) in
@@ -324,9 +368,11 @@ module _ (case : Case) (hot cold : List Part) (ts : List Transfer) (number : ℕ
             (λ (k : ℕ) (t : Transfer). record { exchanger = k; cp = ratio t.heat width }) (λ k t. refl) Over 0 ts
             (λ k t there is. (t.heat, ap (ratio t.heat) width_is)));
         most = full_size-most s valid;
-        before = subst (IsSized 1 highest) (sym before_is) (either_sized (is_latent s) (first_state s) (own_temperature s (entered_at s.side p))
+        before =
+            subst (IsSized 1 highest) (sym before_is) (either_sized (is_latent s) (first_state s) (own_temperature s (entered_at s.side p))
             (first_state-sized s valid highest (omega arith)) (temperature-sized s.side (entered_at s.side p) s.contribution places.0 valid.contribution));
-        after = subst (IsSized 1 highest) (sym after_is) (either_sized (is_latent s) (last_state s) (own_temperature s (left_at s.side p))
+        after =
+            subst (IsSized 1 highest) (sym after_is) (either_sized (is_latent s) (last_state s) (own_temperature s (left_at s.side p))
             last (temperature-sized s.side (left_at s.side p) s.contribution places.1 valid.contribution));
       }
 
@@ -339,9 +385,12 @@ module _ (case : Case) (hot cold : List Part) (ts : List Transfer) (number : ℕ
 abbrev pub Lead : Rational → List LedStage → Rational → Type 0
 Lead from stages to = Meet from stages × (state_behind from stages ≡ to)
 
-lead_push : (from : Rational) (stages : List LedStage) (stage : LedStage) → Lead from stages stage.before → Lead from (stages ++ stage ∷ []) stage.after
+lead_push : (from : Rational) (stages : List LedStage) (stage : LedStage) → Lead from stages stage.before
+    → Lead from (stages ++ stage ∷ []) stage.after
 lead_push from [] stage lead = ((sym lead.1, tt), refl)
-lead_push from (first ∷ stages) stage lead = let rest = lead_push first.after stages stage (lead.0.1, lead.1) in ((lead.0.0, rest.0), rest.1)
+lead_push from (first ∷ stages) stage lead =
+    let rest = lead_push first.after stages stage (lead.0.1, lead.1) in
+    ((lead.0.0, rest.0), rest.1)
 
 -- the hot end of a stage, and its cold end
 abbrev pub hot_state : Side → LedStage → Rational
@@ -366,16 +415,20 @@ fall_more side.Cold high low stage stages top fall =
 
 -- ---- the next place below one, which is not below another place
 
-next_place : (grid : List ℤ) (x least : ℤ) → AllPairs (λ a b. b <ℤ a) grid → Contains grid x → Contains grid least → least <ℤ x
+next_place : (grid : List ℤ) (x least : ℤ) → AllPairs (λ a b. b <ℤ a) grid → Contains grid x
+    → Contains grid least → least <ℤ x
     → (low : ℤ) × IsInterval grid x low × (least ≤ℤ low)
 next_place grid x least falls (k, within, is) (j, inside, is_least) less =
     let at : slice_get grid k ≡ Some x = slice_get-get_or grid k x within ∙ ap (λ (a : ℤ). Some a) is in
-    let at_least : slice_get grid j ≡ Some least = slice_get-get_or grid j least inside ∙ ap (λ (a : ℤ). Some a) is_least in
-    let later : k < j = ⊎_elim (λ same. let equal = same_Some x least (sym at ∙ ap (slice_get grid) same ∙ at_least) in absurd (omega (arith, ints)))
+    let at_least : slice_get grid j ≡ Some least
+    = slice_get-get_or grid j least inside ∙ ap (λ (a : ℤ). Some a) is_least in
+    let later : k < j
+    = ⊎_elim (λ same. let equal = same_Some x least (sym at ∙ ap (slice_get grid) same ∙ at_least) in absurd (omega (arith, ints)))
     (⊎_elim (λ late. late) (λ early. let fall = pairs_at (λ a b. b <ℤ a) grid j k least x falls at_least at early in absurd (omega (arith, ints))))
     (cases_order k j) in
     let low = get_or grid (k + 1) (pos 0) in
-    let interval : IsInterval grid x low = record { index = k; from = at; to = slice_get-get_or grid (k + 1) (pos 0) (omega arith) } in
+    let interval : IsInterval grid x low
+    = record { index = k; from = at; to = slice_get-get_or grid (k + 1) (pos 0) (omega arith) } in
     (low, interval, interval_below grid x low least falls interval (j, inside, is_least) less)
 
 -- ---- the parts of a stream
@@ -392,11 +445,14 @@ module _ (streams : List Stream) (utilities : List Utility) (grid : List ℤ) (o
   abbrev pub IsOwn : Part → Type 0
   IsOwn p = IsStreamPart streams grid of number s p
 
-  pub own_part : (p : Part) → IsPartOf streams utilities grid of p → same_source p.source (source.Stream number) ≡ true → IsOwn p
-  own_part p is own = part_of_stream {utilities = utilities} grid of number s p here is (same_source-true p.source (source.Stream number) own)
+  pub own_part : (p : Part) → IsPartOf streams utilities grid of p
+      → same_source p.source (source.Stream number) ≡ true → IsOwn p
+  own_part p is own =
+      part_of_stream {utilities = utilities} grid of number s p here is (same_source-true p.source (source.Stream number) own)
 
   own_is : (p : Part) → IsOwn p → same_source p.source (source.Stream number) ≡ true
-  own_is p is = ap (λ (q : Part). same_source q.source (source.Stream number)) is.is ∙ same_source-same (source.Stream number)
+  own_is p is =
+      ap (λ (q : Part). same_source q.source (source.Stream number)) is.is ∙ same_source-same (source.Stream number)
 
   -- ---- the one part of a latent stream
 
@@ -412,15 +468,19 @@ module _ (streams : List Stream) (utilities : List Utility) (grid : List ℤ) (o
 
     own_level : (p : Part) → IsOwn p → p ≡ level_part
     unfolding level_part
-    own_level p is = let at = latent_level grid s p latent falls is.piece is.from is.upto in is.is ∙ (λ i. stream_part (at.high i) (at.low i) number s)
+    own_level p is =
+        let at = latent_level grid s p latent falls is.piece is.from is.upto in
+        is.is ∙ (λ i. stream_part (at.high i) (at.low i) number s)
 
     pub one_part : (ps : List Part) → AreParts streams utilities grid of ps
         → (i : ℕ) × (p : Part) × (slice_get ps i ≡ Some p) × IsOwn p × (own_items number 0 ps ≡ (i, p) ∷ [])
     one_part ps are =
-        let p = level_part in let (i, within, found) = are.every p (inl (number, s, level_own)) in
+        let p = level_part in
+        let (i, within, found) = are.every p (inl (number, s, level_own)) in
         let at : slice_get ps i ≡ Some p = slice_get-get_or ps i p within ∙ ap (λ (q : Part). Some q) found in
         let first : 0 + i ≡ i = omega arith in
-        let kept = ap (λ b. if b then Some (0 + i, p) else None) (own_is p level_own) ∙ ap (λ (k : ℕ). Some (k, p)) first in (
+        let kept = ap (λ b. if b then Some (0 + i, p) else None) (own_is p level_own)
+        ∙ ap (λ (k : ℕ). Some (k, p)) first in (
           i,
           p,
           at,
@@ -441,7 +501,8 @@ module _ (streams : List Stream) (utilities : List Utility) (grid : List ℤ) (o
     own_falls p own = interval_falls grid p.high p.low falls (own_interval p own)
 
     -- the part below a place of the range
-    part_below : (x : ℤ) → Contains grid x → Contains grid (low_end s) → x ≤ℤ high_end s → low_end s <ℤ x → (p : Part) × (p.high ≡ x) × IsOwn p
+    part_below : (x : ℤ) → Contains grid x → Contains grid (low_end s) → x ≤ℤ high_end s → low_end s <ℤ x
+        → (p : Part) × (p.high ≡ x) × IsOwn p
     part_below x place least upto above =
         let (low, interval, from) = next_place grid x (low_end s) falls place least above in
         let own : IsOwn (stream_part x low number s) =
@@ -453,7 +514,9 @@ module _ (streams : List Stream) (utilities : List Utility) (grid : List ℤ) (o
     lies_below p q one two (inl less) =
         interval_below grid p.high p.low q.high falls (own_interval p one) (interval_ends grid q.high q.low (own_interval q two)).0 less
     lies_below p q one two (inr (inl same)) =
-        let top = same.0 in let less = same.1 in let down = own_falls p one in
+        let top = same.0 in
+        let less = same.1 in
+        let down = own_falls p one in
         let within = (interval_ends grid p.high p.low (own_interval p one)).1 in
         let below = interval_below grid q.high q.low p.low falls (own_interval q two) within (omega (arith, ints)) in
         absurd (omega (arith, ints))
@@ -485,7 +548,8 @@ module _ (streams : List Stream) (utilities : List Utility) (grid : List ℤ) (o
       Below x items = Fall of (state x) (map stage items) (state (low_end s))
 
       -- another part is passed over
-      past_other : (x : ℤ) (p : Part) (ps : List Part) → LieBelow x (p ∷ ps) → same_source p.source (source.Stream number) ≡ false → LieBelow x ps
+      past_other : (x : ℤ) (p : Part) (ps : List Part) → LieBelow x (p ∷ ps)
+          → same_source p.source (source.Stream number) ≡ false → LieBelow x ps
       past_other x p ps lie other = record {
         ordered = AllPairs-tail comes_before p ps lie.ordered;
         each = All-tail (IsPartOf streams utilities grid of) p ps lie.each;
@@ -503,7 +567,9 @@ module _ (streams : List Stream) (utilities : List Utility) (grid : List ℤ) (o
       past_own x p ps lie own =
           let most = All-head (λ (q : Part). IsOwn q → q.high ≤ℤ x) p ps lie.below own in
           let behind = AllPairs-head comes_before p ps lie.ordered in
-          let down = own_falls p own in let from = own.from in let upto = own.upto in
+          let down = own_falls p own in
+          let from = own.from in
+          let upto = own.upto in
           let gap : p.high <ℤ x → ⊥ = λ less.
           let (q, top, two) = part_below x lie.place least lie.upto (omega (arith, ints)) in
           ⊎_elim (λ same. let high = ap (λ (r : Part). r.high) same in absurd (omega (arith, ints)))
@@ -515,7 +581,8 @@ module _ (streams : List Stream) (utilities : List Utility) (grid : List ℤ) (o
               ordered = AllPairs-tail comes_before p ps lie.ordered;
               each = All-tail (IsPartOf streams utilities grid of) p ps lie.each;
               below = λ k d within. λ two. lies_below p (get_or ps k d) own two (behind k d within);
-              every = λ q two under. ⊎_elim (λ same. let high = ap (λ (r : Part). r.high) same in absurd (omega (arith, ints))) (λ there. there)
+              every =
+                  λ q two under. ⊎_elim (λ same. let high = ap (λ (r : Part). r.high) same in absurd (omega (arith, ints))) (λ there. there)
                   (Contains-cons p ps q (lie.every q two (omega (arith, ints))));
               place = (interval_ends grid p.high p.low (own_interval p own)).1;
               from = from;
@@ -525,7 +592,8 @@ module _ (streams : List Stream) (utilities : List Utility) (grid : List ℤ) (o
 
       pub parts_fall : (n : ℕ) (x : ℤ) (ps : List Part) → LieBelow x ps → Below x (own_items number n ps)
       parts_fall n x [] lie =
-          let lowest : x ≡ low_end s = by_lt_z (low_end s) x (λ more. absurd (none more)) (λ most. let from = lie.from in omega (arith, ints)) in
+          let lowest : x ≡ low_end s
+          = by_lt_z (low_end s) x (λ more. absurd (none more)) (λ most. let from = lie.from in omega (arith, ints)) in
           fall_none of (state x) (state (low_end s)) (ap state lowest)
         where
           none : low_end s <ℤ x → ⊥
@@ -533,21 +601,25 @@ module _ (streams : List Stream) (utilities : List Utility) (grid : List ℤ) (o
               let (p, top, own) = part_below x lie.place least lie.upto more in
               let (k, inside, is) = lie.every p own (omega (arith, ints)) in
               omega (arith, inside)
-      parts_fall n x (p ∷ ps) lie = by (λ y lower. parts_fall (n + 1) y ps lower) (same_source p.source (source.Stream number)) refl
+      parts_fall n x (p ∷ ps) lie =
+          by (λ y lower. parts_fall (n + 1) y ps lower) (same_source p.source (source.Stream number)) refl
         where
-          by : ((y : ℤ) → LieBelow y ps → Below y (own_items number (n + 1) ps)) → (b : Bool) → same_source p.source (source.Stream number) ≡ b
+          by : ((y : ℤ) → LieBelow y ps → Below y (own_items number (n + 1) ps)) → (b : Bool)
+              → same_source p.source (source.Stream number) ≡ b
               → Below x (cons_option (if b then Some (n, p) else None) (own_items number (n + 1) ps))
           by lower false other = lower x (past_other x p ps lie other)
           by lower true is =
               let own = own_part p (All-head (IsPartOf streams utilities grid of) p ps lie.each) is in
-              let (top, rest) = past_own x p ps lie own in let items = map stage (own_items number (n + 1) ps) in
+              let (top, rest) = past_own x p ps lie own in
+              let items = map stage (own_items number (n + 1) ps) in
               fall_more of (state x) (state (low_end s)) (stage (n, p)) items (hot n p own ∙ ap state top)
               (subst (λ from. Fall of from items (state (low_end s))) (sym (cold n p own)) (lower p.low rest))
 
 -- ---- a heat flow leads each stream from its first state to its last
 
 -- a stream begins at the one end of its range, and ends at the other
-first-end : (of : Side) (f : ℤ → Rational) (s : Stream) → on_side of (f (high_end s)) (f (low_end s)) ≡ f (first_end of s)
+first-end : (of : Side) (f : ℤ → Rational) (s : Stream)
+    → on_side of (f (high_end s)) (f (low_end s)) ≡ f (first_end of s)
 first-end side.Hot f s = refl
 first-end side.Cold f s = refl
 
@@ -575,7 +647,8 @@ module _ (case : Case) (of : Side) (exchanges : List Exchange) (number : ℕ) wh
   IsUsed e = same_source e.1.source (source.Stream number) ≡ true → 0 < length (shares_of of e.0 exchanges)
 
   stages-are : (n : ℕ) (ps : List Part) → All IsUsed (enumerate_from n ps)
-      → filter_map (led_stage of exchanges number) (enumerate_from n (map (piece_of case) ps)) ≡ map stage (own_items number n ps)
+      → filter_map (led_stage of exchanges number) (enumerate_from n (map (piece_of case) ps))
+      ≡ map stage (own_items number n ps)
   stages-are n [] used = refl
   stages-are n (p ∷ ps) used =
       one (same_source p.source (source.Stream number)) (nat_lt 0 (length (shares_of of n exchanges)))
@@ -583,8 +656,10 @@ module _ (case : Case) (of : Side) (exchanges : List Exchange) (number : ℕ) wh
       (filter_map (led_stage of exchanges number) (enumerate_from (n + 1) (map (piece_of case) ps))) (own_items number (n + 1) ps)
       (stages-are (n + 1) ps (All-tail IsUsed (n, p) (enumerate_from (n + 1) ps) used))
     where
-      one : (b used : Bool) → (b ≡ true → used ≡ true) → (stages : List LedStage) (items : List (ℕ × Part)) → stages ≡ map stage items
-          → cons_option (if b && used then Some (stage (n, p)) else None) stages ≡ map stage (cons_option (if b then Some (n, p) else None) items)
+      one : (b used : Bool) → (b ≡ true → used ≡ true) → (stages : List LedStage) (items : List (ℕ × Part))
+          → stages ≡ map stage items
+          → cons_option (if b && used then Some (stage (n, p)) else None) stages
+          ≡ map stage (cons_option (if b then Some (n, p) else None) items)
       one true true some stages items same = ap (λ (ss : List LedStage). stage (n, p) ∷ ss) same
       one true false some stages items same = let clash = some refl in cc clash
       one false used some stages items same = same
@@ -613,13 +688,16 @@ module _ (case : Case) (hot cold : List Part) (ts : List Transfer) (given : IsCa
       All-slice_get (λ r. Contains grid (high_end r) × Contains grid (low_end r)) case.streams number s
       (holds_ends case.streams case.utilities grid (HoldsPlaces-IsGrid case grid given.parts.is_grid)) here
 
-  pub own_heat : (index : ℕ) (p : Part) → slice_get ps index ≡ Some p → p.source ≡ source.Stream number → IsOwnPart s ts index p
+  pub own_heat : (index : ℕ) (p : Part) → slice_get ps index ≡ Some p → p.source ≡ source.Stream number
+      → IsOwnPart s ts index p
   own_heat index p at own =
       let is = part_of_stream {utilities = case.utilities} grid s.side number s p here (part_on case hot cold ts given s.side index p at) own in
-      let fit = fits grid s p valid falls is in let range = side_ranges case hot cold ts given s.side index p at in
+      let fit = fits grid s p valid falls is in
+      let range = side_ranges case hot cold ts given s.side index p at in
       record {
         fits = fit;
-        heat = between (heat_at s.side ts index) p.least p.most ((s.cp +ℤ s.load) *ℤ pos (width_of p)) fit.least fit.most range.from range.upto;
+        heat =
+            between (heat_at s.side ts index) p.least p.most ((s.cp +ℤ s.load) *ℤ pos (width_of p)) fit.least fit.most range.from range.upto;
         order = piece_falls s p falls is.piece;
         from = is.from;
         upto = is.upto;
@@ -640,7 +718,8 @@ module _ (case : Case) (hot cold : List Part) (ts : List Transfer) (given : IsCa
   abbrev items : List (ℕ × Part)
   items = own_items number 0 ps
 
-  course-is : led_course (map (piece_of case) hot) (map (piece_of case) cold) exchanges (number, s) ≡ on_the_way s.side (map led items)
+  course-is : led_course (map (piece_of case) hot) (map (piece_of case) cold) exchanges (number, s)
+      ≡ on_the_way s.side (map led items)
   course-is =
       filter_map-way (led_stage s.side exchanges number) s.side (enumerate_from 0 (on_side s.side (map (piece_of case) hot) (map (piece_of case) cold)))
       ∙ ap (λ qs. on_the_way s.side (filter_map (led_stage s.side exchanges number) (enumerate_from 0 qs))) (on_side-ap s.side (map (piece_of case)) hot cold)
@@ -653,9 +732,11 @@ module _ (case : Case) (hot cold : List Part) (ts : List Transfer) (given : IsCa
   sensible_lead : IsSensible s → Lead (first_state s) (on_the_way s.side (map led items)) (last_state s)
   sensible_lead sensible =
       let entered = λ (p : Part) (own : IsStreamPart case.streams grid s.side number s p).
-      state_is (entered_state p) case p.source number s here (ap (λ (q : Part). q.source) own.is) ∙ entered-sensible s p sensible in
+      state_is (entered_state p) case p.source number s here (ap (λ (q : Part). q.source) own.is)
+      ∙ entered-sensible s p sensible in
       let left = λ (p : Part) (own : IsStreamPart case.streams grid s.side number s p).
-      state_is (left_state p) case p.source number s here (ap (λ (q : Part). q.source) own.is) ∙ left-sensible s p sensible in
+      state_is (left_state p) case p.source number s here (ap (λ (q : Part). q.source) own.is)
+      ∙ left-sensible s p sensible in
       let fall = parts_fall case.streams case.utilities grid s.side number s here refl falls sensible ends_held.1 led state
       (λ n p own. (λ i. on_side s.side (entered p own i) (left p own i)) ∙ first-of s.side state p.high p.low)
       (λ n p own. (λ i. on_side s.side (left p own i) (entered p own i)) ∙ first-of s.side state p.low p.high)
@@ -685,5 +766,7 @@ module _ (case : Case) (hot cold : List Part) (ts : List Transfer) (given : IsCa
   joined = subst (AreJoined s) (sym course-is) (by valid.heat)
     where
       by : IsSensible s ⊎ IsLatent s → AreJoined s (on_the_way s.side (map led items))
-      by (inl sensible) = let lead = sensible_lead sensible in record { meet = lead.0; ends = lead.1 }
+      by (inl sensible) =
+          let lead = sensible_lead sensible in
+          record { meet = lead.0; ends = lead.1 }
       by (inr latent) = let lead = latent_lead latent in record { meet = lead.0; ends = lead.1 }

@@ -7,7 +7,9 @@ use Rattle.stream_case.specs.Name.{IsDottedName, is_name}
 dotted-passes : (text : List ℕ) → IsDottedName text → is_dotted_name text ≡ true
 unfolding is_dotted_name
 dotted-passes [] h = absurd h
-dotted-passes (b ∷ bs) h = let dot : (b == 46) ≡ true = ap (λ n. n == 46) h.0 in rw (dot, name-passes bs h.1) refl
+dotted-passes (b ∷ bs) h =
+    let dot : (b == 46) ≡ true = ap (λ n. n == 46) h.0 in
+    rw (dot, name-passes bs h.1) refl
 
 passed-dotted : (text : List ℕ) → is_dotted_name text ≡ true → IsDottedName text
 unfolding is_dotted_name
@@ -39,7 +41,8 @@ unfolding is_branch_name
 name-branch_name text e = rw e refl
 
 -- what making a name says
-pub name_made : (o : Option (List ℕ)) (text : List ℕ) → SomeIff o (IsAnyName text) text → is_some o ≡ is_branch_name text
+pub name_made : (o : Option (List ℕ)) (text : List ℕ) → SomeIff o (IsAnyName text) text
+    → is_some o ≡ is_branch_name text
 name_made None text h = sym (no_name-fails text h)
 name_made (Some name) text h = sym (branch_name-passes text h.0)
 

@@ -18,18 +18,23 @@ lines-with_entry given e = length-append given.lines (e.line ∷ [])
 
 -- ---- a statement that is not at fault
 
-pub room_next : (case : Case) (given : Network) (s : Statement) → first_failing (checks case given s) ≡ None → length given.lines < MOST_STATEMENTS
+pub room_next : (case : Case) (given : Network) (s : Statement) → first_failing (checks case given s) ≡ None
+    → length given.lines < MOST_STATEMENTS
 room_next case given s passes = has_room case given s (each_passes (checks case given s) passes)
 
-pub fresh_next : {case : Case} {statements left : List Statement} {given : Network} {number : ℕ} {e : Entry} → IsComplete case
-    → Reads (grammar case) statements left given number → (s : Statement) → first_failing (checks case given s) ≡ None → entry_in case given s ≡ Some e
+pub fresh_next : {case : Case} {statements left : List Statement} {given : Network} {number : ℕ} {e : Entry}
+    → IsComplete case
+    → Reads (grammar case) statements left given number → (s : Statement)
+    → first_failing (checks case given s) ≡ None → entry_in case given s ≡ Some e
     → IsFresh given e
 fresh_next {case} {given = given} complete reads s passes gives =
-    let shape = shape_so_far (StaysValid-IsComplete case complete) reads.give in (adds_next shape s (each_passes (checks case given s) passes) gives).fresh
+    let shape = shape_so_far (StaysValid-IsComplete case complete) reads.give in
+    (adds_next shape s (each_passes (checks case given s) passes) gives).fresh
 
 -- ---- want of memory is no outcome, and gives no network
 
-pub no_outcome : (case : Case) (statements : List Statement) (r : Result Network NetFault) → IsErrAnd r (λ f. f ≡ fault.OutOfMemory)
+pub no_outcome : (case : Case) (statements : List Statement) (r : Result Network NetFault)
+    → IsErrAnd r (λ f. f ≡ fault.OutOfMemory)
     → IsOutcome case statements r
 no_outcome case statements (Ok network) h = absurd h
 no_outcome case statements (Err f) h = subst (λ (g : NetFault). IsOutcome case statements (Err g)) (sym h) tt

@@ -29,25 +29,30 @@ exchanger_names-keys : (xs : List Exchanger) → keys_of (map named_sides xs) �
 exchanger_names-keys xs = map-map (λ (e : List ℕ × Sides). e.0) named_sides xs
 
 -- what is no name is none of some names
-pub unnamed : (names : List (List ℕ)) (name : List ℕ) → All IsAnyName names → is_branch_name name ≡ false → position (bytes_eq name) names ≡ None
+pub unnamed : (names : List (List ℕ)) (name : List ℕ) → All IsAnyName names → is_branch_name name ≡ false
+    → position (bytes_eq name) names ≡ None
 unnamed names name named other =
     let fails = list_any_none (bytes_eq name) names (λ k d within. false_from_ne_true _ (λ e. let same = (bytes_decides name (get_or names k d)).0 e in
     cc (other, ap is_branch_name same, branch_name-passes (get_or names k d) (named k d within)))) in
     none_there _ (is_some-position (bytes_eq name) names ∙ fails)
 
 -- a look-up among the names of branches and of exchangers
-pub branch_named-keys : (es : List (List ℕ × ℕ)) (ls : List Line) (name : List ℕ) → branch_named (so_far es ls) name ≡ position (bytes_eq name) (keys_of es)
+pub branch_named-keys : (es : List (List ℕ × ℕ)) (ls : List Line) (name : List ℕ)
+    → branch_named (so_far es ls) name ≡ position (bytes_eq name) (keys_of es)
 unfolding branch_named
 branch_named-keys es ls name = ap (position (bytes_eq name)) (names-keys es)
 
-pub exchanger_named-keys : (es : List (List ℕ × Sides)) (bs : List Branch) (ls : List Line) (name : List ℕ) → es ≡ map named_sides (exchangers_of ls)
+pub exchanger_named-keys : (es : List (List ℕ × Sides)) (bs : List Branch) (ls : List Line) (name : List ℕ)
+    → es ≡ map named_sides (exchangers_of ls)
     → exchanger_named (record { branches = bs; lines = ls }) name ≡ position (bytes_eq name) (keys_of es)
 unfolding exchanger_named
-exchanger_named-keys es bs ls name is = ap (position (bytes_eq name)) (sym (ap keys_of is ∙ exchanger_names-keys (exchangers_of ls)))
+exchanger_named-keys es bs ls name is =
+    ap (position (bytes_eq name)) (sym (ap keys_of is ∙ exchanger_names-keys (exchangers_of ls)))
 
 -- ---- streams and sides
 
-pub stream_at-entry : (es : List (List ℕ × ℕ)) (k : ℕ) (e : List ℕ × ℕ) → slice_get es k ≡ Some e → stream_at (map named_branch es) k ≡ e.1
+pub stream_at-entry : (es : List (List ℕ × ℕ)) (k : ℕ) (e : List ℕ × ℕ) → slice_get es k ≡ Some e
+    → stream_at (map named_branch es) k ≡ e.1
 unfolding stream_at
 stream_at-entry es k e at = rw (slice_get-map named_branch es k, at) refl
 
@@ -59,22 +64,27 @@ stream_at-none es k at = rw (slice_get-map named_branch es k, at) refl
 
 -- one that differs from each before it is not found among them
 module _ {X : Type 0} (eq : X → X → Bool) (same : (a b : X) → eq a b ≡ true → a ≡ b) where
-  pub first_new : (xs : List X) (new : AtMostTwo X) (x : X) (later : List X) → members new ≡ x ∷ later → AllPairs (λ a b. a ≢ b) (xs ++ members new)
+  pub first_new : (xs : List X) (new : AtMostTwo X) (x : X) (later : List X) → members new ≡ x ∷ later
+      → AllPairs (λ a b. a ≢ b) (xs ++ members new)
       → list_any (eq x) xs ≡ false
   first_new xs new x later is pairs =
-      let all = subst (λ (ys : List X). AllPairs (λ (a b : X). a ≢ b) (xs ++ ys)) is pairs in list_any_none (eq x) xs (λ k d early.
+      let all = subst (λ (ys : List X). AllPairs (λ (a b : X). a ≢ b) (xs ++ ys)) is pairs in
+      list_any_none (eq x) xs (λ k d early.
       false_from_ne_true _ (λ e. AllPairs-across (λ (a b : X). a ≢ b) xs (x ∷ later) k d all early 0 x (omega arith) (sym (same x (get_or xs k d) e))))
 
-  pub second_new : (xs ys : List X) (new : AtMostTwo X) (x y : X) → members new ≡ x ∷ y ∷ [] → AllPairs (λ a b. a ≢ b) (xs ++ members new) → ys ≡ xs ++ x ∷ []
+  pub second_new : (xs ys : List X) (new : AtMostTwo X) (x y : X) → members new ≡ x ∷ y ∷ []
+      → AllPairs (λ a b. a ≢ b) (xs ++ members new) → ys ≡ xs ++ x ∷ []
       → list_any (eq y) ys ≡ false
   second_new xs ys new x y is pairs one =
       let all = ap (λ zs. xs ++ zs) is ∙ sym (append_assoc xs (x ∷ []) (y ∷ [])) ∙ ap (λ zs. zs ++ y ∷ []) (sym one) in
       first_new ys (few.One y) y [] refl (subst (AllPairs (λ (a b : X). a ≢ b)) all pairs)
 
 -- a new name goes last
-pub new_entry : {V S : Type 0} (m : IndexMap (List ℕ) V S) (name : List ℕ) (v : V) → list_any (bytes_eq name) (keys_of m.entries) ≡ false
+pub new_entry : {V S : Type 0} (m : IndexMap (List ℕ) V S) (name : List ℕ) (v : V)
+    → list_any (bytes_eq name) (keys_of m.entries) ≡ false
     → insert_entry bytes_eq m.entries name v ≡ m.entries ++ (name, v) ∷ []
-new_entry m name v none = insert_entry-new bytes_eq m name v (none_there _ (is_some-lookup (bytes_eq name) m.entries ∙ none))
+new_entry m name v none =
+    insert_entry-new bytes_eq m name v (none_there _ (is_some-lookup (bytes_eq name) m.entries ∙ none))
 
 -- ---- one entry more
 
@@ -83,7 +93,8 @@ few_members few.Nothing = omega arith
 few_members (few.One a) = omega arith
 few_members (few.Two a b) = omega arith
 
-named_exchanger : (o : Option Exchanger) → ForSome o (λ x. IsAnyName x.name) → All IsAnyName (keys_of (map named_sides (option_to_list o)))
+named_exchanger : (o : Option Exchanger) → ForSome o (λ x. IsAnyName x.name)
+    → All IsAnyName (keys_of (map named_sides (option_to_list o)))
 named_exchanger None named = All-nil IsAnyName
 named_exchanger (Some x) named = All-cons IsAnyName x.name [] (named x refl) (All-nil IsAnyName)
 
@@ -93,7 +104,8 @@ module _ {es : List (List ℕ × ℕ)} {used : List ℕ} {xs : List (List ℕ ×
   new_exchanger =
       let own = option_to_list (exchanger_of e.line) in
       let all = AllPairs-map (λ (a b : List ℕ). a ≢ b) (λ (x : Exchanger). x.name) (exchangers_of ls ++ own) fresh.new_exchanger in
-      let keys = ap keys_of is.exchangers_are ∙ exchanger_names-keys (exchangers_of ls) in subst (AllPairs (λ (a b : List ℕ). a ≢ b))
+      let keys = ap keys_of is.exchangers_are ∙ exchanger_names-keys (exchangers_of ls) in
+      subst (AllPairs (λ (a b : List ℕ). a ≢ b))
       (map-append (λ (x : Exchanger). x.name) (exchangers_of ls) own ∙ ap (λ ns. ns ++ map (λ (x : Exchanger). x.name) own) (sym keys)) all
 
   pub new_names : AllPairs (λ a b. a ≢ b) (keys_of es ++ members e.names)
@@ -119,9 +131,13 @@ module _ {es : List (List ℕ × ℕ)} {used : List ℕ} {xs : List (List ℕ ×
       → IsTracked (es ++ made_entries stream) (used ++ uses e.line) (xs ++ map named_sides (option_to_list (exchanger_of e.line)))
       (passed ++ option_to_list (passage_of (map named_branch es) e.line)) (ls ++ e.line ∷ [])
   tracked-with stream room =
-      let l = e.line in let bs = map named_branch es in let more = made_entries stream in let own = map named_sides (option_to_list (exchanger_of l)) in
+      let l = e.line in
+      let bs = map named_branch es in
+      let more = made_entries stream in
+      let own = map named_sides (option_to_list (exchanger_of l)) in
       let all : map named_branch (es ++ more) ≡ bs ++ map named_branch more = map-append named_branch es more in
-      let wide : length bs ≡ length es = length-map es named_branch in let before : All (λ k. k < length bs) (used_by ls) = rw wide is.made in
+      let wide : length bs ≡ length es = length-map es named_branch in
+      let before : All (λ k. k < length bs) (used_by ls) = rw wide is.made in
       let made : All (λ k. k < length bs) (used_by (ls ++ l ∷ [])) = rw (used_by-push ls l)
       (All-append (λ k. k < length bs) (used_by ls) (uses l) before fresh.known) in
       let long : length (es ++ more) ≡ length es + length (members e.names) = length-append es more
@@ -134,7 +150,8 @@ module _ {es : List (List ℕ × ℕ)} {used : List ℕ} {xs : List (List ℕ ×
             ∙ sym (ap (map named_sides) (exchangers_of-push ls l) ∙ map-append named_sides (exchangers_of ls) (option_to_list (exchanger_of l)));
         passed_are = ap (λ p. p ++ option_to_list (passage_of bs l)) is.passed_are
             ∙ sym (ap (λ b. passages_of b (ls ++ l ∷ [])) all ∙ passages_of-front bs (map named_branch more) (ls ++ l ∷ []) made ∙ passages_of-push bs ls l);
-        made = All-weaker (λ k. k < length bs) (λ k. k < length (es ++ more)) (λ k within. omega (arith, within, long, wide)) (used_by (ls ++ l ∷ [])) made;
+        made =
+            All-weaker (λ k. k < length bs) (λ k. k < length (es ++ more)) (λ k within. omega (arith, within, long, wide)) (used_by (ls ++ l ∷ [])) made;
         branch_names = rw names (All-append IsAnyName (keys_of es) (members e.names) is.branch_names fresh.names);
         exchanger_names = rw (map-append (λ (x : List ℕ × Sides). x.0) xs own)
             (All-append IsAnyName (keys_of xs) (keys_of own) is.exchanger_names (named_exchanger (exchanger_of l) fresh.exchanger));
@@ -156,16 +173,20 @@ pub own_entries-more : (streams : List Stream) (i : ℕ) (s : Stream) → i < le
 unfolding own_entries
 own_entries-more streams i s within here =
     let more = take_more streams i s within ∙ ap (λ x. take i streams ++ x ∷ []) here in
-    let count : 0 + length (take i streams) ≡ i = omega (arith, length-take-le i streams (omega arith)) in ap (λ l. map own_entry (enumerate_from 0 l)) more
+    let count : 0 + length (take i streams) ≡ i = omega (arith, length-take-le i streams (omega arith)) in
+    ap (λ l. map own_entry (enumerate_from 0 l)) more
     ∙ ap (map own_entry) (enumerate_from-push 0 (take i streams) s ∙ ap (λ k. enumerate_from 0 (take i streams) ++ (k, s) ∷ []) count)
     ∙ map-append own_entry (enumerate_from 0 (take i streams)) ((i, s) ∷ [])
 
 -- its name is none of those before it
 pub own_entries-new : (streams : List Stream) (i : ℕ) (s : Stream) → i < length streams → get_or streams i s ≡ s
-    → AllPairs (λ a b. a ≢ b) (map (λ (s : Stream). s.name) streams) → list_any (bytes_eq s.name) (keys_of (own_entries (take i streams))) ≡ false
+    → AllPairs (λ a b. a ≢ b) (map (λ (s : Stream). s.name) streams)
+    → list_any (bytes_eq s.name) (keys_of (own_entries (take i streams))) ≡ false
 own_entries-new streams i s within here distinct =
-    let names = map (λ (t : Stream). t.name) streams in let inside : i < length names = omega (arith, within, length-map streams (λ (t : Stream). t.name)) in
-    let name : get_or names i [] ≡ s.name = get_or-map (λ (t : Stream). t.name) streams i s [] within ∙ ap (λ (t : Stream). t.name) here in
+    let names = map (λ (t : Stream). t.name) streams in
+    let inside : i < length names = omega (arith, within, length-map streams (λ (t : Stream). t.name)) in
+    let name : get_or names i [] ≡ s.name
+    = get_or-map (λ (t : Stream). t.name) streams i s [] within ∙ ap (λ (t : Stream). t.name) here in
     let earlier = subst (λ n. All (λ m. m ≢ n) (take i names)) name (AllPairs-before (λ (a b : List ℕ). a ≢ b) names i [] distinct inside) in
     ap (list_any (bytes_eq s.name)) (own_keys (take i streams) ∙ sym (take-map (λ (t : Stream). t.name) i streams))
     ∙ list_any_none (bytes_eq s.name) (take i names)
@@ -181,12 +202,14 @@ pub own-tracked : (case : Case) → StaysValid case → IsTracked (own_entries c
 unfolding own_entries used_by exchangers_of passages_of
 own-tracked case valid =
     let few = length-map (enumerate_from 0 case.streams) own_entry ∙ length-enumerate_from 0 case.streams in
-    let names = All-front IsName (map (λ (s : Stream). s.name) case.streams) (map (λ (u : Utility). u.name) case.utilities) valid.names in record {
+    let names = All-front IsName (map (λ (s : Stream). s.name) case.streams) (map (λ (u : Utility). u.name) case.utilities) valid.names in
+    record {
       used_are = refl;
       exchangers_are = refl;
       passed_are = refl;
       made = All-nil (λ k. k < length (own_entries case.streams));
-      branch_names = rw (own_keys case.streams) (All-weaker IsName IsAnyName (λ n is. inl is) (map (λ (s : Stream). s.name) case.streams) names);
+      branch_names =
+          rw (own_keys case.streams) (All-weaker IsName IsAnyName (λ n is. inl is) (map (λ (s : Stream). s.name) case.streams) names);
       exchanger_names = All-nil IsAnyName;
       few_lines = omega arith;
       few_branches = omega (arith, few, length-AreStreams case.streams valid.streams.are_streams);

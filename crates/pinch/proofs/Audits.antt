@@ -20,7 +20,8 @@ record IsDrawn (c : Case) (design : Shown) : Type 0 where
   pub tight : IsStandard c → balance.excess ≡ rational_zero
 
 -- a cut is no network
-of_answer : (c : Case) (parts : Parts) (a : Answer) (design : Shown) → IsWithinCounts design → ShowsDesignOf c parts a design → IsDrawn c design
+of_answer : (c : Case) (parts : Parts) (a : Answer) (design : Shown) → IsWithinCounts design
+    → ShowsDesignOf c parts a design → IsDrawn c design
 of_answer c parts (answer.Least flow prices cost) design counts is = record {
   network = is.0.network;
   balance = is.0.balance;
@@ -29,12 +30,15 @@ of_answer c parts (answer.Least flow prices cost) design counts is = record {
 }
 of_answer c parts (answer.Stuck cut) design counts is = absurd (subst IsWithinCounts is counts)
 
-of_design : (c : Case) (design : Shown) → IsWithinCounts design → ShowsDesign c design ⊎ IsVerticalAnswer (completed c) design → IsDrawn (completed c) design
+of_design : (c : Case) (design : Shown) → IsWithinCounts design
+    → ShowsDesign c design ⊎ IsVerticalAnswer (completed c) design → IsDrawn (completed c) design
 of_design c design counts (inl is) = of_answer (completed c) is.parts is.answer design counts is.shows
-of_design c design counts (inr is) = record { network = is.network; balance = is.balance; shows = is.shows; tight = λ standard. is.tight }
+of_design c design counts (inr is) =
+    record { network = is.network; balance = is.balance; shows = is.shows; tight = λ standard. is.tight }
 
 -- there is no other verdict on a network without a finding
-of_audit : (c : Case) (network : Network) (balance : Balance) (design shown : Shown) → IsShownNetwork c network balance design → IsAuditOf c network shown
+of_audit : (c : Case) (network : Network) (balance : Balance) (design shown : Shown)
+    → IsShownNetwork c network balance design → IsAuditOf c network shown
     → IsAccepted c network balance shown
 of_audit c network balance design shown drawn audit =
     let accepted : IsVerdict c network (verdict.Accepted balance) = (drawn.accepted, drawn.sums) in
@@ -42,9 +46,11 @@ of_audit c network balance design shown drawn audit =
     subst (λ v. ShowsVerdict c network v shown) same audit.shows
 
 -- what is printed of it is read as this network, which is audited
-of_text : (c : Case) (name : List ℕ) (old new : ShelfState) (end : Result Request Shown) (design shown : Shown) → (Rose old.faults new.faults → ⊥)
+of_text : (c : Case) (name : List ℕ) (old new : ShelfState) (end : Result Request Shown) (design shown : Shown)
+    → (Rose old.faults new.faults → ⊥)
     → IsDrawn c design → IsWithinCounts design → Holds old.files name (text design)
-    → EndsIn (file (network_file c) name (λ n. ready (request.Audit c n))) old new end → Shows end shown → AcceptsDesign design shown
+    → EndsIn (file (network_file c) name (λ n. ready (request.Audit c n))) old new end → Shows end shown
+    → AcceptsDesign design shown
 unfolding EndsIn Answers text
 of_text c name old new end design shown no_fault drawn counts held ends shows =
     let network = drawn.network in
@@ -58,7 +64,8 @@ of_text c name old new end design shown no_fault drawn counts held ends shows =
     let accepted = of_audit c network drawn.balance design shown drawn.shows (subst (λ k. IsAuditOf c k shown) same audit) in
     subst (λ d. AcceptsDesign d shown) (sym is) (accepted, drawn.tight)) ends
 
-pub audited : (command : Option Command) (old new : ShelfState) (shown : Shown) → ShowsCommand command old new shown → (design : Shown)
+pub audited : (command : Option Command) (old new : ShelfState) (shown : Shown)
+    → ShowsCommand command old new shown → (design : Shown)
     → AuditsDesign command old.files design → (Rose old.faults new.faults → ⊥) → AcceptsDesign design shown
 unfolding reading_of EndsIn
 audited (Some (command.Audit case network)) old new shown is design held no_fault =

@@ -6,8 +6,10 @@ use Rattle.std.proofs.Common.{Bool, List, [], arith, false, length, length-appen
 
 -- a sign and a numerator of 23 digits
 signed_short : (z : ℤ) → unsigned_abs z ≤ 2 ^ 76 → length (signed_decimal z) ≤ 24
-signed_short (pos n) small = omega (arith, length-decimal-le_wide 23 n (omega arith) (omega (arith, small)) (omega (arith, small)))
-signed_short (negsuc n) small = omega (arith, length-decimal-le_wide 23 (suc n) (omega arith) (omega (arith, small)) (omega (arith, small)))
+signed_short (pos n) small =
+    omega (arith, length-decimal-le_wide 23 n (omega arith) (omega (arith, small)) (omega (arith, small)))
+signed_short (negsuc n) small =
+    omega (arith, length-decimal-le_wide 23 (suc n) (omega arith) (omega (arith, small)) (omega (arith, small)))
 
 -- and a denominator of 15
 fraction_short : (a : Rational) → IsWithinLimits a → length (fraction_text a) ≤ 40
@@ -29,7 +31,8 @@ comment_short b within =
     let cold = codes " cold " ++ (fraction_text b.cold ++ excess) in
     omega (arith, behind b.hot cold within.hot, behind b.cold excess within.cold, behind b.excess cost within.excess, behind b.cost (10 ∷ []) within.cost)
 
-pub design_fits : (c : Case) (network : Network) (b : Balance) → IsComplete c → HasShape c network → HasFractions b → HasFewLines network
+pub design_fits : (c : Case) (network : Network) (b : Balance) → IsComplete c → HasShape c network
+    → HasFractions b → HasFewLines network
     → length (design_text c network b) ≤ MAX_FILE
 design_fits c network b complete shape within few =
     omega (arith, length-append (balance_comment b) (text_of c network), comment_short b within, text-short (StaysValid-IsComplete c complete) shape, few)

@@ -9,13 +9,15 @@ use Rattle.site.specs.Outcome as site
 use Rattle.study.specs.StudyOutcome as study
 
 pub record IsLawful {Value Cause : Type 0} (format : Format Value Cause) : Type 0 where
-  pub one_outcome : (bytes : List ℕ) (a b : Result Value (ℕ × Cause)) → format.Gives bytes a → format.Gives bytes b → a ≡ b
+  pub one_outcome : (bytes : List ℕ) (a b : Result Value (ℕ × Cause)) → format.Gives bytes a
+      → format.Gives bytes b → a ≡ b
   pub plain : (at : ℕ) (why : Cause) → is_plain (format.bad at why) ≡ true
   pub printable : (at : ℕ) (why : Cause) → IsPrintable (format.bad at why)
 
 pub lawful_case : IsLawful case_file
 unfolding IsPrintable
-lawful_case = record { one_outcome = λ bytes. one_outcome grammar (rows_of bytes); plain = λ at why. refl; printable = λ at why. tt }
+lawful_case =
+    record { one_outcome = λ bytes. one_outcome grammar (rows_of bytes); plain = λ at why. refl; printable = λ at why. tt }
 
 pub lawful_network : (case : Case) → IsLawful (network_file case)
 unfolding IsPrintable
@@ -24,15 +26,18 @@ lawful_network case =
 
 pub lawful_report : IsLawful report_file
 unfolding IsPrintable
-lawful_report = record { one_outcome = λ bytes. one_outcome report.grammar (statements_of bytes); plain = λ at why. refl; printable = λ at why. tt }
+lawful_report =
+    record { one_outcome = λ bytes. one_outcome report.grammar (statements_of bytes); plain = λ at why. refl; printable = λ at why. tt }
 
 pub lawful_site : IsLawful site_file
 unfolding IsPrintable
-lawful_site = record { one_outcome = λ bytes. one_outcome site.grammar (rows_of bytes); plain = λ at why. refl; printable = λ at why. tt }
+lawful_site =
+    record { one_outcome = λ bytes. one_outcome site.grammar (rows_of bytes); plain = λ at why. refl; printable = λ at why. tt }
 
 pub lawful_study : (case : Case) → IsLawful (study_file case)
 unfolding IsPrintable
-lawful_study case = record { one_outcome = λ bytes. one_outcome (study.grammar case) (rows_of bytes); plain = λ at why. refl; printable = λ at why. tt }
+lawful_study case =
+    record { one_outcome = λ bytes. one_outcome (study.grammar case) (rows_of bytes); plain = λ at why. refl; printable = λ at why. tt }
 
 module _ {Value Cause : Type 0} (format : Format Value Cause) (lawful : IsLawful format) (bytes : List ℕ) where
   pub one_value : (a b : Value) → format.Gives bytes (Ok a) → format.Gives bytes (Ok b) → a ≡ b
@@ -45,4 +50,6 @@ module _ {Value Cause : Type 0} (format : Format Value Cause) (lawful : IsLawful
       one.is ∙ ap (λ (f : ℕ × Cause). format.bad f.0 f.1) fault ∙ sym other.is
 
   pub not_both : (value : Value) (shown : Shown) → format.Gives bytes (Ok value) → IsRefused format bytes shown → ⊥
-  not_both value shown says one = let same = lawful.one_outcome bytes (Ok value) (Err (one.at, one.why)) says one.fault in cc
+  not_both value shown says one =
+      let same = lawful.one_outcome bytes (Ok value) (Err (one.at, one.why)) says one.fault in
+      cc

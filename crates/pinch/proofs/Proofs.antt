@@ -15,13 +15,15 @@ use Rattle.transport.specs.declared.answer.Answer.TheVariants as answer
 
 -- ---- a report has one answer
 
-first_yes : (causes : List NoWhy) (Holds : NoWhy → Type 0) (checked : Checked) → IsFirstOf causes Holds Yes → IsFirstOf causes Holds checked → checked ≡ Yes
+first_yes : (causes : List NoWhy) (Holds : NoWhy → Type 0) (checked : Checked) → IsFirstOf causes Holds Yes
+    → IsFirstOf causes Holds checked → checked ≡ Yes
 first_yes causes Holds Yes passes is = refl
 first_yes [] Holds (No why) passes is = absurd is
 first_yes (cause ∷ causes) Holds (No why) passes (inl fails) = absurd (fails.1 passes.0)
 first_yes (cause ∷ causes) Holds (No why) passes (inr later) = first_yes causes Holds (No why) passes.1 later.1
 
-yes_over : (c : Case) (hot cold : List Part) (r : Report) (checked : Checked) → IsAnswerOver c hot cold r Yes → IsAnswerOver c hot cold r checked
+yes_over : (c : Case) (hot cold : List Part) (r : Report) (checked : Checked) → IsAnswerOver c hot cold r Yes
+    → IsAnswerOver c hot cold r checked
     → checked ≡ Yes
 yes_over c hot cold (report.Flow cost uses moves gives takes) checked passes is =
     first_yes flow_causes (HoldsOfFlow c hot cold cost uses moves gives takes) checked passes is
@@ -34,7 +36,8 @@ only_yes c r checked passes is =
     yes_over c hot cold r checked (passes.each hot cold are) (is.each hot cold are)
 
 -- so it is shown that the report proves what it says
-shown_yes : (c : Case) (r : Report) (shown : Shown) → IsAnswer c r Yes → IsCheckOf c r shown → status_of shown ≡ Answered
+shown_yes : (c : Case) (r : Report) (shown : Shown) → IsAnswer c r Yes → IsCheckOf c r shown
+    → status_of shown ≡ Answered
 shown_yes c r shown passes is =
     let checked = only_yes c r is.checked passes is.is_answer in
     ap status_of (is.is ∙ ap (shown_check r) checked)
@@ -42,8 +45,10 @@ shown_yes c r shown passes is =
 -- ---- reading
 
 -- what the report's file says is answered with yes
-reads_yes : (c : Case) (name : List ℕ) (old new : ShelfState) (end : Result Request Shown) (shown : Shown) → (Rose old.faults new.faults → ⊥)
-    → IsComplete c → HoldsProof old.files name c → EndsIn (file report_file name (λ r. ready (request.Certify c r))) old new end → Shows end shown
+reads_yes : (c : Case) (name : List ℕ) (old new : ShelfState) (end : Result Request Shown) (shown : Shown)
+    → (Rose old.faults new.faults → ⊥)
+    → IsComplete c → HoldsProof old.files name c
+    → EndsIn (file report_file name (λ r. ready (request.Certify c r))) old new end → Shows end shown
     → status_of shown ≡ Answered
 unfolding EndsIn Answers
 reads_yes c name old new end shown no_fault complete held ends shows =
@@ -53,12 +58,14 @@ reads_yes c name old new end shown no_fault complete held ends shows =
     (record { bytes = text held.shown; file = held.file; value = passed.report; says = passed.is; then = passed.answer })
     (λ mid r keeps passes last. shown_yes c r shown passes (subst (λ e. Shows e shown) last.0 shows)) ends
 
-pub certified : (command : Option Command) (old new : ShelfState) (shown : Shown) → ShowsCommand command old new shown → ChecksProof command old.files
+pub certified : (command : Option Command) (old new : ShelfState) (shown : Shown)
+    → ShowsCommand command old new shown → ChecksProof command old.files
     → (Rose old.faults new.faults → ⊥) → status_of shown ≡ Answered
 unfolding reading_of EndsIn
 certified (Some (command.Certify case report)) old new shown is proof no_fault =
     let valid = case-is_valid (rows_of proof.bytes) proof.value proof.says in
-    let held : HoldsText case_file old.files case (λ c. IsComplete (completed c) × HoldsProof old.files report (completed c)) =
+    let held : HoldsText case_file old.files case (λ c. IsComplete (completed c) × HoldsProof old.files report (completed c))
+    =
     record { bytes = proof.bytes; file = proof.file; value = proof.value; says = proof.says; then = ((proof.value, valid, refl), proof.then) } in
     of_held case_file lawful_case case old new is.end no_fault (λ c. IsComplete (completed c) × HoldsProof old.files report (completed c)) _
     (status_of shown ≡ Answered) held
@@ -74,7 +81,8 @@ answer_proof : (c : Case) (parts : Parts) (a : Answer) → AreCaseParts c parts.
 answer_proof c parts (answer.Least flow prices cost) are is = (refl, are, is.certified)
 answer_proof c parts (answer.Stuck cut) are is = (refl, are, is.cut)
 
-pub answered : (c : Case) (parts : Parts) (a : Answer) (shown : Shown) → IsCaseAnswer c parts a → shown ≡ shown_answer c parts a → AnswersFlow c shown
+pub answered : (c : Case) (parts : Parts) (a : Answer) (shown : Shown) → IsCaseAnswer c parts a
+    → shown ≡ shown_answer c parts a → AnswersFlow c shown
 answered c parts a shown is_answer is = record {
   parts = parts;
   answer = a;

@@ -29,13 +29,15 @@ lawful (Some (Site site)) = (lawful_site, λ s. tt)
 lawful (Some (Sample number count)) = tt
 
 -- what can be answered asks something
-pub of_answerable : (reading : Reading) (files : Option (List NamedFile)) → IsLawfulReading reading → CanAnswer reading files → IsFurther reading
+pub of_answerable : (reading : Reading) (files : Option (List NamedFile)) → IsLawfulReading reading
+    → CanAnswer reading files → IsFurther reading
 unfolding IsLawfulReading CanAnswer
 of_answerable (stop shown) files is can = absurd can
 of_answerable other files is can = is
 
 -- and so does what is refused
-pub of_refusable : (reading : Reading) (files : Option (List NamedFile)) (refusal : Shown) → IsLawfulReading reading → HasBadFile reading files refusal
+pub of_refusable : (reading : Reading) (files : Option (List NamedFile)) (refusal : Shown)
+    → IsLawfulReading reading → HasBadFile reading files refusal
     → IsFurther reading
 unfolding IsLawfulReading HasBadFile
 of_refusable (stop shown) files refusal is bad = absurd bad

@@ -12,7 +12,8 @@ pub record IsResult (shown : Shown) : Type 0 where
   pub printable : IsPrintable shown
 
 of_is : (shown result : Shown) → shown ≡ result → IsAnswered (status_of result) → IsPrintable result → IsResult shown
-of_is shown result is answered printable = subst IsResult (sym is) (record { answered = answered; printable = printable })
+of_is shown result is answered printable =
+    subst IsResult (sym is) (record { answered = answered; printable = printable })
 
 -- a heat flow is a result, and so is a cut
 of_flow : (c : Case) (parts : Parts) (a : Answer) (shown : Shown) → shown ≡ shown_answer c parts a → IsResult shown
@@ -22,7 +23,8 @@ of_flow c parts (answer.Stuck cut) shown is = of_is shown _ is tt tt
 
 of_design : (c : Case) (parts : Parts) (a : Answer) (shown : Shown) → ShowsDesignOf c parts a shown → IsResult shown
 unfolding IsPrintable
-of_design c parts (answer.Least flow prices cost) shown design = of_is shown _ design.0.shows.is tt (design.0.shows.complete, design.0.shows.shape)
+of_design c parts (answer.Least flow prices cost) shown design =
+    of_is shown _ design.0.shows.is tt (design.0.shows.complete, design.0.shows.shape)
 of_design c parts (answer.Stuck cut) shown is = of_is shown _ is tt tt
 
 of_task : (task : CaseTask) (c : Case) (shown : Shown) → ShowsTask task c shown → IsResult shown
@@ -33,7 +35,8 @@ of_task Design c shown is = of_design (completed c) is.parts is.answer shown is.
 of_task Curves c shown is = of_is shown _ is.is tt tt
 of_task (Sweep plan workers) c shown is = of_is shown _ is.is tt tt
 
-of_verdict : (c : Case) (network : Network) (v : Verdict) (shown : Shown) → ShowsVerdict c network v shown → IsResult shown
+of_verdict : (c : Case) (network : Network) (v : Verdict) (shown : Shown) → ShowsVerdict c network v shown
+    → IsResult shown
 unfolding IsPrintable
 of_verdict c network (verdict.Accepted balance) shown accepted = of_is shown _ accepted.is tt tt
 of_verdict c network (verdict.Rejected place reason) shown is = of_is shown _ is tt tt

@@ -17,11 +17,13 @@ both a b c d e = (grind (arith, nat_tests), grind (arith, nat_tests))
 
 -- a number between two limits lies between them
 limited-within : (least most : ℕ) (o : Option ℕ) → IfSome (limited least most o) (λ n. (least ≤ n) × (n ≤ most))
-limited-within least most (Some n) = where_true (nat_le least n && nat_le n most) n (λ k. (least ≤ k) × (k ≤ most)) (both least n n most)
+limited-within least most (Some n) =
+    where_true (nat_le least n && nat_le n most) n (λ k. (least ≤ k) × (k ≤ most)) (both least n n most)
 limited-within least most None = tt
 
 -- numbers that rise and give few rows are a plan
-is_plan : (from to step : ℕ) → to ≤ MOST_END → 1 ≤ step → step ≤ MOST_STEP → (nat_le from to && nat_lt to (from + MOST_ROWS * step)) ≡ true
+is_plan : (from to step : ℕ) → to ≤ MOST_END → 1 ≤ step → step ≤ MOST_STEP
+    → (nat_le from to && nat_lt to (from + MOST_ROWS * step)) ≡ true
     → IsSweepPlan (record { from = pos from; to = pos to; step = pos step })
 is_plan from to step last some most e =
     let order : from ≤ to = grind (arith, nat_tests) in
@@ -34,7 +36,8 @@ is_plan from to step last some most e =
       few = omega (arith, ints, few);
     }
 
-plan_runs : (from to step : Option ℕ) → IfSome to (λ n. (0 ≤ n) × (n ≤ MOST_END)) → IfSome step (λ n. (1 ≤ n) × (n ≤ MOST_STEP))
+plan_runs : (from to step : Option ℕ) → IfSome to (λ n. (0 ≤ n) × (n ≤ MOST_END))
+    → IfSome step (λ n. (1 ≤ n) × (n ≤ MOST_STEP))
     → IfSome (plan_with from to step) IsSweepPlan
 plan_runs (Some from) (Some to) (Some step) last some =
     where_true (nat_le from to && nat_lt to (from + MOST_ROWS * step)) (record { from = pos from; to = pos to; step = pos step }) IsSweepPlan
@@ -43,7 +46,8 @@ plan_runs (Some from) (Some to) None last some = tt
 plan_runs (Some from) None step last some = tt
 plan_runs None to step last some = tt
 
-of_numbers : (case : List ℕ) (plan : Option SweepPlan) (workers : Option ℕ) → IfSome plan IsSweepPlan → IfSome workers (λ n. (1 ≤ n) × (n ≤ MOST_WORKERS))
+of_numbers : (case : List ℕ) (plan : Option SweepPlan) (workers : Option ℕ) → IfSome plan IsSweepPlan
+    → IfSome workers (λ n. (1 ≤ n) × (n ≤ MOST_WORKERS))
     → IfSome (sweep_with case plan workers) IsRunnable
 of_numbers case (Some plan) (Some workers) can work = (can, work.0, work.1)
 of_numbers case (Some plan) None can work = tt
@@ -57,7 +61,8 @@ of_sweep ((byte ∷ case) ∷ from ∷ to ∷ step ∷ workers ∷ []) =
     (limited-within 1 MOST_WORKERS (natural_in MOST_DIGITS workers))
 of_sweep words = tt
 
-prices_run : (case study : List ℕ) (workers : Option ℕ) → IfSome workers CanWork → IfSome (prices_with case study workers) IsRunnable
+prices_run : (case study : List ℕ) (workers : Option ℕ) → IfSome workers CanWork
+    → IfSome (prices_with case study workers) IsRunnable
 prices_run case study (Some workers) can = can
 prices_run case study None can = tt
 
@@ -79,12 +84,14 @@ of_sample (number ∷ count ∷ []) =
 of_sample words = tt
 
 -- a command of the names of files
-of_names : {Names : Type 0} (command : Names → Command) → ((names : Names) → IsRunnable (command names)) → (names : Option Names)
+of_names : {Names : Type 0} (command : Names → Command) → ((names : Names) → IsRunnable (command names))
+    → (names : Option Names)
     → IfSome (option_map command names) IsRunnable
 of_names command runs (Some names) = runs names
 of_names command runs None = tt
 
-either : (b : Bool) (x y : Option Command) → IfSome x IsRunnable → IfSome y IsRunnable → IfSome (if b then x else y) IsRunnable
+either : (b : Bool) (x y : Option Command) → IfSome x IsRunnable → IfSome y IsRunnable
+    → IfSome (if b then x else y) IsRunnable
 either true x y one other = one
 either false x y one other = other
 

@@ -28,7 +28,8 @@ not_out_of_memory OutOfMemory is e = absurd is
 not_out_of_memory other is e = absurd (omega (arith, e))
 
 module _ {Sink : Type 0} (text_on : Sink → Option (List ℕ)) (faults_of : Sink → ℕ) (command : Option Command) (old new : ShelfState) (before now : Sink) where
-  pub of_print : (shown : Shown) (status : Status) (number : ℕ) → number ≡ number_of status → ShowsCommand command old new shown
+  pub of_print : (shown : Shown) (status : Status) (number : ℕ) → number ≡ number_of status
+      → ShowsCommand command old new shown
       → Prints (text_on before) (text_on now) (faults_of before) (faults_of now) shown status
       → Runs text_on faults_of command old new before now (record { status = number; shown = Some shown })
   of_print shown status number numbered shows (whole is wrote front) =
@@ -44,7 +45,9 @@ module _ {Sink : Type 0} (text_on : Sink → Option (List ℕ)) (faults_of : Sin
         write_fault = λ e. absurd (not_write_fault (status_of shown) (of_shown shown) (sym number_is ∙ e));
         complete = λ can no_fault no_write_fault. (number_is, complete command old new shown shows can no_fault);
         refused = λ refusal bad no_fault. bad_file command old new shown shows refusal bad no_fault;
-        certified = λ proof no_fault no_write_fault. number_is ∙ ap number_of (certified command old new shown shows proof no_fault);
+        certified =
+            λ proof no_fault no_write_fault. number_is
+            ∙ ap number_of (certified command old new shown shows proof no_fault);
         audited = λ design held no_fault no_write_fault.
             let accepts = audited command old new shown shows design held no_fault in
             (number_is ∙ ap number_of (accepted-answered design shown accepts), accepts);
@@ -67,7 +70,8 @@ module _ {Sink : Type 0} (text_on : Sink → Option (List ℕ)) (faults_of : Sin
       }
 
   -- memory was wanted, and nothing was written
-  pub without_memory : now ≡ before → Runs text_on faults_of command old new before now (record { status = number_of OutOfMemory; shown = None })
+  pub without_memory : now ≡ before
+      → Runs text_on faults_of command old new before now (record { status = number_of OutOfMemory; shown = None })
   without_memory same = record {
     shown = tt;
     causes = tt;

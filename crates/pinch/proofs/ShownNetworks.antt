@@ -5,7 +5,8 @@ use Rattle.pinch.proofs.FileSizes.{design_fits}
 use Rattle.std.proofs.Common.{refl, subst, sym, ◌≡◌}
 use Rattle.reports.specs.declared.shown.Shown.TheVariants as show
 
-pub shown_network : (c : Case) (network : Network) (balance : Balance) → IsComplete c → HasShape c network → IsValidNetwork c network → HasNoFinding c network
+pub shown_network : (c : Case) (network : Network) (balance : Balance) → IsComplete c → HasShape c network
+    → IsValidNetwork c network → HasNoFinding c network
     → balance ≡ balance_of c network
     → IsShownNetwork c network balance (show.Design c network balance)
 shown_network c network balance complete shape valid accepted sums =
@@ -16,7 +17,8 @@ shown_network c network balance complete shape valid accepted sums =
       valid = valid;
       accepted = accepted;
       sums = sums;
-      read_back = λ counts. subst (λ statements. IsNetwork c statements network) (sym (design-statements c network balance within))
+      read_back =
+          λ counts. subst (λ statements. IsNetwork c statements network) (sym (design-statements c network balance within))
           (shape-is_network c network complete shape counts);
       fits = design_fits c network balance complete shape within;
       is = refl;

@@ -23,9 +23,11 @@ price-listed f n a within = get_or-map-range_with_len f 0 n a a (pos 0) within (
 
 -- what is used of the parts of a side at such prices
 abbrev use_at : Network → (ℕ → ℤ) → List Part → Rational
-use_at network f parts = rational_sum_by (λ (e : ℕ × Part). times (whole (f e.0)) (used_heat network e.1)) (enumerate_from 0 parts)
+use_at network f parts =
+    rational_sum_by (λ (e : ℕ × Part). times (whole (f e.0)) (used_heat network e.1)) (enumerate_from 0 parts)
 
-worth-listed : (network : Network) (f : ℕ → ℤ) (parts : List Part) → worth_of_uses network (listed f (length parts)) parts ≡ use_at network f parts
+worth-listed : (network : Network) (f : ℕ → ℤ) (parts : List Part)
+    → worth_of_uses network (listed f (length parts)) parts ≡ use_at network f parts
 unfolding worth_of_uses
 worth-listed network f parts =
     sum-enumerated (use_worth network (listed f (length parts))) (λ (e : ℕ × Part). times (whole (f e.0)) (used_heat network e.1)) parts
@@ -35,12 +37,14 @@ worth-listed network f parts =
 use-turned : (network : Network) (f : ℕ → ℤ) (parts : List Part) → use_at network (λ a. pos 0 -ℤ f a) parts ≡ minus rational_zero (use_at network f parts)
 use-turned network f parts = let es = enumerate_from 0 parts in let term = λ (e : ℕ × Part). times (whole (f e.0)) (used_heat network e.1) in
     rational_sum_by-same (λ (e : ℕ × Part). times (whole (pos 0 -ℤ f e.0)) (used_heat network e.1)) (λ e. minus rational_zero (term e)) es
-    (λ k d inside. let e = get_or es k d in turned (f e.0) (used_heat network e.1)) ∙ rational_sum_by-minus (λ (e : ℕ × Part). rational_zero) term es
+    (λ k d inside. let e = get_or es k d in turned (f e.0) (used_heat network e.1))
+    ∙ rational_sum_by-minus (λ (e : ℕ × Part). rational_zero) term es
     ∙ ap (λ none. minus none (use_at network f parts)) (rational_sum_by-zero (λ (e : ℕ × Part). rational_zero) es (λ k d inside. refl))
   where
     turned : (c : ℤ) (x : Rational) → times (whole (pos 0 -ℤ c)) x ≡ minus rational_zero (times (whole c) x)
     turned c x =
-        ap (λ w. times w x) (sym (whole-minus (pos 0) c)) ∙ minus-times rational_zero (whole c) x ∙ ap (λ none. minus none (times (whole c) x)) (zero-times x)
+        ap (λ w. times w x) (sym (whole-minus (pos 0) c)) ∙ minus-times rational_zero (whole c) x
+        ∙ ap (λ none. minus none (times (whole c) x)) (zero-times x)
 
 -- ---- the prices of a cut
 
@@ -55,15 +59,19 @@ one_if-le false false h = omega (arith, ints)
 abbrev is_member : List ℕ → ℕ → Bool
 is_member members i = list_any (λ k. i == k) members
 
-meets-member : (of : Side) (reach : ℕ → ℕ → Bool) (members : List ℕ) (i j : ℕ) → joins of reach i j ≡ true → is_member members i ≡ true
+meets-member : (of : Side) (reach : ℕ → ℕ → Bool) (members : List ℕ) (i j : ℕ) → joins of reach i j ≡ true
+    → is_member members i ≡ true
     → meets of reach members j ≡ true
-meets-member of reach members i j joined is = let (n, k, inside, at, same) = Any-from_list_any (λ k. i == k) members is in
+meets-member of reach members i j joined is =
+    let (n, k, inside, at, same) = Any-from_list_any (λ k. i == k) members is in
     list_any-from_Any (λ k. joins of reach k j) members (n, k, inside, at, subst (λ m. joins of reach m j ≡ true) (eqb-true i k same) joined)
 
-reach-within : (case : Case) (hot cold : List Part) (a b : ℕ) → reach_between case hot cold a b ≡ true → (a < length hot) × (b < length cold)
+reach-within : (case : Case) (hot cold : List Part) (a b : ℕ) → reach_between case hot cold a b ≡ true
+    → (a < length hot) × (b < length cold)
 reach-within case hot cold a b reached = by (slice_get hot a) (slice_get cold b) refl refl reached
   where
-    by : (o q : Option Part) → slice_get hot a ≡ o → slice_get cold b ≡ q → both_reach case o q ≡ true → (a < length hot) × (b < length cold)
+    by : (o q : Option Part) → slice_get hot a ≡ o → slice_get cold b ≡ q → both_reach case o q ≡ true
+        → (a < length hot) × (b < length cold)
     by None q one other is = cc is
     by (Some p) None one other is = cc is
     by (Some p) (Some q) one other is = (slice_get_within hot a p one, slice_get_within cold b q other)
@@ -81,7 +89,8 @@ module _ (uses : UsesAreOrdered) (case : Case) (network : Network) (hot cold : L
   met of j = one_if (meets of reach members j)
 
   -- the members use no more than the parts that meet them
-  members-at_most : (of : Side) → IsAtMost (use_at network own (parts_of of hot cold)) (use_at network (met of) (parts_of (opposite of) hot cold))
+  members-at_most : (of : Side)
+      → IsAtMost (use_at network own (parts_of of hot cold)) (use_at network (met of) (parts_of (opposite of) hot cold))
   members-at_most side.Cold = subst₂ IsAtMost (worth-listed network own cold) (worth-listed network (met side.Cold) hot)
       (uses case network hot cold (listed (met side.Cold) (length hot)) (listed own (length cold)) complete shape valid parts supporting)
     where
@@ -89,7 +98,8 @@ module _ (uses : UsesAreOrdered) (case : Case) (network : Network) (hot cold : L
       supporting a b reached = let within = reach-within case hot cold a b reached in
           subst₂ (λ p q. p ≤ℤ q) (sym (price-listed own (length cold) b within.1)) (sym (price-listed (met side.Cold) (length hot) a within.0))
           (one_if-le (is_member members b) (meets side.Cold reach members a) (meets-member side.Cold reach members b a reached))
-  members-at_most side.Hot = at_most_from_minus_turned (use_at network own hot) (use_at network (met side.Hot) cold) rational_zero
+  members-at_most side.Hot =
+      at_most_from_minus_turned (use_at network own hot) (use_at network (met side.Hot) cold) rational_zero
       (subst₂ IsAtMost (worth-listed network (λ b. pos 0 -ℤ met side.Hot b) cold ∙ use-turned network (met side.Hot) cold)
       (worth-listed network (λ a. pos 0 -ℤ own a) hot ∙ use-turned network own hot) (uses case network hot cold (listed (λ a. pos 0 -ℤ own a) (length hot))
       (listed (λ b. pos 0 -ℤ met side.Hot b) (length cold)) complete shape valid parts supporting))
@@ -106,15 +116,20 @@ module _ (uses : UsesAreOrdered) (case : Case) (network : Network) (hot cold : L
 
 -- ---- the need and the offer
 
-members-within : (parts : List Part) (members : List ℕ) → All (λ i. pos 0 <ℤ least_at parts i) members → All (λ i. i < length parts) members
-members-within parts members needing k d inside = let i = get_or members k d in let some = needing k d inside in
+members-within : (parts : List Part) (members : List ℕ) → All (λ i. pos 0 <ℤ least_at parts i) members
+    → All (λ i. i < length parts) members
+members-within parts members needing k d inside =
+    let i = get_or members k d in
+    let some = needing k d inside in
     ⊎_elim (λ within. within) (λ past. let none : least_at parts i ≡ pos 0 = rw (slice_get_past parts i past) refl in absurd (omega (arith, ints, some, none)))
     (cases_lt i (length parts))
 
-need-at_most : (network : Network) (parts : List Part) (members : List ℕ) → ((a : ℕ) (p : Part) → slice_get parts a ≡ Some p → IsUsedWithin network p)
+need-at_most : (network : Network) (parts : List Part) (members : List ℕ)
+    → ((a : ℕ) (p : Part) → slice_get parts a ≡ Some p → IsUsedWithin network p)
     → AllPairs (λ i j. i < j) members → All (λ i. pos 0 <ℤ least_at parts i) members
     → IsAtMost (whole (need_of parts members)) (use_at network (λ i. one_if (is_member members i)) parts)
-need-at_most network parts members used ordered needing = subst (λ n. IsAtMost n (use_at network (λ i. one_if (is_member members i)) parts)) (sym need)
+need-at_most network parts members used ordered needing =
+    subst (λ n. IsAtMost n (use_at network (λ i. one_if (is_member members i)) parts)) (sym need)
     (at_most-enumerated (λ (e : ℕ × Part). taken e.0) _ parts each)
   where
     least : ℕ → Rational
@@ -124,17 +139,23 @@ need-at_most network parts members used ordered needing = subst (λ n. IsAtMost 
     taken i = minus (least i) (left_of least members i)
 
     need : whole (need_of parts members) ≡ rational_sum_by (λ (e : ℕ × Part). taken e.0) (enumerate_from 0 parts)
-    need = let numbers = range_with_len 0 (length parts) in let left = rational_sum_by (left_of least members) numbers in let split =
+    need =
+        let numbers = range_with_len 0 (length parts) in
+        let left = rational_sum_by (left_of least members) numbers in
+        let split =
         sum_over_used least members (length parts) (λ i j d less inside same. let rises = ordered i j d less inside in omega (arith, rises, same))
         (members-within parts members needing) in sym (rational_sum_by-whole (least_at parts) (int_sum_by (least_at parts)) refl (λ i is. refl) members)
         ∙ sym (minus-plus (rational_sum_by least members) left) ∙ ap (λ all. minus all left) (sym split)
-        ∙ sym (rational_sum_by-minus least (left_of least members) numbers) ∙ sym (sum-enumerate (λ (e : ℕ × Part). taken e.0) taken parts (λ i p at. refl))
+        ∙ sym (rational_sum_by-minus least (left_of least members) numbers)
+        ∙ sym (sum-enumerate (λ (e : ℕ × Part). taken e.0) taken parts (λ i p at. refl))
 
-    each : (i : ℕ) (p : Part) → slice_get parts i ≡ Some p → IsAtMost (taken i) (times (whole (one_if (is_member members i))) (used_heat network p))
+    each : (i : ℕ) (p : Part) → slice_get parts i ≡ Some p
+        → IsAtMost (taken i) (times (whole (one_if (is_member members i))) (used_heat network p))
     each i p at = by (is_member members i)
       where
         by : (b : Bool) → IsAtMost (minus (least i) (if b then rational_zero else least i)) (times (whole (one_if b)) (used_heat network p))
-        by true = subst₂ IsAtMost (ap (λ o. whole (option_map_or (λ (q : Part). q.least) o (pos 0))) (sym at) ∙ sym (minus-zero (least i)))
+        by true =
+            subst₂ IsAtMost (ap (λ o. whole (option_map_or (λ (q : Part). q.least) o (pos 0))) (sym at) ∙ sym (minus-zero (least i)))
             (sym (times_comm (whole (pos 1)) (used_heat network p) ∙ times-one (used_heat network p))) (used i p at).least
         by false = at_most_from_same _ _ (minus-self (least i) ∙ sym (zero-times (used_heat network p)))
 
@@ -148,18 +169,22 @@ offer-at_most network of reach others members used =
     offered : ℕ → Part → ℤ
     offered j p = if meets of reach members j then p.most else pos 0
 
-    each : (b : Bool) (p : Part) → IsUsedWithin network p → IsAtMost (times (whole (one_if b)) (used_heat network p)) (whole (if b then p.most else pos 0))
+    each : (b : Bool) (p : Part) → IsUsedWithin network p
+        → IsAtMost (times (whole (one_if b)) (used_heat network p)) (whole (if b then p.most else pos 0))
     each true p within =
         subst (λ x. IsAtMost x (whole p.most)) (sym (times_comm (whole (pos 1)) (used_heat network p) ∙ times-one (used_heat network p))) within.most
     each false p within = at_most_from_same _ _ (zero-times (used_heat network p))
 
 pub no_cut-stands : UsesAreOrdered → NoCutStands
 no_cut-stands uses case network hot cold cut complete shape valid parts is_cut =
-    let of = cut_side cut.kind in let reach = reach_between case hot cold in let cut_parts = is_cut.parts in
+    let of = cut_side cut.kind in
+    let reach = reach_between case hot cold in
+    let cut_parts = is_cut.parts in
     let own = use_at network (λ i. one_if (is_member cut.parts i)) (parts_of of hot cold) in
     let met = use_at network (λ j. one_if (meets of reach cut.parts j)) (parts_of (opposite of) hot cold) in
     let used = used_of uses case network hot cold complete shape valid parts cut.parts in
     let need = need-at_most network (parts_of of hot cold) cut.parts (used of) cut_parts.ordered cut_parts.needing in
     let offer = offer-at_most network of reach (parts_of (opposite of) hot cold) cut.parts (used (opposite of)) in
     let between = members-at_most uses case network hot cold complete shape valid parts cut.parts of in
-    let bound = at_most_trans _ own _ need (at_most_trans own met _ between offer) in omega (arith, ints)
+    let bound = at_most_trans _ own _ need (at_most_trans own met _ between offer) in
+    omega (arith, ints)

@@ -26,7 +26,9 @@ least_price (x ∷ xs) = int_min x (least_price xs)
 least_price-least : (xs : List ℤ) (a : ℕ) → least_price xs ≤ℤ price_at xs a
 least_price-least [] a = omega (arith, ints)
 least_price-least (x ∷ xs) zero = omega (arith, ints, clamps)
-least_price-least (x ∷ xs) (suc a) = let rest = least_price-least xs a in omega (arith, ints, clamps)
+least_price-least (x ∷ xs) (suc a) =
+    let rest = least_price-least xs a in
+    omega (arith, ints, clamps)
 
 -- ---- the parts on a grid
 
@@ -53,11 +55,15 @@ module _ (case : Case) (network : Network) (hot cold : List Part) (y z : List �
 
   -- ---- uses are not negative
 
-  not_negative-used : (on : Side) (p : Part) → IsPartOf case.streams case.utilities grid on p → IsAtMost rational_zero (used_heat network p)
-  not_negative-used on p (inl (i, s, h)) = let from : source.Stream i ≡ p.source = sym (ap (λ (r : Part). r.source) h.is) in let bounded =
+  not_negative-used : (on : Side) (p : Part) → IsPartOf case.streams case.utilities grid on p
+      → IsAtMost rational_zero (used_heat network p)
+  not_negative-used on p (inl (i, s, h)) =
+      let from : source.Stream i ≡ p.source = sym (ap (λ (r : Part). r.source) h.is) in
+      let bounded =
       IsBounded-part case.streams case.utilities on grid (AreStreams-IsComplete case complete).each (IsPlaced-IsComplete case complete) holds p
       (inl (i, s, h)) in subst (λ r. IsAtMost rational_zero (used_by network p.least r)) from (at_most-whole (pos 0) p.least bounded.least.from)
-  not_negative-used on p (inr (k, u, h)) = let from : source.Utility k ≡ p.source = sym (ap (λ (r : Part). r.source) h.is) in
+  not_negative-used on p (inr (k, u, h)) =
+      let from : source.Utility k ≡ p.source = sym (ap (λ (r : Part). r.source) h.is) in
       let placed = All-slice_get IsPlaced case.utilities k u (IsPlaced-IsComplete case complete) h.utility in
       subst (λ r. IsAtMost rational_zero (used_by network p.least r)) from
       (at_most_trans rational_zero (whole u.least) (heat_with network k) (at_most-whole (pos 0) u.least placed.least.from) (valid.ranges k u h.utility).least)
@@ -65,12 +71,15 @@ module _ (case : Case) (network : Network) (hot cold : List Part) (y z : List �
   -- ---- one part
 
   -- it is worth one price of its source, that where it lies
-  worth-is : (on : Side) (p : Part) (own : HasEnds grid p) → worth on p ≡ times (whole ((prices on p.source).below (own_view grid p own))) (used_heat network p)
+  worth-is : (on : Side) (p : Part) (own : HasEnds grid p)
+      → worth on p ≡ times (whole ((prices on p.source).below (own_view grid p own))) (used_heat network p)
   worth-is on p own = step-part least views (prices on p.source) p (own_view grid p own) (used_heat network p)
       (steps_fall case least z cold grid falls cold_ends on p.source).last (leaves_own grid p falls own)
 
   cold_part : (b : ℕ) (p : Part) → slice_get cold b ≡ Some p → IsAtMost (use_worth network z (b, p)) (worth side.Cold p)
-  cold_part b p at = let own = All-slice_get (HasEnds grid) cold b p cold_ends at in let price = (prices side.Cold p.source).below (own_view grid p own) in
+  cold_part b p at =
+      let own = All-slice_get (HasEnds grid) cold b p cold_ends at in
+      let price = (prices side.Cold p.source).below (own_view grid p own) in
       subst (IsAtMost (use_worth network z (b, p))) (sym (worth-is side.Cold p own)) (at_most-times (whole (price_at z b)) (whole price) (used_heat network p)
       (not_negative-used side.Cold p (All-slice_get (IsPartOf case.streams case.utilities grid side.Cold) cold b p cold_parts.each at))
       (at_most-whole (price_at z b) price (cold_price case least z cold grid falls cold_ends b p at own)))
@@ -78,7 +87,8 @@ module _ (case : Case) (network : Network) (hot cold : List Part) (y z : List �
   hot_part : IsSupporting (reach_between case hot cold) y z → (a : ℕ) (p : Part) → slice_get hot a ≡ Some p
       → IsAtMost (worth side.Hot p) (use_worth network y (a, p))
   hot_part supporting a p at =
-      let own = All-slice_get (HasEnds grid) hot a p hot_ends at in let price = (prices side.Hot p.source).below (own_view grid p own) in
+      let own = All-slice_get (HasEnds grid) hot a p hot_ends at in
+      let price = (prices side.Hot p.source).below (own_view grid p own) in
       subst (λ w. IsAtMost w (use_worth network y (a, p))) (sym (worth-is side.Hot p own))
       (at_most-times (whole price) (whole (price_at y a)) (used_heat network p)
       (not_negative-used side.Hot p (All-slice_get (IsPartOf case.streams case.utilities grid side.Hot) hot a p hot_parts.each at))
@@ -93,14 +103,16 @@ module _ (case : Case) (network : Network) (hot cold : List Part) (y z : List �
       rational_sum_by (λ (e : ℕ × Stream). rational_sum_by (own_worth least views prices network on (source.Stream e.0)) parts) (enumerate_from 0 case.streams)
 
   abbrev of_utilities : Side → Rational
-  of_utilities on = rational_sum_by (duty_worth case network valid.values least views prices on) (enumerate_from 0 (exchangers_of network.lines))
+  of_utilities on =
+      rational_sum_by (duty_worth case network valid.values least views prices on) (enumerate_from 0 (exchangers_of network.lines))
 
   -- by streams and by utilities
   side_sum : (on : Side) (parts : List Part) → AreParts case.streams case.utilities grid on parts
       → rational_sum_by (worth on) parts ≡ plus (of_streams on parts) (of_utilities on)
   side_sum on parts are =
       sum-by_source case (λ (p : Part). p.source) (worth on) parts (All-weaker (IsPartOf case.streams case.utilities grid on) (λ p. IsSourceOf case p.source)
-      (λ p is. IsSourceOf-side case p.source (ap is_some (side_of_part case grid on p is))) parts are.each) ∙ ap (plus (of_streams on parts))
+      (λ p is. IsSourceOf-side case p.source (ap is_some (side_of_part case grid on p is))) parts are.each)
+      ∙ ap (plus (of_streams on parts))
       (sum-enumerated (λ (e : ℕ × Utility). rational_sum_by (own_worth least views prices network on (source.Utility e.0)) parts)
       (λ e. duties_of case network valid.values least views prices on e.0) case.utilities
       (λ k u at. utility_worth-is case network valid.values least views prices on k u at shape grid parts are)
@@ -109,17 +121,22 @@ module _ (case : Case) (network : Network) (hot cold : List Part) (y z : List �
   -- the streams lose what the parts of the hot ones are worth, less what those of the cold ones are worth
   streams_lose : rational_sum_by (stream_loss (branch_worth case least views prices)) (enumerate_from 0 case.streams)
       ≡ minus (of_streams side.Hot hot) (of_streams side.Cold cold)
-  streams_lose = let hots = λ (e : ℕ × Stream). rational_sum_by (own_worth least views prices network side.Hot (source.Stream e.0)) hot in
+  streams_lose =
+      let hots = λ (e : ℕ × Stream). rational_sum_by (own_worth least views prices network side.Hot (source.Stream e.0)) hot in
       let colds = λ (e : ℕ × Stream). rational_sum_by (own_worth least views prices network side.Cold (source.Stream e.0)) cold in
       sum-enumerated (stream_loss (branch_worth case least views prices)) (λ e. minus (hots e) (colds e)) case.streams one
       ∙ rational_sum_by-minus hots colds (enumerate_from 0 case.streams)
     where
-      one : (i : ℕ) (s : Stream) → slice_get case.streams i ≡ Some s → stream_loss (branch_worth case least views prices) (i, s)
+      one : (i : ℕ) (s : Stream) → slice_get case.streams i ≡ Some s
+          → stream_loss (branch_worth case least views prices) (i, s)
           ≡ minus (rational_sum_by (own_worth least views prices network side.Hot (source.Stream i)) hot)
           (rational_sum_by (own_worth least views prices network side.Cold (source.Stream i)) cold)
-      one i s at = let ends = All-slice_get (λ (r : Stream). Contains grid (high_end r) × Contains grid (low_end r)) case.streams i s
-          (holds_ends case.streams case.utilities grid holds) at in let (lowest, low) = some_lowest grid (low_end s) falls ends.1 in
-          let under = All-contains (λ x. lowest ≤ℤ x) grid (low_end s) low.each ends.1 in stream_worth-is case network least grid prices holds lowest low i s at
+      one i s at =
+          let ends = All-slice_get (λ (r : Stream). Contains grid (high_end r) × Contains grid (low_end r)) case.streams i s
+          (holds_ends case.streams case.utilities grid holds) at in
+          let (lowest, low) = some_lowest grid (low_end s) falls ends.1 in
+          let under = All-contains (λ x. lowest ≤ℤ x) grid (low_end s) low.each ends.1 in
+          stream_worth-is case network least grid prices holds lowest low i s at
           (All-slice_get IsValidStream case.streams i s (AreStreams-IsComplete case complete).each at) under hot cold
           (AreParts-made case.streams case.utilities side.Hot grid hot holds hot_parts) hot_ends
           (AreParts-made case.streams case.utilities side.Cold grid cold holds cold_parts) cold_ends
@@ -133,10 +150,14 @@ module _ (case : Case) (network : Network) (hot cold : List Part) (y z : List �
       (at_most-plus_plus c (plus (minus a b) e) b b h (at_most_refl b)))
 
   sides_ordered : IsAtMost (rational_sum_by (worth side.Cold) cold) (rational_sum_by (worth side.Hot) hot)
-  sides_ordered = let es = exchangers_of network.lines in let takes = sum-enumerated (cold_worth case network valid.values least views prices)
-      (duty_worth case network valid.values least views prices side.Cold) es (λ n e at. refl) in let gives =
+  sides_ordered =
+      let es = exchangers_of network.lines in
+      let takes = sum-enumerated (cold_worth case network valid.values least views prices)
+      (duty_worth case network valid.values least views prices side.Cold) es (λ n e at. refl) in
+      let gives =
       sum-enumerated (hot_worth case network valid.values least views prices)
-      (duty_worth case network valid.values least views prices side.Hot) es (λ n e at. refl) in let h =
+      (duty_worth case network valid.values least views prices side.Hot) es (λ n e at. refl) in
+      let h =
       worths_ordered case network valid.values least views prices shape valid.valuation valid.ended valid.approaches valid.permitted
       (views-fall grid falls) (steps_are_ordered case least z cold grid falls cold_ends) in
       let both = subst (λ c. IsAtMost c (plus (minus (of_streams side.Hot hot) (of_streams side.Cold cold)) (of_utilities side.Hot))) takes
@@ -145,9 +166,12 @@ module _ (case : Case) (network : Network) (hot cold : List Part) (y z : List �
       (subst (IsAtMost (plus (of_streams side.Cold cold) (of_utilities side.Cold))) (sym (side_sum side.Hot hot hot_parts))
       (moved_over (of_streams side.Hot hot) (of_streams side.Cold cold) (of_utilities side.Cold) (of_utilities side.Hot) both))
 
-  uses_on_grid : IsSupporting (reach_between case hot cold) y z → IsAtMost (worth_of_uses network z cold) (worth_of_uses network y hot)
+  uses_on_grid : IsSupporting (reach_between case hot cold) y z
+      → IsAtMost (worth_of_uses network z cold) (worth_of_uses network y hot)
   unfolding worth_of_uses
-  uses_on_grid supporting = let colds = rational_sum_by (worth side.Cold) cold in let hots = rational_sum_by (worth side.Hot) hot in
+  uses_on_grid supporting =
+      let colds = rational_sum_by (worth side.Cold) cold in
+      let hots = rational_sum_by (worth side.Hot) hot in
       let cold_sum = sum-items (λ (e : ℕ × Part). worth side.Cold e.1) (worth side.Cold) cold (λ i p at. refl) in
       let hot_sum = sum-items (λ (e : ℕ × Part). worth side.Hot e.1) (worth side.Hot) hot (λ i p at. refl) in
       let taken = subst (IsAtMost (rational_sum_by (use_worth network z) (enumerate_from 0 cold))) cold_sum
@@ -158,7 +182,8 @@ module _ (case : Case) (network : Network) (hot cold : List Part) (y z : List �
       (at_most_trans colds hots (rational_sum_by (use_worth network y) (enumerate_from 0 hot)) sides_ordered given)
 
 pub uses_ordered : UsesAreOrdered
-uses_ordered case network hot cold y z complete shape valid parts supporting = let on = parts_on_grid case hot cold parts in
+uses_ordered case network hot cold y z complete shape valid parts supporting =
+    let on = parts_on_grid case hot cold parts in
     let same = ListsFalling-unique (Contains (places_of case.streams case.utilities)) parts.grid on.grid parts.is_grid on.is_grid in
     uses_on_grid case network hot cold y z complete shape valid on.grid on.is_grid
     (subst (λ g. AreParts case.streams case.utilities g side.Hot hot) same parts.hot_parts)

@@ -9,12 +9,14 @@ abbrev balance_fields : Balance → Statement
 balance_fields b =
     codes "hot" ∷ fraction_text b.hot ∷ codes "cold" ∷ fraction_text b.cold ∷ codes "excess" ∷ fraction_text b.excess ∷ codes "cost" ∷ fraction_text b.cost ∷ []
 
-comment-fields : (b : Balance) (rest : List ℕ) → balance_comment b ++ rest ≡ statement_text (codes "#" ∷ balance_fields b) ++ rest
+comment-fields : (b : Balance) (rest : List ℕ)
+    → balance_comment b ++ rest ≡ statement_text (codes "#" ∷ balance_fields b) ++ rest
 unfolding fields_text
 comment-fields b rest = refl
 
 -- a number behind its word
-numbered : (word : List ℕ) → 0 < length word → list_all (nat_lt 32) word ≡ true → (a : Rational) → IsWithinLimits a → (fields : Statement)
+numbered : (word : List ℕ) → 0 < length word → list_all (nat_lt 32) word ≡ true → (a : Rational)
+    → IsWithinLimits a → (fields : Statement)
     → All IsPlainField fields → All IsPlainField (word ∷ fraction_text a ∷ fields)
 numbered word some passes a within fields plain =
     All-cons IsPlainField word (fraction_text a ∷ fields) (word_plain word some passes)

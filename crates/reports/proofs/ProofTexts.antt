@@ -6,7 +6,8 @@ use Rattle.reports.proofs.ReportTexts.{cut-text, flow-text}
 use Rattle.std.proofs.Common.{All, List, get_or, length, subst, sym, ℤ, ◌<◌}
 use Rattle.reports.specs.declared.shown.Shown.TheVariants as shows
 
-flow_answered : (c : Case) (parts : Parts) (flow : Flow) (prices : Prices) (cost : ℤ) → IsComplete c → AreCaseParts c parts.hot parts.cold
+flow_answered : (c : Case) (parts : Parts) (flow : Flow) (prices : Prices) (cost : ℤ) → IsComplete c
+    → AreCaseParts c parts.hot parts.cold
     → IsCertified (reach_between c parts.hot parts.cold) parts.hot parts.cold flow.transfers prices.hot prices.cold cost
     → IsAnsweredWithYes c (text (shows.Flow c parts flow prices cost))
 unfolding text
@@ -22,10 +23,12 @@ flow_answered c parts flow prices cost complete are h =
 
 members_within : (c : Case) (hot cold : List Part) (cut : Cut) → IsCutOf (reach_between c hot cold) hot cold cut
     → All (λ i. i < length (own_parts c hot cold cut.kind)) cut.parts
-members_within c hot cold cut h k d within = needing-within (own_parts c hot cold cut.kind) (get_or cut.parts k d) (h.parts.needing k d within)
+members_within c hot cold cut h k d within =
+    needing-within (own_parts c hot cold cut.kind) (get_or cut.parts k d) (h.parts.needing k d within)
 
 cut_answered : (c : Case) (parts : Parts) (cut : Cut) → IsComplete c → AreCaseParts c parts.hot parts.cold
-    → IsCutOf (reach_between c parts.hot parts.cold) parts.hot parts.cold cut → IsAnsweredWithYes c (text (shows.Stuck c parts cut))
+    → IsCutOf (reach_between c parts.hot parts.cold) parts.hot parts.cold cut
+    → IsAnsweredWithYes c (text (shows.Stuck c parts cut))
 unfolding text
 cut_answered c parts cut complete are h =
     let r = cut_report c parts.hot parts.cold cut in

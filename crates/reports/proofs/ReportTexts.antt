@@ -13,12 +13,14 @@ use Rattle.stream_case.specs.declared.source.Source.TheVariants.{Utility as of_u
 -- ---- lists
 
 texts_made : {X Y : Type 0} (f : ℕ → X → List ℕ) (statement : Y → Statement) (g : ℕ → X → Y) (n : ℕ) (xs : List X)
-    → ((i : ℕ) (x : X) → f i x ≡ statement_text (statement (g i x))) → texts_from f n xs ≡ flat_map statement_text (map statement (made_from g n xs))
+    → ((i : ℕ) (x : X) → f i x ≡ statement_text (statement (g i x)))
+    → texts_from f n xs ≡ flat_map statement_text (map statement (made_from g n xs))
 texts_made f statement g n [] same = refl
 texts_made f statement g n (x ∷ xs) same = ap₂ ◌++◌ (same n x) (texts_made f statement g (suc n) xs same)
 
 texts_each : {X Y : Type 0} (f : X → List ℕ) (statement : Y → Statement) (g : X → Y) (xs : List X)
-    → All (λ x. f x ≡ statement_text (statement (g x))) xs → flat_map f xs ≡ flat_map statement_text (map statement (map g xs))
+    → All (λ x. f x ≡ statement_text (statement (g x))) xs
+    → flat_map f xs ≡ flat_map statement_text (map statement (map g xs))
 texts_each f statement g [] same = refl
 texts_each f statement g (x ∷ xs) same =
     ap₂ ◌++◌ (All-head (λ y. f y ≡ statement_text (statement (g y))) x xs same)
@@ -26,7 +28,8 @@ texts_each f statement g (x ∷ xs) same =
 
 -- ---- parts
 
-name_at : {X : Type 0} (name : X → List ℕ) (xs : List X) (i : ℕ) → get_or (map name xs) i [] ≡ option_map_or name (slice_get xs i) []
+name_at : {X : Type 0} (name : X → List ℕ) (xs : List X) (i : ℕ)
+    → get_or (map name xs) i [] ≡ option_map_or name (slice_get xs i) []
 name_at name [] i = refl
 name_at name (x ∷ xs) zero = refl
 name_at name (x ∷ xs) (suc i) = name_at name xs i
@@ -73,17 +76,20 @@ move_text : (c : Case) (parts : Parts) (t : Transfer) → t.hot < length parts.h
     → move_line (case_names c) parts t ≡ statement_text (move_statement (move_of c parts.hot parts.cold t))
 unfolding fields_text span_text
 move_text c parts t is_hot is_cold =
-    let names = case_names c in let end = 32 ∷ (signed_decimal t.heat ++ 10 ∷ []) in
+    let names = case_names c in
+    let end = 32 ∷ (signed_decimal t.heat ++ 10 ∷ []) in
     ap (λ text. codes "move " ++ text)
     (append_assoc (part_at names parts.hot t.hot) (32 ∷ part_at names parts.cold t.cold) end
     ∙ ap (λ rest. part_at names parts.hot t.hot ++ 32 ∷ rest) (named_before c parts.cold t.cold end is_cold)
     ∙ named_before c parts.hot t.hot (32 ∷ span_text (named_at c parts.cold t.cold) end) is_hot)
 
 price_text : (c : Case) (side : Side) (price : ℤ) (p : Part)
-    → price_line (case_names c) side price p ≡ statement_text (priced_statement (price_word side) (record { part = span_of c p; price = price }))
+    → price_line (case_names c) side price p
+    ≡ statement_text (priced_statement (price_word side) (record { part = span_of c p; price = price }))
 unfolding fields_text span_text
 price_text c Hot price p = ap (λ text. codes "give " ++ text) (part_before c p (32 ∷ (signed_decimal price ++ 10 ∷ [])))
-price_text c Cold price p = ap (λ text. codes "take " ++ text) (part_before c p (32 ∷ (signed_decimal price ++ 10 ∷ [])))
+price_text c Cold price p =
+    ap (λ text. codes "take " ++ text) (part_before c p (32 ∷ (signed_decimal price ++ 10 ∷ [])))
 
 member_text : (c : Case) (parts : List Part) (i : ℕ) → i < length parts
     → member_line (case_names c) parts i ≡ statement_text (part_statement (named_at c parts i))
@@ -91,7 +97,8 @@ unfolding fields_text span_text
 member_text c parts i within = ap (λ text. codes "part " ++ text) (named_before c parts i (10 ∷ []) within)
 
 kind_line_text : (kind : CutKind) (need offer : ℤ) (parts : List ℕ)
-    → cut_line (record { kind = kind; parts = parts; need = need; offer = offer }) ≡ statement_text (cut_statement kind need offer)
+    → cut_line (record { kind = kind; parts = parts; need = need; offer = offer })
+    ≡ statement_text (cut_statement kind need offer)
 unfolding fields_text
 kind_line_text Demand need offer parts = refl
 kind_line_text Supply need offer parts = refl
@@ -99,12 +106,16 @@ kind_line_text Supply need offer parts = refl
 -- ---- the texts
 
 in_a_row : (a b c d e : List ℕ) → (((a ++ b) ++ c) ++ d) ++ e ≡ (a ++ b) ++ ((c ++ d) ++ e)
-in_a_row a b c d e = append_assoc ((a ++ b) ++ c) d e ∙ append_assoc (a ++ b) c (d ++ e) ∙ ap (λ t. (a ++ b) ++ t) (sym (append_assoc c d e))
+in_a_row a b c d e =
+    append_assoc ((a ++ b) ++ c) d e ∙ append_assoc (a ++ b) c (d ++ e)
+    ∙ ap (λ t. (a ++ b) ++ t) (sym (append_assoc c d e))
 
-pub flow-text : (c : Case) (parts : Parts) (ts : List Transfer) (prices : Prices) (cost : ℤ) → HaveParts Hot parts.hot ts → HaveParts Cold parts.cold ts
+pub flow-text : (c : Case) (parts : Parts) (ts : List Transfer) (prices : Prices) (cost : ℤ)
+    → HaveParts Hot parts.hot ts → HaveParts Cold parts.cold ts
     → flow_text c parts ts prices cost ≡ report_text (flow_report c parts.hot parts.cold ts prices.hot prices.cold cost)
 flow-text c parts ts prices cost hots colds =
-    let names = case_names c in let st = statement_text in
+    let names = case_names c in
+    let st = statement_text in
     let uses = map use_statement (made_from (use_of parts.hot parts.cold ts) 0 c.utilities) in
     let moves = map move_statement (map (move_of c parts.hot parts.cold) ts) in
     let gives = map (priced_statement (codes "give")) (made_from (priced_by c prices.hot) 0 parts.hot) in
@@ -122,7 +133,8 @@ flow-text c parts ts prices cost hots colds =
     (λ i. (cost_text cost i ++ uses_text i) ++ ((moves_text i ++ gives_text i) ++ takes_text i))
     ∙ sym (joined ∙ in_a_row (st (cost_statement cost)) (flat_map st uses) (flat_map st moves) (flat_map st gives) (flat_map st takes))
 
-pub cut-text : (c : Case) (parts : Parts) (cut : Cut) → All (λ i. i < length (own_parts c parts.hot parts.cold cut.kind)) cut.parts
+pub cut-text : (c : Case) (parts : Parts) (cut : Cut)
+    → All (λ i. i < length (own_parts c parts.hot parts.cold cut.kind)) cut.parts
     → stuck_text (case_names c) parts cut ≡ report_text (cut_report c parts.hot parts.cold cut)
 unfolding fields_text
 cut-text c parts cut within =

@@ -30,14 +30,16 @@ is_refusal-other (Targets targets pinches) t f s c e w m y q p d a r o = absurd 
 is_refusal-other (Flow k parts flow prices cost) t f s c e w m y q p d a r o = absurd (f k parts flow prices cost refl)
 is_refusal-other (Stuck k parts cut) t f s c e w m y q p d a r o = absurd (s k parts cut refl)
 is_refusal-other (Curves hot cold net) t f s c e w m y q p d a r o = absurd (c hot cold net refl)
-is_refusal-other (SiteShown site parts sinks sources answer) t f s c e w m y q p d a r o = absurd (e site parts sinks sources answer refl)
+is_refusal-other (SiteShown site parts sinks sources answer) t f s c e w m y q p d a r o =
+    absurd (e site parts sinks sources answer refl)
 is_refusal-other (Sweep rows) t f s c e w m y q p d a r o = absurd (w rows refl)
 is_refusal-other (Sample hot cold cost) t f s c e w m y q p d a r o = absurd (m hot cold cost refl)
 is_refusal-other (Certified cost) t f s c e w m y q p d a r o = absurd (y cost refl)
 is_refusal-other (NotCertified why) t f s c e w m y q p d a r o = absurd (q why refl)
 is_refusal-other (Prices k study answers) t f s c e w m y q p d a r o = absurd (p k study answers refl)
 is_refusal-other (Design k network balance) t f s c e w m y q p d a r o = absurd (d k network balance refl)
-is_refusal-other (Accepted k network balance place floor penalties) t f s c e w m y q p d a r o = absurd (a k network balance place floor penalties refl)
+is_refusal-other (Accepted k network balance place floor penalties) t f s c e w m y q p d a r o =
+    absurd (a k network balance place floor penalties refl)
 is_refusal-other (Rejected k network place reason) t f s c e w m y q p d a r o = absurd (r k network place reason refl)
 is_refusal-other (TooFine k network place step) t f s c e w m y q p d a r o = absurd (o k network place step refl)
 is_refusal-other other t f s c e w m y q p d a r o = refl
@@ -51,7 +53,8 @@ pub no_network : (shown : Shown) → IsTrue (is_of_network shown)
     → ((c : Case) (network : Network) (place : Place) (step : ℕ) → shown ≡ TooFine c network place step → ⊥)
     → ⊥
 no_network (Design k network balance) is d a r o = d k network balance refl
-no_network (Accepted k network balance place floor penalties) is d a r o = a k network balance place floor penalties refl
+no_network (Accepted k network balance place floor penalties) is d a r o =
+    a k network balance place floor penalties refl
 no_network (Rejected k network place reason) is d a r o = r k network place reason refl
 no_network (TooFine k network place step) is d a r o = o k network place step refl
 no_network other is d a r o = cc

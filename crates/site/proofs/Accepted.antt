@@ -42,7 +42,8 @@ record Fits (given : Given) : Type 0 where
 -- ---- one entry more
 
 -- a list of names that differ, with a new one
-distinct_push : {X : Type 0} (name : X → List ℕ) (xs : List X) (x : X) → AreDistinct (map name xs) → not (is_among name xs (name x)) ≡ true
+distinct_push : {X : Type 0} (name : X → List ℕ) (xs : List X) (x : X) → AreDistinct (map name xs)
+    → not (is_among name xs (name x)) ≡ true
     → AreDistinct (map name (xs ++ x ∷ []))
 distinct_push name xs x distinct new =
     rw (map-append name xs (x ∷ [])) (all_pairs_push (λ (a b : List ℕ). a ≢ b) (map name xs) (name x) distinct ((Decides-is_among name xs (name x)).0 new))
@@ -53,14 +54,16 @@ unfolding contribution_checks
 contribution_kept given row fits (_, (_, (_, (range, _)))) =
     record { contribution = passed-within _ _ _ range; plants = fits.plants; mains = fits.mains; streams = fits.streams }
 
-plant_kept : (given : Given) (row : Row) → Fits given → Passes (plant_checks given row) → Fits (with_entry given (entry.Plant (field row 1)))
+plant_kept : (given : Given) (row : Row) → Fits given → Passes (plant_checks given row)
+    → Fits (with_entry given (entry.Plant (field row 1)))
 unfolding plant_checks
 plant_kept given row fits (_, (few, (name, (new, _)))) =
     let plant : Plant = record { name = field row 1; streams = [] } in
     record {
       contribution = fits.contribution;
       plants = record {
-        names = All-push (λ (p : Plant). IsName p.name) given.plants plant fits.plants.names (passed-name (field row 1) name);
+        names =
+            All-push (λ (p : Plant). IsName p.name) given.plants plant fits.plants.names (passed-name (field row 1) name);
         distinct = distinct_push (λ (p : Plant). p.name) given.plants plant fits.plants.distinct new;
         few = omega (arith, passed-room (length given.plants) _ few, length-append given.plants (plant ∷ []));
       };
@@ -68,21 +71,25 @@ plant_kept given row fits (_, (few, (name, (new, _)))) =
       streams = rw (streams_of-plant given.plants plant, append-nil) fits.streams;
     }
 
-main_kept : (given : Given) (row : Row) → Fits given → Passes (main_checks given row) → Fits (with_entry given (entry.Main (main_in row)))
+main_kept : (given : Given) (row : Row) → Fits given → Passes (main_checks given row)
+    → Fits (with_entry given (entry.Main (main_in row)))
 unfolding main_checks
 main_kept given row fits (_, (few, (name, (new, (_, (level, _)))))) = record {
   contribution = fits.contribution;
   plants = fits.plants;
   mains = record {
-    names = All-push (λ (m : Main). IsName m.name) given.mains (main_in row) fits.mains.names (passed-name (field row 1) name);
-    levels = All-push (λ (m : Main). IsTemperature m.level) given.mains (main_in row) fits.mains.levels (passed-within _ _ _ level);
+    names =
+        All-push (λ (m : Main). IsName m.name) given.mains (main_in row) fits.mains.names (passed-name (field row 1) name);
+    levels =
+        All-push (λ (m : Main). IsTemperature m.level) given.mains (main_in row) fits.mains.levels (passed-within _ _ _ level);
     distinct = distinct_push (λ (m : Main). m.name) given.mains (main_in row) fits.mains.distinct new;
     few = omega (arith, passed-room (length given.mains) MOST_MAINS few, length-append given.mains (main_in row ∷ []));
   };
   streams = fits.streams;
 }
 
-stream_fits : (of : Side) (row : Row) → is_name (field row 1) ≡ true → not (is_reserved (field row 1)) ≡ true → Passes (stream_number_checks of row)
+stream_fits : (of : Side) (row : Row) → is_name (field row 1) ≡ true → not (is_reserved (field row 1)) ≡ true
+    → Passes (stream_number_checks of row)
     → StreamFits (stream_in of row)
 unfolding stream_number_checks
 stream_fits of row name unreserved (_, (_, (_, (supply, (target, (cp, (way, _))))))) = record {
@@ -100,7 +107,9 @@ stream_kept : (given : Given) (row : Row) (of : Side) → Fits given → Passes 
     → Fits (with_entry given (entry.Stream (stream_in of row)))
 unfolding stream_checks
 stream_kept given row of fits (_, (few, (plant, (name, (unreserved, (new, numbers)))))) =
-    let s = stream_in of row in let streams = streams_of given.plants in let some = some_plant given.plants plant in
+    let s = stream_in of row in
+    let streams = streams_of given.plants in
+    let some = some_plant given.plants plant in
     let more : StreamsFit (streams ++ s ∷ []) = record {
       each = All-push StreamFits streams s fits.streams.each (stream_fits of row name unreserved numbers);
       distinct = distinct_push (λ (t : Stream). t.name) streams s fits.streams.distinct new;
@@ -119,7 +128,8 @@ stream_kept given row of fits (_, (few, (plant, (name, (unreserved, (new, number
 
 -- ---- one row more
 
-row_kept : (given : Given) (row : Row) (k : Option Kind) → Fits given → Passes (kind_checks k given row) → Fits (with_entry given (entry_by k row))
+row_kept : (given : Given) (row : Row) (k : Option Kind) → Fits given → Passes (kind_checks k given row)
+    → Fits (with_entry given (entry_by k row))
 unfolding kind_checks
 row_kept given row None fits passes = fits
 row_kept given row (Some kind.PassedOver) fits passes = fits
@@ -157,7 +167,8 @@ record IsWhole (given : Given) : Type 0 where
 
 site_valid : (given : Given) → Fits given → IsWhole given → IsValidSite (site_of given)
 site_valid given fits whole =
-    let c = unwrap_or given.contribution (pos 0) in let streams = streams_of given.plants in
+    let c = unwrap_or given.contribution (pos 0) in
+    let streams = streams_of given.plants in
     let range = range_of given.contribution (pos 0) fits.contribution no_contribution in
     record {
       contribution = range;
@@ -166,7 +177,8 @@ site_valid given fits whole =
         distinct = rw (plant_names-with c given.plants) fits.plants.distinct;
         few = rw (length-map given.plants (plant_with c)) fits.plants.few;
       };
-      mains = record { some = whole.mains; names = fits.mains.names; levels = fits.mains.levels; distinct = fits.mains.distinct; few = fits.mains.few };
+      mains =
+          record { some = whole.mains; names = fits.mains.names; levels = fits.mains.levels; distinct = fits.mains.distinct; few = fits.mains.few };
       streams = rw (streams_of-plant_with c given.plants) (record {
         some = rw (length-map streams (with_contribution c)) whole.streams;
         each = All-map IsValidStream (with_contribution c) streams
@@ -190,6 +202,7 @@ pub site-is_valid : (rows : List Row) (site : Site) → IsSite rows site → IsV
 site-is_valid rows site is = let given = given_by grammar rows in
     rw is.value_is (site_valid given (given_has grammar Fits nothing_fits each_row_keeps rows is.sound) (whole_end (length rows) given is.complete))
 
-pub outcome_is_valid : (rows : List Row) (result : Result Site (RowFault SiteWhy)) → IsOutcome rows result → IfOk result IsValidSite
+pub outcome_is_valid : (rows : List Row) (result : Result Site (RowFault SiteWhy)) → IsOutcome rows result
+    → IfOk result IsValidSite
 outcome_is_valid rows (Ok site) is = site-is_valid rows site is
 outcome_is_valid rows (Err fault) is = tt

@@ -9,7 +9,8 @@ use Rattle.rows.proofs.PrintedRows as printed
 
 -- ---- the rows
 
-mains_printed : (mains : List Main) → All (λ m. IsName m.name) mains → All (λ m. IsTemperature m.level) mains → All IsPrintedRow (map main_row mains)
+mains_printed : (mains : List Main) → All (λ m. IsName m.name) mains → All (λ m. IsTemperature m.level) mains
+    → All IsPrintedRow (map main_row mains)
 mains_printed [] names levels = All-nil IsPrintedRow
 mains_printed (m ∷ ms) names levels =
     let kind : IsPrintedField (codes "main") = record { plain = refl; short = omega arith } in
@@ -18,7 +19,8 @@ mains_printed (m ∷ ms) names levels =
     let rest = mains_printed ms (All-tail (λ (m : Main). IsName m.name) m ms names) (All-tail (λ (m : Main). IsTemperature m.level) m ms levels) in
     All-cons IsPrintedRow (main_row m) (map main_row ms) (seven_fields _ _ _ _ _ _ _ kind name level no_field no_field no_field no_field) rest
 
-plant_printed : (plant : Plant) → IsName plant.name → All IsValidStream plant.streams → All IsPrintedRow (plant_rows plant)
+plant_printed : (plant : Plant) → IsName plant.name → All IsValidStream plant.streams
+    → All IsPrintedRow (plant_rows plant)
 plant_printed plant named valid =
     let kind : IsPrintedField (codes "plant") = record { plain = refl; short = omega arith } in
     let first = seven_fields _ _ _ _ _ _ _ kind (name_field plant.name named) no_field no_field no_field no_field no_field in
@@ -29,7 +31,8 @@ plants_printed : (plants : List Plant) → All (λ p. IsName p.name) plants → 
     → All IsPrintedRow (flat_map plant_rows plants)
 plants_printed [] names valid = All-nil IsPrintedRow
 plants_printed (p ∷ ps) names valid =
-    let Named : Plant → Type 0 = λ p. IsName p.name in let Valid : Plant → Type 0 = λ p. All IsValidStream p.streams in
+    let Named : Plant → Type 0 = λ p. IsName p.name in
+    let Valid : Plant → Type 0 = λ p. All IsValidStream p.streams in
     let own = plant_printed p (All-head Named p ps names) (All-head Valid p ps valid) in
     let rest = plants_printed ps (All-tail Named p ps names) (All-tail Valid p ps valid) in
     All-append IsPrintedRow (plant_rows p) (flat_map plant_rows ps) own rest

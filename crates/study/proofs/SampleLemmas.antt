@@ -21,21 +21,30 @@ use Rattle.study.specs.declared.limits.TheConstants.{FLOW_RATES, LEAST_HOT_TEMPE
 -- some draws, and then further ones
 pub state_after-add : (x m n : ℕ) → state_after (state_after x m) n ≡ state_after x (m + n)
 state_after-add x m zero = let e : m ≡ m + 0 = omega arith in ap (state_after x) e
-state_after-add x m (suc n) = let e : m + suc n ≡ suc (m + n) = omega arith in rw e (ap next_state (state_after-add x m n))
+state_after-add x m (suc n) =
+    let e : m + suc n ≡ suc (m + n) = omega arith in
+    rw e (ap next_state (state_after-add x m n))
 
 -- The numbers from 0 on.
 
 -- each is below their count
 pub each_below : (n : ℕ) → All (λ i. i < n) (range_with_len 0 n)
-each_below n k d within = let long = length-range_with_len 0 n in let here = get_or-range_with_len 0 n k d (omega arith) in omega (arith, here)
+each_below n k d within =
+    let long = length-range_with_len 0 n in
+    let here = get_or-range_with_len 0 n k d (omega arith) in
+    omega (arith, here)
 
 pub rising : (n : ℕ) → AllPairs (λ i j. i < j) (range_with_len 0 n)
-rising n i j d before within = let long = length-range_with_len 0 n in let first = get_or-range_with_len 0 n i d (omega arith) in
+rising n i j d before within =
+    let long = length-range_with_len 0 n in
+    let first = get_or-range_with_len 0 n i d (omega arith) in
     let second = get_or-range_with_len 0 n j d (omega arith) in omega (arith, first, second)
 
 -- one more
 pub one_more : (n : ℕ) → range_with_len 0 (n + 1) ≡ range_with_len 0 n ++ n ∷ []
-one_more n = let first : 0 + n ≡ n = omega arith in sym (range_with_len-append 0 n 1) ∙ ap (λ k. range_with_len 0 n ++ k ∷ []) first
+one_more n =
+    let first : 0 + n ≡ n = omega arith in
+    sym (range_with_len-append 0 n 1) ∙ ap (λ k. range_with_len 0 n ++ k ∷ []) first
 
 -- The names of the streams of a sample.
 
@@ -65,27 +74,38 @@ IsName-stream_name Cold n small = lettered 67 n refl small
 
 -- the second byte is a digit, so the name is not that of a utility
 second_byte : (n : ℕ) → n < 100 → get_or (decimal n) 0 0 < 58
-second_byte n small = let fits : n < 2 ^ 64 = omega arith in let first = digits n fits 0 (decimal_nonempty n fits) in omega arith
+second_byte n small =
+    let fits : n < 2 ^ 64 = omega arith in
+    let first = digits n fits 0 (decimal_nonempty n fits) in
+    omega arith
 
 unlike : (letter other n : ℕ) (rest : List ℕ) → n < 100 → 58 ≤ get_or rest 0 0 → letter ∷ decimal n ≢ other ∷ rest
 unlike letter other n rest small high same =
-    let digit = second_byte n small in let equal : get_or (decimal n) 0 0 ≡ get_or rest 0 0 = ap (λ bytes. get_or bytes 1 0) same in omega arith
+    let digit = second_byte n small in
+    let equal : get_or (decimal n) 0 0 ≡ get_or rest 0 0 = ap (λ bytes. get_or bytes 1 0) same in
+    omega arith
 
 pub IsUnreserved-stream_name : (side : Side) (n : ℕ) → n < 100 → IsUnreserved (stream_name side n)
-IsUnreserved-stream_name Hot n small = (unlike 72 72 n (codes "OT") small (omega arith), unlike 72 67 n (codes "OLD") small (omega arith))
-IsUnreserved-stream_name Cold n small = (unlike 67 72 n (codes "OT") small (omega arith), unlike 67 67 n (codes "OLD") small (omega arith))
+IsUnreserved-stream_name Hot n small =
+    (unlike 72 72 n (codes "OT") small (omega arith), unlike 72 67 n (codes "OLD") small (omega arith))
+IsUnreserved-stream_name Cold n small =
+    (unlike 67 72 n (codes "OT") small (omega arith), unlike 67 67 n (codes "OLD") small (omega arith))
 
 -- different numbers make different names
 tails_differ : (letter m n : ℕ) → m < n → n < 100 → letter ∷ decimal m ≢ letter ∷ decimal n
 tails_differ letter m n before small same =
-    let equal : decimal m ≡ decimal n = cc in let numbers = decimal_injective m n (omega arith) (omega arith) equal in omega arith
+    let equal : decimal m ≡ decimal n = cc in
+    let numbers = decimal_injective m n (omega arith) (omega arith) equal in
+    omega arith
 
 pub stream_names-differ : (side : Side) (m n : ℕ) → m < n → n < 100 → stream_name side m ≢ stream_name side n
 stream_names-differ Hot = tails_differ 72
 stream_names-differ Cold = tails_differ 67
 
 pub sides-differ : (m n : ℕ) → stream_name Hot m ≢ stream_name Cold n
-sides-differ m n same = let heads : ◌≡◌ {A = ℕ} 72 67 = ap (λ bytes. get_or bytes 0 0) same in omega (arith, heads)
+sides-differ m n same =
+    let heads : ◌≡◌ {A = ℕ} 72 67 = ap (λ bytes. get_or bytes 0 0) same in
+    omega (arith, heads)
 
 -- A sample is a valid case.
 
@@ -103,7 +123,8 @@ IsTemperature-below t small = omega (arith, ints)
 
 module _ (side : Side) (x : ℕ) where
   IsTemperature-low : IsTemperature (pos (drawn_low side x))
-  IsTemperature-low = IsTemperature-below (drawn_low side x) (let low = low_upto side (state_after x 1) in omega (arith, low))
+  IsTemperature-low =
+      IsTemperature-below (drawn_low side x) (let low = low_upto side (state_after x 1) in omega (arith, low))
 
   IsTemperature-high : IsTemperature (pos (drawn_high side x))
   IsTemperature-high =
@@ -122,7 +143,9 @@ IsValidStream-drawn Hot x number small = record {
   target = IsTemperature-low Hot x;
   heat = inl (record {
     way = let less = below (drawn_low Hot x) (draw x 1 TEMPERATURES) in omega (arith, ints, less);
-    cp = let most = flow_rate_upto (state_after x 3) in record { from = omega (arith, ints); upto = omega (arith, ints, most) };
+    cp =
+        let most = flow_rate_upto (state_after x 3) in
+        record { from = omega (arith, ints); upto = omega (arith, ints, most) };
     load = refl;
   });
   contribution = omega (arith, ints);
@@ -133,7 +156,9 @@ IsValidStream-drawn Cold x number small = record {
   target = IsTemperature-high Cold x;
   heat = inl (record {
     way = let less = below (drawn_low Cold x) (draw x 1 TEMPERATURES) in omega (arith, ints, less);
-    cp = let most = flow_rate_upto (state_after x 3) in record { from = omega (arith, ints); upto = omega (arith, ints, most) };
+    cp =
+        let most = flow_rate_upto (state_after x 3) in
+        record { from = omega (arith, ints); upto = omega (arith, ints, most) };
     load = refl;
   });
   contribution = omega (arith, ints);
@@ -150,7 +175,8 @@ module _ (side : Side) (x count : ℕ) (small : count ≤ MOST_SAMPLE_STREAMS) w
   made i = drawn_stream side (state_after x (3 * i)) (i + 1)
 
   -- what holds of each stream that is drawn
-  All-drawn : (P : Stream → Type 0) → ((y number : ℕ) → number < 100 → P (drawn_stream side y number)) → All P (drawn_streams side x count)
+  All-drawn : (P : Stream → Type 0) → ((y number : ℕ) → number < 100 → P (drawn_stream side y number))
+      → All P (drawn_streams side x count)
   All-drawn P each = All-map P made (range_with_len 0 count)
       (All-weaker (λ i. i < count) (λ i. P (made i)) (λ i less. each (state_after x (3 * i)) (i + 1) (omega arith)) (range_with_len 0 count) (each_below count))
 
@@ -163,7 +189,8 @@ module _ (side : Side) (x count : ℕ) (small : count ≤ MOST_SAMPLE_STREAMS) w
 
   names_differ : AllPairs (λ s t. s.name ≢ t.name) (drawn_streams side x count)
   names_differ = AllPairs-map (λ s t. s.name ≢ t.name) made (range_with_len 0 count) (λ i j d before within.
-      let order = rising count i j d before within in let long = length-range_with_len 0 count in
+      let order = rising count i j d before within in
+      let long = length-range_with_len 0 count in
       let second : get_or (range_with_len 0 count) j d < count = each_below count j d within in
       apart (get_or (range_with_len 0 count) i d) (get_or (range_with_len 0 count) j d) order second)
     where
@@ -173,18 +200,24 @@ module _ (side : Side) (x count : ℕ) (small : count ≤ MOST_SAMPLE_STREAMS) w
 
 -- one more
 drawn_streams-more : (side : Side) (x count : ℕ)
-    → drawn_streams side x (count + 1) ≡ drawn_streams side x count ++ drawn_stream side (state_after x (3 * count)) (count + 1) ∷ []
-drawn_streams-more side x count = map-range_with_len_more (λ i. drawn_stream side (state_after x (3 * i)) (i + 1)) 0 count count (omega arith)
+    → drawn_streams side x (count + 1)
+    ≡ drawn_streams side x count ++ drawn_stream side (state_after x (3 * count)) (count + 1) ∷ []
+drawn_streams-more side x count =
+    map-range_with_len_more (λ i. drawn_stream side (state_after x (3 * i)) (i + 1)) 0 count count (omega arith)
 
 -- one stream is appended
-pub streams_push : (side : Side) (x i : ℕ) (before old new : List Stream) (s : Stream) → old ≡ before ++ drawn_streams side x i
-    → s ≡ drawn_stream side (state_after x (3 * i)) (i + 1) → new ≡ old ++ s ∷ [] → new ≡ before ++ drawn_streams side x (i + 1)
-streams_push side x i before old new s so_far is pushed = pushed ∙ ap (λ ys. ys ++ s ∷ []) so_far ∙ append_assoc before (drawn_streams side x i) (s ∷ [])
+pub streams_push : (side : Side) (x i : ℕ) (before old new : List Stream) (s : Stream)
+    → old ≡ before ++ drawn_streams side x i
+    → s ≡ drawn_stream side (state_after x (3 * i)) (i + 1) → new ≡ old ++ s ∷ []
+    → new ≡ before ++ drawn_streams side x (i + 1)
+streams_push side x i before old new s so_far is pushed =
+    pushed ∙ ap (λ ys. ys ++ s ∷ []) so_far ∙ append_assoc before (drawn_streams side x i) (s ∷ [])
     ∙ ap (λ ys. before ++ ys) (ap (λ t. drawn_streams side x i ++ t ∷ []) is ∙ sym (drawn_streams-more side x i))
 
 -- ---- how many
 
-none_on : (f : ℕ → Stream) (of : Side) → ((i : ℕ) → same_side (f i).side of ≡ false) → (is : List ℕ) → count_on of (map f is) ≡ 0
+none_on : (f : ℕ → Stream) (of : Side) → ((i : ℕ) → same_side (f i).side of ≡ false) → (is : List ℕ)
+    → count_on of (map f is) ≡ 0
 none_on f of other is = count_by-map (λ s. same_side s.side of) f is ∙ none_by (λ i. same_side (f i).side of) other is
   where
     none_by : (p : ℕ → Bool) → ((i : ℕ) → p i ≡ false) → (is : List ℕ) → count_by p is ≡ 0
@@ -192,11 +225,13 @@ none_on f of other is = count_by-map (λ s. same_side s.side of) f is ∙ none_b
     none_by p never (i ∷ is) = sum_by-append (λ k. cond (p k) 1 0) (i ∷ []) is
         ∙ (let rest = none_by p never is in let first = never i in omega (arith, rest, ap {B = ℕ} (λ b. cond b 1 0) first))
 
-few_on : (of : Side) (x y count : ℕ) → count ≤ MOST_SAMPLE_STREAMS → count_on of (drawn_streams Hot x count ++ drawn_streams Cold y count) ≤ count
+few_on : (of : Side) (x y count : ℕ) → count ≤ MOST_SAMPLE_STREAMS
+    → count_on of (drawn_streams Hot x count ++ drawn_streams Cold y count) ≤ count
 few_on Hot x y count small =
     let both = sum_by-append (λ (s : Stream). cond (same_side s.side Hot) 1 0) (drawn_streams Hot x count) (drawn_streams Cold y count) in
     let hot = count_by-le-length (λ (s : Stream). same_side s.side Hot) (drawn_streams Hot x count) in
-    let cold = none_on (made Cold y count small) Hot (λ i. refl) (range_with_len 0 count) in omega (arith, both, hot, cold, length-drawn Hot x count small)
+    let cold = none_on (made Cold y count small) Hot (λ i. refl) (range_with_len 0 count) in
+    omega (arith, both, hot, cold, length-drawn Hot x count small)
 few_on Cold x y count small =
     let both = sum_by-append (λ (s : Stream). cond (same_side s.side Cold) 1 0) (drawn_streams Hot x count) (drawn_streams Cold y count) in
     let hot = none_on (made Hot x count small) Cold (λ i. refl) (range_with_len 0 count) in
@@ -209,12 +244,15 @@ module _ (p : ℕ → Bool) (count n : ℕ) where
   chosen_more : filter p (range_with_len 0 (n + 1)) ≡ filter p (range_with_len 0 n) ++ cond (p n) (n ∷ []) []
   chosen_more = ap (filter p) (one_more n) ∙ filter-append p (range_with_len 0 n) (n ∷ [])
 
-  pub pairs-more : p n ≡ true → map (pair_of count) (filter p (range_with_len 0 (n + 1))) ≡ map (pair_of count) (filter p (range_with_len 0 n))
+  pub pairs-more : p n ≡ true
+      → map (pair_of count) (filter p (range_with_len 0 (n + 1))) ≡ map (pair_of count) (filter p (range_with_len 0 n))
       ++ pair_of count n ∷ []
-  pairs-more holds = ap (map (pair_of count)) (chosen_more ∙ ap (λ b. filter p (range_with_len 0 n) ++ cond b (n ∷ []) []) holds)
+  pairs-more holds =
+      ap (map (pair_of count)) (chosen_more ∙ ap (λ b. filter p (range_with_len 0 n) ++ cond b (n ∷ []) []) holds)
       ∙ map-append (pair_of count) (filter p (range_with_len 0 n)) (n ∷ [])
 
-  pub pairs-pass : p n ≡ false → map (pair_of count) (filter p (range_with_len 0 (n + 1))) ≡ map (pair_of count) (filter p (range_with_len 0 n))
+  pub pairs-pass : p n ≡ false
+      → map (pair_of count) (filter p (range_with_len 0 (n + 1))) ≡ map (pair_of count) (filter p (range_with_len 0 n))
   pairs-pass fails =
       ap (map (pair_of count)) (chosen_more ∙ ap (λ b. filter p (range_with_len 0 n) ++ cond b (n ∷ []) []) fails ∙ append-nil (filter p (range_with_len 0 n)))
 
@@ -227,7 +265,8 @@ module _ (number count : ℕ) (some : 1 ≤ count) (small : count ≤ MOST_SAMPL
   abbrev colds : List Stream
   colds = drawn_streams Cold (state_after number (3 * count)) count
 
-  All-streams : (P : Stream → Type 0) → ((side : Side) (y n : ℕ) → n < 100 → P (drawn_stream side y n)) → All P (hots ++ colds)
+  All-streams : (P : Stream → Type 0) → ((side : Side) (y n : ℕ) → n < 100 → P (drawn_stream side y n))
+      → All P (hots ++ colds)
   All-streams P each =
       All-append P hots colds (All-drawn Hot number count small P (each Hot)) (All-drawn Cold (state_after number (3 * count)) count small P (each Cold))
 
@@ -236,12 +275,14 @@ module _ (number count : ℕ) (some : 1 ≤ count) (small : count ≤ MOST_SAMPL
     some = omega (arith, length-append hots colds, length-drawn Hot number count small);
     are_streams = record {
       each = All-streams IsValidStream IsValidStream-drawn;
-      few = λ side. let few = few_on side number (state_after number (3 * count)) count small in omega (arith, few);
+      few = λ side. let few = few_on side number (state_after number (3 * count)) count small in
+          omega (arith, few);
     };
   }
 
   names_differ-streams : AllPairs (λ (s t : Stream). s.name ≢ t.name) (hots ++ colds)
-  names_differ-streams = AllPairs-append (λ (s t : Stream). s.name ≢ t.name) hots colds (names_differ Hot number count small)
+  names_differ-streams =
+      AllPairs-append (λ (s t : Stream). s.name ≢ t.name) hots colds (names_differ Hot number count small)
       (names_differ Cold (state_after number (3 * count)) count small) (All-drawn Hot number count small (λ s. All (λ t. s.name ≢ t.name) colds)
       (λ x m _. All-drawn Cold (state_after number (3 * count)) count small (λ t. stream_name Hot m ≢ t.name) (λ y n _. sides-differ m n)))
 
@@ -250,12 +291,16 @@ module _ (number count : ℕ) (some : 1 ≤ count) (small : count ≤ MOST_SAMPL
       (AllPairs-map (λ a b. a ≢ b) (λ (s : Stream). s.name) (hots ++ colds) names_differ-streams)
 
   hot_side : (i : ℕ) → i < count → side_of (sample number count) (of_stream i) ≡ Some Hot
-  hot_side i within = ap (option_map (λ (s : Stream). s.side)) (slice_get-append hots colds i _ (stream_at Hot number count small i within))
+  hot_side i within =
+      ap (option_map (λ (s : Stream). s.side)) (slice_get-append hots colds i _ (stream_at Hot number count small i within))
 
-  cold_at : (i : ℕ) → i < count → slice_get (hots ++ colds) (count + i) ≡ Some (made Cold (state_after number (3 * count)) count small i)
+  cold_at : (i : ℕ) → i < count
+      → slice_get (hots ++ colds) (count + i) ≡ Some (made Cold (state_after number (3 * count)) count small i)
   cold_at i within =
-      let d = made Cold (state_after number (3 * count)) count small 0 in let long = length-append hots colds in
-      let first = length-drawn Hot number count small in let second = length-drawn Cold (state_after number (3 * count)) count small in
+      let d = made Cold (state_after number (3 * count)) count small 0 in
+      let long = length-append hots colds in
+      let first = length-drawn Hot number count small in
+      let second = length-drawn Cold (state_after number (3 * count)) count small in
       let place : count + i ≡ length hots + i = omega arith in
       rw place (slice_get-get_or (hots ++ colds) (length hots + i) d (omega arith) ∙ ap Some
       (get_or-append-add hots colds i d ∙ get_or-map-range_with_len (made Cold (state_after number (3 * count)) count small) 0 count i i d within
@@ -275,7 +320,8 @@ module _ (number count : ℕ) (some : 1 ≤ count) (small : count ≤ MOST_SAMPL
   few-pairs : length (map (pair_of count) chosen) ≤ count
   few-pairs =
       let p = λ (i : ℕ). draw (state_after number (6 * count)) i FORBID_CHANCE == 0 in
-      let kept = length-filter p (range_with_len 0 count) in let most = count_by-le-length p (range_with_len 0 count) in
+      let kept = length-filter p (range_with_len 0 count) in
+      let most = count_by-le-length p (range_with_len 0 count) in
       omega (arith, length-map chosen (pair_of count), kept, most, length-range_with_len 0 count)
 
   pairs-distinct : AllPairs (λ (f g : Forbid). f ≢ g) (map (pair_of count) chosen)
@@ -285,7 +331,10 @@ module _ (number count : ℕ) (some : 1 ≤ count) (small : count ≤ MOST_SAMPL
       (rising count) i j d before within))
     where
       apart : (i j : ℕ) → i < j → pair_of count i ≢ pair_of count j
-      apart i j less same = let hots : of_stream i ≡ of_stream j = ap (λ (f : Forbid). f.hot) same in let equal : i ≡ j = cc in omega arith
+      apart i j less same =
+          let hots : of_stream i ≡ of_stream j = ap (λ (f : Forbid). f.hot) same in
+          let equal : i ≡ j = cc in
+          omega arith
 
   pub IsValid-sample : IsValid (sample number count)
   IsValid-sample = record {
@@ -308,11 +357,13 @@ module _ (number count : ℕ) (some : 1 ≤ count) (small : count ≤ MOST_SAMPL
 pub IsSupplied-sample : (number count : ℕ) → IsSupplied (completed_sample number count)
 IsSupplied-sample number count = record {
   utilities = inl refl;
-  joins_streams = All-map JoinsStreams (pair_of count) (filter (λ i. draw (state_after number (6 * count)) i FORBID_CHANCE == 0) (range_with_len 0 count))
+  joins_streams =
+      All-map JoinsStreams (pair_of count) (filter (λ i. draw (state_after number (6 * count)) i FORBID_CHANCE == 0) (range_with_len 0 count))
       (λ k d within. (refl, refl));
 }
 
-pub IsComplete-sample : (number count : ℕ) → 1 ≤ count → count ≤ MOST_SAMPLE_STREAMS → IsComplete (completed_sample number count)
+pub IsComplete-sample : (number count : ℕ) → 1 ≤ count → count ≤ MOST_SAMPLE_STREAMS
+    → IsComplete (completed_sample number count)
 IsComplete-sample number count some few = (sample number count, IsValid-sample number count some few, refl)
 
 same_row : (row other : SampleRow) → row.hot ≡ other.hot → row.cold ≡ other.cold → row.cost ≡ other.cost → row ≡ other

@@ -20,25 +20,30 @@ use Rattle.stream_case.specs.declared.source.Side.TheVariants as side
 
 pub heat_below-between : (t : ℤ) (s : Stream) → IsValidStream s → IsStreamHeat (heat_below t s)
 heat_below-between t s h =
-    let range = range-length s h in let ends = AreEnds-IsValidStream s h in
+    let range = range-length s h in
+    let ends = AreEnds-IsValidStream s h in
     let heat = heat-between s (length_below (low_end s) (high_end s) t) h (record { from = omega (arith, ints, clamps); upto = omega (arith, ints, clamps) }) in
     record { from = heat.from; upto = omega (arith, ints, heat.upto) }
 
 -- all of it lies below a temperature that is not below its range, and none below one that is not above it
 pub heat_below-all : (t : ℤ) (s : Stream) → IsSensibleStream s → high_end s ≤ℤ t → heat_below t s ≡ heat_of s
 heat_below-all t s h above =
-    let ends = AreEnds-IsValidStream s h.valid in let whole : length_below (low_end s) (high_end s) t ≡ high_end s -ℤ low_end s = omega (arith, ints, clamps) in
+    let ends = AreEnds-IsValidStream s h.valid in
+    let whole : length_below (low_end s) (high_end s) t ≡ high_end s -ℤ low_end s = omega (arith, ints, clamps) in
     ap (λ l. s.cp *ℤ l) whole ∙ sym (heat_of-sensible s h.sensible)
 
 heat_below-none : (t : ℤ) (s : Stream) → IsSensibleStream s → t ≤ℤ low_end s → heat_below t s ≡ pos 0
 heat_below-none t s h under =
-    let ends = AreEnds-IsValidStream s h.valid in let nothing : length_below (low_end s) (high_end s) t ≡ pos 0 = omega (arith, ints, clamps) in
+    let ends = AreEnds-IsValidStream s h.valid in
+    let nothing : length_below (low_end s) (high_end s) t ≡ pos 0 = omega (arith, ints, clamps) in
     ap (λ l. s.cp *ℤ l) nothing ∙ *ℤ-zero s.cp
 
 -- the heat below and that above are all of it
 pub below_and_above : (t : ℤ) (s : Stream) → IsSensibleStream s → heat_of s ≡ heat_below t s +ℤ heat_above t s
 below_and_above t s h =
-    let ends = AreEnds-IsValidStream s h.valid in let below = length_below (low_end s) (high_end s) t in let above = length_above (low_end s) (high_end s) t in
+    let ends = AreEnds-IsValidStream s h.valid in
+    let below = length_below (low_end s) (high_end s) t in
+    let above = length_above (low_end s) (high_end s) t in
     let parts : high_end s -ℤ low_end s ≡ below +ℤ above = omega (arith, ints, clamps) in
     heat_of-sensible s h.sensible ∙ ap (λ l. s.cp *ℤ l) parts ∙ *ℤ-+ℤ s.cp below above
     ∙ ap (λ z. heat_below t s +ℤ z) (sym (heat_over-sensible false t s h.sensible))
@@ -49,7 +54,8 @@ heat_below-le t s h = omega (arith, ints, below_and_above t s h, (heat_over-betw
 -- ---- sums
 
 -- where f is g and c times h for each stream of a side, so it is in their sums
-pub sum_side-linear : (of : Side) (f g h : Stream → ℤ) (c : ℤ) (streams : List Stream) → All (λ s. same_side s.side of ≡ true → f s ≡ g s +ℤ h s *ℤ c) streams
+pub sum_side-linear : (of : Side) (f g h : Stream → ℤ) (c : ℤ) (streams : List Stream)
+    → All (λ s. same_side s.side of ≡ true → f s ≡ g s +ℤ h s *ℤ c) streams
     → sum_side of f streams ≡ sum_side of g streams +ℤ sum_side of h streams *ℤ c
 sum_side-linear of f g h c [] each = omega (arith, ints)
 sum_side-linear of f g h c (s ∷ ss) each =
@@ -61,7 +67,9 @@ sum_side-linear of f g h c (s ∷ ss) each =
     by : (b : Bool) → (b ≡ true → f s ≡ g s +ℤ h s *ℤ c) → sum_side of f ss ≡ sum_side of g ss +ℤ sum_side of h ss *ℤ c
         → (if b then f s else pos 0) +ℤ sum_side of f ss
         ≡ ((if b then g s else pos 0) +ℤ sum_side of g ss) +ℤ ((if b then h s else pos 0) +ℤ sum_side of h ss) *ℤ c
-    by true first rest = let own = first refl in omega (arith, ints, own, rest, +ℤ-*ℤ (h s) (sum_side of h ss) c)
+    by true first rest =
+        let own = first refl in
+        omega (arith, ints, own, rest, +ℤ-*ℤ (h s) (sum_side of h ss) c)
     by false first rest = omega (arith, ints, rest, +ℤ-*ℤ (pos 0) (sum_side of h ss) c)
 
 -- ---- a whole curve
@@ -120,7 +128,8 @@ positive_part-ratio m d some =
     (λ above. let more = positive_from_ratio m d some above in let same : m ≡ int_max m (pos 0) = omega (arith, ints, clamps) in ap (λ z. ratio z d) same)
     (λ upto.
     let most = at_most_from_ratio m (pos 0) d some (subst (IsAtMost (ratio m d)) (sym (ratio-zero d)) upto) in
-    let none : pos 0 ≡ int_max m (pos 0) = omega (arith, ints, clamps) in sym (ratio-zero d) ∙ ap (λ z. ratio z d) none)
+    let none : pos 0 ≡ int_max m (pos 0) = omega (arith, ints, clamps) in
+    sym (ratio-zero d) ∙ ap (λ z. ratio z d) none)
 
 module _ (d : ℕ) (some : 0 < d) where
   distance-ratio : (n x : ℤ) → positive_part (minus (ratio n d) (whole x)) ≡ ratio (distance_above n (x *ℤ pos d)) d
@@ -128,12 +137,15 @@ module _ (d : ℕ) (some : 0 < d) where
       ap positive_part (ap (minus (ratio n d)) (sym (ratio-multiple x d some)) ∙ minus-ratio_same_den n (x *ℤ pos d) d)
       ∙ positive_part-ratio (n -ℤ x *ℤ pos d) d some
 
-  stream_heat-ratio : (n : ℤ) (s : Stream) → IsSensibleStream s → stream_heat (ratio n d) s ≡ ratio (parts_below d n s) d
+  stream_heat-ratio : (n : ℤ) (s : Stream) → IsSensibleStream s
+      → stream_heat (ratio n d) s ≡ ratio (parts_below d n s) d
   stream_heat-ratio n s h =
       let ends = ap₂ minus (distance-ratio n (low_end s)) (distance-ratio n (high_end s)) in
-      let range : range_below (ratio n d) s ≡ ratio (length_parts d n s) d = ends ∙ minus-ratio_same_den _ _ d in let one : 1 * d ≡ d = omega arith in
+      let range : range_below (ratio n d) s ≡ ratio (length_parts d n s) d = ends ∙ minus-ratio_same_den _ _ d in
+      let one : 1 * d ≡ d = omega arith in
       let size = full_size-sensible s h.sensible ∙ sym (ratio-one s.cp) in
-      ap₂ times size range ∙ times-ratio s.cp (length_parts d n s) 1 d (omega arith) some ∙ ap (ratio (parts_below d n s)) one
+      ap₂ times size range ∙ times-ratio s.cp (length_parts d n s) 1 d (omega arith) some
+      ∙ ap (ratio (parts_below d n s)) one
 
   -- the heat of the curve at n/d
   pub curve_heat-ratio : (of : Side) (streams : List Stream) (n : ℤ) → All IsSensibleStream streams
@@ -156,18 +168,22 @@ module _ (d : ℕ) (some : 0 < d) where
 -- ---- at whole temperatures
 
 -- the curve is the one of the axis
-pub whole_heat : (of : Side) (streams : List Stream) (t : ℤ) → All IsSensibleStream streams → curve_heat of streams (whole t) ≡ whole (heat_at of streams t)
+pub whole_heat : (of : Side) (streams : List Stream) (t : ℤ) → All IsSensibleStream streams
+    → curve_heat of streams (whole t) ≡ whole (heat_at of streams t)
 whole_heat of streams t valid =
-    let one : (s : Stream) → length_parts 1 (t *ℤ pos 1) s ≡ length_below (low_end s) (high_end s) t = λ s. omega (arith, ints, clamps) in
+    let one : (s : Stream) → length_parts 1 (t *ℤ pos 1) s ≡ length_below (low_end s) (high_end s) t
+    = λ s. omega (arith, ints, clamps) in
     let sums = sum_side-same of (parts_below 1 (t *ℤ pos 1)) (heat_below t) streams (λ k o within. let s = get_or streams k o in ap (λ l. s.cp *ℤ l) (one s)) in
     let is : curve_parts 1 of streams (t *ℤ pos 1) ≡ heat_at of streams t = omega (arith, ints, sums) in
-    ap (curve_heat of streams) (sym (ratio-multiple t 1 (omega arith))) ∙ curve_heat-ratio 1 (omega arith) of streams (t *ℤ pos 1) valid
+    ap (curve_heat of streams) (sym (ratio-multiple t 1 (omega arith)))
+    ∙ curve_heat-ratio 1 (omega arith) of streams (t *ℤ pos 1) valid
     ∙ ap (λ z. ratio z 1) is ∙ ratio-one (heat_at of streams t)
 
 pub curve_parts-whole : (d : ℕ) (of : Side) (streams : List Stream) (t : ℤ) → 0 < d → All IsSensibleStream streams
     → curve_parts d of streams (t *ℤ pos d) ≡ heat_at of streams t *ℤ pos d
 curve_parts-whole d of streams t some valid =
-    let parts = curve_parts d of streams (t *ℤ pos d) in let heat = heat_at of streams t *ℤ pos d in
+    let parts = curve_parts d of streams (t *ℤ pos d) in
+    let heat = heat_at of streams t *ℤ pos d in
     *ℤ_cancel_right (pos d) parts heat (pos_above d some) (same_from_ratio parts heat d d some some
     (sym (curve_heat-ratio d some of streams (t *ℤ pos d) valid) ∙ ap (curve_heat of streams) (ratio-multiple t d some)
     ∙ whole_heat of streams t valid ∙ sym (ratio-multiple (heat_at of streams t) d some)))
@@ -189,17 +205,21 @@ module _ (d : ℕ) where
       (All-weaker IsSensibleStream (λ s. parts_below d n s ≤ℤ parts_below d m s) (parts_rise n m upto) streams valid) in omega (arith, ints, sums)
 
   -- strictly where a stream of the side has a part of its range
-  pub curve_rises_along : 0 < d → (streams : List Stream) (n m : ℤ) (r : Stream) → All IsSensibleStream streams → Contains streams r
-      → n <ℤ m → low_parts d r <ℤ m → n <ℤ high_parts d r → curve_parts d r.side streams n <ℤ curve_parts d r.side streams m
+  pub curve_rises_along : 0 < d → (streams : List Stream) (n m : ℤ) (r : Stream)
+      → All IsSensibleStream streams → Contains streams r
+      → n <ℤ m → low_parts d r <ℤ m → n <ℤ high_parts d r
+      → curve_parts d r.side streams n <ℤ curve_parts d r.side streams m
   curve_rises_along some streams n m r valid member less from upto =
       strictly (curve_parts d r.side streams n) (curve_parts d r.side streams m) (curve_rises r.side streams n m valid (omega (arith, ints, less))) (λ same.
       let term = λ (x : ℤ) (s : Stream). if same_side s.side r.side then parts_below d x s else pos 0 in
       let rise = All-weaker IsSensibleStream (λ s. term n s ≤ℤ term m s)
       (λ s h. either (same_side s.side r.side) (parts_rise n m (omega (arith, ints, less)) s h)) streams valid in
       let equal = int_sum_by-equal (term n) (term m) streams rise (omega (arith, ints, same)) in
-      let own : parts_below d n r ≡ parts_below d m r = rw own_side at (All-contains (λ s. term n s ≡ term m s) streams r equal member) in
+      let own : parts_below d n r ≡ parts_below d m r
+      = rw own_side at (All-contains (λ s. term n s ≡ term m s) streams r equal member) in
       let h = All-contains IsSensibleStream streams r valid member in
-      let order = *ℤ-<ℤ_right (pos d) (low_end r) (high_end r) (pos_above d some) (order-sensible r h.sensible) in let here = length_parts d n r in
+      let order = *ℤ-<ℤ_right (pos d) (low_end r) (high_end r) (pos_above d some) (order-sensible r h.sensible) in
+      let here = length_parts d n r in
       let there = length_parts d m r in
       let more = product_positive r.cp (there -ℤ here) (omega (arith, ints, h.sensible.cp.from)) (omega (arith, ints, clamps, from, less, upto, order)) in
       omega (arith, ints, own, more, *ℤ--ℤ r.cp there here))
@@ -222,7 +242,9 @@ module _ (f on back left : ℤ → ℤ) (returns : (n : ℤ) → back (on n) ≡
   never_falls : (k : ℕ) (n : ℤ) → left n ≤ℤ pos k → f n <ℤ pos 0 → f n ≤ℤ f (back n) → ⊥
   never_falls zero n near below falls = let end = last n near in omega (arith, ints, end, below)
   never_falls (suc k) n near below falls =
-      let line = straight n below in let same = ap f (returns n) in let next = nearer n in
+      let line = straight n below in
+      let same = ap f (returns n) in
+      let next = nearer n in
       never_falls k (on n) (omega (arith, ints)) (omega (arith, ints)) (omega (arith, ints))
 
 -- ---- at whole temperatures
@@ -240,13 +262,16 @@ module _ (streams : List Stream) (are : AreSensibleStreams streams) where
       omega (arith, ints, both side.Hot, both side.Cold, hot_target-bound streams t member)
 
   ends_ordered : All (λ s. IsOrdered (high_end s) × IsOrdered (low_end s)) streams
-  ends_ordered = each_end IsOrdered streams (λ k o within. ordered_at_end (get_or (stream_ends streams) k o) (Contains-get_or (stream_ends streams) k o within))
+  ends_ordered =
+      each_end IsOrdered streams (λ k o within. ordered_at_end (get_or (stream_ends streams) k o) (Contains-get_or (stream_ends streams) k o within))
 
   lowest_ordered : IsOrdered LOWEST_SHIFTED
-  lowest_ordered = omega (arith, ints, curve_begins side.Hot streams are, curve_begins side.Cold streams are, (cold_target-within streams are.are).from)
+  lowest_ordered =
+      omega (arith, ints, curve_begins side.Hot streams are, curve_begins side.Cold streams are, (cold_target-within streams are.are).from)
 
   highest_ordered : IsOrdered HIGHEST_SHIFTED
-  highest_ordered = omega (arith, ints, curve_ends side.Hot streams are, curve_ends side.Cold streams are, (hot_target-within streams are.are).from)
+  highest_ordered =
+      omega (arith, ints, curve_ends side.Hot streams are, curve_ends side.Cold streams are, (hot_target-within streams are.are).from)
 
   -- ---- in parts
 
@@ -261,7 +286,8 @@ module _ (streams : List Stream) (are : AreSensibleStreams streams) where
         omega (arith, ints, whole side.Hot, whole side.Cold, scaled d (heat_at side.Hot streams t) (heat_at side.Cold streams t) order)
 
     -- and where each stream has the same range below it
-    more_like : (n t : ℤ) → IsOrdered t → ((s : Stream) → IsSensibleStream s → length_parts d n s ≡ length_parts d (t *ℤ pos d) s) → pos 0 ≤ℤ more n
+    more_like : (n t : ℤ) → IsOrdered t
+        → ((s : Stream) → IsSensibleStream s → length_parts d n s ≡ length_parts d (t *ℤ pos d) s) → pos 0 ≤ℤ more n
     more_like n t order lengths =
         let same = λ (of : Side). sum_side-same of (parts_below d n) (parts_below d (t *ℤ pos d)) streams
         (All-weaker IsSensibleStream (λ s. parts_below d n s ≡ parts_below d (t *ℤ pos d) s) (λ s h. ap (λ l. s.cp *ℤ l) (lengths s h)) streams are.each) in
@@ -277,24 +303,31 @@ module _ (streams : List Stream) (are : AreSensibleStreams streams) where
 
     -- away from the ends of all streams each step of a curve is like the one before it
     curve-straight : (of : Side) (n : ℤ) → All (λ s. (n ≡ high_parts d s → ⊥) × (n ≡ low_parts d s → ⊥)) streams
-        → curve_parts d of streams (n +ℤ pos 1) +ℤ curve_parts d of streams (n -ℤ pos 1) ≡ curve_parts d of streams n +ℤ curve_parts d of streams n
+        → curve_parts d of streams (n +ℤ pos 1) +ℤ curve_parts d of streams (n -ℤ pos 1)
+        ≡ curve_parts d of streams n +ℤ curve_parts d of streams n
     curve-straight of n clear =
-        let here = parts_below d n in let last = parts_below d (n -ℤ pos 1) in let step = λ (s : Stream). here s -ℤ last s in
+        let here = parts_below d n in
+        let last = parts_below d (n -ℤ pos 1) in
+        let step = λ (s : Stream). here s -ℤ last s in
         let next = sum_side-linear of (parts_below d (n +ℤ pos 1)) here step (pos 1) streams
         (λ k o within own. stays (get_or streams k o) (are.each k o within) (clear k o within)) in
         omega (arith, ints, sum_side-linear of here last step (pos 1) streams (λ k o within own. omega (arith, ints)), next)
       where
         stays : (s : Stream) → IsSensibleStream s → (n ≡ high_parts d s → ⊥) × (n ≡ low_parts d s → ⊥)
-            → parts_below d (n +ℤ pos 1) s ≡ parts_below d n s +ℤ (parts_below d n s -ℤ parts_below d (n -ℤ pos 1) s) *ℤ pos 1
+            → parts_below d (n +ℤ pos 1) s
+            ≡ parts_below d n s +ℤ (parts_below d n s -ℤ parts_below d (n -ℤ pos 1) s) *ℤ pos 1
         stays s h clear =
-            let here = length_parts d n s in let last = length_parts d (n -ℤ pos 1) s in
-            let next : length_parts d (n +ℤ pos 1) s ≡ here +ℤ (here -ℤ last) = omega (arith, ints, clamps, ends_order d s h, clear.0, clear.1) in
+            let here = length_parts d n s in
+            let last = length_parts d (n -ℤ pos 1) s in
+            let next : length_parts d (n +ℤ pos 1) s ≡ here +ℤ (here -ℤ last)
+            = omega (arith, ints, clamps, ends_order d s h, clear.0, clear.1) in
             omega (arith, ints, ap (λ l. s.cp *ℤ l) next, *ℤ-+ℤ s.cp here (here -ℤ last), *ℤ--ℤ s.cp here last)
 
     more-straight : (n : ℤ) → more n <ℤ pos 0 → more (n +ℤ pos 1) +ℤ more (n -ℤ pos 1) ≡ more n +ℤ more n
     more-straight n below =
         let away : (t : ℤ) → IsOrdered t → n ≡ t *ℤ pos d → ⊥ =
-        λ t order same. let here = subst (λ m. pos 0 ≤ℤ more m) (sym same) (more_at t order) in omega (arith, ints, here, below) in
+        λ t order same. let here = subst (λ m. pos 0 ≤ℤ more m) (sym same) (more_at t order) in
+        omega (arith, ints, here, below) in
         let clear = All-weaker (λ s. IsOrdered (high_end s) × IsOrdered (low_end s)) (λ s. (n ≡ high_parts d s → ⊥) × (n ≡ low_parts d s → ⊥))
         (λ s both. (away (high_end s) both.0, away (low_end s) both.1)) streams ends_ordered in
         omega (arith, ints, curve-straight side.Hot n clear, curve-straight side.Cold n clear)
@@ -306,7 +339,8 @@ module _ (streams : List Stream) (are : AreSensibleStreams streams) where
         (int_lt_cases (more n) (pos 0))
       where
         up : more n <ℤ pos 0 → more n ≤ℤ more (n -ℤ pos 1) → ⊥
-        up = never_falls more (λ m. m +ℤ pos 1) (λ m. m -ℤ pos 1) (λ m. HIGHEST_SHIFTED *ℤ pos d -ℤ m) (λ m. omega (arith, ints)) (λ m. omega (arith, ints))
+        up =
+            never_falls more (λ m. m +ℤ pos 1) (λ m. m -ℤ pos 1) (λ m. HIGHEST_SHIFTED *ℤ pos d -ℤ m) (λ m. omega (arith, ints)) (λ m. omega (arith, ints))
             (λ m near. behind_all m (omega (arith, ints, near))) more-straight (unsigned_abs (HIGHEST_SHIFTED *ℤ pos d -ℤ n)) n (omega (arith, ints))
 
         down : more n <ℤ pos 0 → more (n -ℤ pos 1) <ℤ more n → ⊥
@@ -317,7 +351,8 @@ module _ (streams : List Stream) (are : AreSensibleStreams streams) where
 
 -- Between two neighbouring cuts of the heat axis the curve of a side is straight: every stream that runs there takes part in all of it.
 
-pub heat_rises : (of : Side) (streams : List Stream) (t u : ℤ) → All IsSensibleStream streams → t ≤ℤ u → heat_at of streams t ≤ℤ heat_at of streams u
+pub heat_rises : (of : Side) (streams : List Stream) (t u : ℤ) → All IsSensibleStream streams → t ≤ℤ u
+    → heat_at of streams t ≤ℤ heat_at of streams u
 heat_rises of streams t u valid upto =
     let whole = λ (x : ℤ). curve_parts-whole 1 of streams x (omega arith) valid in
     omega (arith, ints, curve_rises 1 of streams (t *ℤ pos 1) (u *ℤ pos 1) valid (omega (arith, ints, upto)), whole t, whole u)
@@ -327,7 +362,9 @@ heat_rises of streams t u valid upto =
 module _ (f : ℤ → ℤ) where
   -- a place up to which it is at most c, and behind which it is above
   crossing : (c : ℤ) (n : ℕ) (t : ℤ) → f t ≤ℤ c → c <ℤ f (t +ℤ pos n) → (u : ℤ) × (f u ≤ℤ c) × (c <ℤ f (u +ℤ pos 1))
-  crossing c zero t upto above = let same = ap f {x = t +ℤ pos 0} {y = t} (omega (arith, ints)) in absurd (omega (arith, ints, same, upto, above))
+  crossing c zero t upto above =
+      let same = ap f {x = t +ℤ pos 0} {y = t} (omega (arith, ints)) in
+      absurd (omega (arith, ints, same, upto, above))
   crossing c (suc n) t upto above =
       let next : t +ℤ pos (suc n) ≡ t +ℤ pos 1 +ℤ pos n = omega (arith, ints) in
       ⊎_elim (λ here. (t, upto, here)) (λ further. crossing c n (t +ℤ pos 1) further (subst (λ x. c <ℤ f x) next above)) (int_lt_cases c (f (t +ℤ pos 1)))
@@ -343,14 +380,19 @@ module _ (f : ℤ → ℤ) where
 
     module _ (gap : low <ℤ high) (rises : (t u : ℤ) → t ≤ℤ u → f t ≤ℤ f u) where
       apart : (t u : ℤ) → f t ≤ℤ low → high ≤ℤ f u → t <ℤ u
-      apart t u from upto = ⊎_elim (λ less. less) (λ back. let fall = rises u t back in absurd (omega (arith, ints))) (int_lt_cases t u)
+      apart t u from upto =
+          ⊎_elim (λ less. less) (λ back. let fall = rises u t back in absurd (omega (arith, ints))) (int_lt_cases t u)
 
       segment : (t u : ℤ) → f t ≤ℤ low → high ≤ℤ f u → (begin : ℤ) × (end : ℤ) × IsSegment begin end
       segment t u from upto =
-          let order = apart t u from upto in let n = unsigned_abs (u -ℤ t) in let there = ap f {x = t +ℤ pos n} {y = u} (omega (arith, ints)) in
+          let order = apart t u from upto in
+          let n = unsigned_abs (u -ℤ t) in
+          let there = ap f {x = t +ℤ pos n} {y = u} (omega (arith, ints)) in
           let (begin, begin_is, behind) = crossing low n t from (omega (arith, ints)) in
-          let (last, last_is, end_is) = crossing (high -ℤ pos 1) n t (omega (arith, ints)) (omega (arith, ints)) in let end = last +ℤ pos 1 in
-          let upto_end : high ≤ℤ f end = omega (arith, ints) in let begun : (x : ℤ) → f x ≤ℤ low → x ≤ℤ begin = λ x under.
+          let (last, last_is, end_is) = crossing (high -ℤ pos 1) n t (omega (arith, ints)) (omega (arith, ints)) in
+          let end = last +ℤ pos 1 in
+          let upto_end : high ≤ℤ f end = omega (arith, ints) in
+          let begun : (x : ℤ) → f x ≤ℤ low → x ≤ℤ begin = λ x under.
           ⊎_elim (λ far. let rise = rises (begin +ℤ pos 1) x (omega (arith, ints)) in absurd (omega (arith, ints))) (λ le. le) (int_lt_cases begin x) in
           let ended : (x : ℤ) → high ≤ℤ f x → end ≤ℤ x = λ x above.
           ⊎_elim (λ far. let rise = rises x last (omega (arith, ints)) in absurd (omega (arith, ints))) (λ le. le) (int_lt_cases x end) in
@@ -379,7 +421,8 @@ module _ (of : Side) (streams : List Stream) (are : AreSensibleStreams streams) 
 
   -- the flow of a stream that runs between the cuts, and of all of them
   abbrev pub running_flow : Stream → ℤ
-  running_flow s = if int_le (heat_at of streams (low_end s)) low && int_le high (heat_at of streams (high_end s)) then s.cp else pos 0
+  running_flow s =
+      if int_le (heat_at of streams (low_end s)) low && int_le high (heat_at of streams (high_end s)) then s.cp else pos 0
 
   abbrev pub flow_running : ℤ
   flow_running = sum_side of running_flow streams
@@ -398,27 +441,34 @@ module _ (of : Side) (streams : List Stream) (are : AreSensibleStreams streams) 
       abbrev parts_here : Stream → Type 0
       parts_here s = parts_below d m s ≡ parts_below d (begin *ℤ pos d) s +ℤ running_flow s *ℤ (m -ℤ begin *ℤ pos d)
 
-      stream_line : (s : Stream) → IsSensibleStream s → IsOutside low high (heat (low_end s)) → IsOutside low high (heat (high_end s)) → parts_here s
+      stream_line : (s : Stream) → IsSensibleStream s → IsOutside low high (heat (low_end s))
+          → IsOutside low high (heat (high_end s)) → parts_here s
       stream_line s h (inl under) (inr over) =
-          let one = scaled d (low_end s) begin (is.begun (low_end s) under) in let other = scaled d end (high_end s) (is.ended (high_end s) over) in
-          let moved : length_parts d m s ≡ length_parts d (begin *ℤ pos d) s +ℤ (m -ℤ begin *ℤ pos d) = omega (arith, ints, clamps, one, other, from, upto) in
+          let one = scaled d (low_end s) begin (is.begun (low_end s) under) in
+          let other = scaled d end (high_end s) (is.ended (high_end s) over) in
+          let moved : length_parts d m s ≡ length_parts d (begin *ℤ pos d) s +ℤ (m -ℤ begin *ℤ pos d)
+          = omega (arith, ints, clamps, one, other, from, upto) in
           rw (int_le-from (heat (low_end s)) low under, int_le-from high (heat (high_end s)) over)
           (ap (λ l. s.cp *ℤ l) moved ∙ *ℤ-+ℤ s.cp (length_parts d (begin *ℤ pos d) s) (m -ℤ begin *ℤ pos d))
       stream_line s h (inl under) (inl before) =
-          let one = scaled d (low_end s) begin (is.begun (low_end s) under) in let other = scaled d (high_end s) begin (is.begun (high_end s) before) in
-          let still : length_parts d m s ≡ length_parts d (begin *ℤ pos d) s = omega (arith, ints, clamps, one, other, from) in
+          let one = scaled d (low_end s) begin (is.begun (low_end s) under) in
+          let other = scaled d (high_end s) begin (is.begun (high_end s) before) in
+          let still : length_parts d m s ≡ length_parts d (begin *ℤ pos d) s
+          = omega (arith, ints, clamps, one, other, from) in
           rw (int_le-from (heat (low_end s)) low under, int_le-false high (heat (high_end s)) (omega (arith, ints, before, gap)))
           (omega (arith, ints, ap (λ l. s.cp *ℤ l) still))
       stream_line s h (inr over) any =
           let one = scaled d end (low_end s) (is.ended (low_end s) over) in
-          let still : length_parts d m s ≡ length_parts d (begin *ℤ pos d) s = omega (arith, ints, clamps, one, ends_order d s h, from, upto) in
+          let still : length_parts d m s ≡ length_parts d (begin *ℤ pos d) s
+          = omega (arith, ints, clamps, one, ends_order d s h, from, upto) in
           rw (int_le-false (heat (low_end s)) low (omega (arith, ints, over, gap))) (omega (arith, ints, ap (λ l. s.cp *ℤ l) still))
 
       -- the curve rises by the flow of what runs
       pub line : curve_parts d of streams m ≡ heat_at of streams begin *ℤ pos d +ℤ flow_running *ℤ (m -ℤ begin *ℤ pos d)
       line =
           let sums = sum_side-linear of (parts_below d m) (parts_below d (begin *ℤ pos d)) running_flow (m -ℤ begin *ℤ pos d) streams (λ k o within own.
-          let free = none k o within own in stream_line (get_or streams k o) (are.each k o within) free.low_outside free.high_outside) in
+          let free = none k o within own in
+          stream_line (get_or streams k o) (are.each k o within) free.low_outside free.high_outside) in
           omega (arith, ints, sums, curve_parts-whole d of streams begin some are.each)
 
     -- something runs
@@ -443,7 +493,8 @@ module _ (streams : List Stream) (are : AreSensibleStreams streams) where
     -- a curve rises where a stream has a part of its range
     abbrev RisesAlong : Rational → Rational → Type 0
     RisesAlong t u =
-        IsBelow t u → IsBelow (whole (low_end r)) u → IsBelow t (whole (high_end r)) → IsBelow (curve_heat r.side streams t) (curve_heat r.side streams u)
+        IsBelow t u → IsBelow (whole (low_end r)) u → IsBelow t (whole (high_end r))
+        → IsBelow (curve_heat r.side streams t) (curve_heat r.side streams u)
 
     rises_along : (t u : Rational) → RisesAlong t u
     rises_along = by_two RisesAlong (λ n m d some less from upto.
@@ -463,20 +514,24 @@ module _ (streams : List Stream) (are : AreSensibleStreams streams) where
         below_not_same (curve_heat side.Hot streams hot) (curve_heat side.Cold streams cold)
         (at_most_below_trans (curve_heat side.Hot streams hot) (curve_heat side.Cold streams hot) (curve_heat side.Cold streams cold) (in_order hot) rise) same
 
-    pub approach_below : (hot cold : Rational) → r.side ≡ side.Cold → IsBelow (whole (low_end r)) cold → IsAtMost cold (whole (high_end r))
+    pub approach_below : (hot cold : Rational) → r.side ≡ side.Cold → IsBelow (whole (low_end r)) cold
+        → IsAtMost cold (whole (high_end r))
         → curve_heat side.Hot streams hot ≡ curve_heat side.Cold streams cold → IsAtMost cold hot
     approach_below hot cold on_side from upto same = at_most_from_not_below hot cold (λ less.
         clash hot cold same r.side (rises_along hot cold less from (below_at_most_trans hot cold (whole (high_end r)) less upto)))
 
-    pub approach_above : (hot cold : Rational) → r.side ≡ side.Hot → IsAtMost (whole (low_end r)) hot → IsBelow hot (whole (high_end r))
+    pub approach_above : (hot cold : Rational) → r.side ≡ side.Hot → IsAtMost (whole (low_end r)) hot
+        → IsBelow hot (whole (high_end r))
         → curve_heat side.Hot streams hot ≡ curve_heat side.Cold streams cold → IsAtMost cold hot
     approach_above hot cold on_side from upto same = at_most_from_not_below hot cold (λ less.
         clash hot cold same r.side (rises_along hot cold less (at_most_below_trans (whole (low_end r)) hot cold from less) upto))
 
     -- two temperatures of a stream's range with one heat on its curve are one
     pub one_place : (t u : Rational) → IsAtMost (whole (low_end r)) t → IsAtMost t (whole (high_end r))
-        → IsAtMost (whole (low_end r)) u → IsAtMost u (whole (high_end r)) → curve_heat r.side streams t ≡ curve_heat r.side streams u → t ≡ u
-    one_place t u t_from t_upto u_from u_upto same = at_most_antisymm t u (no_less u t u_from t_upto (sym same)) (no_less t u t_from u_upto same)
+        → IsAtMost (whole (low_end r)) u → IsAtMost u (whole (high_end r))
+        → curve_heat r.side streams t ≡ curve_heat r.side streams u → t ≡ u
+    one_place t u t_from t_upto u_from u_upto same =
+        at_most_antisymm t u (no_less u t u_from t_upto (sym same)) (no_less t u t_from u_upto same)
       where
         no_less : (a b : Rational) → IsAtMost (whole (low_end r)) a → IsAtMost b (whole (high_end r))
             → curve_heat r.side streams a ≡ curve_heat r.side streams b → IsAtMost b a
@@ -494,9 +549,12 @@ heat_across begin end low high = if int_le begin low && int_le high end then hig
 abbrev pub bounded : ℤ → ℤ → ℤ → ℤ
 bounded begin end x = int_min (int_max x begin) end
 
-pub across-bounded : (begin end low high : ℤ) → begin ≤ℤ end → low <ℤ high → IsOutside low high begin → IsOutside low high end
+pub across-bounded : (begin end low high : ℤ) → begin ≤ℤ end → low <ℤ high → IsOutside low high begin
+    → IsOutside low high end
     → heat_across begin end low high ≡ bounded begin end high -ℤ bounded begin end low
-across-bounded begin end low high order falls (inr above) any = rw (int_le-false begin low (omega (arith, ints, above, falls))) (omega (arith, ints, clamps))
+across-bounded begin end low high order falls (inr above) any =
+    rw (int_le-false begin low (omega (arith, ints, above, falls))) (omega (arith, ints, clamps))
 across-bounded begin end low high order falls (inl from) (inl below) =
     rw (int_le-from begin low from, int_le-false high end (omega (arith, ints, below, falls))) (omega (arith, ints, clamps))
-across-bounded begin end low high order falls (inl from) (inr upto) = rw (int_le-from begin low from, int_le-from high end upto) (omega (arith, ints, clamps))
+across-bounded begin end low high order falls (inl from) (inr upto) =
+    rw (int_le-from begin low from, int_le-from high end upto) (omega (arith, ints, clamps))

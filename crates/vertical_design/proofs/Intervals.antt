@@ -33,7 +33,8 @@ shifted_state case of a state = on_scale of (temperature case a state) (contribu
 
 -- where its source is a stream, a piece of a side lies within its range
 abbrev pub StaysInRange : Case → Piece → (Stream → Type 0) → Type 0
-StaysInRange case p InRange = (i : ℕ) (s : Stream) → p.source ≡ source.Stream i → slice_get case.streams i ≡ Some s → InRange s
+StaysInRange case p InRange =
+    (i : ℕ) (s : Stream) → p.source ≡ source.Stream i → slice_get case.streams i ≡ Some s → InRange s
 
 -- a hot and a cold piece face each other at both ends, within the ranges of their streams
 pub record Faces (case : Case) (p q : Piece) : Type 0 where
@@ -44,12 +45,14 @@ pub record Faces (case : Case) (p q : Piece) : Type 0 where
 
 -- ---- sources and utilities
 
-pub found : {X Y : Type 0} (f : X → Y) (on : Y) (o : Option X) → option_map f o ≡ Some on → (x : X) × (o ≡ Some x) × (f x ≡ on)
+pub found : {X Y : Type 0} (f : X → Y) (on : Y) (o : Option X) → option_map f o ≡ Some on
+    → (x : X) × (o ≡ Some x) × (f x ≡ on)
 found f on None is = absurd (none-some on is)
 found f on (Some x) is = (x, refl, same_Some (f x) on is)
 
 -- from shifted temperatures back to actual ones
-apart : (hot cold : Rational) (hot_contribution cold_contribution : ℤ) → IsAtMost (plus cold (whole cold_contribution)) (minus hot (whole hot_contribution))
+apart : (hot cold : Rational) (hot_contribution cold_contribution : ℤ)
+    → IsAtMost (plus cold (whole cold_contribution)) (minus hot (whole hot_contribution))
     → IsAtMost (plus cold (whole (hot_contribution +ℤ cold_contribution))) hot
 apart hot cold a b order =
     subst (λ x. IsAtMost x hot) (plus_assoc cold (whole b) (whole a) ∙ ap (plus cold) (plus_comm (whole b) (whole a) ∙ whole-plus a b))
@@ -68,15 +71,19 @@ module _ (case : Case) (valid : HasValidStreams case.streams) (sensible : AreSen
   outer_end of = outermost of (stream_ends case.streams)
 
   outer : (of : Side) → IsOutermost of (stream_ends case.streams) (outer_end of)
-  outer of = IsOutermost-outermost of (stream_ends case.streams) (let some = valid.some in omega (arith, length-stream_ends case.streams))
+  outer of =
+      IsOutermost-outermost of (stream_ends case.streams) (let some = valid.some in omega (arith, length-stream_ends case.streams))
 
-  level-shifted : (of : Side) (j : ℕ) (u : Utility) → slice_get case.utilities j ≡ Some u → u.side ≡ of → shifted of u.level u.contribution ≡ outer_end of
+  level-shifted : (of : Side) (j : ℕ) (u : Utility) → slice_get case.utilities j ≡ Some u → u.side ≡ of
+      → shifted of u.level u.contribution ≡ outer_end of
   level-shifted of j u at side_is =
-      ap (λ d. shifted d u.level u.contribution) (sym side_is) ∙ ap shifted_level (own_utility case standard j u at) ∙ shifted_level-standard u.side case
+      ap (λ d. shifted d u.level u.contribution) (sym side_is)
+      ∙ ap shifted_level (own_utility case standard j u at) ∙ shifted_level-standard u.side case
       ∙ ap (λ d. outer_end d) side_is
 
   -- a utility has its level in each state
-  utility_level : (of : Side) (j : ℕ) (u : Utility) → slice_get case.utilities j ≡ Some u → u.side ≡ of → (state : Rational)
+  utility_level : (of : Side) (j : ℕ) (u : Utility) → slice_get case.utilities j ≡ Some u → u.side ≡ of
+      → (state : Rational)
       → shifted_state case of (source.Utility j) state ≡ whole (outer_end of)
   utility_level of j u at side_is state =
       let level = ap (λ o. option_map_or (λ (v : Utility). v.level) o (pos 0)) at in
@@ -88,7 +95,8 @@ module _ (case : Case) (valid : HasValidStreams case.streams) (sensible : AreSen
       by side.Cold = whole-plus u.level u.contribution
 
   -- the ends of a stream lie between those levels
-  within_levels : (i : ℕ) (s : Stream) → slice_get case.streams i ≡ Some s → (outer_end side.Cold ≤ℤ low_end s) × (high_end s ≤ℤ outer_end side.Hot)
+  within_levels : (i : ℕ) (s : Stream) → slice_get case.streams i ≡ Some s
+      → (outer_end side.Cold ≤ℤ low_end s) × (high_end s ≤ℤ outer_end side.Hot)
   within_levels i s at =
       let low = all_at (λ x. (outer_end side.Cold ≤ℤ high_end x) × (outer_end side.Cold ≤ℤ low_end x)) case.streams i s
       (each_end (λ x. outer_end side.Cold ≤ℤ x) case.streams (outer side.Cold).bound) at in
@@ -96,40 +104,48 @@ module _ (case : Case) (valid : HasValidStreams case.streams) (sensible : AreSen
       (each_end (λ x. x ≤ℤ outer_end side.Hot) case.streams (outer side.Hot).bound) at in (low.1, high.0)
 
   levels_order : outer_end side.Cold ≤ℤ outer_end side.Hot
-  levels_order = All-contains (λ x. outer_end side.Cold ≤ℤ x) (stream_ends case.streams) (outer_end side.Hot) (outer side.Cold).bound (outer side.Hot).member
+  levels_order =
+      All-contains (λ x. outer_end side.Cold ≤ℤ x) (stream_ends case.streams) (outer_end side.Hot) (outer side.Cold).bound (outer side.Hot).member
 
   module _ (hot_in hot_out cold_in cold_out : Rational) where
     -- two streams at one heat of both curves
-    streams_ordered : (i j : ℕ) (s r : Stream) → slice_get case.streams i ≡ Some s → slice_get case.streams j ≡ Some r → s.side ≡ side.Hot → r.side ≡ side.Cold
+    streams_ordered : (i j : ℕ) (s r : Stream) → slice_get case.streams i ≡ Some s
+        → slice_get case.streams j ≡ Some r → s.side ≡ side.Hot → r.side ≡ side.Cold
         → IsWithinRange s hot_out hot_in → IsWithinRange r cold_in cold_out
         → curve_heat side.Hot case.streams hot_in ≡ curve_heat side.Cold case.streams cold_out
-        → curve_heat side.Hot case.streams hot_out ≡ curve_heat side.Cold case.streams cold_in → IsOrdered hot_in hot_out cold_in cold_out
+        → curve_heat side.Hot case.streams hot_out ≡ curve_heat side.Cold case.streams cold_in
+        → IsOrdered hot_in hot_out cold_in cold_out
     streams_ordered i j s r at_s at_r hot cold hot_range cold_range hot_same cold_same = record {
       hot_end = approach_below case.streams are r (Contains-slice_get case.streams j r at_r) hot_in cold_out cold
           (at_most_below_trans (whole (low_end r)) cold_in cold_out cold_range.from cold_range.rises) cold_range.upto hot_same;
-      cold_end = approach_above case.streams are s (Contains-slice_get case.streams i s at_s) hot_out cold_in hot hot_range.from
+      cold_end =
+          approach_above case.streams are s (Contains-slice_get case.streams i s at_s) hot_out cold_in hot hot_range.from
           (below_at_most_trans hot_out hot_in (whole (high_end s)) hot_range.rises hot_range.upto) cold_same;
     }
 
     -- a stream above the cold level, and one below the hot level
-    above_cold : (i : ℕ) (s : Stream) → slice_get case.streams i ≡ Some s → IsWithinRange s hot_out hot_in → cold_in ≡ whole (outer_end side.Cold)
+    above_cold : (i : ℕ) (s : Stream) → slice_get case.streams i ≡ Some s → IsWithinRange s hot_out hot_in
+        → cold_in ≡ whole (outer_end side.Cold)
         → cold_out ≡ whole (outer_end side.Cold) → IsOrdered hot_in hot_out cold_in cold_out
     above_cold i s at range in_is out_is =
         let bottom = whole (outer_end side.Cold) in
         let least = at_most_trans bottom (whole (low_end s)) hot_out (at_most-whole (outer_end side.Cold) (low_end s) (within_levels i s at).0) range.from in
         record {
-          hot_end = subst (λ x. IsAtMost x hot_in) (sym out_is) (at_most_trans bottom hot_out hot_in least (at_most_from_below hot_out hot_in range.rises));
+          hot_end =
+              subst (λ x. IsAtMost x hot_in) (sym out_is) (at_most_trans bottom hot_out hot_in least (at_most_from_below hot_out hot_in range.rises));
           cold_end = subst (λ x. IsAtMost x hot_out) (sym in_is) least;
         }
 
-    below_hot : (j : ℕ) (r : Stream) → slice_get case.streams j ≡ Some r → IsWithinRange r cold_in cold_out → hot_in ≡ whole (outer_end side.Hot)
+    below_hot : (j : ℕ) (r : Stream) → slice_get case.streams j ≡ Some r → IsWithinRange r cold_in cold_out
+        → hot_in ≡ whole (outer_end side.Hot)
         → hot_out ≡ whole (outer_end side.Hot) → IsOrdered hot_in hot_out cold_in cold_out
     below_hot j r at range in_is out_is =
         let top = whole (outer_end side.Hot) in
         let most = at_most_trans cold_out (whole (high_end r)) top range.upto (at_most-whole (high_end r) (outer_end side.Hot) (within_levels j r at).1) in
         record {
           hot_end = subst (IsAtMost cold_out) (sym in_is) most;
-          cold_end = subst (IsAtMost cold_in) (sym out_is) (at_most_trans cold_in cold_out top (at_most_from_below cold_in cold_out range.rises) most);
+          cold_end =
+              subst (IsAtMost cold_in) (sym out_is) (at_most_trans cold_in cold_out top (at_most_from_below cold_in cold_out range.rises) most);
         }
 
   -- of any two sources, in the states x and y of the hot one and z and w of the cold one
@@ -155,15 +171,19 @@ module _ (case : Case) (valid : HasValidStreams case.streams) (sensible : AreSen
       below_hot _ _ _ _ j r at_r (cold_range j r refl at_r) (utility_level side.Hot i u at_u u_hot x) (utility_level side.Hot i u at_u u_hot y)
   ordered (source.Utility i) (source.Utility j) x y z w hot cold hot_range cold_range hot_end cold_end =
       let (u, at_u, u_hot) = found (λ (x : Utility). x.side) side.Hot (slice_get case.utilities i) hot in
-      let (v, at_v, v_cold) = found (λ (x : Utility). x.side) side.Cold (slice_get case.utilities j) cold in let top = utility_level side.Hot i u at_u u_hot in
-      let bottom = utility_level side.Cold j v at_v v_cold in let order = at_most-whole (outer_end side.Cold) (outer_end side.Hot) levels_order in
+      let (v, at_v, v_cold) = found (λ (x : Utility). x.side) side.Cold (slice_get case.utilities j) cold in
+      let top = utility_level side.Hot i u at_u u_hot in
+      let bottom = utility_level side.Cold j v at_v v_cold in
+      let order = at_most-whole (outer_end side.Cold) (outer_end side.Hot) levels_order in
       record { hot_end = subst₂ IsAtMost (sym (bottom w)) (sym (top x)) order; cold_end = subst₂ IsAtMost (sym (bottom z)) (sym (top y)) order }
 
   -- so both keep their approach
-  pub faced_apart : (p q : Piece) → side_of case p.source ≡ Some side.Hot → side_of case q.source ≡ Some side.Cold → Faces case p q → AreApart case p q
+  pub faced_apart : (p q : Piece) → side_of case p.source ≡ Some side.Hot
+      → side_of case q.source ≡ Some side.Cold → Faces case p q → AreApart case p q
   faced_apart p q hot cold faces =
       let order = ordered p.source q.source p.before p.after q.before q.after hot cold faces.hot_range faces.cold_range faces.hot_end faces.cold_end in
-      let a = contribution_of case p.source in let b = contribution_of case q.source in
+      let a = contribution_of case p.source in
+      let b = contribution_of case q.source in
       record {
         hot_end = apart (temperature case p.source p.before) (temperature case q.source q.after) a b order.hot_end;
         cold_end = apart (temperature case p.source p.after) (temperature case q.source q.before) a b order.cold_end;
@@ -172,7 +192,8 @@ module _ (case : Case) (valid : HasValidStreams case.streams) (sensible : AreSen
 -- The temperatures of a side between two neighbouring cuts of the heat axis.
 
 -- at whole temperatures the curve is the one of the axis
-pub curve_heat-whole : (of : Side) (streams : List Stream) (t : ℤ) → AreSensibleStreams streams → curve_heat of streams (whole t) ≡ whole (heat_at of streams t)
+pub curve_heat-whole : (of : Side) (streams : List Stream) (t : ℤ) → AreSensibleStreams streams
+    → curve_heat of streams (whole t) ≡ whole (heat_at of streams t)
 curve_heat-whole of streams t are = whole_heat of streams t are.each
 
 pub size_is : (x : ℤ) → pos 0 <ℤ x → x ≡ pos (unsigned_abs x)
@@ -216,18 +237,22 @@ module _ (of : Side) (streams : List Stream) (are : AreSensibleStreams streams) 
   place q = begin *ℤ pos d +ℤ (q -ℤ heat_at of streams begin)
 
   -- there the curve has d times the heat
-  on_line : (q : ℤ) → (begin *ℤ pos d) ≤ℤ place q → place q ≤ℤ (end *ℤ pos d) → curve_parts d of streams (place q) ≡ q *ℤ pos d
+  on_line : (q : ℤ) → (begin *ℤ pos d) ≤ℤ place q → place q ≤ℤ (end *ℤ pos d)
+      → curve_parts d of streams (place q) ≡ q *ℤ pos d
   on_line q from upto =
-      let more = q -ℤ heat_at of streams begin in let further : place q -ℤ begin *ℤ pos d ≡ more = omega (arith, ints) in
+      let more = q -ℤ heat_at of streams begin in
+      let further : place q -ℤ begin *ℤ pos d ≡ more = omega (arith, ints) in
       let product = ap (λ z. flow *ℤ z) further ∙ *ℤ_comm flow more ∙ ap (λ z. more *ℤ z) flow_is in
       omega (arith, ints, line of streams are low high gap begin end is none d some (place q) from upto, product, -ℤ-*ℤ q (heat_at of streams begin) (pos d))
 
   -- the end of the segment
   end_place : place (heat_at of streams end) ≡ end *ℤ pos d
   end_place =
-      let last = heat_at of streams begin +ℤ (end *ℤ pos d -ℤ begin *ℤ pos d) in let same : place last ≡ end *ℤ pos d = omega (arith, ints) in
+      let last = heat_at of streams begin +ℤ (end *ℤ pos d -ℤ begin *ℤ pos d) in
+      let same : place last ≡ end *ℤ pos d = omega (arith, ints) in
       let whole = ap (curve_parts d of streams) same ∙ curve_parts-whole d of streams end some are.each in
-      let heat : heat_at of streams end ≡ last = *ℤ_cancel_right (pos d) (heat_at of streams end) last (pos_above d some)
+      let heat : heat_at of streams end ≡ last
+      = *ℤ_cancel_right (pos d) (heat_at of streams end) last (pos_above d some)
       (sym whole ∙ on_line last (omega (arith, ints, same, scaled d begin end (omega (arith, ints, is.rises)))) (omega (arith, ints, same))) in
       omega (arith, ints, heat)
 
@@ -239,16 +264,21 @@ module _ (of : Side) (streams : List Stream) (are : AreSensibleStreams streams) 
     before_end = omega (arith, ints, is.end_is, end_place, upto)
 
     heat_there : curve_heat of streams (ratio (place q) d) ≡ whole q
-    heat_there = curve_heat-ratio d some of streams (place q) are.each ∙ ap (λ z. ratio z d) (on_line q after_begin before_end) ∙ ratio-multiple q d some
+    heat_there =
+        curve_heat-ratio d some of streams (place q) are.each
+        ∙ ap (λ z. ratio z d) (on_line q after_begin before_end) ∙ ratio-multiple q d some
 
     in_range : (r : Stream) → Runs of streams are low high r → IsInRange r (ratio (place q) d)
     in_range r runs =
-        let lower = scaled d (low_end r) begin (is.begun (low_end r) runs.from) in let upper = scaled d end (high_end r) (is.ended (high_end r) runs.upto) in
+        let lower = scaled d (low_end r) begin (is.begun (low_end r) runs.from) in
+        let upper = scaled d end (high_end r) (is.ended (high_end r) runs.upto) in
         let least = at_most-whole_ratio (low_end r) (place q) d some (omega (arith, ints, lower, after_begin)) in
         (least, at_most-ratio_whole (place q) (high_end r) d some (omega (arith, ints, upper, before_end)))
 
   change_over : (q p : ℤ) → minus (ratio (place p) d) (ratio (place q) d) ≡ ratio (p -ℤ q) d
-  change_over q p = let apart : place p -ℤ place q ≡ p -ℤ q = omega (arith, ints) in minus-ratio_same_den (place p) (place q) d ∙ ap (λ z. ratio z d) apart
+  change_over q p =
+      let apart : place p -ℤ place q ≡ p -ℤ q = omega (arith, ints) in
+      minus-ratio_same_den (place p) (place q) d ∙ ap (λ z. ratio z d) apart
 
   segment_scale : (scale : ℤ → Rational) × IsScale of streams are low high flow scale
   segment_scale = (
@@ -269,33 +299,41 @@ abbrev pub actual_at : Side → Rational → ℤ → Rational
 actual_at side.Hot t contribution = plus t (whole contribution)
 actual_at side.Cold t contribution = minus t (whole contribution)
 
-pub on_scale-actual : (of : Side) (t : Rational) (contribution : ℤ) → on_scale of (actual_at of t contribution) contribution ≡ t
+pub on_scale-actual : (of : Side) (t : Rational) (contribution : ℤ)
+    → on_scale of (actual_at of t contribution) contribution ≡ t
 on_scale-actual side.Hot t contribution = minus-plus t (whole contribution)
 on_scale-actual side.Cold t contribution = plus-minus t (whole contribution)
 
-actual_at-whole : (of : Side) (place contribution : ℤ) → actual_at of (whole place) contribution ≡ whole (unshifted of place contribution)
+actual_at-whole : (of : Side) (place contribution : ℤ)
+    → actual_at of (whole place) contribution ≡ whole (unshifted of place contribution)
 actual_at-whole side.Hot place contribution = whole-plus place contribution
 actual_at-whole side.Cold place contribution = whole-minus place contribution
 
 -- a sensible stream begins and ends its way at the ends of its shifted range
-pub actual-first : (s : Stream) → IsSensible s → actual_at s.side (whole (first_end s.side s)) s.contribution ≡ first_state s
+pub actual-first : (s : Stream) → IsSensible s
+    → actual_at s.side (whole (first_end s.side s)) s.contribution ≡ first_state s
 actual-first s h = actual_at-whole s.side (first_end s.side s) s.contribution ∙ first_state-unshifted s.side s h refl
 
-pub actual-last : (s : Stream) → IsSensible s → actual_at s.side (whole (last_end s.side s)) s.contribution ≡ last_state s
+pub actual-last : (s : Stream) → IsSensible s
+    → actual_at s.side (whole (last_end s.side s)) s.contribution ≡ last_state s
 actual-last s h = actual_at-whole s.side (last_end s.side s) s.contribution ∙ last_state-unshifted s.side s h refl
 
 -- ---- both sides at one heat
 
 module _ (streams : List Stream) (are : AreSensibleStreams streams) (low high : ℤ) where
   -- two streams
-  pub scales_face : (hot_flow cold_flow : ℤ) (hot cold : ℤ → Rational) → IsScale side.Hot streams are low high hot_flow hot
+  pub scales_face : (hot_flow cold_flow : ℤ) (hot cold : ℤ → Rational)
+      → IsScale side.Hot streams are low high hot_flow hot
       → IsScale side.Cold streams are low high cold_flow cold → (q : ℤ) → low ≤ℤ q → q ≤ℤ high
       → curve_heat side.Hot streams (hot q) ≡ curve_heat side.Cold streams (cold q)
-  scales_face hot_flow cold_flow hot cold of_hot of_cold q from upto = of_hot.heat q from upto ∙ sym (of_cold.heat q from upto)
+  scales_face hot_flow cold_flow hot cold of_hot of_cold q from upto =
+      of_hot.heat q from upto ∙ sym (of_cold.heat q from upto)
 
   -- a stream of a side, where the utility of the other side lies
-  pub scale_at_utility : (of other : Side) (flow : ℤ) (scale : ℤ → Rational) → IsScale of streams are low high flow scale → utility_from other streams ≤ℤ low
-      → high ≤ℤ utility_to other streams → (q : ℤ) → low ≤ℤ q → q ≤ℤ high → IsAtUtility other streams (curve_heat of streams (scale q))
+  pub scale_at_utility : (of other : Side) (flow : ℤ) (scale : ℤ → Rational)
+      → IsScale of streams are low high flow scale → utility_from other streams ≤ℤ low
+      → high ≤ℤ utility_to other streams → (q : ℤ) → low ≤ℤ q → q ≤ℤ high
+      → IsAtUtility other streams (curve_heat of streams (scale q))
   scale_at_utility of other flow scale is begin end q from upto =
       subst (IsAtUtility other streams) (sym (is.heat q from upto)) (record {
         from = at_most-whole (utility_from other streams) q (omega (arith, ints, begin, from));
@@ -303,7 +341,8 @@ module _ (streams : List Stream) (are : AreSensibleStreams streams) (low high : 
       })
 
   -- and each stream that runs is within its range from the one cut to the other
-  pub scale_within : (of : Side) (flow : ℤ) (scale : ℤ → Rational) (r : Stream) → IsScale of streams are low high flow scale → low <ℤ high
+  pub scale_within : (of : Side) (flow : ℤ) (scale : ℤ → Rational) (r : Stream)
+      → IsScale of streams are low high flow scale → low <ℤ high
       → Runs of streams are low high r → IsWithinRange r (scale low) (scale high)
   scale_within of flow scale r is gap runs = record {
     from = (is.range low (omega (arith, ints)) (omega (arith, ints, gap)) r runs).0;
@@ -315,7 +354,8 @@ module _ (streams : List Stream) (are : AreSensibleStreams streams) (low high : 
 
 module _ (axis : Axis) where
   pub gap_in : (number : ℕ) → number < length axis.cuts - 1 → IsGap (low_at axis number) (high_at axis number)
-  gap_in = gap_at (spans_of side.Hot axis.case) (spans_of side.Cold axis.case) axis.cuts (spans_are axis side.Hot) (spans_are axis side.Cold) axis.are_cuts
+  gap_in =
+      gap_at (spans_of side.Hot axis.case) (spans_of side.Cold axis.case) axis.cuts (spans_are axis side.Hot) (spans_are axis side.Cold) axis.are_cuts
 
   -- ---- the temperatures of a side
 
@@ -324,7 +364,8 @@ module _ (axis : Axis) where
   RunsIn of number r = Runs of axis.case.streams (streams_are axis) (low_at axis number) (high_at axis number) r
 
   abbrev pub IsScaleIn : Side → ℕ → (ℤ → Rational) → Type 0
-  IsScaleIn of number scale = IsScale of axis.case.streams (streams_are axis) (low_at axis number) (high_at axis number) (flow_at axis of number) scale
+  IsScaleIn of number scale =
+      IsScale of axis.case.streams (streams_are axis) (low_at axis number) (high_at axis number) (flow_at axis of number) scale
 
   -- numbers that are the temperatures of the side, if a stream of it runs
   abbrev SideScale : Side → ℕ → Type 0
@@ -338,7 +379,8 @@ module _ (axis : Axis) where
       by (int_lt_cases (low_at axis number) (begin_of of axis.case.streams)) (int_lt_cases (end_of of axis.case.streams) (high_at axis number))
     where
       by : (low_at axis number <ℤ begin_of of axis.case.streams) ⊎ (begin_of of axis.case.streams ≤ℤ low_at axis number)
-          → (end_of of axis.case.streams <ℤ high_at axis number) ⊎ (high_at axis number ≤ℤ end_of of axis.case.streams) → SideScale of number
+          → (end_of of axis.case.streams <ℤ high_at axis number) ⊎ (high_at axis number ≤ℤ end_of of axis.case.streams)
+          → SideScale of number
       by (inl early) any =
           none_runs of number (λ r runs. omega (arith, ints, early, runs.from, (on_curve of axis.case.streams (streams_are axis) (low_end r)).from))
       by (inr from) (inl late) =
@@ -359,11 +401,13 @@ module _ (axis : Axis) where
   pub scale_at : Side → ℕ → ℤ → Rational
   scale_at of number = scale_by of number (cases_lt number (length axis.cuts - 1))
 
-  pub scale_is : (of : Side) (number : ℕ) → number < length axis.cuts - 1 → (r : Stream) → RunsIn of number r → IsScaleIn of number (scale_at of number)
+  pub scale_is : (of : Side) (number : ℕ) → number < length axis.cuts - 1 → (r : Stream) → RunsIn of number r
+      → IsScaleIn of number (scale_at of number)
   unfolding scale_at scale_by
   scale_is of number within r runs = by (cases_lt number (length axis.cuts - 1))
     where
-      by : (is : (number < length axis.cuts - 1) ⊎ (length axis.cuts - 1 ≤ number)) → IsScaleIn of number (scale_by of number is)
+      by : (is : (number < length axis.cuts - 1) ⊎ (length axis.cuts - 1 ≤ number))
+          → IsScaleIn of number (scale_by of number is)
       by (inl here) = (side_scale of number here).1 r runs
       by (inr past) = absurd (omega (arith, within, past))
 
@@ -382,7 +426,8 @@ module _ (axis : Axis) where
   state_at of number heat a = actual_at of (scale_at of number heat) (contribution_of axis.case a.source)
 
   abbrev pub piece_in : Side → ℕ → Span → Piece
-  piece_in of number a = record { source = a.source; before = state_at of number (entered_at of number) a; after = state_at of number (left_at of number) a }
+  piece_in of number a =
+      record { source = a.source; before = state_at of number (entered_at of number) a; after = state_at of number (left_at of number) a }
 
   abbrev pub pieces_at : Side → ℕ → List Piece
   pieces_at of number = map (piece_in of number) (spans_of of axis.case)
@@ -397,7 +442,8 @@ module _ (axis : Axis) where
       ∙ same-rows (λ n. sources_of (pieces_at of n)) (λ n. sources_in (spans_of of axis.case))
       (λ n. map-map (λ (p : Piece). p.source) (piece_in of n) (spans_of of axis.case)) (intervals_of axis.cuts)
 
-  pub piece_there : (of : Side) (number index : ℕ) (a : Span) → number < length axis.cuts - 1 → slice_get (spans_of of axis.case) index ≡ Some a
+  pub piece_there : (of : Side) (number index : ℕ) (a : Span) → number < length axis.cuts - 1
+      → slice_get (spans_of of axis.case) index ≡ Some a
       → slice_get (pieces of) (number * length (spans_of of axis.case) + index) ≡ Some (piece_in of number a)
   unfolding pieces
   piece_there of number index a within there =

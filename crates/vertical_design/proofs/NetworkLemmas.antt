@@ -35,55 +35,69 @@ use Rattle.pieces.specs.Pieces as led
 
 -- whether an exchange has the utility, and its heat then
 abbrev pub joins_utility : List Source → List Source → ℕ → Exchange → Bool
-joins_utility hot cold index e = same_source (source_at hot e.hot) (source.Utility index) || same_source (source_at cold e.cold) (source.Utility index)
+joins_utility hot cold index e =
+    same_source (source_at hot e.hot) (source.Utility index) || same_source (source_at cold e.cold) (source.Utility index)
 
 abbrev pub heat_for : List Source → List Source → ℕ → Exchange → Option Rational
 heat_for hot cold index e = if joins_utility hot cold index e then Some e.heat else None
 
-by_exchanges : (hot cold : List Source) (index n : ℕ) (es : List Exchange) → filter_map (duty_with index) (map (exchanger_of hot cold) (enumerate_from n es))
+by_exchanges : (hot cold : List Source) (index n : ℕ) (es : List Exchange)
+    → filter_map (duty_with index) (map (exchanger_of hot cold) (enumerate_from n es))
     ≡ filter_map (heat_for hot cold index) es
 by_exchanges hot cold index n [] = refl
-by_exchanges hot cold index n (e ∷ es) = ap (cons_option (heat_for hot cold index e)) (by_exchanges hot cold index (n + 1) es)
+by_exchanges hot cold index n (e ∷ es) =
+    ap (cons_option (heat_for hot cold index e)) (by_exchanges hot cold index (n + 1) es)
 
 -- what is kept of a list, where whether it is kept is known of each item
 kept_all : {X : Type 0} (Q : Rational → Type 0) (h : X → Option Rational) (own : X → Bool) (f : X → Rational) (xs : List X)
-    → All (λ x. h x ≡ (if own x then Some (f x) else None)) xs → All (λ x. own x ≡ true → Q (f x)) xs → All Q (filter_map h xs)
+    → All (λ x. h x ≡ (if own x then Some (f x) else None)) xs → All (λ x. own x ≡ true → Q (f x)) xs
+    → All Q (filter_map h xs)
 kept_all Q h own f [] are each = All-nil Q
 kept_all {X} Q h own f (x ∷ xs) are each =
-    let R : X → Type 0 = λ y. h y ≡ (if own y then Some (f y) else None) in let S : X → Type 0 = λ y. own y ≡ true → Q (f y) in
+    let R : X → Type 0 = λ y. h y ≡ (if own y then Some (f y) else None) in
+    let S : X → Type 0 = λ y. own y ≡ true → Q (f y) in
     by (h x) (own x) (All-head R x xs are) (All-head S x xs each) (kept_all Q h own f xs (All-tail R x xs are) (All-tail S x xs each))
   where
-    by : (o : Option Rational) (b : Bool) → o ≡ (if b then Some (f x) else None) → (b ≡ true → Q (f x)) → All Q (filter_map h xs)
+    by : (o : Option Rational) (b : Bool) → o ≡ (if b then Some (f x) else None) → (b ≡ true → Q (f x))
+        → All Q (filter_map h xs)
         → All Q (cons_option o (filter_map h xs))
     by None b is here rest = rest
-    by (Some y) true is here rest = subst (λ z. All Q (z ∷ filter_map h xs)) (same_Some (f x) y (sym is)) (All-cons Q (f x) (filter_map h xs) (here refl) rest)
+    by (Some y) true is here rest =
+        subst (λ z. All Q (z ∷ filter_map h xs)) (same_Some (f x) y (sym is)) (All-cons Q (f x) (filter_map h xs) (here refl) rest)
     by (Some y) false is here rest = absurd (none-some y (sym is))
 
 -- ---- an interval
 
 -- a flow of 1 on the own side leaves the whole heat between the cuts, and one of 0 leaves none
-whole_width : (width other : ℤ) (n : ℕ) → pos 0 <ℤ other → n ≡ unsigned_abs other → ratio (width *ℤ (pos 1 *ℤ other)) n ≡ whole width
+whole_width : (width other : ℤ) (n : ℕ) → pos 0 <ℤ other → n ≡ unsigned_abs other
+    → ratio (width *ℤ (pos 1 *ℤ other)) n ≡ whole width
 whole_width width other n above is =
     let some : 0 < unsigned_abs other = omega (arith, ints, above) in
-    ap₂ (λ z d. ratio (width *ℤ z) d) (one_times (pos 1) other refl ∙ (size_is other above)) is ∙ ratio-multiple width (unsigned_abs other) some
+    ap₂ (λ z d. ratio (width *ℤ z) d) (one_times (pos 1) other refl ∙ (size_is other above)) is
+    ∙ ratio-multiple width (unsigned_abs other) some
 
 no_width : (width other : ℤ) (n : ℕ) → ratio (width *ℤ (pos 0 *ℤ other)) n ≡ whole (pos 0)
-no_width width other n = ap (λ z. ratio (width *ℤ z) n) (zero_times (pos 0) other refl) ∙ ap (λ z. ratio z n) (*ℤ-zero width) ∙ ratio-zero n
+no_width width other n =
+    ap (λ z. ratio (width *ℤ z) n) (zero_times (pos 0) other refl) ∙ ap (λ z. ratio z n) (*ℤ-zero width) ∙ ratio-zero n
 
 -- the most heat of an exchange
 abbrev pub most_width : ℕ
 most_width = unsigned_abs ALL_SENSIBLE_HEAT
 
-part_sized : (width share other : ℤ) (n : ℕ) → pos 0 ≤ℤ width → width ≤ℤ ALL_SENSIBLE_HEAT → pos 0 <ℤ share → share ≤ℤ other → n ≡ unsigned_abs other
+part_sized : (width share other : ℤ) (n : ℕ) → pos 0 ≤ℤ width → width ≤ℤ ALL_SENSIBLE_HEAT → pos 0 <ℤ share
+    → share ≤ℤ other → n ≡ unsigned_abs other
     → IsSized (unsigned_abs other) most_width (ratio (width *ℤ share) n)
 part_sized width share other n from upto some most is =
     let product : unsigned_abs width * unsigned_abs share ≤ most_width * unsigned_abs other =
     mul-le-mul (omega (arith, ints, from, upto)) (omega (arith, ints, some, most)) in
     record { num = width *ℤ share; is = ap (ratio (width *ℤ share)) is; small = omega (arith, product, unsigned_abs-mul width share) }
 
-scaled_sum : (width : ℤ) (ps : List Pair) → int_sum_by (λ p. width *ℤ p.amount) ps ≡ width *ℤ int_sum_by (λ p. p.amount) ps
+scaled_sum : (width : ℤ) (ps : List Pair)
+    → int_sum_by (λ p. width *ℤ p.amount) ps ≡ width *ℤ int_sum_by (λ p. p.amount) ps
 scaled_sum width [] = sym (*ℤ-zero width)
-scaled_sum width (p ∷ ps) = ap (λ z. width *ℤ p.amount +ℤ z) (scaled_sum width ps) ∙ sym (*ℤ-+ℤ width p.amount (int_sum_by (λ (q : Pair). q.amount) ps))
+scaled_sum width (p ∷ ps) =
+    ap (λ z. width *ℤ p.amount +ℤ z) (scaled_sum width ps)
+    ∙ sym (*ℤ-+ℤ width p.amount (int_sum_by (λ (q : Pair). q.amount) ps))
 
 -- The pieces and exchanges of the intervals are led; and so the network that they draw is vertical.
 
@@ -117,28 +131,34 @@ module _ (axis : Axis) where
       module _ (p : Pair) (met : IsMetIn axis number p) where
         -- whether the source of a pair on a side is the utility
         abbrev is_its : Side → Bool
-        is_its of = same_source (source_at (sources_of (pieces axis of)) (number * length (spans_of of axis.case) + index_on of p)) (source.Utility index)
+        is_its of =
+            same_source (source_at (sources_of (pieces axis of)) (number * length (spans_of of axis.case) + index_on of p)) (source.Utility index)
 
-        source_is : (of : Side) → is_its of ≡ same_source (pair_runs axis number of p met).span.source (source.Utility index)
+        source_is : (of : Side) → is_its of
+            ≡ same_source (pair_runs axis number of p met).span.source (source.Utility index)
         source_is of =
             let runs = pair_runs axis number of p met in
             ap (λ a. same_source a (source.Utility index)) (source_at-piece (pieces axis of) (number * length (spans_of of axis.case) + index_on of p)
             (piece_in axis of number runs.span) (piece_there axis of number (index_on of p) runs.span within runs.there))
 
-        its_own : (of : Side) (k : ℕ) → slice_get (spans_of of axis.case) k ≡ Some (utility_span_of of axis.case.streams index)
+        its_own : (of : Side) (k : ℕ)
+            → slice_get (spans_of of axis.case) k ≡ Some (utility_span_of of axis.case.streams index)
             → is_its of ≡ (index_on of p == k)
         its_own of k there =
-            let runs = pair_runs axis number of p met in source_is of ∙ own_place (spans_of of axis.case) (sources_differ axis.case of) k
+            let runs = pair_runs axis number of p met in
+            source_is of ∙ own_place (spans_of of axis.case) (sources_differ axis.case of) k
             (utility_span_of of axis.case.streams index) there (index_on of p) runs.span runs.there
 
         not_its : (of : Side) → u.side ≢ of → is_its of ≡ false
         not_its of other =
-            let runs = pair_runs axis number of p met in source_is of ∙ false_from_ne_true (same_source runs.span.source (source.Utility index)) (λ holds.
+            let runs = pair_runs axis number of p met in
+            source_is of ∙ false_from_ne_true (same_source runs.span.source (source.Utility index)) (λ holds.
             let own = ap (side_of axis.case) (same_source-true runs.span.source (source.Utility index) holds)
             ∙ ap (option_map (λ (v : Utility). v.side)) here in
             other (same_Some u.side of (sym own ∙ side_on axis of runs.span runs.kind)))
 
-        joins_own : (of : Side) → u.side ≡ of → (k : ℕ) → slice_get (spans_of of axis.case) k ≡ Some (utility_span_of of axis.case.streams index)
+        joins_own : (of : Side) → u.side ≡ of → (k : ℕ)
+            → slice_get (spans_of of axis.case) k ≡ Some (utility_span_of of axis.case.streams index)
             → joins_utility hot_sources cold_sources index (match_in axis number p) ≡ (index_on of p == k)
         joins_own side.Hot side_is k there =
             ap₂ ◌||◌ (its_own side.Hot k there) (not_its side.Cold (λ is. let clash : side.Hot ≡ side.Cold = sym side_is ∙ is in cc clash))
@@ -169,7 +189,8 @@ module _ (axis : Axis) where
 
       are_own : All (λ p. heat_of_pair p ≡ (if is_own p then Some (ratio (width *ℤ p.amount) flows) else None)) (pairs_at axis number)
       are_own k d inside =
-          let p = get_or (pairs_at axis number) k d in ap (λ b. if b then Some (ratio (width *ℤ p.amount) flows) else None)
+          let p = get_or (pairs_at axis number) k d in
+          ap (λ b. if b then Some (ratio (width *ℤ p.amount) flows) else None)
           (joins_own p (pairs_meet axis number k d inside) u.side refl place.0 place.1)
 
       -- whether it lies there
@@ -187,19 +208,23 @@ module _ (axis : Axis) where
 
       -- where its flow is 1 the product of both is the other one
       product_is : (of : Side) → flow_at axis of number ≡ pos 1 → flows ≡ unsigned_abs (flow_at axis (other of) number)
-      product_is side.Hot one = ap unsigned_abs (one_times (flow_at axis side.Hot number) (flow_at axis side.Cold number) one)
+      product_is side.Hot one =
+          ap unsigned_abs (one_times (flow_at axis side.Hot number) (flow_at axis side.Cold number) one)
       product_is side.Cold one =
           ap unsigned_abs (*ℤ_comm (flow_at axis side.Hot number) (flow_at axis side.Cold number)
           ∙ one_times (flow_at axis side.Cold number) (flow_at axis side.Hot number) one)
 
       lies_alone : lies ≡ true → flows ≡ unsigned_abs across
       lies_alone test =
-          let ends = reaches from_of to_of low high test in product_is u.side (utility_alone axis number within u.side ends.0 ends.1)
+          let ends = reaches from_of to_of low high test in
+          product_is u.side (utility_alone axis number within u.side ends.0 ends.1)
 
       -- its heats are those between the cuts where it lies
-      sum_by : (b : Bool) → lies ≡ b → rational_sum (filter_map heat_of_pair (pairs_at axis number)) ≡ whole (if b then width else pos 0)
+      sum_by : (b : Bool) → lies ≡ b
+          → rational_sum (filter_map heat_of_pair (pairs_at axis number)) ≡ whole (if b then width else pos 0)
       sum_by true test =
-          heats_sum ∙ ap (λ b. ratio (width *ℤ amount_by b) flows) test ∙ whole_width width across flows (flow_above axis number within (other u.side))
+          heats_sum ∙ ap (λ b. ratio (width *ℤ amount_by b) flows) test
+          ∙ whole_width width across flows (flow_above axis number within (other u.side))
           (lies_alone test)
       sum_by false test = heats_sum ∙ ap (λ b. ratio (width *ℤ amount_by b) flows) test ∙ no_width width across flows
 
@@ -210,12 +235,16 @@ module _ (axis : Axis) where
           by b test (subst (λ c. p.amount ≤ℤ amount_by c) test
           (share_upto axis u.side number place.0 (utility_span_of u.side axis.case.streams index) place.1 p met own))
         where
-          by : (c : Bool) → lies ≡ c → p.amount ≤ℤ amount_by c → IsSized (unsigned_abs across) most_width (ratio (width *ℤ p.amount) flows)
+          by : (c : Bool) → lies ≡ c → p.amount ≤ℤ amount_by c
+              → IsSized (unsigned_abs across) most_width (ratio (width *ℤ p.amount) flows)
           by true alone upto =
               let is = gap_in axis number within in
               part_sized width p.amount across flows (omega (arith, ints, is.falls)) (omega (arith, ints, is.low_place.from, is.high_place.upto)) met.positive
               (omega (arith, ints, upto, one_times (pos 1) across refl)) (lies_alone alone)
-          by false rests upto = let some = met.positive in let none = zero_times (pos 0) across refl in absurd (omega (arith, ints, some, upto, none))
+          by false rests upto =
+              let some = met.positive in
+              let none = zero_times (pos 0) across refl in
+              absurd (omega (arith, ints, some, upto, none))
 
       group_of : IsWholeGroup most_flow most_width (filter_map heat_of_pair (pairs_at axis number))
       group_of =
@@ -223,7 +252,8 @@ module _ (axis : Axis) where
             over = unsigned_abs across;
             some = omega (arith, ints, flow_above axis number within (other u.side));
             upto = flow_few axis (other u.side) number;
-            each = kept_all (IsSized (unsigned_abs across) most_width) heat_of_pair is_own (λ p. ratio (width *ℤ p.amount) flows) (pairs_at axis number) are_own
+            each =
+                kept_all (IsSized (unsigned_abs across) most_width) heat_of_pair is_own (λ p. ratio (width *ℤ p.amount) flows) (pairs_at axis number) are_own
                 (λ j d inside own.
                 own_sized lies refl (get_or (pairs_at axis number) j d) (pairs_meet axis number j d inside)
                 (eqb-true (index_on u.side (get_or (pairs_at axis number) j d)) place.0 own));
@@ -231,7 +261,8 @@ module _ (axis : Axis) where
             is = sum_by lies refl;
           }
 
-      pairs_are : filter_map heat_of (exchanges_at hot cold axis.cuts number) ≡ filter_map heat_of_pair (pairs_at axis number)
+      pairs_are : filter_map heat_of (exchanges_at hot cold axis.cuts number)
+          ≡ filter_map heat_of_pair (pairs_at axis number)
       unfolding matches_in
       pairs_are = filter_map-map heat_of (match_in axis number) (pairs_at axis number)
 
@@ -261,7 +292,8 @@ module _ (axis : Axis) where
         none : (x y : ℤ) → x ≡ y → pos 0 ≡ x -ℤ y
         none x y is = omega (arith, ints, is)
     sum_from (suc m) n left =
-        let within : n < length axis.cuts - 1 = omega (arith, left) in let outside = utility_outside axis n within u.side in
+        let within : n < length axis.cuts - 1 = omega (arith, left) in
+        let outside = utility_outside axis n within u.side in
         rational_sum_by-append (λ (a : Rational). a) (heats_at n) (flat_map heats_at (range_with_len (n + 1) m))
         ∙ ap₂ plus (ap rational_sum (pairs_are n within) ∙ sum_by n within (lies n within) refl) (sum_from m (n + 1) (omega (arith, left)))
         ∙ whole-plus (heat_across from_of to_of (low_at axis n) (high_at axis n)) (place_at (n + 1) -ℤ place_at (length axis.cuts - 1))
@@ -275,18 +307,21 @@ module _ (axis : Axis) where
     heats_are = by_exchanges hot_sources cold_sources index 0 (exchanges axis)
         ∙ filter_map-rows heat_of (exchanges_at hot cold axis.cuts) (intervals_of axis.cuts)
 
-    pub heat_total : rational_sum (heats_with hot_sources cold_sources (exchanges axis) index) ≡ whole (to_of -ℤ from_of)
+    pub heat_total : rational_sum (heats_with hot_sources cold_sources (exchanges axis) index)
+        ≡ whole (to_of -ℤ from_of)
     heat_total = ap rational_sum heats_are ∙ sum_from (length axis.cuts - 1) 0 (omega arith)
         ∙ ap whole (ends (high_at axis 0) (high_at axis (length axis.cuts - 1))
         (cut_upto_first axis.cuts axis.are_cuts.ordered to_of (utility_cuts axis u.side).1)
         (cut_from_last axis.cuts axis.are_cuts.ordered from_of (utility_cuts axis u.side).0))
       where
-        ends : (x y : ℤ) → to_of ≤ℤ x → y ≤ℤ from_of → bounded from_of to_of x -ℤ bounded from_of to_of y ≡ to_of -ℤ from_of
+        ends : (x y : ℤ) → to_of ≤ℤ x → y ≤ℤ from_of
+            → bounded from_of to_of x -ℤ bounded from_of to_of y ≡ to_of -ℤ from_of
         ends x y first last = omega (arith, ints, clamps, order)
 
     pub utility_heat : HasUtilityHeat hot_sources cold_sources (exchanges axis) index u
     utility_heat =
-        let is = target-within u.side axis.case.streams (streams_are axis) in let range : (u.least ≡ pos 0) × (u.most ≡ MOST_HEAT) =
+        let is = target-within u.side axis.case.streams (streams_are axis) in
+        let range : (u.least ≡ pos 0) × (u.most ≡ MOST_HEAT) =
         subst (λ (v : Utility). (v.least ≡ pos 0) × (v.most ≡ MOST_HEAT)) (sym (own_utility axis.case axis.standard index u here)) (standard_range u.side) in
         let few = few_heats 0 (length axis.cuts - 1) in
         record {
@@ -298,14 +333,16 @@ module _ (axis : Axis) where
               (All-range (λ n. IsWholeGroup most_flow most_width (heats_at n)) (length axis.cuts - 1)
               (λ n within. subst (IsWholeGroup most_flow most_width) (sym (pairs_are n within)) (group_of n within)));
           small = omega arith;
-          few = omega (arith, few, few_cuts hot cold axis.cuts (spans_are axis side.Hot) (spans_are axis side.Cold) axis.are_cuts);
+          few =
+              omega (arith, few, few_cuts hot cold axis.cuts (spans_are axis side.Hot) (spans_are axis side.Cold) axis.are_cuts);
           heat = to_of -ℤ from_of;
           total = heat_total;
           from = omega (arith, ints, range.0, is.from);
           upto = omega (arith, ints, range.1, is.upto);
         }
       where
-        standard_range : (of : Side) → ((standard_utility of axis.case).least ≡ pos 0) × ((standard_utility of axis.case).most ≡ MOST_HEAT)
+        standard_range : (of : Side)
+            → ((standard_utility of axis.case).least ≡ pos 0) × ((standard_utility of axis.case).most ≡ MOST_HEAT)
         standard_range side.Hot = (refl, refl)
         standard_range side.Cold = (refl, refl)
 
@@ -320,9 +357,12 @@ module _ (axis : Axis) where
 
   match_joins : (e : Exchange) → IsMatch axis e → JoinsPieces axis.case (pieces axis side.Hot) (pieces axis side.Cold) e
   match_joins e m =
-      let one = pair_runs axis m.number side.Hot m.pair m.met in let other = pair_runs axis m.number side.Cold m.pair m.met in
-      let gap = gap_in axis m.number m.within in let hot_side = side_on axis side.Hot one.span one.kind in
-      let cold_side = side_on axis side.Cold other.span other.kind in let positive = subst IsPositiveExchange m.is
+      let one = pair_runs axis m.number side.Hot m.pair m.met in
+      let other = pair_runs axis m.number side.Cold m.pair m.met in
+      let gap = gap_in axis m.number m.within in
+      let hot_side = side_on axis side.Hot one.span one.kind in
+      let cold_side = side_on axis side.Cold other.span other.kind in
+      let positive = subst IsPositiveExchange m.is
       (positive-match m.number (low_at axis m.number) (high_at axis m.number) hot cold m.pair gap (share_in axis m.number m.pair m.met)) in
       record {
         hot_piece = own_piece side.Hot e m;
@@ -335,7 +375,8 @@ module _ (axis : Axis) where
         hot_size = has_size e.hot_size one.span.source positive.hot_size;
         cold_size = has_size e.cold_size other.span.source positive.cold_size;
         permitted = ap (λ fs. is_forbidden fs one.span.source other.span.source) axis.standard.free;
-        apart = faced_apart axis.case (HasValidStreams-IsComplete axis.case axis.complete.complete) axis.complete.sensible axis.standard
+        apart =
+            faced_apart axis.case (HasValidStreams-IsComplete axis.case axis.complete.complete) axis.complete.sensible axis.standard
             (own_piece side.Hot e m) (own_piece side.Cold e m)
             hot_side cold_side (match_faces axis e m);
       }
@@ -361,7 +402,8 @@ module _ (axis : Axis) where
   long of = ap length (sym (sources_are axis of)) ∙ length-map (pieces axis of) (λ (p : Piece). p.source)
 
   few_intervals : length axis.cuts - 1 ≤ MOST_CUTS
-  few_intervals = omega (arith, few_cuts hot cold axis.cuts (spans_are axis side.Hot) (spans_are axis side.Cold) axis.are_cuts)
+  few_intervals =
+      omega (arith, few_cuts hot cold axis.cuts (spans_are axis side.Hot) (spans_are axis side.Cold) axis.are_cuts)
 
   few_sources : (of : Side) → length (sources of) < 2 ^ 32
   few_sources of =
@@ -382,13 +424,15 @@ module _ (axis : Axis) where
             omega (arith, slice_get_within (pieces axis side.Cold) e.cold _ (match_joins e (are_matches axis k d inside)).cold_there, long side.Cold);
         few_hot = few_sources side.Hot;
         few_cold = few_sources side.Cold;
-        few = omega (arith, each, mul-le-mul_right (2 * MOST_SPANS) few_intervals, length-AreStreams axis.case.streams (streams_are axis).are);
+        few =
+            omega (arith, each, mul-le-mul_right (2 * MOST_SPANS) few_intervals, length-AreStreams axis.case.streams (streams_are axis).are);
       }
 
   -- ---- the network is vertical
 
   -- the source of an exchange on a side
-  source_there : (of : Side) (e : Exchange) (m : IsMatch axis e) → source_at (sources of) (piece_on of e) ≡ (own_piece of e m).source
+  source_there : (of : Side) (e : Exchange) (m : IsMatch axis e)
+      → source_at (sources of) (piece_on of e) ≡ (own_piece of e m).source
   source_there of e m =
       ap (λ ss. source_at ss (piece_on of e)) (sym (sources_are axis of))
       ∙ source_at-piece (pieces axis of) (piece_on of e) (own_piece of e m) (piece_of axis of e m)
@@ -400,15 +444,18 @@ module _ (axis : Axis) where
     abbrev target_on : Side → ℤ
     target_on of = utility_to of axis.case.streams -ℤ utility_from of axis.case.streams
 
-    heat_is : (index : ℕ) (u : Utility) → slice_get axis.case.utilities index ≡ Some u → heat_with network index ≡ whole (target_on u.side)
+    heat_is : (index : ℕ) (u : Utility) → slice_get axis.case.utilities index ≡ Some u
+        → heat_with network index ≡ whole (target_on u.side)
     unfolding duties_with
     heat_is index u here =
         ap (λ es. rational_sum (filter_map (duty_with index) es))
-        (made ∙ (λ i. exchangers_for (sym (sources_are axis side.Hot) i) (sym (sources_are axis side.Cold) i) (exchanges axis))) ∙ heat_total index u here
+        (made ∙ (λ i. exchangers_for (sym (sources_are axis side.Hot) i) (sym (sources_are axis side.Cold) i) (exchanges axis)))
+        ∙ heat_total index u here
 
     both_heats : (a b : Utility) → axis.case.utilities ≡ a ∷ b ∷ []
         → (heat_with network 0 ≡ whole (target_on a.side)) × (heat_with network 1 ≡ whole (target_on b.side))
-    both_heats a b order = (heat_is 0 a (ap (λ (us : List Utility). slice_get us 0) order), heat_is 1 b (ap (λ (us : List Utility). slice_get us 1) order))
+    both_heats a b order =
+        (heat_is 0 a (ap (λ (us : List Utility). slice_get us 0) order), heat_is 1 b (ap (λ (us : List Utility). slice_get us 1) order))
 
     abbrev hot_utility : Utility
     hot_utility = standard_utility side.Hot axis.case
@@ -424,13 +471,19 @@ module _ (axis : Axis) where
         heat : Side → List Utility → Rational
         heat on us = rational_sum (filter_map (heat_on on network) (enumerate_from 0 us))
 
-        by : (on : Side) → axis.case.utilities ≡ hot_utility ∷ cold_utility ∷ [] → heat on axis.case.utilities ≡ whole (target_on on)
-        by side.Hot order = ap (heat side.Hot) order ∙ plus-zero (heat_with network 0) ∙ (both_heats hot_utility cold_utility order).0
-        by side.Cold order = ap (heat side.Cold) order ∙ plus-zero (heat_with network 1) ∙ (both_heats hot_utility cold_utility order).1
+        by : (on : Side) → axis.case.utilities ≡ hot_utility ∷ cold_utility ∷ []
+            → heat on axis.case.utilities ≡ whole (target_on on)
+        by side.Hot order =
+            ap (heat side.Hot) order ∙ plus-zero (heat_with network 0) ∙ (both_heats hot_utility cold_utility order).0
+        by side.Cold order =
+            ap (heat side.Cold) order ∙ plus-zero (heat_with network 1) ∙ (both_heats hot_utility cold_utility order).1
 
-        turned : (on : Side) → axis.case.utilities ≡ cold_utility ∷ hot_utility ∷ [] → heat on axis.case.utilities ≡ whole (target_on on)
-        turned side.Hot order = ap (heat side.Hot) order ∙ plus-zero (heat_with network 1) ∙ (both_heats cold_utility hot_utility order).1
-        turned side.Cold order = ap (heat side.Cold) order ∙ plus-zero (heat_with network 0) ∙ (both_heats cold_utility hot_utility order).0
+        turned : (on : Side) → axis.case.utilities ≡ cold_utility ∷ hot_utility ∷ []
+            → heat on axis.case.utilities ≡ whole (target_on on)
+        turned side.Hot order =
+            ap (heat side.Hot) order ∙ plus-zero (heat_with network 1) ∙ (both_heats cold_utility hot_utility order).1
+        turned side.Cold order =
+            ap (heat side.Cold) order ∙ plus-zero (heat_with network 0) ∙ (both_heats cold_utility hot_utility order).0
 
     -- the targets of the utilities are those of the case
     hot_is : target_on side.Hot ≡ hot_target axis.case.streams
@@ -442,7 +495,8 @@ module _ (axis : Axis) where
     -- ---- the cost
 
     -- what two utilities cost, by their prices and heats
-    two_prices : (a b : Utility) (x y : ℤ) → axis.case.utilities ≡ a ∷ b ∷ [] → heat_with network 0 ≡ whole x → heat_with network 1 ≡ whole y
+    two_prices : (a b : Utility) (x y : ℤ) → axis.case.utilities ≡ a ∷ b ∷ [] → heat_with network 0 ≡ whole x
+        → heat_with network 1 ≡ whole y
         → cost_of axis.case network ≡ whole (a.price *ℤ x +ℤ b.price *ℤ y)
     unfolding cost_of
     two_prices a b x y are_two first second =
@@ -473,7 +527,8 @@ module _ (axis : Axis) where
     balance-network shape =
         let gives = sym (hot_heat-is axis.case network shape) ∙ side_heat side.Hot ∙ ap whole hot_is in
         let takes = sym (cold_heat-is axis.case network shape) ∙ side_heat side.Cold ∙ ap whole cold_is in
-        let beyond : excess_of axis.case network ≡ rational_zero = ap (λ x. minus x (whole (hot_target axis.case.streams))) gives
+        let beyond : excess_of axis.case network ≡ rational_zero
+        = ap (λ x. minus x (whole (hot_target axis.case.streams))) gives
         ∙ minus-self (whole (hot_target axis.case.streams)) in λ i. record { hot = gives i; cold = takes i; excess = beyond i; cost = cost_is i }
 
     -- ---- it is vertical
@@ -482,18 +537,24 @@ module _ (axis : Axis) where
       match_vertical : (number : ℕ) (x : Exchange) → slice_get (exchanges axis) number ≡ Some x
           → IsVerticalAt axis.case network led.values number (exchanger_of (sources side.Hot) (sources side.Cold) (number, x))
       match_vertical number x there =
-          let m = all_at (IsMatch axis) (exchanges axis) number x (are_matches axis) there in let p = own_piece side.Hot x m in
-          let q = own_piece side.Cold x m in let hot_runs = led.hot_runs number x p there (piece_of axis side.Hot x m) in
+          let m = all_at (IsMatch axis) (exchanges axis) number x (are_matches axis) there in
+          let p = own_piece side.Hot x m in
+          let q = own_piece side.Cold x m in
+          let hot_runs = led.hot_runs number x p there (piece_of axis side.Hot x m) in
           let cold_runs = led.cold_runs number x q there (piece_of axis side.Cold x m) in
           let hot_shift : Rational → Rational = λ t. on_scale side.Hot t (contribution_of axis.case p.source) in
-          let cold_shift : Rational → Rational = λ t. on_scale side.Cold t (contribution_of axis.case q.source) in let faces = match_faces axis x m in
-          let hot_is = sym (source_there side.Hot x m) in let cold_is = sym (source_there side.Cold x m) in
+          let cold_shift : Rational → Rational = λ t. on_scale side.Cold t (contribution_of axis.case q.source) in
+          let faces = match_faces axis x m in
+          let hot_is = sym (source_there side.Hot x m) in
+          let cold_is = sym (source_there side.Cold x m) in
           record {
-            hot_end = subst₂ (λ a b. AreFacing axis.case.streams a b (entry axis.case network led.values number side.Hot a)
+            hot_end =
+                subst₂ (λ a b. AreFacing axis.case.streams a b (entry axis.case network led.values number side.Hot a)
                 (exit axis.case network led.values number side.Cold b)) hot_is cold_is
                 (subst₂ (AreFacing axis.case.streams p.source q.source) (sym (ap hot_shift hot_runs.enters))
                 (sym (ap cold_shift cold_runs.leaves)) faces.hot_end);
-            cold_end = subst₂ (λ a b. AreFacing axis.case.streams a b (exit axis.case network led.values number side.Hot a)
+            cold_end =
+                subst₂ (λ a b. AreFacing axis.case.streams a b (exit axis.case network led.values number side.Hot a)
                 (entry axis.case network led.values number side.Cold b)) hot_is cold_is
                 (subst₂ (AreFacing axis.case.streams p.source q.source) (sym (ap hot_shift hot_runs.leaves))
                 (sym (ap cold_shift cold_runs.enters)) faces.cold_end);
@@ -505,7 +566,8 @@ module _ (axis : Axis) where
         valuation = led.valuation;
         each = λ number e at.
             let (x, there, is) = numbered-item (exchanger_of (sources side.Hot) (sources side.Cold)) 0 (exchanges axis) number e
-            (ap (λ es. slice_get es number) (sym made) ∙ at) in let count : 0 + number ≡ number = omega arith in
+            (ap (λ es. slice_get es number) (sym made) ∙ at) in
+            let count : 0 + number ≡ number = omega arith in
             subst (IsVerticalAt axis.case network led.values number) (ap (λ n. exchanger_of (sources side.Hot) (sources side.Cold) (n, x)) (sym count) ∙ is)
             (match_vertical number x there);
       }
@@ -520,6 +582,7 @@ pub record IsLed (case : Case) (hot cold : List Source) (es : List Exchange) (ne
   pub law : LedPiecesDrawLedNetworks case hot cold es network
 
 -- what holds of three lists holds of three that are the same
-pub moved : (P : List Source → List Source → List Exchange → Type 0) {a b x y : List Source} {es fs : List Exchange} → a ≡ x → b ≡ y → es ≡ fs → P a b es
+pub moved : (P : List Source → List Source → List Exchange → Type 0) {a b x y : List Source} {es fs : List Exchange}
+    → a ≡ x → b ≡ y → es ≡ fs → P a b es
     → P x y fs
 moved P {a} {b} {x} {y} {es} {fs} p q r is = subst (P x y) r (subst (λ u. P x u es) q (subst (λ u. P u b es) p is))

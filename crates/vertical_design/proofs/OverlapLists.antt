@@ -28,7 +28,8 @@ module _ {X Y : Type 0} (R : X → X → Type 0) (S : Y → Y → Type 0) (P : X
       let here = inner x (All-head P x xs each) in
       AllPairs-append S (f x) (flat_map f xs) here.ordered (ordered_flat xs (All-tail P x xs each) (AllPairs-tail R x xs ordered))
       (All-weaker (Q x) (λ y. All (S y) (flat_map f xs)) (λ y q. All-flat_map (S y) f xs (λ k o within.
-      let z = get_or xs k o in All-weaker (Q z) (S y) (λ w r. cross x z (AllPairs-head R x xs ordered k o within) y w q r) (f z)
+      let z = get_or xs k o in
+      All-weaker (Q z) (S y) (λ w r. cross x z (AllPairs-head R x xs ordered k o within) y w q r) (f z)
       (inner z (All-tail P x xs each k o within)).each)) (f x) here.each)
 
   abbrev IsInner : Y → Type 0
@@ -44,14 +45,17 @@ module _ {X Y : Type 0} (R : X → X → Type 0) (S : Y → Y → Type 0) (P : X
 
 lists_range : (n : ℕ) → Lists (λ a b. a < b) (λ i. i < n) (range_with_len 0 n)
 lists_range n =
-    let long = length-range_with_len 0 n in let item = get_or-range_with_len 0 n in
+    let long = length-range_with_len 0 n in
+    let item = get_or-range_with_len 0 n in
     record {
-      ordered = λ i j d before within. omega (arith, before, item i d (omega (arith, long, before, within)), item j d (omega (arith, long, within)));
+      ordered =
+          λ i j d before within. omega (arith, before, item i d (omega (arith, long, before, within)), item j d (omega (arith, long, within)));
       each = λ i d within. omega (arith, long, within, item i d (omega (arith, long, within)));
       every = λ i less. (i, omega (arith, long, less), item i i less ∙ zero-add i);
     }
 
-filter_map-flat : {X Y : Type 0} (h : X → Option Y) (xs : List X) → filter_map h xs ≡ flat_map (λ x. option_to_list (h x)) xs
+filter_map-flat : {X Y : Type 0} (h : X → Option Y) (xs : List X)
+    → filter_map h xs ≡ flat_map (λ x. option_to_list (h x)) xs
 filter_map-flat h [] = refl
 filter_map-flat {X} {Y} h (x ∷ xs) = by (h x) (filter_map-flat h xs)
   where
@@ -71,16 +75,20 @@ module _ (us vs : List ℤ) where
   lists_one : (i j : ℕ) → Lists pair_before (IsPairAt i j) (option_to_list (pair_of us vs i j))
   lists_one i j = by (int_lt (pos 0) (overlap us vs i j)) refl
     where
-      by : (b : Bool) → int_lt (pos 0) (overlap us vs i j) ≡ b → Lists pair_before (IsPairAt i j) (option_to_list (if b then Some (pair_at i j) else None))
+      by : (b : Bool) → int_lt (pos 0) (overlap us vs i j) ≡ b
+          → Lists pair_before (IsPairAt i j) (option_to_list (if b then Some (pair_at i j) else None))
       by true is = record {
-        ordered = AllPairs-cons pair_before (pair_at i j) [] (All-nil (pair_before (pair_at i j))) (AllPairs-nil pair_before);
-        each = All-cons (IsPairAt i j) (pair_at i j) [] (int_lt-true (pos 0) (overlap us vs i j) is, refl) (All-nil (IsPairAt i j));
+        ordered =
+            AllPairs-cons pair_before (pair_at i j) [] (All-nil (pair_before (pair_at i j))) (AllPairs-nil pair_before);
+        each =
+            All-cons (IsPairAt i j) (pair_at i j) [] (int_lt-true (pos 0) (overlap us vs i j) is, refl) (All-nil (IsPairAt i j));
         every = λ p own. (0, omega arith, sym own.1);
       }
       by false is = record {
         ordered = AllPairs-nil pair_before;
         each = All-nil (IsPairAt i j);
-        every = λ p own. let holds = sym (int_lt-from (pos 0) (overlap us vs i j) own.0) ∙ is in cc holds;
+        every = λ p own. let holds = sym (int_lt-from (pos 0) (overlap us vs i j) own.0) ∙ is in
+            cc holds;
       }
 
   -- those of one index of the first list
@@ -97,19 +105,25 @@ module _ (us vs : List ℤ) where
   ListsOverlaps-pairs_of =
       Lists-same pair_before (λ p. (i : ℕ) × (i < length us) × IsInRow i p) (IsOverlap us vs) (pairs_of us vs)
       (λ p (i, first, (j, second, (some, is))). rw is (record { first_within = first; second_within = second; amount = refl; positive = some })) (λ p is.
-      let same : p ≡ pair_at p.first p.second = ap (λ x. record { first = p.first; second = p.second; amount = x }) is.amount in
+      let same : p ≡ pair_at p.first p.second
+      = ap (λ x. record { first = p.first; second = p.second; amount = x }) is.amount in
       let here : IsPairAt p.first p.second p = (omega (arith, ints, is.amount, is.positive), same) in
       (p.first, is.first_within, (p.second, is.second_within, here)))
       (lists_flat (λ a b. a < b) pair_before (λ i. i < length us) IsInRow (λ i. filter_map (pair_of us vs i) (range_with_len 0 (length vs)))
       (λ i within. lists_row i) (λ i k less p q one other. rw (one.2.1, other.2.1) (inl less)) (range_with_len 0 (length us)) (lists_range (length us)))
 
   pub pairs_are : (ps : List Pair) → ListsOverlaps us vs ps → ps ≡ pairs_of us vs
-  pairs_are ps lists = Lists-unique pair_before pair_one_way (IsOverlap us vs) ps (pairs_of us vs) lists ListsOverlaps-pairs_of
+  pairs_are ps lists =
+      Lists-unique pair_before pair_one_way (IsOverlap us vs) ps (pairs_of us vs) lists ListsOverlaps-pairs_of
 
 -- ---- a share is no more than the two amounts
 
-pub overlap-within : (us vs : List ℤ) (i j : ℕ) → (overlap us vs i j ≤ℤ get_or us i (pos 0)) × (overlap us vs i j ≤ℤ get_or vs j (pos 0))
-overlap-within us vs i j = let one = begin_of-suc us i in let other = begin_of-suc vs j in (omega (arith, ints, clamps), omega (arith, ints, clamps))
+pub overlap-within : (us vs : List ℤ) (i j : ℕ)
+    → (overlap us vs i j ≤ℤ get_or us i (pos 0)) × (overlap us vs i j ≤ℤ get_or vs j (pos 0))
+overlap-within us vs i j =
+    let one = begin_of-suc us i in
+    let other = begin_of-suc vs j in
+    (omega (arith, ints, clamps), omega (arith, ints, clamps))
 
 -- ---- few pairs
 
@@ -117,7 +131,8 @@ abbrev steps : Pair → ℕ
 steps p = p.first + p.second
 
 -- along the staircase each pair is further than the one before it
-further_on : (us vs : List ℤ) → NotNegative us → NotNegative vs → (p q : Pair) → IsOverlap us vs p → IsOverlap us vs q → pair_before p q → steps p < steps q
+further_on : (us vs : List ℤ) → NotNegative us → NotNegative vs → (p q : Pair) → IsOverlap us vs p
+    → IsOverlap us vs q → pair_before p q → steps p < steps q
 further_on us vs some_us some_vs p q one other (inr (same, less)) = omega (arith, same, less)
 further_on us vs some_us some_vs p q one other (inl less) =
     ⊎_elim (λ back. absurd (never back)) (λ upto. omega (arith, less, upto)) (cases_lt q.second p.second)
@@ -125,7 +140,8 @@ further_on us vs some_us some_vs p q one other (inl less) =
     never : q.second < p.second → ⊥
     never back =
         let u = begin_of-rises us some_us (suc p.first) q.first (omega (arith, less)) in
-        let v = begin_of-rises vs some_vs (suc q.second) p.second (omega (arith, back)) in omega (arith, ints, clamps)
+        let v = begin_of-rises vs some_vs (suc q.second) p.second (omega (arith, back)) in
+        omega (arith, ints, clamps)
 
 few_steps : (high : ℕ) (ps : List Pair) → AllPairs (λ p q. steps p < steps q) ps → All (λ p. steps p < high) ps
     → (low : ℕ) → All (λ p. low ≤ steps p) ps → low ≤ high → length ps + low ≤ high
@@ -138,16 +154,19 @@ few_steps high (p ∷ ps) rise upto low from le =
 
 pub few_pairs : (us vs : List ℤ) → NotNegative us → NotNegative vs → length (pairs_of us vs) ≤ length us + length vs
 few_pairs us vs some_us some_vs =
-    let lists = ListsOverlaps-pairs_of us vs in let few = few_steps (length us + length vs) (pairs_of us vs) (λ i j d before within.
+    let lists = ListsOverlaps-pairs_of us vs in
+    let few = few_steps (length us + length vs) (pairs_of us vs) (λ i j d before within.
     further_on us vs some_us some_vs _ _ (lists.each i d (omega arith)) (lists.each j d within) (lists.ordered i j d before within))
     (λ i d within. let is = lists.each i d within in omega arith) 0 (λ i d within. omega arith) (omega arith) in omega arith
 
 -- Flows between two cuts, and shares of them, within the limits.
 
 -- one item more of a list that is made item by item
-pub map_more : {X Y : Type 0} (f : X → Y) (xs : List X) (i : ℕ) (x : X) → i < length xs → x ≡ get_or xs i x → map f (take (i + 1) xs)
+pub map_more : {X Y : Type 0} (f : X → Y) (xs : List X) (i : ℕ) (x : X) → i < length xs → x ≡ get_or xs i x
+    → map f (take (i + 1) xs)
     ≡ map f (take i xs) ++ f x ∷ []
-map_more f xs i x within is = ap (map f) (take_more xs i x within ∙ ap (λ y. take i xs ++ y ∷ []) (sym is)) ∙ map-append f (take i xs) (x ∷ [])
+map_more f xs i x within is =
+    ap (map f) (take_more xs i x within ∙ ap (λ y. take i xs ++ y ∷ []) (sym is)) ∙ map-append f (take i xs) (x ∷ [])
 
 flow-either : (b : Bool) (cp : ℤ) → IsFlow cp → IsFlow (if b then cp else pos 0)
 flow-either true cp is = is
@@ -167,11 +186,14 @@ sum-between {m} flows each few =
     let most = int_sum_by-at_most (λ (f : ℤ). f) m flows (All-weaker P (λ f. f ≤ℤ pos m) (λ f is. is.upto) flows each) in
     record { from = least; upto = omega (arith, ints, most, mul-le-mul_right m few) }
 
-pub sum-within : (flows : List ℤ) → All IsFlow flows → length flows ≤ MOST_SPANS → IsSideFlow (int_sum_by (λ f. f) flows)
+pub sum-within : (flows : List ℤ) → All IsFlow flows → length flows ≤ MOST_SPANS
+    → IsSideFlow (int_sum_by (λ f. f) flows)
 sum-within flows each few = sum-between flows each few
 
-pub sum-so_far : (flows : List ℤ) (i : ℕ) → All IsFlow flows → length flows ≤ MOST_SPANS → IsSideFlow (int_sum_by (λ f. f) (take i flows))
-sum-so_far flows i each few = sum-within (take i flows) (All-take IsFlow i flows each) (omega (arith, few, length-take i flows))
+pub sum-so_far : (flows : List ℤ) (i : ℕ) → All IsFlow flows → length flows ≤ MOST_SPANS
+    → IsSideFlow (int_sum_by (λ f. f) (take i flows))
+sum-so_far flows i each few =
+    sum-within (take i flows) (All-take IsFlow i flows each) (omega (arith, few, length-take i flows))
 
 pub side-within : (low high : ℤ) (spans : List Span) → AreSpans spans → IsSideFlow (side_flow low high spans)
 side-within low high spans are = sum-within (flows_in low high spans) (flows-within low high spans are.each)
@@ -179,15 +201,18 @@ side-within low high spans are = sum-within (flows_in low high spans) (flows-wit
 
 -- ---- shares
 
-product-between : {m n : ℕ} (a b : ℤ) → IsBetween (pos 0) (pos m) a → IsBetween (pos 0) (pos n) b → IsBetween (pos 0) (pos (m * n)) (a *ℤ b)
+product-between : {m n : ℕ} (a b : ℤ) → IsBetween (pos 0) (pos m) a → IsBetween (pos 0) (pos n) b
+    → IsBetween (pos 0) (pos (m * n)) (a *ℤ b)
 product-between {m} {n} a b is_a is_b =
-    let product = product_between a b m n is_a.from is_a.upto is_b.from is_b.upto in record { from = product.0; upto = product.1 }
+    let product = product_between a b m n is_a.from is_a.upto is_b.from is_b.upto in
+    record { from = product.0; upto = product.1 }
 
 -- what a source offers or asks for
 abbrev pub IsAmount : ℤ → Type 0
 IsAmount amount = IsBetween (pos 0) (MOST_CP *ℤ MOST_FLOW) amount
 
-pub scaled-positive : (flows : List ℤ) (side : ℤ) → All IsFlow flows → IsSideFlow side → NotNegative (map (λ f. f *ℤ side) flows)
+pub scaled-positive : (flows : List ℤ) (side : ℤ) → All IsFlow flows → IsSideFlow side
+    → NotNegative (map (λ f. f *ℤ side) flows)
 scaled-positive flows side each is_side =
     All-map (λ a. pos 0 ≤ℤ a) (λ f. f *ℤ side) flows
     (All-weaker IsFlow (λ f. pos 0 ≤ℤ (f *ℤ side)) (λ f is. (product-between f side is is_side).from) flows each)
@@ -196,7 +221,8 @@ scaled-positive flows side each is_side =
 factor-above : (flow side : ℤ) → pos 0 ≤ℤ side → pos 0 <ℤ (flow *ℤ side) → pos 0 <ℤ side
 factor-above flow side from above =
     ⊎_elim (λ less. less) (λ most.
-    let none : side ≡ pos 0 = omega (arith, ints, from, most) in absurd (omega (arith, ints, ap (λ z. flow *ℤ z) none ∙ *ℤ-zero flow, above)))
+    let none : side ≡ pos 0 = omega (arith, ints, from, most) in
+    absurd (omega (arith, ints, ap (λ z. flow *ℤ z) none ∙ *ℤ-zero flow, above)))
     (int_lt_cases (pos 0) side)
 
 -- a share of what an index offers
@@ -209,9 +235,11 @@ partly : (low high : ℤ) (spans others : List Span) (index : ℕ) (share : ℤ)
     → index < length (amounts_in low high spans others) → pos 0 <ℤ share
     → share ≤ℤ get_or (amounts_in low high spans others) index (pos 0) → IsPartly low high spans others index share
 partly low high spans others index share are are_others inside above upto =
-    let flows = flows_in low high spans in let side = side_flow low high others in
+    let flows = flows_in low high spans in
+    let side = side_flow low high others in
     let within : index < length flows = omega (arith, inside, length-map flows (λ f. f *ℤ side)) in
-    let item = get_or-map (λ f. f *ℤ side) flows index (pos 0) (pos 0) within in let is_side = side-within low high others are_others in
+    let item = get_or-map (λ f. f *ℤ side) flows index (pos 0) (pos 0) within in
+    let is_side = side-within low high others are_others in
     let amount : IsAmount (get_or flows index (pos 0) *ℤ side) =
     product-between (get_or flows index (pos 0)) side (flows-within low high spans are.each index (pos 0) within) is_side in
     record {
@@ -251,7 +279,8 @@ pub record IsFraction (num den : ℤ) : Type 0 where
   pub den_from : pos 0 <ℤ den
   pub den_upto : den ≤ℤ pos (2 ^ 48)
 
-pub duty-within : (low high share one other : ℤ) → IsGap low high → pos 0 <ℤ share → share ≤ℤ (MOST_CP *ℤ MOST_FLOW) → IsBetween (pos 1) MOST_FLOW one
+pub duty-within : (low high share one other : ℤ) → IsGap low high → pos 0 <ℤ share
+    → share ≤ℤ (MOST_CP *ℤ MOST_FLOW) → IsBetween (pos 1) MOST_FLOW one
     → IsBetween (pos 1) MOST_FLOW other → IsFraction ((high -ℤ low) *ℤ share) (one *ℤ other)
 duty-within low high share one other gap above upto is_one is_other =
     let wide : IsPlace (high -ℤ low) = record { from = omega (arith, ints); upto = omega (arith, ints) } in
@@ -291,18 +320,22 @@ module _ (hot cold : List Span) (cuts : List ℤ) (are_hot : AreSpans hot) (are_
 
 -- ---- few matches
 
-pub amounts-positive : (low high : ℤ) (spans others : List Span) → AreSpans spans → AreSpans others → NotNegative (amounts_in low high spans others)
+pub amounts-positive : (low high : ℤ) (spans others : List Span) → AreSpans spans → AreSpans others
+    → NotNegative (amounts_in low high spans others)
 amounts-positive low high spans others are are_others =
     scaled-positive (flows_in low high spans) (side_flow low high others) (flows-within low high spans are.each) (side-within low high others are_others)
 
-pub length-amounts : (low high : ℤ) (spans others : List Span) → length (amounts_in low high spans others) ≡ length spans
-length-amounts low high spans others = length-map (flows_in low high spans) (λ f. f *ℤ side_flow low high others) ∙ length-map spans (flow_in low high)
+pub length-amounts : (low high : ℤ) (spans others : List Span)
+    → length (amounts_in low high spans others) ≡ length spans
+length-amounts low high spans others =
+    length-map (flows_in low high spans) (λ f. f *ℤ side_flow low high others) ∙ length-map spans (flow_in low high)
 
 pub few_matches : (number : ℕ) (low high : ℤ) (hot cold : List Span) → AreSpans hot → AreSpans cold
     → length (matches_in number low high hot cold) ≤ 2 * MOST_SPANS
 unfolding matches_in
 few_matches number low high hot cold are_hot are_cold =
-    let us = amounts_in low high hot cold in let vs = amounts_in low high cold hot in
+    let us = amounts_in low high hot cold in
+    let vs = amounts_in low high cold hot in
     let few = few_pairs us vs (amounts-positive low high hot cold are_hot are_cold) (amounts-positive low high cold hot are_cold are_hot) in
     let made = length-map (pairs_of us vs) (match_of number low high hot cold) in
     omega (arith, few, made, length-amounts low high hot cold, length-amounts low high cold hot, are_hot.few, are_cold.few)
@@ -319,11 +352,13 @@ index_on side.Cold p = p.second
 
 -- ---- sums
 
-sum-filter : {X : Type 0} (p : X → Bool) (f : X → ℤ) (xs : List X) → int_sum_by f (filter p xs) ≡ int_sum_by (λ x. if p x then f x else pos 0) xs
+sum-filter : {X : Type 0} (p : X → Bool) (f : X → ℤ) (xs : List X)
+    → int_sum_by f (filter p xs) ≡ int_sum_by (λ x. if p x then f x else pos 0) xs
 sum-filter p f [] = refl
 sum-filter {X} p f (x ∷ xs) = by (p x) ∙ ap (λ z. (if p x then f x else pos 0) +ℤ z) (sum-filter p f xs)
   where
-    by : (b : Bool) → int_sum_by f (cond b (x ∷ filter p xs) (filter p xs)) ≡ (if b then f x else pos 0) +ℤ int_sum_by f (filter p xs)
+    by : (b : Bool) → int_sum_by f (cond b (x ∷ filter p xs) (filter p xs))
+        ≡ (if b then f x else pos 0) +ℤ int_sum_by f (filter p xs)
     by true = refl
     by false = none (int_sum_by f (filter p xs))
       where
@@ -338,7 +373,8 @@ sum-scaled c (x ∷ xs) = ap (λ z. x *ℤ c +ℤ z) (sum-scaled c xs) ∙ sym (
 own_amount : (low high : ℤ) (spans others : List Span) (k : ℕ) (a : Span) → slice_get spans k ≡ Some a
     → get_or (amounts_in low high spans others) k (pos 0) ≡ flow_in low high a *ℤ side_flow low high others
 own_amount low high spans others k a there =
-    let within = slice_get_within spans k a there in let scaled = λ (f : ℤ). f *ℤ side_flow low high others in
+    let within = slice_get_within spans k a there in
+    let scaled = λ (f : ℤ). f *ℤ side_flow low high others in
     get_or-map scaled (flows_in low high spans) k (pos 0) (pos 0) (omega (arith, within, length-map spans (flow_in low high)))
     ∙ ap scaled (get_or-map (flow_in low high) spans k a (pos 0) within ∙ ap (flow_in low high) (get_or_from_slice_get spans k a a there))
 
@@ -367,7 +403,8 @@ module _ (low high : ℤ) (spans : Side → List Span) where
         some d = amounts-positive low high (spans d) (spans (other d)) (are d) (are (other d))
 
         by : (d : Side) → k < length (amounts d)
-            → int_sum_by (λ p. if index_on d p == k then p.amount else pos 0) (pairs_of (amounts side.Hot) (amounts side.Cold)) ≡ get_or (amounts d) k (pos 0)
+            → int_sum_by (λ p. if index_on d p == k then p.amount else pos 0) (pairs_of (amounts side.Hot) (amounts side.Cold))
+            ≡ get_or (amounts d) k (pos 0)
         by side.Hot inside =
             overlaps_first (amounts side.Hot) (amounts side.Cold) (pairs_of (amounts side.Hot) (amounts side.Cold)) (some side.Hot) (some side.Cold)
             amounts-balanced (ListsOverlaps-pairs_of (amounts side.Hot) (amounts side.Cold)) k inside
@@ -378,42 +415,56 @@ module _ (low high : ℤ) (spans : Side → List Span) where
     -- a share is no more than that
     pub own_share : (p : Pair) → IsOverlap (amounts side.Hot) (amounts side.Cold) p → index_on of p ≡ k
         → p.amount ≤ℤ (flow_in low high a *ℤ side_flow low high (spans (other of)))
-    own_share p is own = subst (λ z. p.amount ≤ℤ z) (own_amount low high (spans of) (spans (other of)) k a there) (by of own)
+    own_share p is own =
+        subst (λ z. p.amount ≤ℤ z) (own_amount low high (spans of) (spans (other of)) k a there) (by of own)
       where
         by : (d : Side) → index_on d p ≡ k → p.amount ≤ℤ get_or (amounts d) k (pos 0)
-        by side.Hot at = rw (← at) (omega (arith, ints, is.amount, (overlap-within (amounts side.Hot) (amounts side.Cold) p.first p.second).0))
-        by side.Cold at = rw (← at) (omega (arith, ints, is.amount, (overlap-within (amounts side.Hot) (amounts side.Cold) p.first p.second).1))
+        by side.Hot at =
+            rw (← at) (omega (arith, ints, is.amount, (overlap-within (amounts side.Hot) (amounts side.Cold) p.first p.second).0))
+        by side.Cold at =
+            rw (← at) (omega (arith, ints, is.amount, (overlap-within (amounts side.Hot) (amounts side.Cold) p.first p.second).1))
 
 -- Lists that are made row by row, all rows of one length.
 
-pub rows_more : {X : Type 0} (f : ℕ → List X) (n : ℕ) → flat_map f (range_with_len 0 (n + 1)) ≡ flat_map f (range_with_len 0 n) ++ f n
+pub rows_more : {X : Type 0} (f : ℕ → List X) (n : ℕ)
+    → flat_map f (range_with_len 0 (n + 1)) ≡ flat_map f (range_with_len 0 n) ++ f n
 rows_more {X} f n =
-    let none : 0 + n ≡ n = omega arith in ap (flat_map f) (sym (range_with_len-append 0 n 1) ∙ ap (λ k. range_with_len 0 n ++ k ∷ []) none)
-    ∙ flat_map-append f (range_with_len 0 n) (n ∷ []) ∙ ap (λ (xs : List X). flat_map f (range_with_len 0 n) ++ xs) (append-nil (f n))
+    let none : 0 + n ≡ n = omega arith in
+    ap (flat_map f) (sym (range_with_len-append 0 n 1) ∙ ap (λ k. range_with_len 0 n ++ k ∷ []) none)
+    ∙ flat_map-append f (range_with_len 0 n) (n ∷ [])
+    ∙ ap (λ (xs : List X). flat_map f (range_with_len 0 n) ++ xs) (append-nil (f n))
 
-pub filter_map-rows : {X Y Z : Type 0} (h : Y → Option Z) (f : X → List Y) (xs : List X) → filter_map h (flat_map f xs) ≡ flat_map (λ x. filter_map h (f x)) xs
+pub filter_map-rows : {X Y Z : Type 0} (h : Y → Option Z) (f : X → List Y) (xs : List X)
+    → filter_map h (flat_map f xs) ≡ flat_map (λ x. filter_map h (f x)) xs
 filter_map-rows h f [] = refl
-filter_map-rows {X} {Y} {Z} h f (x ∷ xs) = filter_map-append h (f x) (flat_map f xs) ∙ ap (λ (zs : List Z). filter_map h (f x) ++ zs) (filter_map-rows h f xs)
+filter_map-rows {X} {Y} {Z} h f (x ∷ xs) =
+    filter_map-append h (f x) (flat_map f xs) ∙ ap (λ (zs : List Z). filter_map h (f x) ++ zs) (filter_map-rows h f xs)
 
-pub filter_map-map : {X Y Z : Type 0} (h : Y → Option Z) (f : X → Y) (xs : List X) → filter_map h (map f xs) ≡ filter_map (λ x. h (f x)) xs
+pub filter_map-map : {X Y Z : Type 0} (h : Y → Option Z) (f : X → Y) (xs : List X)
+    → filter_map h (map f xs) ≡ filter_map (λ x. h (f x)) xs
 filter_map-map h f [] = refl
 filter_map-map {X} {Y} {Z} h f (x ∷ xs) = ap (cons_option (h (f x))) (filter_map-map h f xs)
 
 pub none_kept : {X Y : Type 0} (h : X → Option Y) (xs : List X) → All (λ x. h x ≡ None) xs → filter_map h xs ≡ []
 none_kept h [] none = refl
 none_kept {X} h (x ∷ xs) none =
-    let R : X → Type 0 = λ y. h y ≡ None in ap (λ o. cons_option o (filter_map h xs)) (All-head R x xs none) ∙ none_kept h xs (All-tail R x xs none)
+    let R : X → Type 0 = λ y. h y ≡ None in
+    ap (λ o. cons_option o (filter_map h xs)) (All-head R x xs none) ∙ none_kept h xs (All-tail R x xs none)
 
-pub map-rows : {X Y Z : Type 0} (h : Y → Z) (f : X → List Y) (xs : List X) → map h (flat_map f xs) ≡ flat_map (λ x. map h (f x)) xs
+pub map-rows : {X Y Z : Type 0} (h : Y → Z) (f : X → List Y) (xs : List X)
+    → map h (flat_map f xs) ≡ flat_map (λ x. map h (f x)) xs
 map-rows h f [] = refl
-map-rows {X} {Y} {Z} h f (x ∷ xs) = map-append h (f x) (flat_map f xs) ∙ ap (λ (zs : List Z). map h (f x) ++ zs) (map-rows h f xs)
+map-rows {X} {Y} {Z} h f (x ∷ xs) =
+    map-append h (f x) (flat_map f xs) ∙ ap (λ (zs : List Z). map h (f x) ++ zs) (map-rows h f xs)
 
-pub same-rows : {X Y : Type 0} (f g : X → List Y) → ((x : X) → f x ≡ g x) → (xs : List X) → flat_map f xs ≡ flat_map g xs
+pub same-rows : {X Y : Type 0} (f g : X → List Y) → ((x : X) → f x ≡ g x) → (xs : List X)
+    → flat_map f xs ≡ flat_map g xs
 same-rows f g same [] = refl
 same-rows f g same (x ∷ xs) = ap₂ ◌++◌ (same x) (same-rows f g same xs)
 
 -- what one row alone has
-pub only_row : {X : Type 0} (f : ℕ → List X) (a count n : ℕ) → a ≤ n → n < a + count → ((m : ℕ) → m ≢ n → f m ≡ []) → flat_map f (range_with_len a count) ≡ f n
+pub only_row : {X : Type 0} (f : ℕ → List X) (a count n : ℕ) → a ≤ n → n < a + count
+    → ((m : ℕ) → m ≢ n → f m ≡ []) → flat_map f (range_with_len a count) ≡ f n
 only_row f a zero n from upto others = absurd (omega arith)
 only_row {X} f a (suc count) n from upto others =
     ⊎_elim (λ here. ap (λ xs. f a ++ xs) (no_rows (a + 1) count (omega (arith, here))) ∙ append-nil (f a) ∙ ap f here)
@@ -422,47 +473,63 @@ only_row {X} f a (suc count) n from upto others =
   where
     no_rows : (b k : ℕ) → n < b → flat_map f (range_with_len b k) ≡ []
     no_rows b zero past = refl
-    no_rows b (suc k) past = ap (λ (xs : List X). xs ++ flat_map f (range_with_len (b + 1) k)) (others b (λ same. absurd (omega (arith, same, past))))
+    no_rows b (suc k) past =
+        ap (λ (xs : List X). xs ++ flat_map f (range_with_len (b + 1) k)) (others b (λ same. absurd (omega (arith, same, past))))
         ∙ no_rows (b + 1) k (omega (arith, past))
 
 -- few in each row, and so in all
 pub few-rows : {X : Type 0} (f : ℕ → List X) (most : ℕ) → ((n : ℕ) → length (f n) ≤ most) → (a count : ℕ)
     → length (flat_map f (range_with_len a count)) ≤ count * most
 few-rows f most each a zero = omega arith
-few-rows f most each a (suc count) = omega (arith, length-append (f a) (flat_map f (range_with_len (a + 1) count)), each a, few-rows f most each (a + 1) count)
+few-rows f most each a (suc count) =
+    omega (arith, length-append (f a) (flat_map f (range_with_len (a + 1) count)), each a, few-rows f most each (a + 1) count)
 
 -- ---- rows of one length
 
 -- items behind others
 behind : {X : Type 0} (xs ys : List X) (i : ℕ) → slice_get (xs ++ ys) (length xs + i) ≡ slice_get ys i
 behind [] ys i = let none : 0 + i ≡ i = omega arith in ap (slice_get ys) none
-behind (x ∷ xs) ys i = let next : suc (length xs) + i ≡ suc (length xs + i) = omega arith in ap (slice_get (x ∷ (xs ++ ys))) next ∙ behind xs ys i
+behind (x ∷ xs) ys i =
+    let next : suc (length xs) + i ≡ suc (length xs + i) = omega arith in
+    ap (slice_get (x ∷ (xs ++ ys))) next ∙ behind xs ys i
 
 module _ {X : Type 0} (f : ℕ → List X) (len : ℕ) (long : (n : ℕ) → length (f n) ≡ len) where
-  place_from : (a count n k : ℕ) (x : X) → n < count → slice_get (f (a + n)) k ≡ Some x → slice_get (flat_map f (range_with_len a count)) (n * len + k) ≡ Some x
+  place_from : (a count n k : ℕ) (x : X) → n < count → slice_get (f (a + n)) k ≡ Some x
+      → slice_get (flat_map f (range_with_len a count)) (n * len + k) ≡ Some x
   place_from a zero n k x within there = absurd (omega arith)
   place_from a (suc count) zero k x within there =
-      let same : 0 * len + k ≡ k = omega arith in let none : a + 0 ≡ a = omega arith in let rest = flat_map f (range_with_len (a + 1) count) in
-      ap (slice_get (f a ++ rest)) same ∙ slice_get-append (f a) rest k x (ap (λ b. slice_get (f b) k) (sym none) ∙ there)
+      let same : 0 * len + k ≡ k = omega arith in
+      let none : a + 0 ≡ a = omega arith in
+      let rest = flat_map f (range_with_len (a + 1) count) in
+      ap (slice_get (f a ++ rest)) same
+      ∙ slice_get-append (f a) rest k x (ap (λ b. slice_get (f b) k) (sym none) ∙ there)
   place_from a (suc count) (suc n) k x within there =
-      let same : suc n * len + k ≡ length (f a) + (n * len + k) = omega (arith, long a) in let next : a + suc n ≡ a + 1 + n = omega arith in
-      let rest = flat_map f (range_with_len (a + 1) count) in ap (slice_get (f a ++ rest)) same ∙ behind (f a) rest (n * len + k)
+      let same : suc n * len + k ≡ length (f a) + (n * len + k) = omega (arith, long a) in
+      let next : a + suc n ≡ a + 1 + n = omega arith in
+      let rest = flat_map f (range_with_len (a + 1) count) in
+      ap (slice_get (f a ++ rest)) same ∙ behind (f a) rest (n * len + k)
       ∙ place_from (a + 1) count n k x (omega (arith, within)) (ap (λ b. slice_get (f b) k) (sym next) ∙ there)
 
   -- an item of a row among all
-  pub row_place : (count n k : ℕ) (x : X) → n < count → slice_get (f n) k ≡ Some x → slice_get (flat_map f (range_with_len 0 count)) (n * len + k) ≡ Some x
-  row_place count n k x within there = let none : 0 + n ≡ n = omega arith in place_from 0 count n k x within (ap (λ b. slice_get (f b) k) none ∙ there)
+  pub row_place : (count n k : ℕ) (x : X) → n < count → slice_get (f n) k ≡ Some x
+      → slice_get (flat_map f (range_with_len 0 count)) (n * len + k) ≡ Some x
+  row_place count n k x within there =
+      let none : 0 + n ≡ n = omega arith in
+      place_from 0 count n k x within (ap (λ b. slice_get (f b) k) none ∙ there)
 
   pub length-rows : (a count : ℕ) → length (flat_map f (range_with_len a count)) ≡ count * len
   length-rows a zero = omega arith
-  length-rows a (suc count) = omega (arith, length-append (f a) (flat_map f (range_with_len (a + 1) count)), long a, length-rows (a + 1) count)
+  length-rows a (suc count) =
+      omega (arith, length-append (f a) (flat_map f (range_with_len (a + 1) count)), long a, length-rows (a + 1) count)
 
   -- the items of all rows, numbered row by row
-  pub numbered-rows : (a count : ℕ) → enumerate_from (a * len) (flat_map f (range_with_len a count)) ≡ flat_map (λ n. enumerate_from (n * len) (f n))
+  pub numbered-rows : (a count : ℕ)
+      → enumerate_from (a * len) (flat_map f (range_with_len a count)) ≡ flat_map (λ n. enumerate_from (n * len) (f n))
       (range_with_len a count)
   numbered-rows a zero = refl
   numbered-rows a (suc count) =
-      let next : a * len + length (f a) ≡ (a + 1) * len = omega (arith, long a) in let rest = flat_map f (range_with_len (a + 1) count) in
+      let next : a * len + length (f a) ≡ (a + 1) * len = omega (arith, long a) in
+      let rest = flat_map f (range_with_len (a + 1) count) in
       enumerate_from-append (a * len) (f a) rest
       ∙ ap (λ xs. enumerate_from (a * len) (f a) ++ xs) (ap (λ b. enumerate_from b rest) next ∙ numbered-rows (a + 1) count)
 
@@ -475,4 +542,6 @@ same_place len n m k j k_within j_within same =
   where
     less : (a b x y : ℕ) → x < len → a < b → a * len + x ≡ b * len + y → ⊥
     less a b x y within order is =
-        let next : a + 1 ≤ b = omega (arith, order) in let product = mul-le-mul_right len next in absurd (omega (arith, product, is, within))
+        let next : a + 1 ≤ b = omega (arith, order) in
+        let product = mul-le-mul_right len next in
+        absurd (omega (arith, product, is, within))

@@ -30,17 +30,20 @@ pub record IsAxis (streams : List Stream) : Type 0 where
 
 pub is_axis : (streams : List Stream) → AreSensibleStreams streams → IsAxis streams
 is_axis streams are =
-    let hot = hot_target-within streams are.are in let cold = cold_target-within streams are.are in
+    let hot = hot_target-within streams are.are in
+    let cold = cold_target-within streams are.are in
     record { hot_from = omega (arith, ints); hot_order = omega (arith, ints); cold_order = cold.from; cold_end = omega (arith, ints); apart = cold.upto }
 
-pub utility_order : (of : Side) (streams : List Stream) → IsAxis streams → utility_from of streams ≤ℤ utility_to of streams
+pub utility_order : (of : Side) (streams : List Stream) → IsAxis streams
+    → utility_from of streams ≤ℤ utility_to of streams
 utility_order side.Hot streams axis = axis.hot_order
 utility_order side.Cold streams axis = axis.cold_order
 
 abbrev pub IsOnAxis : List Stream → ℤ → Type 0
 IsOnAxis streams x = IsBetween (pos 0) (utility_to side.Hot streams) x
 
-pub curve_on_axis : (of : Side) (streams : List Stream) (t : ℤ) → AreSensibleStreams streams → IsOnAxis streams (heat_at of streams t)
+pub curve_on_axis : (of : Side) (streams : List Stream) (t : ℤ) → AreSensibleStreams streams
+    → IsOnAxis streams (heat_at of streams t)
 curve_on_axis of streams t are = by of (heat_at of streams t) (on_curve of streams are t) (is_axis streams are)
   where
     by : (d : Side) (x : ℤ) → IsBetween (begin_of d streams) (end_of d streams) x → IsAxis streams → IsOnAxis streams x
@@ -55,7 +58,8 @@ utility_on_axis side.Cold streams axis =
     (record { from = omega (arith, ints); upto = omega (arith, ints) }, record { from = axis.cold_order; upto = omega (arith, ints) })
 
 -- the utility of a side does not lie where its curve does
-pub curve_or_utility : (of : Side) (streams : List Stream) (low high : ℤ) → low <ℤ high → begin_of of streams ≤ℤ low → high ≤ℤ end_of of streams
+pub curve_or_utility : (of : Side) (streams : List Stream) (low high : ℤ) → low <ℤ high
+    → begin_of of streams ≤ℤ low → high ≤ℤ end_of of streams
     → utility_from of streams ≤ℤ low → high ≤ℤ utility_to of streams → ⊥
 curve_or_utility side.Hot streams low high gap begins ends from upto = omega (arith, ints)
 curve_or_utility side.Cold streams low high gap begins ends from upto = omega (arith, ints)
@@ -64,10 +68,12 @@ curve_or_utility side.Cold streams low high gap begins ends from upto = omega (a
 
 -- the span of a stream, and that of a utility, of a side
 abbrev pub span_of : Side → List Stream → ℕ → Stream → Span
-span_of of streams n s = record { source = source.Stream n; from = heat_at of streams (low_end s); to = heat_at of streams (high_end s); cp = s.cp }
+span_of of streams n s =
+    record { source = source.Stream n; from = heat_at of streams (low_end s); to = heat_at of streams (high_end s); cp = s.cp }
 
 abbrev pub utility_span_of : Side → List Stream → ℕ → Span
-utility_span_of of streams number = record { source = source.Utility number; from = utility_from of streams; to = utility_to of streams; cp = pos 1 }
+utility_span_of of streams number =
+    record { source = source.Utility number; from = utility_from of streams; to = utility_to of streams; cp = pos 1 }
 
 pub record IsStreamSpan (case : Case) (of : Side) (number : ℕ) (s : Stream) (a : Span) : Type 0 where
   pub here : slice_get case.streams number ≡ Some s
@@ -80,7 +86,8 @@ pub record IsUtilitySpan (case : Case) (of : Side) (number : ℕ) (u : Utility) 
   pub is : a ≡ utility_span_of of case.streams number
 
 abbrev pub IsSourceSpan : Case → Side → Span → Type 0
-IsSourceSpan case of a = ((number : ℕ) × (s : Stream) × IsStreamSpan case of number s a) ⊎ ((number : ℕ) × (u : Utility) × IsUtilitySpan case of number u a)
+IsSourceSpan case of a =
+    ((number : ℕ) × (s : Stream) × IsStreamSpan case of number s a) ⊎ ((number : ℕ) × (u : Utility) × IsUtilitySpan case of number u a)
 
 -- different spans have different sources
 abbrev pub Differ : Span → Span → Type 0
@@ -93,9 +100,12 @@ HasSpan spans a = (k : ℕ) × (slice_get spans k ≡ Some a)
 -- what holds of both ends of each span holds of each cut
 ends_hold : (P : ℤ → Type 0) (spans : List Span) → All (λ a. P a.from × P a.to) spans → All P (ends_of spans)
 ends_hold P spans each = All-flat_map P (λ (a : Span). a.from ∷ a.to ∷ []) spans (λ k o within.
-    let a = get_or spans k o in let both = each k o within in All-cons P a.from (a.to ∷ []) both.0 (All-cons P a.to [] both.1 (All-nil P)))
+    let a = get_or spans k o in
+    let both = each k o within in
+    All-cons P a.from (a.to ∷ []) both.0 (All-cons P a.to [] both.1 (All-nil P)))
 
-pub cuts_hold : (hot cold : List Span) (cuts : List ℤ) → AreCuts hot cold cuts → (P : ℤ → Type 0) → All (λ a. P a.from × P a.to) hot
+pub cuts_hold : (hot cold : List Span) (cuts : List ℤ) → AreCuts hot cold cuts → (P : ℤ → Type 0)
+    → All (λ a. P a.from × P a.to) hot
     → All (λ a. P a.from × P a.to) cold → All P cuts
 cuts_hold hot cold cuts are P hots colds k o within =
     let all = All-append P (ends_of hot) (ends_of cold) (ends_hold P hot hots) (ends_hold P cold colds) in
@@ -110,7 +120,8 @@ module _ {X : Type 0} (own : X → Bool) (item : ℕ → X → Span) where
   abbrev pub kept_spans : ℕ → List X → List Span
   kept_spans n xs = filter_map kept (enumerate_from n xs)
 
-  pub kept_each : (P : Span → Type 0) (n : ℕ) (xs : List X) → ((i : ℕ) (x : X) → slice_get xs i ≡ Some x → own x ≡ true → P (item (n + i) x))
+  pub kept_each : (P : Span → Type 0) (n : ℕ) (xs : List X)
+      → ((i : ℕ) (x : X) → slice_get xs i ≡ Some x → own x ≡ true → P (item (n + i) x))
       → All P (kept_spans n xs)
   kept_each = kept_hold own kept item (λ n x. refl)
 
@@ -118,18 +129,24 @@ module _ {X : Type 0} (own : X → Bool) (item : ℕ → X → Span) where
   has_later None rest a there = there
   has_later (Some b) rest a (k, is) = (suc k, is)
 
-  pub kept_there : (n i : ℕ) (xs : List X) (x : X) → slice_get xs i ≡ Some x → own x ≡ true → HasSpan (kept_spans n xs) (item (n + i) x)
+  pub kept_there : (n i : ℕ) (xs : List X) (x : X) → slice_get xs i ≡ Some x → own x ≡ true
+      → HasSpan (kept_spans n xs) (item (n + i) x)
   kept_there n i [] x at is_own = cc at
-  kept_there n zero (y ∷ xs) x at is_own = let same : y ≡ x = cc at in let first : n + 0 ≡ n = omega arith in rw (same, is_own, first) (0, refl)
+  kept_there n zero (y ∷ xs) x at is_own =
+      let same : y ≡ x = cc at in
+      let first : n + 0 ≡ n = omega arith in
+      rw (same, is_own, first) (0, refl)
   kept_there n (suc i) (y ∷ xs) x at is_own =
       let next : n + suc i ≡ n + 1 + i = omega arith in
       rw next (has_later (kept (n, y)) (kept_spans (n + 1) xs) (item (n + 1 + i) x) (kept_there (n + 1) i xs x at is_own))
 
-  pub kept_differ : ((k m : ℕ) (x y : X) → k < m → Differ (item k x) (item m y)) → (n : ℕ) (xs : List X) → AllPairs Differ (kept_spans n xs)
+  pub kept_differ : ((k m : ℕ) (x y : X) → k < m → Differ (item k x) (item m y)) → (n : ℕ) (xs : List X)
+      → AllPairs Differ (kept_spans n xs)
   kept_differ differ n [] = AllPairs-nil Differ
   kept_differ differ n (x ∷ xs) = by (own x) (kept_differ differ (n + 1) xs)
     where
-      by : (b : Bool) → AllPairs Differ (kept_spans (n + 1) xs) → AllPairs Differ (cons_option (if b then Some (item n x) else None) (kept_spans (n + 1) xs))
+      by : (b : Bool) → AllPairs Differ (kept_spans (n + 1) xs)
+          → AllPairs Differ (cons_option (if b then Some (item n x) else None) (kept_spans (n + 1) xs))
       by true rest =
           AllPairs-cons Differ (item n x) (kept_spans (n + 1) xs)
           (kept_each (Differ (item n x)) (n + 1) xs (λ i y at is_own. differ n (n + 1 + i) x y (omega arith))) rest
@@ -151,7 +168,8 @@ module _ {X : Type 0} (own : X → Bool) (item : ℕ → X → Span) where
   kept_count n (x ∷ xs) = rw (count_by-cons own x xs) (by (own x) (kept_count (n + 1) xs))
     where
       by : (b : Bool) → length (kept_spans (n + 1) xs) ≡ count_by own xs
-          → length (cons_option (if b then Some (item n x) else None) (kept_spans (n + 1) xs)) ≡ (if b then 1 else 0) + count_by own xs
+          → length (cons_option (if b then Some (item n x) else None) (kept_spans (n + 1) xs))
+          ≡ (if b then 1 else 0) + count_by own xs
       by true rest = omega (arith, rest)
       by false rest = omega (arith, rest)
 
@@ -222,37 +240,44 @@ pub own_place : (spans : List Span) → AllPairs Differ spans → (k : ℕ) (a :
     → (i : ℕ) (b : Span) → slice_get spans i ≡ Some b → same_source b.source a.source ≡ (i == k)
 own_place spans differ k a there i b here =
     ⊎_elim (λ same.
-    let itself : b ≡ a = same_Some b a (sym here ∙ ap (slice_get spans) same ∙ there) in rw itself (same_source-same a.source ∙ sym (eq-eqb i k same)))
+    let itself : b ≡ a = same_Some b a (sym here ∙ ap (slice_get spans) same ∙ there) in
+    rw itself (same_source-same a.source ∙ sym (eq-eqb i k same)))
     (⊎_elim (λ less. unequal (omega (arith, less)) (apart i k b a here there less))
     (λ more. unequal (omega (arith, more)) (λ same. apart k i a b there here more (sym same)))) (cases_order i k)
   where
-    apart : (m n : ℕ) (x y : Span) → slice_get spans m ≡ Some x → slice_get spans n ≡ Some y → m < n → x.source ≢ y.source
+    apart : (m n : ℕ) (x y : Span) → slice_get spans m ≡ Some x → slice_get spans n ≡ Some y → m < n
+        → x.source ≢ y.source
     apart m n x y one other less same =
         let source = λ (r : Span). r.source in differ m n x less (slice_get_within spans n y other)
         (ap source (get_or_from_slice_get spans m x x one) ∙ same ∙ sym (ap source (get_or_from_slice_get spans n y x other)))
 
     unequal : i ≢ k → b.source ≢ a.source → same_source b.source a.source ≡ (i == k)
     unequal other differs =
-        false_from_ne_true (same_source b.source a.source) (λ holds. differs (same_source-true b.source a.source holds)) ∙ sym (ne_eqb i k other)
+        false_from_ne_true (same_source b.source a.source) (λ holds. differs (same_source-true b.source a.source holds))
+        ∙ sym (ne_eqb i k other)
 
 -- The spans of a standard case are within the limits.
 
-both_sides : (f : Stream → ℤ) (streams : List Stream) → sum_side side.Hot f streams +ℤ sum_side side.Cold f streams ≡ int_sum_by f streams
+both_sides : (f : Stream → ℤ) (streams : List Stream)
+    → sum_side side.Hot f streams +ℤ sum_side side.Cold f streams ≡ int_sum_by f streams
 both_sides f streams =
-    let on = λ (of : Side) (s : Stream). if same_side s.side of then f s else pos 0 in sym (int_sum_by-add (on side.Hot) (on side.Cold) streams)
+    let on = λ (of : Side) (s : Stream). if same_side s.side of then f s else pos 0 in
+    sym (int_sum_by-add (on side.Hot) (on side.Cold) streams)
     ∙ int_sum_by-same (λ s. on side.Hot s +ℤ on side.Cold s) f streams (λ k o within. by (get_or streams k o).side (f (get_or streams k o)))
   where
     by : (d : Side) (x : ℤ) → (if same_side d side.Hot then x else pos 0) +ℤ (if same_side d side.Cold then x else pos 0) ≡ x
     by side.Hot x = omega (arith, ints)
     by side.Cold x = omega (arith, ints)
 
-all_within : {m : ℕ} (streams : List Stream) → ((s : Stream) → IsSensibleStream s → IsBetween (pos 0) (pos m) (heat_of s)) → All IsSensibleStream streams
+all_within : {m : ℕ} (streams : List Stream)
+    → ((s : Stream) → IsSensibleStream s → IsBetween (pos 0) (pos m) (heat_of s)) → All IsSensibleStream streams
     → int_sum_by heat_of streams ≤ℤ pos (length streams * m)
 all_within {m} streams bounded valid =
     int_sum_by-at_most heat_of m streams (All-weaker IsSensibleStream (λ s. heat_of s ≤ℤ pos m) (λ s h. (bounded s h).upto) streams valid)
 
 heat-within : (s : Stream) → IsSensibleStream s → IsSensibleHeat (heat_of s)
-heat-within s h = subst IsSensibleHeat (sym (heat_of-sensible s h.sensible)) (heat-between s (high_end s -ℤ low_end s) h.valid (range-length s h.valid))
+heat-within s h =
+    subst IsSensibleHeat (sym (heat_of-sensible s h.sensible)) (heat-between s (high_end s -ℤ low_end s) h.valid (range-length s h.valid))
 
 -- the axis ends where all heat of both sides does, or below
 axis_end : (streams : List Stream) → AreSensibleStreams streams → utility_to side.Hot streams ≤ℤ ALL_SENSIBLE_HEAT
@@ -264,9 +289,11 @@ on_axis-place : (streams : List Stream) (x : ℤ) → AreSensibleStreams streams
 on_axis-place streams x are on = record { from = on.from; upto = omega (arith, ints, on.upto, axis_end streams are) }
 
 -- so the utility of a side covers no more than that
-pub target-within : (of : Side) (streams : List Stream) → AreSensibleStreams streams → IsSensiblesHeat (utility_to of streams -ℤ utility_from of streams)
+pub target-within : (of : Side) (streams : List Stream) → AreSensibleStreams streams
+    → IsSensiblesHeat (utility_to of streams -ℤ utility_from of streams)
 target-within of streams are =
-    let ends = utility_on_axis of streams (is_axis streams are) in let order = utility_order of streams (is_axis streams are) in
+    let ends = utility_on_axis of streams (is_axis streams are) in
+    let order = utility_order of streams (is_axis streams are) in
     record { from = omega (arith, ints, order); upto = omega (arith, ints, ends.0.from, ends.1.upto, axis_end streams are) }
 
 -- ---- the spans
@@ -281,7 +308,8 @@ module _ (of : Side) (case : Case) (complete : IsSensibleCase case) where
       let place = λ (t : ℤ). on_axis-place case.streams _ are_streams (curve_on_axis of case.streams t are_streams) in
       rw own.is (record { flow = record { from = omega (arith, ints, cp.from); upto = cp.upto }; from = place (low_end s); to = place (high_end s) })
   is_span a (inr (n, u, own)) =
-      let ends = utility_on_axis of case.streams (is_axis case.streams are_streams) in rw own.is (record {
+      let ends = utility_on_axis of case.streams (is_axis case.streams are_streams) in
+      rw own.is (record {
         flow = record { from = omega (arith, ints); upto = omega (arith, ints) };
         from = on_axis-place case.streams _ are_streams ends.0;
         to = on_axis-place case.streams _ are_streams ends.1;
@@ -290,15 +318,19 @@ module _ (of : Side) (case : Case) (complete : IsSensibleCase case) where
   pub AreSpans-spans_of : IsStandard case → AreSpans (spans_of of case)
   AreSpans-spans_of standard = record {
     each = All-weaker (IsSourceSpan case of) IsSpan is_span (spans_of of case) (span_sources case of);
-    few = let streams = few_streams in rw spans-parts (omega (arith, length-append (stream_spans case of) (utility_spans case of), streams, few_utilities));
+    few =
+        let streams = few_streams in
+        rw spans-parts (omega (arith, length-append (stream_spans case of) (utility_spans case of), streams, few_utilities));
   }
     where
       few_streams : length (stream_spans case of) ≤ MOST_STREAMS
-      few_streams = omega (arith, kept_count (own_stream case of) (stream_item case of) 0 case.streams, are_streams.are.few of)
+      few_streams =
+          omega (arith, kept_count (own_stream case of) (stream_item case of) 0 case.streams, are_streams.are.few of)
 
       few_utilities : length (utility_spans case of) ≡ 1
       few_utilities =
-          kept_count (own_utility case of) (utility_item case of) 0 case.utilities ∙ each_side (λ d. count_by (own_utility case d) case.utilities ≡ 1)
+          kept_count (own_utility case of) (utility_item case of) 0 case.utilities
+          ∙ each_side (λ d. count_by (own_utility case d) case.utilities ≡ 1)
           (in_order case standard (λ us. count_by (own_utility case side.Hot) us ≡ 1) refl refl)
           (in_order case standard (λ us. count_by (own_utility case side.Cold) us ≡ 1) refl refl) of
 
@@ -313,7 +345,8 @@ module _ (cuts : List ℤ) (falls : AllPairs (λ a b. b <ℤ a) cuts) where
   -- each lies from the last to the first one
   pub cut_upto_first : (x : ℤ) → Contains cuts x → x ≤ℤ upper_cut cuts 0
   cut_upto_first x (k, inside, is) =
-      let here : get_or cuts k (pos 0) ≡ x = get_or_default cuts k (pos 0) x inside ∙ is in omega (arith, ints, here, later_below 0 k (omega arith) inside)
+      let here : get_or cuts k (pos 0) ≡ x = get_or_default cuts k (pos 0) x inside ∙ is in
+      omega (arith, ints, here, later_below 0 k (omega arith) inside)
 
   pub cut_from_last : (x : ℤ) → Contains cuts x → upper_cut cuts (length cuts - 1) ≤ℤ x
   cut_from_last x (k, inside, is) =
@@ -321,7 +354,8 @@ module _ (cuts : List ℤ) (falls : AllPairs (λ a b. b <ℤ a) cuts) where
       omega (arith, ints, here, later_below k (length cuts - 1) (omega (arith, inside)) (omega (arith, inside)))
 
   -- and none between two neighbouring ones
-  pub none_between : (number : ℕ) → number < length cuts - 1 → (x : ℤ) → Contains cuts x → IsOutside (lower_cut cuts number) (upper_cut cuts number) x
+  pub none_between : (number : ℕ) → number < length cuts - 1 → (x : ℤ) → Contains cuts x
+      → IsOutside (lower_cut cuts number) (upper_cut cuts number) x
   none_between number within x (k, inside, is) =
       let here : get_or cuts k (pos 0) ≡ x = get_or_default cuts k (pos 0) x inside ∙ is in
       ⊎_elim (λ past. let order = later_below (number + 1) k (omega (arith, past)) inside in inl (omega (arith, ints, order, here)))
@@ -330,7 +364,9 @@ module _ (cuts : List ℤ) (falls : AllPairs (λ a b. b <ℤ a) cuts) where
 -- ---- what a span reaches over
 
 pub reaches : (from to low high : ℤ) → (int_le from low && int_le high to) ≡ true → (from ≤ℤ low) × (high ≤ℤ to)
-reaches from to low high is = let both = and_parts (int_le from low) (int_le high to) is in (int_le-true from low both.0, int_le-true high to both.1)
+reaches from to low high is =
+    let both = and_parts (int_le from low) (int_le high to) is in
+    (int_le-true from low both.0, int_le-true high to both.1)
 
 module _ (case : Case) (low high : ℤ) (of : Side) where
   -- whether the utility reaches over the gap, and the flow of all utilities of the side
@@ -338,13 +374,16 @@ module _ (case : Case) (low high : ℤ) (of : Side) where
   utility_across = int_le (utility_from of case.streams) low && int_le high (utility_to of case.streams)
 
   abbrev utilities_flow : Bool → ℤ
-  utilities_flow across = int_sum_by (λ (u : Utility). if same_side u.side of then (if across then pos 1 else pos 0) else pos 0) case.utilities
+  utilities_flow across =
+      int_sum_by (λ (u : Utility). if same_side u.side of then (if across then pos 1 else pos 0) else pos 0) case.utilities
 
   -- the flow of a side is that of its streams that run, and that of its utilities
   side_flow-parts : (are : AreSensibleStreams case.streams)
-      → side_flow low high (spans_of of case) ≡ flow_running of case.streams are low high +ℤ utilities_flow utility_across
+      → side_flow low high (spans_of of case)
+      ≡ flow_running of case.streams are low high +ℤ utilities_flow utility_across
   side_flow-parts are =
-      let flow = flow_in low high in int_sum_by-map (λ (f : ℤ). f) flow (spans_of of case) ∙ ap (int_sum_by flow) (spans-parts case of)
+      let flow = flow_in low high in
+      int_sum_by-map (λ (f : ℤ). f) flow (spans_of of case) ∙ ap (int_sum_by flow) (spans-parts case of)
       ∙ int_sum_by-append flow (stream_spans case of) (utility_spans case of)
       ∙ ap₂ ◌+ℤ◌ (kept_sum (own_stream case of) (stream_item case of) flow (running_flow of case.streams are low high) (λ k s. refl) 0 case.streams)
       (kept_sum (own_utility case of) (utility_item case of) flow (λ u. if utility_across then pos 1 else pos 0) (λ k u. refl) 0 case.utilities)
@@ -380,9 +419,11 @@ module _ (axis : Axis) where
   flow_at of number = side_flow (low_at number) (high_at number) (spans_of of axis.case)
 
   -- each span begins and ends at a cut
-  span_cuts : (of : Side) (a : Span) → HasSpan (spans_of of axis.case) a → Contains axis.cuts a.from × Contains axis.cuts a.to
+  span_cuts : (of : Side) (a : Span) → HasSpan (spans_of of axis.case) a
+      → Contains axis.cuts a.from × Contains axis.cuts a.to
   span_cuts of a (k, there) =
-      let ends : Span → List ℤ = λ b. b.from ∷ b.to ∷ [] in let member = Contains-slice_get (spans_of of axis.case) k a there in
+      let ends : Span → List ℤ = λ b. b.from ∷ b.to ∷ [] in
+      let member = Contains-slice_get (spans_of of axis.case) k a there in
       let cut = λ (x : ℤ) (own : Contains (ends a) x). is_cut of x (Contains-flat_map ends (spans_of of axis.case) a x member own) in
       (cut a.from (0, omega arith, refl), cut a.to (1, omega arith, refl))
     where
@@ -399,9 +440,11 @@ module _ (axis : Axis) where
       let s = get_or axis.case.streams k o in span_cuts of (span_of of axis.case.streams k s)
       (stream_place axis.case of k s (slice_get-get_or axis.case.streams k o inside) (same_side-true s.side of own))
 
-  pub utility_cuts : (of : Side) → Contains axis.cuts (utility_from of axis.case.streams) × Contains axis.cuts (utility_to of axis.case.streams)
+  pub utility_cuts : (of : Side)
+      → Contains axis.cuts (utility_from of axis.case.streams) × Contains axis.cuts (utility_to of axis.case.streams)
   utility_cuts of =
-      let (number, here) = some_utility axis.case axis.standard of in span_cuts of (utility_span_of of axis.case.streams number)
+      let (number, here) = some_utility axis.case axis.standard of in
+      span_cuts of (utility_span_of of axis.case.streams number)
       (utility_place axis.case of number (standard_utility of axis.case) here (standard_side of axis.case))
 
   -- all cuts lie on the axis
@@ -410,23 +453,29 @@ module _ (axis : Axis) where
       cuts_hold (spans_of side.Hot axis.case) (spans_of side.Cold axis.case) axis.cuts axis.are_cuts (IsOnAxis axis.case.streams) (ends side.Hot)
       (ends side.Cold)
     where
-      by : (of : Side) (a : Span) → IsSourceSpan axis.case of a → IsOnAxis axis.case.streams a.from × IsOnAxis axis.case.streams a.to
+      by : (of : Side) (a : Span) → IsSourceSpan axis.case of a
+          → IsOnAxis axis.case.streams a.from × IsOnAxis axis.case.streams a.to
       by of a (inl (n, s, own)) =
           rw own.is (curve_on_axis of axis.case.streams (low_end s) streams_are, curve_on_axis of axis.case.streams (high_end s) streams_are)
-      by of a (inr (n, u, own)) = rw own.is (utility_on_axis of axis.case.streams (is_axis axis.case.streams streams_are))
+      by of a (inr (n, u, own)) =
+          rw own.is (utility_on_axis of axis.case.streams (is_axis axis.case.streams streams_are))
 
       ends : (of : Side) → All (λ a. IsOnAxis axis.case.streams a.from × IsOnAxis axis.case.streams a.to) (spans_of of axis.case)
-      ends of = All-weaker (IsSourceSpan axis.case of) (λ a. IsOnAxis axis.case.streams a.from × IsOnAxis axis.case.streams a.to) (by of)
+      ends of =
+          All-weaker (IsSourceSpan axis.case of) (λ a. IsOnAxis axis.case.streams a.from × IsOnAxis axis.case.streams a.to) (by of)
           (spans_of of axis.case) (span_sources axis.case of)
 
   -- ---- flows
 
-  one_utility : (low high : ℤ) (of : Side) (across : Bool) → utilities_flow axis.case low high of across ≡ (if across then pos 1 else pos 0)
+  one_utility : (low high : ℤ) (of : Side) (across : Bool)
+      → utilities_flow axis.case low high of across ≡ (if across then pos 1 else pos 0)
   one_utility low high of across = by of (if across then pos 1 else pos 0)
     where
       by : (d : Side) (x : ℤ) → total_on d x axis.case.utilities ≡ x
-      by side.Hot x = in_order axis.case axis.standard (λ us. total_on side.Hot x us ≡ x) (omega (arith, ints)) (omega (arith, ints))
-      by side.Cold x = in_order axis.case axis.standard (λ us. total_on side.Cold x us ≡ x) (omega (arith, ints)) (omega (arith, ints))
+      by side.Hot x =
+          in_order axis.case axis.standard (λ us. total_on side.Hot x us ≡ x) (omega (arith, ints)) (omega (arith, ints))
+      by side.Cold x =
+          in_order axis.case axis.standard (λ us. total_on side.Cold x us ≡ x) (omega (arith, ints)) (omega (arith, ints))
 
   -- between neighbouring cuts streams run, or the utility does
   module _ (number : ℕ) (within : number < length axis.cuts - 1) where
@@ -440,22 +489,27 @@ module _ (axis : Axis) where
     cut_below = axis.are_cuts.ordered number (number + 1) (pos 0) (omega arith) (omega (arith, within))
 
     -- no stream begins or ends between them
-    pub no_end_between : (of : Side) → All (λ s. same_side s.side of ≡ true → HasNoEnd of axis.case.streams streams_are low high s) axis.case.streams
+    pub no_end_between : (of : Side)
+        → All (λ s. same_side s.side of ≡ true → HasNoEnd of axis.case.streams streams_are low high s) axis.case.streams
     no_end_between of k o inside own =
-        let ends = ends_are_cuts of k o inside own in let outside = none_between axis.cuts axis.are_cuts.ordered number within in
+        let ends = ends_are_cuts of k o inside own in
+        let outside = none_between axis.cuts axis.are_cuts.ordered number within in
         record { low_outside = outside _ ends.0; high_outside = outside _ ends.1 }
 
     -- nor does a utility
-    pub utility_outside : (of : Side) → IsOutside low high (utility_from of axis.case.streams) × IsOutside low high (utility_to of axis.case.streams)
+    pub utility_outside : (of : Side)
+        → IsOutside low high (utility_from of axis.case.streams) × IsOutside low high (utility_to of axis.case.streams)
     utility_outside of =
-        let ends = utility_cuts of in let outside = none_between axis.cuts axis.are_cuts.ordered number within in
+        let ends = utility_cuts of in
+        let outside = none_between axis.cuts axis.are_cuts.ordered number within in
         (outside (utility_from of axis.case.streams) ends.0, outside (utility_to of axis.case.streams) ends.1)
 
     -- where the curve of a side lies, its flow is that of its streams that run
     pub side_flow-curve : (of : Side) → begin_of of axis.case.streams ≤ℤ low → high ≤ℤ end_of of axis.case.streams
         → flow_at of number ≡ flow_running of axis.case.streams streams_are low high
     side_flow-curve of begins ends =
-        let across = utility_across axis.case low high of in let rests = false_from_ne_true across (λ holds.
+        let across = utility_across axis.case low high of in
+        let rests = false_from_ne_true across (λ holds.
         let both = reaches (utility_from of axis.case.streams) (utility_to of axis.case.streams) low high holds in
         curve_or_utility of axis.case.streams low high cut_below begins ends both.0 both.1) in side_flow-parts axis.case low high of streams_are
         ∙ alone (flow_running of axis.case.streams streams_are low high) (one_utility low high of across ∙ ap (λ b. if b then pos 1 else pos 0) rests)
@@ -464,34 +518,42 @@ module _ (axis : Axis) where
         alone x none = omega (arith, ints)
 
     -- where the utility lies no stream of its side runs, so the flow of the side is that of the utility
-    pub utility_alone : (of : Side) → utility_from of axis.case.streams ≤ℤ low → high ≤ℤ utility_to of axis.case.streams → flow_at of number ≡ pos 1
+    pub utility_alone : (of : Side) → utility_from of axis.case.streams ≤ℤ low
+        → high ≤ℤ utility_to of axis.case.streams → flow_at of number ≡ pos 1
     utility_alone of from upto =
-        let across = utility_across axis.case low high of in let is : across ≡ true =
+        let across = utility_across axis.case low high of in
+        let is : across ≡ true =
         ap₂ ◌&&◌ (int_le-from (utility_from of axis.case.streams) low from) (int_le-from high (utility_to of axis.case.streams) upto) in
         let none = sum_side-zero of (running_flow of axis.case.streams streams_are low high) axis.case.streams
         (λ k o inside. rests (get_or axis.case.streams k o)) in
-        side_flow-parts axis.case low high of streams_are ∙ ap₂ ◌+ℤ◌ none (one_utility low high of across ∙ ap (λ b. if b then pos 1 else pos 0) is)
+        side_flow-parts axis.case low high of streams_are
+        ∙ ap₂ ◌+ℤ◌ none (one_utility low high of across ∙ ap (λ b. if b then pos 1 else pos 0) is)
       where
         rests : (s : Stream) → running_flow of axis.case.streams streams_are low high s ≡ pos 0
         rests s =
-            let begin = heat_at of axis.case.streams (low_end s) in let end = heat_at of axis.case.streams (high_end s) in
+            let begin = heat_at of axis.case.streams (low_end s) in
+            let end = heat_at of axis.case.streams (high_end s) in
             ap (λ b. if b then s.cp else pos 0) (false_from_ne_true (int_le begin low && int_le high end) (λ holds.
-            let both = reaches begin end low high holds in let first = on_curve of axis.case.streams streams_are (low_end s) in
+            let both = reaches begin end low high holds in
+            let first = on_curve of axis.case.streams streams_are (low_end s) in
             let last = on_curve of axis.case.streams streams_are (high_end s) in
             curve_or_utility of axis.case.streams low high cut_below (omega (arith, ints, first.from, both.0)) (omega (arith, ints, last.upto, both.1))
             from upto))
 
-    streams_flow : (of : Side) → begin_of of axis.case.streams ≤ℤ low → high ≤ℤ end_of of axis.case.streams → pos 0 <ℤ flow_at of number
+    streams_flow : (of : Side) → begin_of of axis.case.streams ≤ℤ low → high ≤ℤ end_of of axis.case.streams
+        → pos 0 <ℤ flow_at of number
     streams_flow of from upto =
         let (begin, end, is) = gap_segment of axis.case.streams streams_are low high cut_below from upto in
         subst (λ f. pos 0 <ℤ f) (sym (side_flow-curve of from upto))
         (flow_positive of axis.case.streams streams_are low high cut_below begin end is (no_end_between of))
 
-    utility_flow : (of : Side) → utility_from of axis.case.streams ≤ℤ low → high ≤ℤ utility_to of axis.case.streams → pos 0 <ℤ flow_at of number
+    utility_flow : (of : Side) → utility_from of axis.case.streams ≤ℤ low
+        → high ≤ℤ utility_to of axis.case.streams → pos 0 <ℤ flow_at of number
     utility_flow of from upto = let alone = utility_alone of from upto in omega (arith, ints, alone)
 
     pub flow_above : (of : Side) → pos 0 <ℤ flow_at of number
-    flow_above of = by of (utility_outside of) (cuts_on_axis (number + 1) (pos 0) (omega (arith, within))) (cuts_on_axis number (pos 0) (omega (arith, within)))
+    flow_above of =
+        by of (utility_outside of) (cuts_on_axis (number + 1) (pos 0) (omega (arith, within))) (cuts_on_axis number (pos 0) (omega (arith, within)))
       where
         by : (d : Side) → IsOutside low high (utility_from d axis.case.streams) × IsOutside low high (utility_to d axis.case.streams)
             → IsOnAxis axis.case.streams low → IsOnAxis axis.case.streams high → pos 0 <ℤ flow_at d number
@@ -511,8 +573,10 @@ module _ {X : Type 0} (h : ℕ × X → Option Span) (old : List Span) (xs : Lis
       let front = filter_map h (enumerate_from 0 (take i xs)) in
       so_far ∙ ap (λ ss. old ++ ss) (sym (filter_map-enumerate_more h xs i x within is ∙ ap (λ o. front ++ option_to_list o) none ∙ append-nil front))
 
-  pub span_more : (before now : List Span) (s : Span) → h (i, x) ≡ Some s → before ≡ old ++ filter_map h (enumerate_from 0 (take i xs)) → now ≡ before ++ s ∷ []
+  pub span_more : (before now : List Span) (s : Span) → h (i, x) ≡ Some s
+      → before ≡ old ++ filter_map h (enumerate_from 0 (take i xs)) → now ≡ before ++ s ∷ []
       → now ≡ old ++ filter_map h (enumerate_from 0 (take (i + 1) xs))
   span_more before now s some so_far pushed =
-      let front = filter_map h (enumerate_from 0 (take i xs)) in pushed ∙ ap (λ ss. ss ++ s ∷ []) so_far ∙ append_assoc old front (s ∷ [])
+      let front = filter_map h (enumerate_from 0 (take i xs)) in
+      pushed ∙ ap (λ ss. ss ++ s ∷ []) so_far ∙ append_assoc old front (s ∷ [])
       ∙ ap (λ ss. old ++ ss) (sym (filter_map-enumerate_more h xs i x within is ∙ ap (λ o. front ++ option_to_list o) some))

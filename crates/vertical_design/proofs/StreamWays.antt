@@ -48,15 +48,18 @@ small d e some_d few_d some_e few_e =
     }
 
 -- a number of this denominator from -m to m
-sized-around : (d m : ℕ) (a : Rational) (n : ℤ) → 0 < d → a ≡ ratio n d → IsAtMost (whole (neg_ℤ (pos m))) a → IsAtMost a (whole (pos m)) → IsSized d m a
+sized-around : (d m : ℕ) (a : Rational) (n : ℤ) → 0 < d → a ≡ ratio n d → IsAtMost (whole (neg_ℤ (pos m))) a
+    → IsAtMost a (whole (pos m)) → IsSized d m a
 sized-around d m a n some is least most =
     let from = at_most_from_whole_ratio (neg_ℤ (pos m)) n d some (subst (IsAtMost (whole (neg_ℤ (pos m)))) is least) in
     let upto = at_most_from_ratio_whole n (pos m) d some (subst (λ x. IsAtMost x (whole (pos m))) is most) in
     record { num = n; is = is; small = omega (arith, ints, from, upto, neg_ℤ-*ℤ (pos m) (pos d)) }
 
 -- a temperature in the range of a stream, on its own scale
-stream_sized : (of : Side) (d : ℕ) (t : Rational) (contribution n low high : ℤ) → 0 < d → t ≡ ratio n d → AreEnds low high
-    → IsAtMost (whole low) t → IsAtMost t (whole high) → IsContribution contribution → IsSized d highest (actual_at of t contribution)
+stream_sized : (of : Side) (d : ℕ) (t : Rational) (contribution n low high : ℤ) → 0 < d → t ≡ ratio n d
+    → AreEnds low high
+    → IsAtMost (whole low) t → IsAtMost t (whole high) → IsContribution contribution
+    → IsSized d highest (actual_at of t contribution)
 stream_sized of d t contribution n low high some is ends least most given = by of
   where
     own : IsSized d (unsigned_abs HIGHEST_SHIFTED) t
@@ -66,11 +69,14 @@ stream_sized of d t contribution n low high some is ends least most given = by o
         (at_most_trans t (whole high) (whole (pos (unsigned_abs HIGHEST_SHIFTED))) most (at_most-whole high (pos (unsigned_abs HIGHEST_SHIFTED)) ends.upto))
 
     shift : IsSized d (unsigned_abs MOST_CONTRIBUTION) (whole contribution)
-    shift = sized-whole d (unsigned_abs MOST_CONTRIBUTION) contribution some (omega (arith, ints, given.from, given.upto))
+    shift =
+        sized-whole d (unsigned_abs MOST_CONTRIBUTION) contribution some (omega (arith, ints, given.from, given.upto))
 
     by : (on : Side) → IsSized d highest (actual_at on t contribution)
-    by side.Hot = sized-plus d (unsigned_abs HIGHEST_SHIFTED) (unsigned_abs MOST_CONTRIBUTION) t (whole contribution) own shift
-    by side.Cold = sized-minus d (unsigned_abs HIGHEST_SHIFTED) (unsigned_abs MOST_CONTRIBUTION) t (whole contribution) own shift
+    by side.Hot =
+        sized-plus d (unsigned_abs HIGHEST_SHIFTED) (unsigned_abs MOST_CONTRIBUTION) t (whole contribution) own shift
+    by side.Cold =
+        sized-minus d (unsigned_abs HIGHEST_SHIFTED) (unsigned_abs MOST_CONTRIBUTION) t (whole contribution) own shift
 
 -- The course of a stream: it goes from interval to interval, from its supply to its target.
 
@@ -94,15 +100,19 @@ Leads from stages to = Meet from stages × (state_behind from stages ≡ to)
 
 falls_lead : (stages : List LedStage) (from to : Rational) → FallTo side.Hot from stages to → Leads from stages to
 falls_lead [] from to fall = (tt, fall)
-falls_lead (stage ∷ stages) from to fall = let rest = falls_lead stages stage.after to fall.1 in ((fall.0, rest.0), rest.1)
+falls_lead (stage ∷ stages) from to fall =
+    let rest = falls_lead stages stage.after to fall.1 in
+    ((fall.0, rest.0), rest.1)
 
 leads_push : (stages : List LedStage) (from to : Rational) (stage : LedStage) → Leads from stages to → stage.before ≡ to
     → Leads from (stages ++ stage ∷ []) stage.after
 leads_push [] from to stage leads meets = ((meets ∙ sym leads.1, tt), refl)
-leads_push (first ∷ stages) from to stage leads meets = let rest = leads_push stages first.after to stage (leads.0.1, leads.1) meets in
+leads_push (first ∷ stages) from to stage leads meets =
+    let rest = leads_push stages first.after to stage (leads.0.1, leads.1) meets in
     ((leads.0.0, rest.0), rest.1)
 
-falls_lead_up : (stages : List LedStage) (from to : Rational) → FallTo side.Cold from stages to → Leads to (reverse stages) from
+falls_lead_up : (stages : List LedStage) (from to : Rational) → FallTo side.Cold from stages to
+    → Leads to (reverse stages) from
 falls_lead_up [] from to fall = (tt, sym fall)
 falls_lead_up (stage ∷ stages) from to fall =
     let turned : reverse (stage ∷ stages) ≡ reverse stages ++ stage ∷ [] = reverse-append (stage ∷ []) stages in
@@ -110,7 +120,8 @@ falls_lead_up (stage ∷ stages) from to fall =
     (leads_push (reverse stages) to stage.before stage (falls_lead_up stages stage.before to fall.1) refl))
 
 -- the way of a stream of a side, with f of the temperatures of its ends
-way_leads : (of : Side) (stages : List LedStage) (f : Rational → Rational) (s : Stream) → FallTo of (f (whole (high_end s))) stages (f (whole (low_end s)))
+way_leads : (of : Side) (stages : List LedStage) (f : Rational → Rational) (s : Stream)
+    → FallTo of (f (whole (high_end s))) stages (f (whole (low_end s)))
     → Leads (f (whole (first_end of s))) (on_the_way of stages) (f (whole (last_end of s)))
 way_leads side.Hot stages f s fall = falls_lead stages (f (whole (high_end s))) (f (whole (low_end s))) fall
 way_leads side.Cold stages f s fall = falls_lead_up stages (f (whole (high_end s))) (f (whole (low_end s))) fall
@@ -127,14 +138,17 @@ module _ (axis : Axis) where
 
   pub flow_few : (of : Side) (number : ℕ) → unsigned_abs (flow_at axis of number) ≤ most_flow
   flow_few of number =
-      let is = side-within (low_at axis number) (high_at axis number) (spans_of of axis.case) (spans_are axis of) in omega (arith, ints, is.from, is.upto)
+      let is = side-within (low_at axis number) (high_at axis number) (spans_of of axis.case) (spans_are axis of) in
+      omega (arith, ints, is.from, is.upto)
 
   -- the temperature changes by the heat between the cuts over the flow
   change_between : (of : Side) (number : ℕ) (scale : ℤ → Rational) (c : ℤ)
       → change of (actual_at of (scale (entered_at axis of number)) c) (actual_at of (scale (left_at axis of number)) c)
       ≡ minus (scale (high_at axis number)) (scale (low_at axis number))
-  change_between side.Hot number scale c = minus-plus_plus (scale (high_at axis number)) (scale (low_at axis number)) (whole c)
-  change_between side.Cold number scale c = minus-minus_same (scale (high_at axis number)) (scale (low_at axis number)) (whole c)
+  change_between side.Hot number scale c =
+      minus-plus_plus (scale (high_at axis number)) (scale (low_at axis number)) (whole c)
+  change_between side.Cold number scale c =
+      minus-minus_same (scale (high_at axis number)) (scale (low_at axis number)) (whole c)
 
   either_cut : (P : ℤ → Type 0) (of : Side) (number : ℕ) → P (low_at axis number) → P (high_at axis number)
       → P (entered_at axis of number) × P (left_at axis of number)
@@ -202,10 +216,14 @@ module _ (axis : Axis) where
                 ∙ ap (λ n. ratio m.pair.amount (unsigned_abs (flow_at axis (other s.side) n))) same.0,
           )
 
-      state_sized : (q : ℤ) → low ≤ℤ q → q ≤ℤ high → IsSized (unsigned_abs (flow_at axis s.side number)) highest (state_at axis s.side number q is.span)
+      state_sized : (q : ℤ) → low ≤ℤ q → q ≤ℤ high
+          → IsSized (unsigned_abs (flow_at axis s.side number)) highest (state_at axis s.side number q is.span)
       state_sized q from upto =
-          let scale = scale_is axis s.side number within s runs in let over = scale.over q in let range = scale.range q from upto s runs in
-          let contribution : contribution_of axis.case is.span.source ≡ s.contribution = ap (contribution_of axis.case) own
+          let scale = scale_is axis s.side number within s runs in
+          let over = scale.over q in
+          let range = scale.range q from upto s runs in
+          let contribution : contribution_of axis.case is.span.source ≡ s.contribution
+          = ap (contribution_of axis.case) own
           ∙ ap (λ o. option_map_or (λ (r : Stream). r.contribution) o (pos 0)) here in
           subst (λ c. IsSized (unsigned_abs (flow_at axis s.side number)) highest (actual_at s.side (scale_at axis s.side number q) c)) (sym contribution)
           (stream_sized s.side (unsigned_abs (flow_at axis s.side number)) (scale_at axis s.side number q) s.contribution over.num (low_end s) (high_end s)
@@ -214,7 +232,8 @@ module _ (axis : Axis) where
       fine : IsFine s.side (exchanges axis) index stream_piece s
       unfolding shares_of
       fine =
-          let gap = cut_below axis number within in let above = flow_above axis number within (other s.side) in
+          let gap = cut_below axis number within in
+          let above = flow_above axis number within (other s.side) in
           let some = flow_above axis number within s.side in
           let states = either_cut (λ q. IsSized (unsigned_abs (flow_at axis s.side number)) highest (state_at axis s.side number q is.span)) s.side number
           (state_sized low (omega (arith, ints)) (omega (arith, ints, gap))) (state_sized high (omega (arith, ints, gap)) (omega (arith, ints))) in
@@ -224,9 +243,11 @@ module _ (axis : Axis) where
             most_size = most_cp;
             state_den = unsigned_abs (flow_at axis s.side number);
             most_state = highest;
-            small = small across (unsigned_abs (flow_at axis s.side number)) (omega (arith, ints, above)) (flow_few (other s.side) number)
+            small =
+                small across (unsigned_abs (flow_at axis s.side number)) (omega (arith, ints, above)) (flow_few (other s.side) number)
                 (omega (arith, ints, some)) (flow_few s.side number);
-            sizes = kept_hold (λ (e : Exchange). piece_on s.side e == index) (share_of s.side index) (λ n e. record { exchanger = n; cp = size_on s.side e })
+            sizes =
+                kept_hold (λ (e : Exchange). piece_on s.side e == index) (share_of s.side index) (λ n e. record { exchanger = n; cp = size_on s.side e })
                 (λ n e. refl)
                 (λ (share : Share). (num : ℤ) × (share.cp ≡ ratio num across)) 0 (exchanges axis) (λ i e at test. own_over i e at test);
             most = subst (λ x. IsAtMost x (whole (pos most_cp))) (sym (full_size-sensible s valid.sensible))
@@ -245,26 +266,33 @@ module _ (axis : Axis) where
 
     -- ---- the piece at an index
 
-    pub stream_pieces : (index : ℕ) (p : Piece) → slice_get (on_side s.side (pieces axis side.Hot) (pieces axis side.Cold)) index ≡ Some p
-        → p.source ≡ source.Stream stream → 0 < length (shares_of s.side index (exchanges axis)) → IsStreamPiece s.side (exchanges axis) index p s
+    pub stream_pieces : (index : ℕ) (p : Piece)
+        → slice_get (on_side s.side (pieces axis side.Hot) (pieces axis side.Cold)) index ≡ Some p
+        → p.source ≡ source.Stream stream → 0 < length (shares_of s.side index (exchanges axis))
+        → IsStreamPiece s.side (exchanges axis) index p s
     stream_pieces index p there own some =
-        let (i, e, at, on) = exchange_there s.side index (exchanges axis) some in let m = all_at (IsMatch axis) (exchanges axis) i e (are_matches axis) at in
+        let (i, e, at, on) = exchange_there s.side index (exchanges axis) some in
+        let m = all_at (IsMatch axis) (exchanges axis) i e (are_matches axis) at in
         let runs = pair_runs axis m.number s.side m.pair m.met in
-        let found = sym (piece_of axis s.side e m) ∙ ap (slice_get (pieces axis s.side)) on ∙ ap (λ ps. slice_get ps index) (on_pieces s.side) ∙ there in
+        let found = sym (piece_of axis s.side e m) ∙ ap (slice_get (pieces axis s.side)) on
+        ∙ ap (λ ps. slice_get ps index) (on_pieces s.side) ∙ there in
         let same = same_Some (piece_in axis s.side m.number runs.span) p found in
         subst₂ (λ i q. IsStreamPiece s.side (exchanges axis) i q s) (sym (piece_index axis s.side m.number m.pair) ∙ ap (piece_on s.side) m.is ∙ on) same
         (piece_led m.number (index_on s.side m.pair) m.within runs (ap (λ (q : Piece). q.source) same ∙ own))
 
     -- a piece with shares is of an interval in which the stream runs
-    pub shares_run : (number k : ℕ) → slice_get (spans_of s.side axis.case) k ≡ Some (span_of s.side axis.case.streams stream s)
+    pub shares_run : (number k : ℕ)
+        → slice_get (spans_of s.side axis.case) k ≡ Some (span_of s.side axis.case.streams stream s)
         → 0 < length (shares_of s.side (number * many s.side + k) (exchanges axis)) → RunsIn axis s.side number s
     shares_run number k there some =
         let (i, e, at, on) = exchange_there s.side (number * many s.side + k) (exchanges axis) some in
-        let m = all_at (IsMatch axis) (exchanges axis) i e (are_matches axis) at in let runs = pair_runs axis m.number s.side m.pair m.met in
+        let m = all_at (IsMatch axis) (exchanges axis) i e (are_matches axis) at in
+        let runs = pair_runs axis m.number s.side m.pair m.met in
         let same = own_number axis s.side number m.number k m.pair m.met
         (slice_get_within (spans_of s.side axis.case) k (span_of s.side axis.case.streams stream s) there) (ap (piece_on s.side) m.is ∙ on) in
         let found = sym runs.there ∙ ap (slice_get (spans_of s.side axis.case)) same.1 ∙ there in
-        let span = same_Some runs.span (span_of s.side axis.case.streams stream s) found in subst (λ n. RunsIn axis s.side n s) same.0
+        let span = same_Some runs.span (span_of s.side axis.case.streams stream s) found in
+        subst (λ n. RunsIn axis s.side n s) same.0
         (stream_runs axis s.side m.number (index_on s.side m.pair) stream s runs (ap (λ (a : Span). a.source) span) here)
 
     -- ---- its way
@@ -281,15 +309,19 @@ module _ (axis : Axis) where
     place = stream_place axis.case s.side stream s here refl
 
     abbrev stages_at : ℕ → List LedStage
-    stages_at n = filter_map (led_stage s.side (exchanges axis) stream) (enumerate_from (n * many s.side) (pieces_at axis s.side n))
+    stages_at n =
+        filter_map (led_stage s.side (exchanges axis) stream) (enumerate_from (n * many s.side) (pieces_at axis s.side n))
 
     abbrev stages_of : List ℕ → List LedStage
     stages_of numbers = flat_map stages_at numbers
 
-    all_stages : led_course (pieces axis side.Hot) (pieces axis side.Cold) (exchanges axis) (stream, s) ≡ on_the_way s.side (stages_of (intervals_of axis.cuts))
+    all_stages : led_course (pieces axis side.Hot) (pieces axis side.Cold) (exchanges axis) (stream, s)
+        ≡ on_the_way s.side (stages_of (intervals_of axis.cuts))
     unfolding pieces
     all_stages =
-        let h = led_stage s.side (exchanges axis) stream in let rows = pieces_at axis s.side in let none : 0 ≡ 0 * many s.side = omega arith in
+        let h = led_stage s.side (exchanges axis) stream in
+        let rows = pieces_at axis s.side in
+        let none : 0 ≡ 0 * many s.side = omega arith in
         let numbered = ap (λ b. enumerate_from b (flat_map rows (intervals_of axis.cuts))) none
         ∙ numbered-rows rows (many s.side) (λ n. length-map (spans_of s.side axis.case) (piece_in axis s.side n)) 0 (length axis.cuts - 1) in
         ap (λ (ps : List Piece). filter_map h (on_the_way s.side (enumerate_from 0 ps))) (sym (on_pieces s.side))
@@ -307,31 +339,40 @@ module _ (axis : Axis) where
 
     -- its own piece alone can be a stage
     stage_test : (n j : ℕ) (p : Piece) → slice_get (pieces_at axis s.side n) j ≡ Some p
-        → is_stage s.side (exchanges axis) stream (n * many s.side + j) p.source ≡ ((j == place.0) && has_shares (n * many s.side + j))
+        → is_stage s.side (exchanges axis) stream (n * many s.side + j) p.source
+        ≡ ((j == place.0) && has_shares (n * many s.side + j))
     stage_test n j p at =
         let (b, there, is) = found (piece_in axis s.side n) p (slice_get (spans_of s.side axis.case) j)
         (sym (slice_get-map (piece_in axis s.side n) (spans_of s.side axis.case) j) ∙ at) in
-        ap (λ (q : Piece). is_stage s.side (exchanges axis) stream (n * many s.side + j) q.source) (sym is) ∙ ap (λ t. t && has_shares (n * many s.side + j))
+        ap (λ (q : Piece). is_stage s.side (exchanges axis) stream (n * many s.side + j) q.source) (sym is)
+        ∙ ap (λ t. t && has_shares (n * many s.side + j))
         (own_place (spans_of s.side axis.case) (sources_differ axis.case s.side) place.0 own place.1 j b there)
 
-    no_stage : (n j : ℕ) (p : Piece) → slice_get (pieces_at axis s.side n) j ≡ Some p → ((j == place.0) && has_shares (n * many s.side + j)) ≡ false
+    no_stage : (n j : ℕ) (p : Piece) → slice_get (pieces_at axis s.side n) j ≡ Some p
+        → ((j == place.0) && has_shares (n * many s.side + j)) ≡ false
         → led_stage s.side (exchanges axis) stream (n * many s.side + j, p) ≡ None
-    no_stage n j p at is = ap (λ b. if b then Some (led_piece s.side (exchanges axis) (n * many s.side + j, p)) else None) (stage_test n j p at ∙ is)
+    no_stage n j p at is =
+        ap (λ b. if b then Some (led_piece s.side (exchanges axis) (n * many s.side + j, p)) else None) (stage_test n j p at ∙ is)
 
     -- an interval in which it runs is a stage
     runs_stage : (n : ℕ) → n < length axis.cuts - 1 → RunsIn axis s.side n s → stages_at n ≡ stage n ∷ []
     runs_stage n within runs =
         let p = piece_in axis s.side n own in
-        let there = slice_get-map (piece_in axis s.side n) (spans_of s.side axis.case) place.0 ∙ ap (option_map (piece_in axis s.side n)) place.1 in
+        let there = slice_get-map (piece_in axis s.side n) (spans_of s.side axis.case) place.0
+        ∙ ap (option_map (piece_in axis s.side n)) place.1 in
         let is : RunsSpan axis s.side n place.0 = record {
           span = own;
           there = place.1;
-          kind = all_at (IsSourceSpan axis.case s.side) (spans_of s.side axis.case) place.0 own (span_sources axis.case s.side) place.1;
+          kind =
+              all_at (IsSourceSpan axis.case s.side) (spans_of s.side axis.case) place.0 own (span_sources axis.case s.side) place.1;
           from = runs.from;
           upto = runs.upto;
-        } in let some = some_share (shares_of s.side (own_index n) (exchanges axis)) s.cp (omega (arith, ints, valid.sensible.cp.from))
-        (sizes_are n place.0 within is refl) in let kept : has_shares (own_index n) ≡ true = grind (arith, nat_tests, some) in
-        let test = stage_test n place.0 p there ∙ ap (λ b. b && has_shares (own_index n)) (eq-eqb place.0 place.0 refl) ∙ kept in
+        } in
+        let some = some_share (shares_of s.side (own_index n) (exchanges axis)) s.cp (omega (arith, ints, valid.sensible.cp.from))
+        (sizes_are n place.0 within is refl) in
+        let kept : has_shares (own_index n) ≡ true = grind (arith, nat_tests, some) in
+        let test = stage_test n place.0 p there
+        ∙ ap (λ b. b && has_shares (own_index n)) (eq-eqb place.0 place.0 refl) ∙ kept in
         only_item (led_stage s.side (exchanges axis) stream) (n * many s.side) (pieces_at axis s.side n) place.0 p (stage n) there
         (ap (λ b. if b then Some (stage n) else None) test)
         (λ j q at other. no_stage n j q at (ap (λ b. b && has_shares (n * many s.side + j)) (ne_eqb j place.0 other)))
@@ -357,7 +398,8 @@ module _ (axis : Axis) where
     ends_rise = order-sensible s valid.sensible
 
     heats_rise : bottom ≤ℤ top
-    heats_rise = heat_rises s.side axis.case.streams (low_end s) (high_end s) (streams_are axis).each (omega (arith, ints, ends_rise))
+    heats_rise =
+        heat_rises s.side axis.case.streams (low_end s) (high_end s) (streams_are axis).each (omega (arith, ints, ends_rise))
 
     ends_cut : Contains axis.cuts bottom × Contains axis.cuts top
     ends_cut =
@@ -372,7 +414,8 @@ module _ (axis : Axis) where
       heat_is : curve_heat s.side axis.case.streams t ≡ whole heat
 
     one_temperature : (t u : Rational) (heat : ℤ) → IsPlaceOf t heat → IsPlaceOf u heat → t ≡ u
-    one_temperature t u heat one other = one_place axis.case.streams (streams_are axis) s member t u one.from one.upto other.from other.upto
+    one_temperature t u heat one other =
+        one_place axis.case.streams (streams_are axis) s member t u one.from one.upto other.from other.upto
         (one.heat_is ∙ sym other.heat_is)
 
     place_at : (x : ℤ) → low_end s ≤ℤ x → x ≤ℤ high_end s → IsPlaceOf (whole x) (heat_at s.side axis.case.streams x)
@@ -398,7 +441,8 @@ module _ (axis : Axis) where
     cut_states side.Hot n f shares = (refl, refl)
     cut_states side.Cold n f shares = (refl, refl)
 
-    outside : (n : ℕ) → n < length axis.cuts - 1 → HasNoEnd s.side axis.case.streams (streams_are axis) (low_at axis n) (high_at axis n) s
+    outside : (n : ℕ) → n < length axis.cuts - 1
+        → HasNoEnd s.side axis.case.streams (streams_are axis) (low_at axis n) (high_at axis n) s
     outside n within =
         All-contains (λ r. same_side r.side s.side ≡ true → HasNoEnd s.side axis.case.streams (streams_are axis) (low_at axis n) (high_at axis n) r)
         axis.case.streams s (no_end_between axis n within s.side) member (own_side s.side)
@@ -410,15 +454,23 @@ module _ (axis : Axis) where
     abbrev GoesOn : ℕ → List LedStage → Type 0
     GoesOn n rest = (t : Rational) (heat : ℤ) → IsNearest (low_at axis n) heat → IsPlaceOf t heat → Falls t rest
 
-    passes_by : (n : ℕ) (t : Rational) (rest : List LedStage) → (RunsIn axis s.side n s → ⊥) → Falls t rest → Falls t (stages_at n ++ rest)
+    passes_by : (n : ℕ) (t : Rational) (rest : List LedStage) → (RunsIn axis s.side n s → ⊥) → Falls t rest
+        → Falls t (stages_at n ++ rest)
     passes_by n t rest rests fall = subst (λ xs. Falls t (xs ++ rest)) (sym (rests_stage n rests)) fall
 
-    goes_through : (n : ℕ) → n < length axis.cuts - 1 → (t : Rational) (rest : List LedStage) → RunsIn axis s.side n s → IsPlaceOf t (high_at axis n)
+    goes_through : (n : ℕ) → n < length axis.cuts - 1 → (t : Rational) (rest : List LedStage)
+        → RunsIn axis s.side n s → IsPlaceOf t (high_at axis n)
         → GoesOn n rest → Falls t (stages_at n ++ rest)
     goes_through n within t rest runs place on =
-        let low = low_at axis n in let high = high_at axis n in let gap = cut_below axis n within in let scale = scale_at axis s.side n in
-        let is = scale_is axis s.side n within s runs in let least : low ≤ℤ low = omega (arith, ints) in let most : high ≤ℤ high = omega (arith, ints) in
-        let order : low ≤ℤ high = omega (arith, ints, gap) in let high_range = is.range high order most s runs in
+        let low = low_at axis n in
+        let high = high_at axis n in
+        let gap = cut_below axis n within in
+        let scale = scale_at axis s.side n in
+        let is = scale_is axis s.side n within s runs in
+        let least : low ≤ℤ low = omega (arith, ints) in
+        let most : high ≤ℤ high = omega (arith, ints) in
+        let order : low ≤ℤ high = omega (arith, ints, gap) in
+        let high_range = is.range high order most s runs in
         let low_range = is.range low least order s runs in
         let above = one_temperature (scale high) t high (record { from = high_range.0; upto = high_range.1; heat_is = is.heat high order most }) place in
         let near : IsNearest low low = omega (arith, ints, clamps, gap, runs.from, runs.upto) in
@@ -427,10 +479,13 @@ module _ (axis : Axis) where
         subst (λ xs. Falls t (xs ++ rest)) (sym (runs_stage n within runs))
         (cut.0 ∙ ap actual above, subst (λ x. FallTo s.side x rest (actual (whole (low_end s)))) (sym cut.1) fall)
 
-    next_interval : (n : ℕ) → n < length axis.cuts - 1 → (t : Rational) (heat : ℤ) (rest : List LedStage) → IsNearest (high_at axis n) heat → IsPlaceOf t heat
+    next_interval : (n : ℕ) → n < length axis.cuts - 1 → (t : Rational) (heat : ℤ) (rest : List LedStage)
+        → IsNearest (high_at axis n) heat → IsPlaceOf t heat
         → GoesOn n rest → Falls t (stages_at n ++ rest)
     next_interval n within t heat rest near place on =
-        let gap = cut_below axis n within in let order = heats_rise in ⊎_elim (λ begun. ⊎_elim
+        let gap = cut_below axis n within in
+        let order = heats_rise in
+        ⊎_elim (λ begun. ⊎_elim
         (λ ended. passes_by n t rest (λ runs. absurd (omega (arith, ints, runs.upto, ended, gap)))
         (on t heat (omega (arith, ints, clamps, near, ended, gap, order)) place)) (λ goes_on.
         let same : heat ≡ high_at axis n = omega (arith, ints, clamps, near, begun, goes_on, gap) in
@@ -438,10 +493,12 @@ module _ (axis : Axis) where
         (outside n within).high_outside) (λ early. passes_by n t rest (λ runs. absurd (omega (arith, ints, runs.from, early, gap)))
         (on t heat (omega (arith, ints, clamps, near, early, gap, order)) place)) (outside n within).low_outside
 
-    fall_from : (m n : ℕ) (t : Rational) (heat : ℤ) → n + m ≡ length axis.cuts - 1 → IsNearest (high_at axis n) heat → IsPlaceOf t heat
+    fall_from : (m n : ℕ) (t : Rational) (heat : ℤ) → n + m ≡ length axis.cuts - 1
+        → IsNearest (high_at axis n) heat → IsPlaceOf t heat
         → Falls t (stages_of (range_with_len n m))
     fall_from zero n t heat left near place =
-        let last : length axis.cuts - 1 ≡ n = omega (arith, left) in let least = cut_from_last axis.cuts axis.are_cuts.ordered bottom ends_cut.0 in
+        let last : length axis.cuts - 1 ≡ n = omega (arith, left) in
+        let least = cut_from_last axis.cuts axis.are_cuts.ordered bottom ends_cut.0 in
         let same : heat ≡ bottom = omega (arith, ints, clamps, near, heats_rise, ap (high_at axis) last, least) in
         ap actual (one_temperature t (whole (low_end s)) bottom (subst (IsPlaceOf t) same place)
         (place_at (low_end s) (omega (arith, ints)) (omega (arith, ints, ends_rise))))
@@ -458,7 +515,8 @@ module _ (axis : Axis) where
     -- it is led from its supply to its target
     pub stream_joined : AreJoined s (led_course (pieces axis side.Hot) (pieces axis side.Cold) (exchanges axis) (stream, s))
     stream_joined =
-        let stages = stages_of (intervals_of axis.cuts) in let c = ap (λ o. option_map_or (λ (r : Stream). r.contribution) o (pos 0)) here in
+        let stages = stages_of (intervals_of axis.cuts) in
+        let c = ap (λ o. option_map_or (λ (r : Stream). r.contribution) o (pos 0)) here in
         let start = ap (actual_at s.side (whole (first_end s.side s))) c ∙ actual-first s valid.sensible in
         let end = ap (actual_at s.side (whole (last_end s.side s))) c ∙ actual-last s valid.sensible in
         let way = subst₂ (λ x y. Leads x (on_the_way s.side stages) y) start end (way_leads s.side stages actual s whole_way) in

@@ -11,7 +11,8 @@ use Rattle.std.proofs.lemmas.Option.{slice_get_within}
 use Rattle.sums.proofs.ListLemmas.{All-slice_get}
 
 abbrev pub made_links : List Link
-made_links = open_link 4 2 ∷ open_link 0 4 ∷ open_link 4 3 ∷ open_link 0 2 ∷ open_link 1 4 ∷ open_link 1 3 ∷ open_link 0 4 ∷ open_link 4 2 ∷ []
+made_links =
+    open_link 4 2 ∷ open_link 0 4 ∷ open_link 4 3 ∷ open_link 0 2 ∷ open_link 1 4 ∷ open_link 1 3 ∷ open_link 0 4 ∷ open_link 4 2 ∷ []
 
 abbrev pub made_flow : List ℤ
 made_flow = pos 25 ∷ pos 50 ∷ pos 30 ∷ pos 7 ∷ pos 0 ∷ pos 35 ∷ pos 10 ∷ pos 5 ∷ []
@@ -31,7 +32,8 @@ within_room (suc (suc (suc (suc (suc (suc (suc zero))))))) within = (omega (arit
 within_room (suc (suc (suc (suc (suc (suc (suc (suc k)))))))) within = absurd (omega (arith, within))
 
 rooms : IsWithinRooms made_links made_flow
-rooms = record { one_each = refl; not_negative = λ k within. (within_room k within).0; upto_room = λ k within. (within_room k within).1 }
+rooms =
+    record { one_each = refl; not_negative = λ k within. (within_room k within).0; upto_room = λ k within. (within_room k within).1 }
 
 -- what leaves the hot parts and what enters the cold ones
 given : (a : ℕ) → a < 2 → outflow made_links made_flow a ≤ℤ pos 100
@@ -44,7 +46,8 @@ taken zero within = omega (arith, ints)
 taken (suc zero) within = omega (arith, ints)
 taken (suc (suc b)) within = absurd (omega (arith, within))
 
-pub made_heat : (hot cold : List Part) → length hot ≡ 2 → length cold ≡ 2 → All (λ p. p.most ≡ pos 100) hot → All (λ p. p.most ≡ pos 100) cold
+pub made_heat : (hot cold : List Part) → length hot ≡ 2 → length cold ≡ 2 → All (λ p. p.most ≡ pos 100) hot
+    → All (λ p. p.most ≡ pos 100) cold
     → IsHeatOf hot cold made_net made_flow
 made_heat hot cold hots colds hot_most cold_most = record {
   rooms = rooms;

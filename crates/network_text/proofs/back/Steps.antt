@@ -22,11 +22,13 @@ record Says (case : Case) (given : Network) (s : Statement) (e : Entry) : Type 0
   passes : first_failing (checks case given s) ≡ None
   gives : entry_in case given s ≡ Some e
 
-passes_of : (case : Case) (given : Network) (s : Statement) (k : Kind) → length given.lines < MOST_STATEMENTS → kind_of s ≡ Some k
+passes_of : (case : Case) (given : Network) (s : Statement) (k : Kind) → length given.lines < MOST_STATEMENTS
+    → kind_of s ≡ Some k
     → Passes (kind_checks (Some k) case given s) → first_failing (checks case given s) ≡ None
 unfolding checks
 passes_of case given s k room is passes =
-    let few : nat_lt (length given.lines) MOST_STATEMENTS ≡ true = grind (arith, nat_tests, room) in let known : is_some (kind_of s) ≡ true = ap is_some is in
+    let few : nat_lt (length given.lines) MOST_STATEMENTS ≡ true = grind (arith, nat_tests, room) in
+    let known : is_some (kind_of s) ≡ true = ap is_some is in
     rw (few, known, is) (none_fails (kind_checks (Some k) case given s) passes)
 
 -- ---- fields
@@ -40,7 +42,9 @@ record IsRead (a : Rational) : Type 0 where
 is_read : (a : Rational) → IsPositive a → IsRead a
 unfolding fraction
 is_read a positive =
-    let back = fraction-back a positive.within in let value = ap (λ o. unwrap_or o rational_zero) back in record {
+    let back = fraction-back a positive.within in
+    let value = ap (λ o. unwrap_or o rational_zero) back in
+    record {
       some = ap is_some back;
       value = value;
       above = ap (is_below rational_zero) value ∙ (Decides-is_below rational_zero a).1 (positive-is a positive.above);
@@ -52,46 +56,64 @@ record IsFoundOn (case : Case) (of : Side) (s : Source) : Type 0 where
   at : source_at case (source_name case s) ≡ s
   on : is_on case of (source_at case (source_name case s)) ≡ true
 
-found_on : {case : Case} {network : Network} → IsReadable case network → (of : Side) (s : Source) → side_of case s ≡ Some of → IsFoundOn case of s
+found_on : {case : Case} {network : Network} → IsReadable case network → (of : Side) (s : Source)
+    → side_of case s ≡ Some of → IsFoundOn case of s
 unfolding source_at is_on
 found_on {case} readable of s on =
     let named = source_named-source_name case readable.valid.distinct_names s (IsSourceOf-side case s (ap is_some on)) in
-    let at = ap (λ o. unwrap_or o (source.Stream 0)) named in record { known = ap is_some named; at = at; on = ap (is_on case of) at ∙ rw on (own_side of) }
+    let at = ap (λ o. unwrap_or o (source.Stream 0)) named in
+    record { known = ap is_some named; at = at; on = ap (is_on case of) at ∙ rw on (own_side of) }
 
 -- the branch that a name finds is not used
-found_unused : {given : Network} {name : List ℕ} {number : ℕ} → IsUsable given name number → not (is_used given (branch_at given name)) ≡ true
+found_unused : {given : Network} {name : List ℕ} {number : ℕ} → IsUsable given name number
+    → not (is_used given (branch_at given name)) ≡ true
 found_unused {given} is = ap (λ b. not (is_used given b)) is.at ∙ is.unused
 
 -- ---- each kind
 
 module _ {case : Case} {network : Network} (readable : IsReadable case network) {index : ℕ} where
-  exchanger_says : (name : List ℕ) (hot cold : Source) (duty : Rational) → IsLineOf case network index (line.Exchanger name hot cold duty)
+  exchanger_says : (name : List ℕ) (hot cold : Source) (duty : Rational)
+      → IsLineOf case network index (line.Exchanger name hot cold duty)
       → Says case (front case network index) (statement_of case network (line.Exchanger name hot cold duty))
       (entry_of network (line.Exchanger name hot cold duty))
   unfolding entry_in kind_checks exchanger_checks exchanger_field_checks new_exchanger_checks source_checks fraction_checks
   exchanger_says name hot cold duty of =
-      let given = front case network index in let s = statement_of case network (line.Exchanger name hot cold duty) in
-      let e = new_exchanger readable name hot cold duty of in let given_hot = found_on readable side.Hot hot e.sound.hot in
-      let given_cold = found_on readable side.Cold cold e.sound.cold in let heat = is_read duty e.sound.duty in
-      let known = and_from _ _ given_hot.known given_cold.known in let on = and_from _ _ given_hot.on given_cold.on in
-      let count : nat_lt (length (exchangers_of given.lines)) MOST_EXCHANGERS ≡ true = let few = e.few in grind (arith, nat_tests) in record {
+      let given = front case network index in
+      let s = statement_of case network (line.Exchanger name hot cold duty) in
+      let e = new_exchanger readable name hot cold duty of in
+      let given_hot = found_on readable side.Hot hot e.sound.hot in
+      let given_cold = found_on readable side.Cold cold e.sound.cold in
+      let heat = is_read duty e.sound.duty in
+      let known = and_from _ _ given_hot.known given_cold.known in
+      let on = and_from _ _ given_hot.on given_cold.on in
+      let count : nat_lt (length (exchangers_of given.lines)) MOST_EXCHANGERS ≡ true = let few = e.few in
+      grind (arith, nat_tests) in
+      record {
         passes = passes_of case given s kind.Exchanger (room readable of) refl
             (refl, (count, (name-passes name e.sound.name, (e.free, (known, (on, (heat.some, (heat.above, tt))))))));
-        gives = λ i. Some (record { line = line.Exchanger name (given_hot.at i) (given_cold.at i) (heat.value i); names = few.Nothing });
+        gives =
+            λ i. Some (record { line = line.Exchanger name (given_hot.at i) (given_cold.at i) (heat.value i); names = few.Nothing });
       }
 
-  split_says : (from first : ℕ) (size : Rational) (second : ℕ) → IsLineOf case network index (line.Split from first size second)
+  split_says : (from first : ℕ) (size : Rational) (second : ℕ)
+      → IsLineOf case network index (line.Split from first size second)
       → Says case (front case network index) (statement_of case network (line.Split from first size second)) (entry_of network (line.Split from first size second))
   unfolding entry_in kind_checks split_checks used_branch_checks new_branch_checks fraction_checks branch_name
   split_says from first size second of =
-      let given = front case network index in let from_used = used readable of 0 (omega arith) in let one = new readable of 0 (omega arith) in
-      let two = new readable of 1 (omega arith) in let number = made_number readable of 0 (omega arith) in
-      let number_two = made_number readable of 1 (omega arith) in let read = is_read size of.size in
+      let given = front case network index in
+      let from_used = used readable of 0 (omega arith) in
+      let one = new readable of 0 (omega arith) in
+      let two = new readable of 1 (omega arith) in
+      let number = made_number readable of 0 (omega arith) in
+      let number_two = made_number readable of 1 (omega arith) in
+      let read = is_read size of.size in
       let before : first < second = omega (arith, number, number_two) in
-      let within : second < length (names_of network.branches) = omega (arith, made_known readable of 1 (omega arith), many_names network) in
+      let within : second < length (names_of network.branches)
+      = omega (arith, made_known readable of 1 (omega arith), many_names network) in
       let apart = other_name (branch_name network second) (branch_name network first) (readable.shape.named.distinct first second [] before within) in
       let first_is : length given.branches ≡ first = omega (arith, number) in record {
-        passes = passes_of case given (statement_of case network (line.Split from first size second)) kind.Split (room readable of) refl
+        passes =
+            passes_of case given (statement_of case network (line.Split from first size second)) kind.Split (room readable of) refl
             (refl, (from_used.known, (found_unused from_used, (one.is, (one.free, (read.some, (read.above, (two.is, (two.free, (ap not apart, tt))))))))));
         gives = λ i. Some (record {
           line = line.Split (from_used.at i) (first_is i) (read.value i) (number_two i);
@@ -103,43 +125,63 @@ module _ {case : Case} {network : Network} (readable : IsReadable case network) 
       → Says case (front case network index) (statement_of case network (line.Pass from exchanger to)) (entry_of network (line.Pass from exchanger to))
   unfolding entry_in kind_checks pass_checks used_branch_checks passed_checks new_branch_checks
   pass_says from exchanger to of =
-      let given = front case network index in let from_used = used readable of 0 (omega arith) in
-      let through = passed_exchanger readable from exchanger to of in let one = new readable of 0 (omega arith) in
+      let given = front case network index in
+      let from_used = used readable of 0 (omega arith) in
+      let through = passed_exchanger readable from exchanger to of in
+      let one = new readable of 0 (omega arith) in
       let number : length given.branches ≡ to = omega (arith, made_number readable of 0 (omega arith)) in
-      let side = (λ i. is_free_side given (through.at i) (stream_at given.branches (from_used.at i))) ∙ free_side readable from exchanger to of in record {
-        passes = passes_of case given (statement_of case network (line.Pass from exchanger to)) kind.Pass (room readable of) refl
+      let side = (λ i. is_free_side given (through.at i) (stream_at given.branches (from_used.at i)))
+      ∙ free_side readable from exchanger to of in
+      record {
+        passes =
+            passes_of case given (statement_of case network (line.Pass from exchanger to)) kind.Pass (room readable of) refl
             (refl, (from_used.known, (found_unused from_used, (through.known, (side, (one.is, (one.free, tt)))))));
-        gives = λ i. Some (record { line = line.Pass (from_used.at i) (through.at i) (number i); names = few.One (branch_name network to) });
+        gives =
+            λ i. Some (record { line = line.Pass (from_used.at i) (through.at i) (number i); names = few.One (branch_name network to) });
       }
 
   mix_says : (first second to : ℕ) → IsLineOf case network index (line.Mix first second to)
       → Says case (front case network index) (statement_of case network (line.Mix first second to)) (entry_of network (line.Mix first second to))
   unfolding entry_in kind_checks mix_checks used_branch_checks mixed_checks new_branch_checks
   mix_says first second to of =
-      let given = front case network index in let s = statement_of case network (line.Mix first second to) in
-      let m = made_before case network index in let one = used readable of 0 (omega arith) in
-      let two = used readable of 1 (omega arith) in let result = new readable of 0 (omega arith) in
-      let number : length given.branches ≡ to = omega (arith, made_number readable of 0 (omega arith)) in let differ = two_used readable of first second refl in
-      let other : (second == first) ≡ false = grind (arith, nat_tests, differ) in let apart = (λ i. not (two.at i == one.at i)) ∙ ap not other in
-      let same : stream_at given.branches first ≡ stream_at given.branches second = stream_at-take network.branches m first
-      (of.numbers.used 0 0 (omega arith)) ∙ sym of.one_stream.0 ∙ sym (stream_at-take network.branches m second (of.numbers.used 1 0 (omega arith))) in
-      let one_stream : (stream_at given.branches first == stream_at given.branches second) ≡ true = grind (arith, nat_tests, same) in
-      let mixed = (λ i. stream_at given.branches (one.at i) == stream_at given.branches (two.at i)) ∙ one_stream in record {
+      let given = front case network index in
+      let s = statement_of case network (line.Mix first second to) in
+      let m = made_before case network index in
+      let one = used readable of 0 (omega arith) in
+      let two = used readable of 1 (omega arith) in
+      let result = new readable of 0 (omega arith) in
+      let number : length given.branches ≡ to = omega (arith, made_number readable of 0 (omega arith)) in
+      let differ = two_used readable of first second refl in
+      let other : (second == first) ≡ false = grind (arith, nat_tests, differ) in
+      let apart = (λ i. not (two.at i == one.at i)) ∙ ap not other in
+      let same : stream_at given.branches first ≡ stream_at given.branches second
+      = stream_at-take network.branches m first
+      (of.numbers.used 0 0 (omega arith)) ∙ sym of.one_stream.0
+      ∙ sym (stream_at-take network.branches m second (of.numbers.used 1 0 (omega arith))) in
+      let one_stream : (stream_at given.branches first == stream_at given.branches second) ≡ true
+      = grind (arith, nat_tests, same) in
+      let mixed = (λ i. stream_at given.branches (one.at i) == stream_at given.branches (two.at i)) ∙ one_stream in
+      record {
         passes = passes_of case given s kind.Mix (room readable of) refl
             (refl, (one.known, (found_unused one, (two.known, (found_unused two, (apart, (mixed, (result.is, (result.free, tt)))))))));
-        gives = λ i. Some (record { line = line.Mix (one.at i) (two.at i) (number i); names = few.One (branch_name network to) });
+        gives =
+            λ i. Some (record { line = line.Mix (one.at i) (two.at i) (number i); names = few.One (branch_name network to) });
       }
 
   end_says : (branch : ℕ) → IsLineOf case network index (line.End branch)
       → Says case (front case network index) (statement_of case network (line.End branch)) (entry_of network (line.End branch))
   unfolding entry_in kind_checks end_checks used_branch_checks
   end_says branch of =
-      let given = front case network index in let s = statement_of case network (line.End branch) in let own = used readable of 0 (omega arith) in record {
+      let given = front case network index in
+      let s = statement_of case network (line.End branch) in
+      let own = used readable of 0 (omega arith) in
+      record {
         passes = passes_of case given s kind.End (room readable of) refl (refl, (own.known, (found_unused own, tt)));
         gives = λ i. Some (record { line = line.End (own.at i); names = few.Nothing });
       }
 
-  says : (l : Line) → IsLineOf case network index l → Says case (front case network index) (statement_of case network l) (entry_of network l)
+  says : (l : Line) → IsLineOf case network index l
+      → Says case (front case network index) (statement_of case network l) (entry_of network l)
   says (line.Exchanger name hot cold duty) of = exchanger_says name hot cold duty of
   says (line.Split from first size second) of = split_says from first size second of
   says (line.Pass from exchanger to) of = pass_says from exchanger to of

@@ -7,11 +7,13 @@ use Rattle.network_text.proofs.shape.Entries.{Adds, HasShapeSoFar, added}
 use Rattle.std.proofs.Common.{All, AllPairs, List, None, Option, Some, [], arith, refl, subst, sym, ℕ, ◌∙◌, ◌≡◌, ◌≢◌}
 use Rattle.network_text.proofs.shape.Branches as branches
 
-each_of : (case : Case) (o : Option Exchanger) → ForSome o (IsExchanger case) → All (IsExchanger case) (option_to_list o)
+each_of : (case : Case) (o : Option Exchanger) → ForSome o (IsExchanger case)
+    → All (IsExchanger case) (option_to_list o)
 each_of case None is = All-nil (IsExchanger case)
 each_of case (Some e) is = All-cons (IsExchanger case) e [] (is e refl) (All-nil (IsExchanger case))
 
-exchangers_kept : {case : Case} {given : Network} {e : Entry} → HasShapeSoFar case given → Adds case given e → AreExchangers case (with_entry given e)
+exchangers_kept : {case : Case} {given : Network} {e : Entry} → HasShapeSoFar case given → Adds case given e
+    → AreExchangers case (with_entry given e)
 unfolding with_entry
 exchangers_kept {case} {given} {e} shape adds =
     let all = sym (exchangers_of-push given.lines e.line) in record {
@@ -21,11 +23,13 @@ exchangers_kept {case} {given} {e} shape adds =
       distinct = subst (AllPairs (λ (a b : Exchanger). a.name ≢ b.name)) all adds.fresh.new_exchanger;
     }
 
-sizes_kept : {case : Case} {given : Network} {e : Entry} → HasShapeSoFar case given → Adds case given e → All HasPositiveSize (with_entry given e).lines
+sizes_kept : {case : Case} {given : Network} {e : Entry} → HasShapeSoFar case given → Adds case given e
+    → All HasPositiveSize (with_entry given e).lines
 unfolding with_entry
 sizes_kept {case} {given} {e} shape adds = All-push HasPositiveSize given.lines e.line shape.sizes adds.size
 
-kept : {case : Case} {given : Network} {e : Entry} → HasShapeSoFar case given → Adds case given e → HasShapeSoFar case (with_entry given e)
+kept : {case : Case} {given : Network} {e : Entry} → HasShapeSoFar case given → Adds case given e
+    → HasShapeSoFar case (with_entry given e)
 kept shape adds = record {
   made_once = branches.made_in_order shape adds;
   made_first = branches.made_first shape adds;
@@ -49,23 +53,29 @@ shape_first case valid = record {
   streams = branches.streams_own case;
   one_stream = All-nil (IsOfOneStream (own_branches case));
   sizes = All-nil HasPositiveSize;
-  exchangers = record { each = All-nil (IsExchanger case); distinct = AllPairs-nil (λ (a b : Exchanger). a.name ≢ b.name) };
+  exchangers =
+      record { each = All-nil (IsExchanger case); distinct = AllPairs-nil (λ (a b : Exchanger). a.name ≢ b.name) };
   declared_first = λ index l at. cc at;
   at_most_once = λ exchanger stream. omega arith;
 }
 
-shape_next : (case : Case) (given : Network) (s : Statement) → HasShapeSoFar case given → Passes (checks case given s) → HasShapeSoFar case (next case given s)
+shape_next : (case : Case) (given : Network) (s : Statement) → HasShapeSoFar case given
+    → Passes (checks case given s) → HasShapeSoFar case (next case given s)
 shape_next case given s shape passes =
-    let (e, is, adds) = added case given s shape passes in subst (λ o. HasShapeSoFar case (with_any given o)) (sym is) (kept shape adds)
+    let (e, is, adds) = added case given s shape passes in
+    subst (λ o. HasShapeSoFar case (with_any given o)) (sym is) (kept shape adds)
 
 -- so what sound statements give has it
-pub shape_so_far : {case : Case} {statements : List Statement} {given : Network} → StaysValid case → Give (grammar case) statements given
+pub shape_so_far : {case : Case} {statements : List Statement} {given : Network} → StaysValid case
+    → Give (grammar case) statements given
     → HasShapeSoFar case given
 shape_so_far {case} {statements} {given} valid give = subst (HasShapeSoFar case) (sym give.given_is)
     (given_has (grammar case) (HasShapeSoFar case) (shape_first case valid) (shape_next case) statements give.sound)
 
 -- what a sound statement gives may be added
-pub adds_next : {case : Case} {given : Network} {e : Entry} → HasShapeSoFar case given → (s : Statement) → Passes (checks case given s)
+pub adds_next : {case : Case} {given : Network} {e : Entry} → HasShapeSoFar case given → (s : Statement)
+    → Passes (checks case given s)
     → entry_in case given s ≡ Some e → Adds case given e
 adds_next {case} {given} {e} shape s passes gives =
-    let (other, is, adds) = added case given s shape passes in subst (Adds case given) (same_Some other e (sym is ∙ gives)) adds
+    let (other, is, adds) = added case given s shape passes in
+    subst (Adds case given) (same_Some other e (sym is ∙ gives)) adds

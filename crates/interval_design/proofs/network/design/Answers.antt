@@ -10,9 +10,11 @@ use Rattle.stream_case.specs.declared.source.Side.TheVariants as side
 
 -- ---- the pieces and their exchanges
 
-flow_heats : (case : Case) (hot cold : List Part) (ts : List Transfer) → All IsBounded hot → IsHeatFlow (reach_between case hot cold) hot cold ts
+flow_heats : (case : Case) (hot cold : List Part) (ts : List Transfer) → All IsBounded hot
+    → IsHeatFlow (reach_between case hot cold) hot cold ts
     → All (λ t. IsHeat t.heat) ts
-flow_heats case hot cold ts bounded flow = heats_within hot cold ts bounded (HasCost-flow (reach_between case hot cold) hot cold ts flow)
+flow_heats case hot cold ts bounded flow =
+    heats_within hot cold ts bounded (HasCost-flow (reach_between case hot cold) hot cold ts flow)
 
 pub exchanges_of-requires-clause-heats : goal.exchanges_of-requires-clause-heats
 exchanges_of-requires-clause-heats c =
@@ -46,7 +48,8 @@ lead-requires-clause-cold c =
 
 pub lead-requires-clause-few : goal.lead-requires-clause-few
 lead-requires-clause-few c =
-    let parts = c.args.parts.now in let few = few_flow c.requires.flow parts.few_hot parts.few_cold in
+    let parts = c.args.parts.now in
+    let few = few_flow c.requires.flow parts.few_hot parts.few_cold in
     let streams = length-AreStreams c.args.case.now.streams (AreStreams-IsComplete c.args.case.now c.requires.complete) in
     let exchanges = ap length (exchanges_given c) in
     let long = length-map c.args.flow.now.transfers (exchange_of parts.hot parts.cold) in
@@ -66,7 +69,8 @@ exchanges_led c =
     c.as_slice-8.ensures.value ∙ c.in_ok-exchanges.ensures
     ∙ (λ i. map (exchange_of (c.as_slice-3.ensures i) (c.as_slice-4.ensures i)) (c.as_slice-5.ensures i))
 
-given : (c : goal.After-drop-hot-2) → IsCaseFlow c.args.case.now c.args.parts.now.hot c.args.parts.now.cold c.args.flow.now.transfers
+given : (c : goal.After-drop-hot-2)
+    → IsCaseFlow c.args.case.now c.args.parts.now.hot c.args.parts.now.cold c.args.flow.now.transfers
 given c =
     let parts = c.args.parts.now in
     let heats = flow_heats c.args.case.now parts.hot parts.cold c.args.flow.now.transfers parts.hot_bounded c.requires.flow in
@@ -78,10 +82,13 @@ hots c = map (piece_of c.args.case.now) c.args.parts.now.hot
 colds : goal.After-drop-hot-2 → List Piece
 colds c = map (piece_of c.args.case.now) c.args.parts.now.cold
 
-led : (c : goal.After-drop-hot-2) → IsLedNetwork c.args.case.now (hots c) (colds c) c.as_slice-8.result.now c.in_ok-network.network
+led : (c : goal.After-drop-hot-2)
+    → IsLedNetwork c.args.case.now (hots c) (colds c) c.as_slice-8.result.now c.in_ok-network.network
 unfolding hots colds
 led c =
-    let case = c.args.case.now in let parts = c.args.parts.now in let ts = c.args.flow.now.transfers in
+    let case = c.args.case.now in
+    let parts = c.args.parts.now in
+    let ts = c.args.flow.now.transfers in
     let few = few_flow c.requires.flow parts.few_hot parts.few_cold in
     c.in_ok-network.ensures.led (hots c) (colds c) (sources-are case parts.hot ∙ sym (hot_led c)) (sources-are case parts.cold ∙ sym (cold_led c))
     (subst (AreLedPieces case (hots c) (colds c)) (sym (exchanges_led c)) (flow_led case parts.hot parts.cold ts (given c) few))
@@ -96,7 +103,8 @@ returns-clause-shape c = (led c).shape
 
 pub returns-clause-few_lines : goal.returns-clause-few_lines
 returns-clause-few_lines c few =
-    let parts = c.args.parts.now in let lines = c.in_ok-network.ensures.few_lines in
+    let parts = c.args.parts.now in
+    let lines = c.in_ok-network.ensures.few_lines in
     let streams = length-AreStreams c.args.case.now.streams (AreStreams-IsComplete c.args.case.now c.requires.complete) in
     let exchanges = ap length (exchanges_led c) in
     let long = length-map c.args.flow.now.transfers (exchange_of parts.hot parts.cold) in
@@ -104,7 +112,9 @@ returns-clause-few_lines c few =
 
 pub returns-clause-counts : goal.returns-clause-counts
 returns-clause-counts c few =
-    let parts = c.args.parts.now in let ts = c.args.flow.now.transfers in let lines = returns-clause-few_lines c few in
+    let parts = c.args.parts.now in
+    let ts = c.args.flow.now.transfers in
+    let lines = returns-clause-few_lines c few in
     let many = ap length (returns-clause-exchangers c) in
     let long = length-map (enumerate_from 0 ts) (exchanger_of parts.hot parts.cold) in
     let count = length-enumerate_from 0 ts in
@@ -118,7 +128,8 @@ returns-clause-accepted c = (led c).accepted
 
 pub returns-clause-balance : goal.returns-clause-balance
 returns-clause-balance c =
-    let case = c.args.case.now in let parts = c.args.parts.now in
+    let case = c.args.case.now in
+    let parts = c.args.parts.now in
     c.in_ok-network.ensures.balance ∙ (λ i. exchange_balance case (hot_led c i) (cold_led c i) (exchanges_led c i))
     ∙ balance-is case parts.hot parts.cold c.args.flow.now.transfers (given c)
 

@@ -15,8 +15,10 @@ add_branch-requires c =
 pub loop-index-preserved : goal.loop-index-preserved
 loop-index-preserved c =
     let s = c.index-streams-index.result in
-    c.in_ok-add_branch.ensures ∙ ap (λ (l : List (List ℕ × ℕ)). l ++ (s.name, c.loop-index.index) ∷ []) c.loop-index.invariant
+    c.in_ok-add_branch.ensures
+    ∙ ap (λ (l : List (List ℕ × ℕ)). l ++ (s.name, c.loop-index.index) ∷ []) c.loop-index.invariant
     ∙ sym (own_entries-more c.args.streams.now c.loop-index.index s c.loop-index-test.true (sym c.index-streams-index.is))
 
 pub returns : goal.returns
-returns c = c.loop-index.invariant ∙ ap own_entries (take_all c.loop-index.index c.args.streams.now c.loop-index-test.false)
+returns c =
+    c.loop-index.invariant ∙ ap own_entries (take_all c.loop-index.index c.args.streams.now c.loop-index-test.false)

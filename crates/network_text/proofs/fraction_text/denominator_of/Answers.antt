@@ -4,7 +4,9 @@ use Rattle.network_text.proofs.fraction_text.denominator_of.Goals as goal
 
 pub returns-in_default : goal.returns-in_default
 unfolding denominator_in
-returns-in_default c = let none = sym (is_some-position is_slash c.args.text.now) ∙ ap is_some (sym c.in_default.ensures) in rw none refl
+returns-in_default c =
+    let none = sym (is_some-position is_slash c.args.text.now) ∙ ap is_some (sym c.in_default.ensures) in
+    rw none refl
 
 pub returns : goal.returns
 unfolding denominator_in

@@ -9,7 +9,8 @@ statement_line-requires-clause-exchangers c = c.as_slice.ensures.value ∙ c.in_
 
 pub statement_line-requires-clause-known : goal.statement_line-requires-clause-known
 statement_line-requires-clause-known c =
-    let within = rw c.as_slice-lines.ensures at c.loop-line-test.true in let read = rw c.as_slice-lines.ensures at c.line-item.is in
+    let within = rw c.as_slice-lines.ensures at c.loop-line-test.true in
+    let read = rw c.as_slice-lines.ensures at c.line-item.is in
     (line_read c.requires.shape c.loop-line.line-index c.line-item.result within read).known
 
 pub returns-clause-text : goal.returns-clause-text
@@ -18,7 +19,8 @@ returns-clause-text c =
     c.loop-line.invariant ∙ text_all c.args.case.now c.args.network.now c.loop-line.line-index past
 
 pub returns-clause-read_back : goal.returns-clause-read_back
-returns-clause-read_back c = λ counts. subst (λ (text : List ℕ). IsNetworkOf c.args.case.now text c.args.network.now) (sym (returns-clause-text c))
+returns-clause-read_back c =
+    λ counts. subst (λ (text : List ℕ). IsNetworkOf c.args.case.now text c.args.network.now) (sym (returns-clause-text c))
     (shape-is_network c.args.case.now c.args.network.now c.requires.complete c.requires.shape counts)
 
 pub returns-clause-short : goal.returns-clause-short

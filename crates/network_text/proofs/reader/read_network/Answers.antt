@@ -28,24 +28,32 @@ loop-rest-preserved-then-is_passed_over c =
     }
 
 pub with-requires-clause-room : goal.with-requires-clause-room
-with-requires-clause-room c = room_next c.args.case.now c.loop-rest.builder c.in_ok-statement.statement c.in-Ok.ensures.0
+with-requires-clause-room c =
+    room_next c.args.case.now c.loop-rest.builder c.in_ok-statement.statement c.in-Ok.ensures.0
 
 pub with-requires-clause-fresh : goal.with-requires-clause-fresh
-with-requires-clause-fresh c = fresh_next c.requires c.loop-rest.invariant.reads c.in_ok-statement.statement c.in-Ok.ensures.0 c.in-Ok.ensures.1
+with-requires-clause-fresh c =
+    fresh_next c.requires c.loop-rest.invariant.reads c.in_ok-statement.statement c.in-Ok.ensures.0 c.in-Ok.ensures.1
 
 pub returns-in-Err-clause-outcome : goal.returns-in-Err-clause-outcome
 returns-in-Err-clause-outcome c =
-    let counts = sym c.is_passed_over.ensures ∙ c.if-is_passed_over.false in fault_here c.loop-rest.invariant.reads
+    let counts = sym c.is_passed_over.ensures ∙ c.if-is_passed_over.false in
+    fault_here c.loop-rest.invariant.reads
     (statement_next c.loop-rest.rest.now c.first_line.result.0.now c.first_line.result.1.now c.first_line.ensures.line c.in_ok-statement.ensures counts)
     c.in-Err.ensures
 
 pub loop-rest-preserved : goal.loop-rest-preserved
 loop-rest-preserved c =
-    let case = c.args.case.now in let given = c.loop-rest.builder in let counts = sym c.is_passed_over.ensures ∙ c.if-is_passed_over.false in
+    let case = c.args.case.now in
+    let given = c.loop-rest.builder in
+    let counts = sym c.is_passed_over.ensures ∙ c.if-is_passed_over.false in
     let at = statement_next c.loop-rest.rest.now c.first_line.result.0.now c.first_line.result.1.now c.first_line.ensures.line
-    c.in_ok-statement.ensures counts in let next = c.in_ok-builder-in-Ok.ensures ∙ sym (ap (with_any given) c.in-Ok.ensures.1) in
-    let room : length given.lines < MOST_STATEMENTS = room_next case given c.in_ok-statement.statement c.in-Ok.ensures.0 in
-    let lines = ap (λ (n : Network). length n.lines) c.in_ok-builder-in-Ok.ensures ∙ lines-with_entry given c.in-Ok.entry in
+    c.in_ok-statement.ensures counts in
+    let next = c.in_ok-builder-in-Ok.ensures ∙ sym (ap (with_any given) c.in-Ok.ensures.1) in
+    let room : length given.lines < MOST_STATEMENTS
+    = room_next case given c.in_ok-statement.statement c.in-Ok.ensures.0 in
+    let lines = ap (λ (n : Network). length n.lines) c.in_ok-builder-in-Ok.ensures
+    ∙ lines-with_entry given c.in-Ok.entry in
     let count = c.loop-rest.invariant.count in
     record { reads = one_more c.loop-rest.invariant.reads at c.in-Ok.ensures.0 next; count = lines ∙ ap (λ n. n + 1) count; few = omega (arith, room, count) }
 
@@ -60,7 +68,8 @@ returns-in_ok-into_network-in-None-clause-shape c =
     (returns-in_ok-into_network-in-None-clause-outcome c)
 
 pub returns-in_ok-into_network-in-None-clause-counts : goal.returns-in_ok-into_network-in-None-clause-counts
-returns-in_ok-into_network-in-None-clause-counts c = network-keeps_counts c.args.case.now (statements_of c.args.bytes.now) c.in_ok-into_network-in-None.field-0
+returns-in_ok-into_network-in-None-clause-counts c =
+    network-keeps_counts c.args.case.now (statements_of c.args.bytes.now) c.in_ok-into_network-in-None.field-0
     (returns-in_ok-into_network-in-None-clause-outcome c)
 
 pub returns-in-Some-clause-outcome : goal.returns-in-Some-clause-outcome

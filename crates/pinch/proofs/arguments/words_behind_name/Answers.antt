@@ -4,7 +4,8 @@ use Rattle.pinch.proofs.arguments.words_behind_name.Goals as goal
 
 pub returns : goal.returns
 returns c =
-    let texts = c.args.texts in let iterator = c.into_iter-text-iterator in
+    let texts = c.args.texts in
+    let iterator = c.into_iter-text-iterator in
     let source = ap skip_source iterator.ensures.into_iter_gives ∙ c.skip-text-items.ensures.source in
     let count = ap skip_count iterator.ensures.into_iter_gives ∙ c.skip-text-items.ensures.count in
     let all = YieldsList-from_vec {s = skip_source iterator.result} (into_iter_items texts) (ap into_iter_items source)

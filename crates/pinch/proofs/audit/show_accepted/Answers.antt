@@ -4,11 +4,16 @@ use Rattle.pinch.proofs.audit.show_accepted.Goals as goal
 
 pub returns : goal.returns
 returns c =
-    let case = c.args.case in let network = c.args.network in let balance = c.args.balance in
-    let penalties = c.in_ok-penalties.penalties in let reference = c.reference_place.result in let floor = c.in_ok-floor.floor in
+    let case = c.args.case in
+    let network = c.args.network in
+    let balance = c.args.balance in
+    let penalties = c.in_ok-penalties.penalties in
+    let reference = c.reference_place.result in
+    let floor = c.in_ok-floor.floor in
     let fits : FitsSigned w32 reference = search rules in
     let floor_fits : FitsSigned w128 floor = search rules in
-    let found = c.in_ok-floor.ensures in let sums = c.requires.balance in
+    let found = c.in_ok-floor.ensures in
+    let sums = c.requires.balance in
     record {
       reference = reference;
       is_reference = c.reference_place.ensures;
@@ -20,5 +25,6 @@ returns c =
       not_negative = c.in_ok-penalties.ensures.not_negative;
       sum = subst (λ (e : Rational). IfListed penalties (λ listed. sum_of listed ≡ e))
           (sym (ap (λ (b : Balance). b.excess) sums)) c.in_ok-penalties.ensures.sum;
-      is = λ i. Accepted case network balance (to_z-of_z w32 reference fits i) (to_z-of_z w128 floor floor_fits i) penalties;
+      is =
+          λ i. Accepted case network balance (to_z-of_z w32 reference fits i) (to_z-of_z w128 floor floor_fits i) penalties;
     }

@@ -11,7 +11,8 @@ not_both v b accepted (inr other) = let is = accepted ∙ other.2 in cc
 
 pub unreachable-requires : goal.unreachable-requires
 unreachable-requires c =
-    let case = c.args.case.now in let network = c.args.network.now in
+    let case = c.args.case.now in
+    let network = c.args.network.now in
     let balance = balance_of case network in
     let accepted = subst (λ a. IsVerdict a.case a.network (verdict.Accepted balance)) (sym c.in_ok-new.ensures) (c.requires.accepted, refl) in
     not_both c.audit.result balance (c.audit.ensures.again (verdict.Accepted balance) accepted) c.in-Rejected.is

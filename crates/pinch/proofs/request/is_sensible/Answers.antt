@@ -8,7 +8,8 @@ none_latent streams sensible (k, s, within, is, latent) =
     let own : IsSensible s = subst IsSensible is (sensible k s within) in
     omega (arith, ints, own.load, latent.load.from)
 
-unless_latent : (streams : List Stream) (some : Bool) → (IsTrue some ↔ Any IsLatent streams) → (some ≡ false → AreSensible streams)
+unless_latent : (streams : List Stream) (some : Bool) → (IsTrue some ↔ Any IsLatent streams)
+    → (some ≡ false → AreSensible streams)
     → IsTrue (not some) ↔ AreSensible streams
 unless_latent streams true latent sensible = (λ is. cc, λ are. absurd (none_latent streams are (latent.0 refl)))
 unless_latent streams false latent sensible = (λ is. sensible refl, λ are. refl)

@@ -6,7 +6,8 @@ use Rattle.pinch.proofs.request.request_certify.Goals as goal
 
 pub returns-in_err-given-clause-reads : goal.returns-in_err-given-clause-reads
 unfolding reading_of
-returns-in_err-given-clause-reads g c = without_text case_file _ _ _ _ _ _ c.from_residual.ensures.1 c.in_err-given.ensures.stop
+returns-in_err-given-clause-reads g c =
+    without_text case_file _ _ _ _ _ _ c.from_residual.ensures.1 c.in_err-given.ensures.stop
 
 pub returns-in_err-report-clause-reads : goal.returns-in_err-report-clause-reads
 unfolding reading_of
@@ -16,4 +17,5 @@ returns-in_err-report-clause-reads g c =
 
 pub returns-clause-reads : goal.returns-clause-reads
 unfolding EndsIn reading_of
-returns-clause-reads g c = by_text _ _ c.in_ok-given.ensures.case (by_text _ _ c.in_ok-report.ensures.report (rw c.in_ok-case.ensures refl, refl))
+returns-clause-reads g c =
+    by_text _ _ c.in_ok-given.ensures.case (by_text _ _ c.in_ok-report.ensures.report (rw c.in_ok-case.ensures refl, refl))

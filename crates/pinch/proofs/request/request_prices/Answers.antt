@@ -5,7 +5,8 @@ use Rattle.pinch.proofs.request.request_prices.Goals as goal
 
 pub returns-in_err-given-clause-reads : goal.returns-in_err-given-clause-reads
 unfolding reading_of
-returns-in_err-given-clause-reads g c = without_text case_file _ _ _ _ _ _ c.from_residual.ensures.1 c.in_err-given.ensures.stop
+returns-in_err-given-clause-reads g c =
+    without_text case_file _ _ _ _ _ _ c.from_residual.ensures.1 c.in_err-given.ensures.stop
 
 pub returns-in_err-study-clause-reads : goal.returns-in_err-study-clause-reads
 unfolding reading_of

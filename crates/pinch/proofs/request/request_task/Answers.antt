@@ -5,7 +5,8 @@ use Rattle.pinch.proofs.request.request_task.Goals as goal
 
 pub returns-in_err-case-clause-reads : goal.returns-in_err-case-clause-reads
 unfolding reading_of
-returns-in_err-case-clause-reads g c = without_text case_file _ _ _ _ _ _ c.from_residual.ensures.1 c.in_err-case.ensures.stop
+returns-in_err-case-clause-reads g c =
+    without_text case_file _ _ _ _ _ _ c.from_residual.ensures.1 c.in_err-case.ensures.stop
 
 pub returns-clause-reads : goal.returns-clause-reads
 unfolding EndsIn reading_of

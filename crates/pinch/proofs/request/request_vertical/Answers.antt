@@ -5,7 +5,8 @@ use Rattle.pinch.proofs.request.request_vertical.Goals as goal
 
 pub returns-in_err-given-clause-reads : goal.returns-in_err-given-clause-reads
 unfolding reading_of
-returns-in_err-given-clause-reads g c = without_text case_file _ _ _ _ _ _ c.from_residual.ensures.1 c.in_err-given.ensures.stop
+returns-in_err-given-clause-reads g c =
+    without_text case_file _ _ _ _ _ _ c.from_residual.ensures.1 c.in_err-given.ensures.stop
 
 pub returns-then-not-is_standard-clause-reads : goal.returns-then-not-is_standard-clause-reads
 unfolding EndsIn reading_of

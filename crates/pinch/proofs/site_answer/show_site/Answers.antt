@@ -5,8 +5,11 @@ use Rattle.pinch.proofs.site_answer.show_site.Goals as goal
 
 pub returns : goal.returns
 returns c =
-    let site = c.args.site in let table = c.in_ok-table.table in let is = c.in_ok-table.ensures in
-    let answer = c.in_ok-answer.answer in let target = c.in_ok-answer.ensures in
+    let site = c.args.site in
+    let table = c.in_ok-table.table in
+    let is = c.in_ok-table.ensures in
+    let answer = c.in_ok-answer.answer in
+    let target = c.in_ok-answer.ensures in
     let parts : AreSiteParts site table.parts.hot table.parts.cold =
     record { grid = table.places; is_grid = is.places; hot_parts = is.hot; cold_parts = is.cold } in
     -- as it is shown
@@ -15,8 +18,10 @@ returns c =
     (λ shown is_shown. record {
       table = as_shown;
       answer = answer;
-      is_table = record { grid = is.places; hot_parts = is.hot; cold_parts = is.cold; sizes = is.sizes; reach = is.reach };
-      is_answer = record { target = target; boiler = least_boiler site table.parts answer parts target.certified target.least };
+      is_table =
+          record { grid = is.places; hot_parts = is.hot; cold_parts = is.cold; sizes = is.sizes; reach = is.reach };
+      is_answer =
+          record { target = target; boiler = least_boiler site table.parts answer parts target.certified target.least };
       is = is_shown;
     })
     c.show_profiles.ensures

@@ -9,5 +9,6 @@ loop-place-preserved c =
     let place = get_or c.args.places.now c.loop-place.place-index (pos 0) in
     let place_fits : FitsSigned w32 place = search rules in
     let heat_fits : FitsSigned w64 c.source_profile.result = search rules in
-    let is = to_z-of_z w64 c.source_profile.result heat_fits ∙ c.source_profile.ensures ∙ ap heat (to_z-of_z w32 place place_fits) in
+    let is = to_z-of_z w64 c.source_profile.result heat_fits ∙ c.source_profile.ensures
+    ∙ ap heat (to_z-of_z w32 place place_fits) in
     c.in_ok-push.ensures.ok ∙ one_more heat c.args.places.now c.loop-place.heats c.loop-place.place-index _ c.loop-place-test.true c.loop-place.invariant is

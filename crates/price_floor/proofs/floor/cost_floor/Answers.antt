@@ -6,17 +6,21 @@ use Rattle.std.proofs.Common.{FitsSigned, rules, subst, sym, ◌∙◌}
 use Rattle.price_floor.proofs.floor.cost_floor.Goals as goal
 
 pub least_case-requires-clause-parts : goal.least_case-requires-clause-parts
-least_case-requires-clause-parts c = parts_on_grid c.args.case.now c.in_ok-parts.parts.hot c.in_ok-parts.parts.cold c.in_ok-parts.ensures
+least_case-requires-clause-parts c =
+    parts_on_grid c.args.case.now c.in_ok-parts.parts.hot c.in_ok-parts.parts.cold c.in_ok-parts.ensures
 
 pub unreachable-requires : goal.unreachable-requires
 unreachable-requires c =
-    let parts = c.in_ok-parts.parts in let found = rw c.in-Stuck.is at c.in_ok-cost.ensures in
+    let parts = c.in_ok-parts.parts in
+    let found = rw c.in-Stuck.is at c.in_ok-cost.ensures in
     no_cut-stands uses_ordered c.args.case.now c.args.network.now parts.hot parts.cold c.in-Stuck.field-0 c.requires.complete c.requires.shape c.requires.valid
     c.in_ok-parts.ensures found.cut
 
 pub returns-clause-least : goal.returns-clause-least
 returns-clause-least c =
-    let case = c.args.case.now in let parts = c.in_ok-parts.parts in let cost = c.in-Least.cost in
+    let case = c.args.case.now in
+    let parts = c.in_ok-parts.parts in
+    let cost = c.in-Least.cost in
     let fits : FitsSigned w128 cost = search rules in
     let found = rw c.in-Least.is at c.in_ok-cost.ensures in
     subst (IsLeastCostOf case) (sym (to_z-of_z w128 cost fits))
@@ -24,8 +28,11 @@ returns-clause-least c =
 
 pub returns-clause-floor : goal.returns-clause-floor
 returns-clause-floor c =
-    let case = c.args.case.now in let network = c.args.network.now in let parts = c.in_ok-parts.parts in
-    let cost = c.in-Least.cost in let prices = c.in-Least.prices in
+    let case = c.args.case.now in
+    let network = c.args.network.now in
+    let parts = c.in_ok-parts.parts in
+    let cost = c.in-Least.cost in
+    let prices = c.in-Least.prices in
     let fits : FitsSigned w128 cost = search rules in
     let found = rw c.in-Least.is at c.in_ok-cost.ensures in
     let certified = found.certified in

@@ -3,7 +3,8 @@ use Rattle.std.proofs.Common.{List, [], ap, append-nil, inl, inr, refl, string_b
 use Rattle.reports.proofs.prices.item_lines.Goals as goal
 
 -- where items or answers are used up, no line is left
-none_left : (names : SourceNames) (items : List StudyItem) (answers : List StudyAnswer) → (items ≡ []) ⊎ (answers ≡ []) → item_lines names items answers ≡ []
+none_left : (names : SourceNames) (items : List StudyItem) (answers : List StudyAnswer)
+    → (items ≡ []) ⊎ (answers ≡ []) → item_lines names items answers ≡ []
 none_left names [] answers end = refl
 none_left names (item ∷ items) [] end = refl
 none_left names (item ∷ items) (answer ∷ answers) (inl none) = cc

@@ -5,9 +5,12 @@ use Rattle.reports.proofs.total_site.profile_lines.Goals as goal
 
 pub loop-index-preserved : goal.loop-index-preserved
 loop-index-preserved c =
-    let sinks = c.args.sinks.now in let sources = c.args.sources.now in let places = c.args.places.now in
+    let sinks = c.args.sinks.now in
+    let sources = c.args.sources.now in
+    let places = c.args.places.now in
     let f = λ (i : ℕ) (place : ℤ). profile_line place (slice_index_or sinks i (pos 0)) (slice_index_or sources i (pos 0)) in
-    let i = c.loop-index.index in let place = get_or places i (pos 0) in
+    let i = c.loop-index.index in
+    let place = get_or places i (pos 0) in
     let place_fits : FitsSigned w32 place = search rules in
     let sink_fits : FitsSigned w64 c.number_at-sink.result = search rules in
     let source_fits : FitsSigned w64 c.number_at-source.result = search rules in

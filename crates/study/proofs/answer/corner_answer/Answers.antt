@@ -5,19 +5,26 @@ use Rattle.study.proofs.answer.corner_answer.Goals as goal
 
 pub corner_prices-requires-clause-from : goal.corner_prices-requires-clause-from
 corner_prices-requires-clause-from c =
-    let place = c.reference_place-place.result in let fits : FitsSigned w32 place = search rules in
+    let place = c.reference_place-place.result in
+    let fits : FitsSigned w32 place = search rules in
     subst (λ p. IsTrue c.reference_from-from.result ↔ CountsFromItself c.args.case.now.streams p) (sym (to_z-of_z w32 place fits))
     (c.reference_from-from.ensures place c.reference_place-place.ensures)
 
 pub returns-clause-answer : goal.returns-clause-answer
 returns-clause-answer c =
-    let case = c.args.case.now in let parts = c.args.parts.now in let flow = c.in_ok-flow in let prices = c.in_ok-prices in let cost = c.from.ensures in
+    let case = c.args.case.now in
+    let parts = c.args.parts.now in
+    let flow = c.in_ok-flow in
+    let prices = c.in_ok-prices in
+    let cost = c.from.ensures in
     record {
       certified = record {
         flow = flow.ensures.flow;
         supporting = prices.ensures.supporting;
-        hot_prices = record { one_each = ap length prices.ensures.hot ∙ length-map parts.hot _; within = prices.ensures.hot_range };
-        cold_prices = record { one_each = ap length prices.ensures.cold ∙ length-map parts.cold _; within = prices.ensures.cold_range };
+        hot_prices =
+            record { one_each = ap length prices.ensures.hot ∙ length-map parts.hot _; within = prices.ensures.hot_range };
+        cold_prices =
+            record { one_each = ap length prices.ensures.cold ∙ length-map parts.cold _; within = prices.ensures.cold_range };
         costs = omega (arith, ints, flow.ensures.cost, cost);
         value = omega (arith, ints, prices.ensures.value, cost);
       };
@@ -36,9 +43,14 @@ returns-clause-answer c =
 
 pub returns-clause-corner : goal.returns-clause-corner
 returns-clause-corner c =
-    let case = c.args.case.now in let parts = c.args.parts.now in let flow = c.in_ok-flow in
-    let prices = c.in_ok-prices in let hot = c.targets-targets.ensures.hot in let cold = c.targets-targets.ensures.cold in
-    let fits : FitsSigned w32 c.reference_place-place.result = search rules in let from = c.reference_from-from.result in
+    let case = c.args.case.now in
+    let parts = c.args.parts.now in
+    let flow = c.in_ok-flow in
+    let prices = c.in_ok-prices in
+    let hot = c.targets-targets.ensures.hot in
+    let cold = c.targets-targets.ensures.cold in
+    let fits : FitsSigned w32 c.reference_place-place.result = search rules in
+    let from = c.reference_from-from.result in
     let price = ap₂ (λ t p. corner_price t (counts_low case.streams from p) p) hot (to_z-of_z w32 c.reference_place-place.result fits) in
     record {
       flow = flow.flow;

@@ -5,18 +5,24 @@ use Rattle.study.proofs.lines.line_at.Goals as goal
 
 pub overflow_mul-result : goal.overflow_mul-result
 overflow_mul-result c =
-    let small = c.requires.line in let is = c.requires.price in
-    let ahead : to_z w128 (of_z w128 c.from.result) ≡ c.args.price -ℤ c.args.line.from = omega (arith, ints, c.from.ensures) in
+    let small = c.requires.line in
+    let is = c.requires.price in
+    let ahead : to_z w128 (of_z w128 c.from.result) ≡ c.args.price -ℤ c.args.line.from
+    = omega (arith, ints, c.from.ensures) in
     rise-fits c.args.line c.args.price small is c.from.result ahead
 
 pub overflow_add-result : goal.overflow_add-result
 overflow_add-result c =
-    let small = c.requires.line in let is = c.requires.price in
-    let ahead : to_z w128 (of_z w128 c.from.result) ≡ c.args.price -ℤ c.args.line.from = omega (arith, ints, c.from.ensures) in
+    let small = c.requires.line in
+    let is = c.requires.price in
+    let ahead : to_z w128 (of_z w128 c.from.result) ≡ c.args.price -ℤ c.args.line.from
+    = omega (arith, ints, c.from.ensures) in
     cost-fits c.args.line c.args.price small is c.from.result ahead
 
 pub returns : goal.returns
 returns c =
-    let small = c.requires.line in let is = c.requires.price in
-    let ahead : to_z w128 (of_z w128 c.from.result) ≡ c.args.price -ℤ c.args.line.from = omega (arith, ints, c.from.ensures) in
+    let small = c.requires.line in
+    let is = c.requires.price in
+    let ahead : to_z w128 (of_z w128 c.from.result) ≡ c.args.price -ℤ c.args.line.from
+    = omega (arith, ints, c.from.ensures) in
     cost-told c.args.line c.args.price small is c.from.result ahead

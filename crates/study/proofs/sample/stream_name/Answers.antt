@@ -8,5 +8,7 @@ IsSome-SomeIff (Some y) P x h p = refl
 IsSome-SomeIff None P x h p = absurd (h p)
 
 pub unwrap-requires : goal.unwrap-requires
-unwrap-requires c = let bytes = c.as_bytes.ensures.value ∙ c.in_ok-text.ensures.ok ∙ ap (λ l. l ++ decimal c.args.number) c.letter-letter.ensures in
+unwrap-requires c =
+    let bytes = c.as_bytes.ensures.value ∙ c.in_ok-text.ensures.ok
+    ∙ ap (λ l. l ++ decimal c.args.number) c.letter-letter.ensures in
     IsSome-SomeIff c.new.result _ _ c.new.ensures (inl (subst IsName (sym bytes) (IsName-stream_name c.args.side c.args.number (omega arith))))

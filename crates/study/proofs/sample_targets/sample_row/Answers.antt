@@ -10,9 +10,11 @@ targets-targets-requires c =
     (subst IsComplete (sym is) (IsComplete-sample c.args.number c.args.count c.requires.some_streams c.requires.few_streams))
 
 pub supplied_cost-requires-clause-complete : goal.supplied_cost-requires-clause-complete
-supplied_cost-requires-clause-complete c = let is = c.in_ok-case.ensures ∙ ap completed c.in_ok-given.ensures.case in
+supplied_cost-requires-clause-complete c =
+    let is = c.in_ok-case.ensures ∙ ap completed c.in_ok-given.ensures.case in
     subst IsComplete (sym is) (IsComplete-sample c.args.number c.args.count c.requires.some_streams c.requires.few_streams)
 
 pub supplied_cost-requires-clause-supplied : goal.supplied_cost-requires-clause-supplied
 supplied_cost-requires-clause-supplied c =
-    let is = c.in_ok-case.ensures ∙ ap completed c.in_ok-given.ensures.case in subst IsSupplied (sym is) (IsSupplied-sample c.args.number c.args.count)
+    let is = c.in_ok-case.ensures ∙ ap completed c.in_ok-given.ensures.case in
+    subst IsSupplied (sym is) (IsSupplied-sample c.args.number c.args.count)

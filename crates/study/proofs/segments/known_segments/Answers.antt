@@ -5,21 +5,35 @@ use Rattle.study.proofs.segments.known_segments.Goals as goal
 
 pub loop-next-smaller : goal.loop-next-smaller
 loop-next-smaller c =
-    let segment = c.in_ok-segment.segment in let is = c.in_ok-segment.ensures.segment in
-    let at = c.in_ok-segment.ensures.from in let begin = c.in_ok-begin.ensures.price in
-    let d = c.requires.span.last.from in let e = c.requires.span.last.upto in
-    let f = c.requires.span.first.from in let g = c.loop-next.invariant.from in let h = c.loop-next.invariant.upto in omega (arith, ints)
+    let segment = c.in_ok-segment.segment in
+    let is = c.in_ok-segment.ensures.segment in
+    let at = c.in_ok-segment.ensures.from in
+    let begin = c.in_ok-begin.ensures.price in
+    let d = c.requires.span.last.from in
+    let e = c.requires.span.last.upto in
+    let f = c.requires.span.first.from in
+    let g = c.loop-next.invariant.from in
+    let h = c.loop-next.invariant.upto in
+    omega (arith, ints)
 
 pub loop-next-preserved : goal.loop-next-preserved
 loop-next-preserved c =
-    let case = c.args.curve.now.priced.case.now in let i = c.args.curve.now.utility in
-    let segment = c.in_ok-segment.segment in let is = c.in_ok-segment.ensures.segment in
-    let from_is = c.in_ok-segment.ensures.from in let begin = c.in_ok-begin.ensures.price in
+    let case = c.args.curve.now.priced.case.now in
+    let i = c.args.curve.now.utility in
+    let segment = c.in_ok-segment.segment in
+    let is = c.in_ok-segment.ensures.segment in
+    let from_is = c.in_ok-segment.ensures.from in
+    let begin = c.in_ok-begin.ensures.price in
     let at : segment.from ≡ to_z w64 c.loop-next.next-bits = omega (arith, ints, from_is, begin) in
-    let d = c.requires.span.last.from in let e = c.requires.span.last.upto in
-    let f = c.requires.span.first.from in let g = c.loop-next.invariant.from in let h = c.loop-next.invariant.upto in
-    let to = to_z w64 (of_z w64 c.args.to) in let from = to_z w64 (of_z w64 c.args.from) in
-    let next : segment.to +ℤ pos 1 ≡ to_z w64 (of_z w64 (to_z w64 (of_z w64 segment.to) +ℤ pos 1)) = omega (arith, ints) in
+    let d = c.requires.span.last.from in
+    let e = c.requires.span.last.upto in
+    let f = c.requires.span.first.from in
+    let g = c.loop-next.invariant.from in
+    let h = c.loop-next.invariant.upto in
+    let to = to_z w64 (of_z w64 c.args.to) in
+    let from = to_z w64 (of_z w64 c.args.from) in
+    let next : segment.to +ℤ pos 1 ≡ to_z w64 (of_z w64 (to_z w64 (of_z w64 segment.to) +ℤ pos 1))
+    = omega (arith, ints) in
     record {
       from = omega (arith, ints);
       upto = omega (arith, ints);
@@ -30,9 +44,13 @@ loop-next-preserved c =
 
 pub returns : goal.returns
 returns c =
-    let case = c.args.curve.now.priced.case.now in let i = c.args.curve.now.utility in
-    let upto = c.loop-next.invariant.upto in let d = c.requires.span.last.from in let e = c.requires.span.last.upto in
-    let to_is = to_z-of_z w64 c.args.to c.ranges.to in let from_is = to_z-of_z w64 c.args.from c.ranges.from in
+    let case = c.args.curve.now.priced.case.now in
+    let i = c.args.curve.now.utility in
+    let upto = c.loop-next.invariant.upto in
+    let d = c.requires.span.last.from in
+    let e = c.requires.span.last.upto in
+    let to_is = to_z-of_z w64 c.args.to c.ranges.to in
+    let from_is = to_z-of_z w64 c.args.from c.ranges.from in
     let end : to_z w64 c.loop-next.next-bits ≡ c.args.to +ℤ pos 1 = grind (arith, ints) in
     span-segments case i c.args.to c.args.from c.loop-next.segments
     (subst₂ (λ to from. AreCostSegments case i to from (c.args.to +ℤ pos 1) c.loop-next.segments) to_is from_is (subst

@@ -5,10 +5,16 @@ use Rattle.study.proofs.segments.line_end.Goals as goal
 
 pub loop-off-init : goal.loop-off-init
 loop-off-init c =
-    let case = c.args.curve.now.priced.case.now in let i = c.args.curve.now.utility in let line = c.args.line in
-    let a = c.requires.line.small.from.from in let b = c.requires.line.small.from.upto in
-    let d = c.requires.last.from in let e = c.requires.last.upto in let ahead = c.requires.order in
-    let second : to_z w64 (of_z w64 (to_z w64 (of_z w64 line.from) +ℤ pos 1)) ≡ line.from +ℤ pos 1 = omega (arith, ints) in
+    let case = c.args.curve.now.priced.case.now in
+    let i = c.args.curve.now.utility in
+    let line = c.args.line in
+    let a = c.requires.line.small.from.from in
+    let b = c.requires.line.small.from.upto in
+    let d = c.requires.last.from in
+    let e = c.requires.last.upto in
+    let ahead = c.requires.order in
+    let second : to_z w64 (of_z w64 (to_z w64 (of_z w64 line.from) +ℤ pos 1)) ≡ line.from +ℤ pos 1
+    = omega (arith, ints) in
     record {
       ahead = omega (arith, ints);
       order = omega (arith, ints);
@@ -26,12 +32,21 @@ next_price-price-requires-clause-ahead c =
 
 pub loop-off-preserved-then-point-line_at : goal.loop-off-preserved-then-point-line_at
 loop-off-preserved-then-point-line_at c =
-    let case = c.args.curve.now.priced.case.now in let i = c.args.curve.now.utility in let line = c.args.line in let point = c.in_ok-point.point in
-    let on = to_z w64 c.loop-off.on-bits in let price = to_z w64 (of_z w64 c.next_price-price.result) in
-    let ahead = c.loop-off.invariant.ahead in let behind = c.next_price-price.ensures.behind in let before = c.next_price-price.ensures.before in
-    let fits : FitsSigned w128 point.cost = search rules in let line_fits : FitsSigned w128 c.line_at.result = search rules in
-    let same = c.if-point-line_at.true in let is : point.cost ≡ c.line_at.result = omega (arith, ints, same) in
-    let named = c.in_ok-point.ensures.price in let at : point.price ≡ price = omega (arith, ints, named) in
+    let case = c.args.curve.now.priced.case.now in
+    let i = c.args.curve.now.utility in
+    let line = c.args.line in
+    let point = c.in_ok-point.point in
+    let on = to_z w64 c.loop-off.on-bits in
+    let price = to_z w64 (of_z w64 c.next_price-price.result) in
+    let ahead = c.loop-off.invariant.ahead in
+    let behind = c.next_price-price.ensures.behind in
+    let before = c.next_price-price.ensures.before in
+    let fits : FitsSigned w128 point.cost = search rules in
+    let line_fits : FitsSigned w128 c.line_at.result = search rules in
+    let same = c.if-point-line_at.true in
+    let is : point.cost ≡ c.line_at.result = omega (arith, ints, same) in
+    let named = c.in_ok-point.ensures.price in
+    let at : point.price ≡ price = omega (arith, ints, named) in
     record {
       ahead = omega (arith, ints, ahead, behind);
       order = omega (arith, ints, before);
@@ -43,11 +58,18 @@ loop-off-preserved-then-point-line_at c =
 
 pub loop-off-preserved : goal.loop-off-preserved
 loop-off-preserved c =
-    let case = c.args.curve.now.priced.case.now in let i = c.args.curve.now.utility in let line = c.args.line in let point = c.in_ok-point.point in
-    let price = to_z w64 (of_z w64 c.next_price-price.result) in let last = c.loop-off.invariant.last in
-    let behind = c.next_price-price.ensures.behind in let before = c.next_price-price.ensures.before in
-    let fits : FitsSigned w128 point.cost = search rules in let line_fits : FitsSigned w128 c.line_at.result = search rules in
-    let other = c.if-point-line_at.false in let named = c.in_ok-point.ensures.price in
+    let case = c.args.curve.now.priced.case.now in
+    let i = c.args.curve.now.utility in
+    let line = c.args.line in
+    let point = c.in_ok-point.point in
+    let price = to_z w64 (of_z w64 c.next_price-price.result) in
+    let last = c.loop-off.invariant.last in
+    let behind = c.next_price-price.ensures.behind in
+    let before = c.next_price-price.ensures.before in
+    let fits : FitsSigned w128 point.cost = search rules in
+    let line_fits : FitsSigned w128 c.line_at.result = search rules in
+    let other = c.if-point-line_at.false in
+    let named = c.in_ok-point.ensures.price in
     let at : point.price ≡ price = omega (arith, ints, named) in
     let least = subst (λ p. CostsWith case i p point.cost) at c.in_ok-point.ensures.point.least in
     let apart : point.cost ≡ c.line_at.result → ⊥ = λ h. absurd (omega (arith, ints, h, other)) in
@@ -64,13 +86,22 @@ loop-off-preserved c =
 
 pub returns-clause-end : goal.returns-clause-end
 returns-clause-end c =
-    let case = c.args.curve.now.priced.case.now in let i = c.args.curve.now.utility in let line = c.args.line in
-    let on = to_z w64 c.loop-off.on-bits in let off = to_z w64 c.loop-off.off-bits in
-    let a = c.requires.line.small.from.from in let ahead = c.loop-off.invariant.ahead in
-    let order = c.loop-off.invariant.order in let last = c.loop-off.invariant.last in let d = c.requires.last.from in let e = c.requires.last.upto in
-    let close : (off -ℤ on) ≤ℤ pos 1 = omega (arith, ints, c.loop-off-test.false) in let next : on +ℤ pos 1 ≡ off = omega (arith, ints) in
+    let case = c.args.curve.now.priced.case.now in
+    let i = c.args.curve.now.utility in
+    let line = c.args.line in
+    let on = to_z w64 c.loop-off.on-bits in
+    let off = to_z w64 c.loop-off.off-bits in
+    let a = c.requires.line.small.from.from in
+    let ahead = c.loop-off.invariant.ahead in
+    let order = c.loop-off.invariant.order in
+    let last = c.loop-off.invariant.last in
+    let d = c.requires.last.from in
+    let e = c.requires.last.upto in
+    let close : (off -ℤ on) ≤ℤ pos 1 = omega (arith, ints, c.loop-off-test.false) in
+    let next : on +ℤ pos 1 ≡ off = omega (arith, ints) in
     record {
       range = record { from = ahead; upto = omega (arith, ints) };
       on = c.loop-off.invariant.inside;
-      off = λ h costs. c.loop-off.invariant.outside (omega (arith, ints)) (subst (λ p. CostsWith case i p (line_at line p)) next costs);
+      off =
+          λ h costs. c.loop-off.invariant.outside (omega (arith, ints)) (subst (λ p. CostsWith case i p (line_at line p)) next costs);
     }

@@ -5,13 +5,24 @@ use Rattle.study.proofs.segments.line_from.Goals as goal
 
 pub returns-clause-line : goal.returns-clause-line
 returns-clause-line c =
-    let case = c.args.curve.now.priced.case.now in let i = c.args.curve.now.utility in let first = c.args.first in let next = c.in_ok-next.next in
-    let price_fits : FitsSigned w64 first.price = search rules in let fits : FitsSigned w128 first.cost = search rules in
-    let price_is = to_z-of_z w64 first.price price_fits in let cost_is = to_z-of_z w128 first.cost fits in
-    let a = c.requires.first.small.cost.from in let b = c.requires.first.small.cost.upto in
-    let d = c.in_ok-next.ensures.point.small.cost.from in let e = c.in_ok-next.ensures.point.small.cost.upto in
-    let low = c.requires.next.from in let high = c.requires.next.upto in let at = c.in_ok-next.ensures.price in
-    let slope : to_z w128 (of_z w128 (to_z w128 (of_z w128 next.cost) -ℤ to_z w128 (of_z w128 first.cost))) ≡ next.cost -ℤ to_z w128 (of_z w128 first.cost) =
+    let case = c.args.curve.now.priced.case.now in
+    let i = c.args.curve.now.utility in
+    let first = c.args.first in
+    let next = c.in_ok-next.next in
+    let price_fits : FitsSigned w64 first.price = search rules in
+    let fits : FitsSigned w128 first.cost = search rules in
+    let price_is = to_z-of_z w64 first.price price_fits in
+    let cost_is = to_z-of_z w128 first.cost fits in
+    let a = c.requires.first.small.cost.from in
+    let b = c.requires.first.small.cost.upto in
+    let d = c.in_ok-next.ensures.point.small.cost.from in
+    let e = c.in_ok-next.ensures.point.small.cost.upto in
+    let low = c.requires.next.from in
+    let high = c.requires.next.upto in
+    let at = c.in_ok-next.ensures.price in
+    let slope : to_z w128 (of_z w128 (to_z w128 (of_z w128 next.cost) -ℤ to_z w128 (of_z w128 first.cost)))
+    ≡ next.cost -ℤ to_z w128 (of_z w128 first.cost)
+    =
     omega (arith, ints) in
     let behind : next.price ≡ to_z w64 (of_z w64 first.price) +ℤ pos 1 = omega (arith, ints, at) in
     line_of case i _ next.cost (subst IsPrice (sym price_is) c.requires.first.small.price) (subst IsCost (sym cost_is) c.requires.first.small.cost)

@@ -15,9 +15,14 @@ known_segments-requires-clause-curve c =
 
 pub known_segments-requires-clause-ahead : goal.known_segments-requires-clause-ahead
 known_segments-requires-clause-ahead c =
-    let case = c.args.priced.now.case.now in let i = c.args.utility in let cost = c.in-Some.cost in let from = to_z w64 (of_z w64 c.args.from) in
-    let found = rw c.in-Some.is at c.in_ok-cost.ensures.cost in let range = rw c.in-Some.is at c.in_ok-cost.ensures.range in
-    let fits : FitsSigned w128 cost = search rules in let cost_is = sym (to_z-of_z w128 cost fits) in
+    let case = c.args.priced.now.case.now in
+    let i = c.args.utility in
+    let cost = c.in-Some.cost in
+    let from = to_z w64 (of_z w64 c.args.from) in
+    let found = rw c.in-Some.is at c.in_ok-cost.ensures.cost in
+    let range = rw c.in-Some.is at c.in_ok-cost.ensures.range in
+    let fits : FitsSigned w128 cost = search rules in
+    let cost_is = sym (to_z-of_z w128 cost fits) in
     let price = subst IsPrice (sym (to_z-of_z w64 c.args.from c.ranges.from)) c.requires.span.first in
     let point : Point = record { price = from; cost = to_z w128 (of_z w128 cost) } in
     let is : IsPoint case i point = record {

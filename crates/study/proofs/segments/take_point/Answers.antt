@@ -6,7 +6,8 @@ use Rattle.study.proofs.segments.take_point.Goals as goal
 
 pub returns-in-Some-clause-point : goal.returns-in-Some-clause-point
 returns-in-Some-clause-point c =
-    let is = IsPointOf c.args.curve.now in let points = c.deref.result.now in
+    let is = IsPointOf c.args.curve.now in
+    let points = c.deref.result.now in
     All-slice_get is points (length points - 1) c.in-Some.point (subst (All is) (sym c.deref.ensures.value) c.requires.ahead)
     (sym c.last.ensures.value ∙ (sym c.copied.ensures ∙ c.in-Some.is))
 

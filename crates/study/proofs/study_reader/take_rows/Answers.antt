@@ -3,8 +3,12 @@ use Rattle.std.proofs.Common.{ap, option_to_list, ◌++◌, ◌∙◌}
 use Rattle.study.proofs.study_reader.take_rows.Goals as goal
 
 pub loop-row-preserved : goal.loop-row-preserved
-loop-row-preserved c = let left = rw c.if-branch.true at c.in_ok-read.ensures.found in let (passes, says) = c.in-Ok.ensures in
+loop-row-preserved c =
+    let left = rw c.if-branch.true at c.in_ok-read.ensures.found in
+    let (passes, says) = c.in-Ok.ensures in
     one_more c.loop-row.invariant left passes (c.in_ok-take-in-Ok.ensures ∙ ap (λ e. c.loop-row.entries ++ option_to_list e) says)
 
 pub returns-in-Err-clause-fault : goal.returns-in-Err-clause-fault
-returns-in-Err-clause-fault c = let left = rw c.if-branch.true at c.in_ok-read.ensures.found in fault_here c.loop-row.invariant left c.in-Err.ensures
+returns-in-Err-clause-fault c =
+    let left = rw c.if-branch.true at c.in_ok-read.ensures.found in
+    fault_here c.loop-row.invariant left c.in-Err.ensures

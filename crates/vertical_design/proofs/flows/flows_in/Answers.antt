@@ -6,21 +6,29 @@ use Rattle.vertical_design.proofs.flows.flows_in.Goals as goal
 
 pub loop-span-preserved : goal.loop-span-preserved
 loop-span-preserved c =
-    let low = to_z w64 (of_z w64 c.args.low) in let high = to_z w64 (of_z w64 c.args.high) in
-    let none : Span = record { source = source.Stream 0; from = pos 0; to = pos 0; cp = pos 0 } in let spans = c.args.spans.now in
-    let i = c.loop-span.span-index in let s = get_or spans i none in let before = c.loop-span.flows.items in
-    let flow : to_z w64 (of_z w64 c.flow_in.result) ≡ flow_in low high s = to_z-of_z w64 c.flow_in.result (search rules) ∙ c.flow_in.ensures in
-    let added : c.push.new.self.items ≡ before ++ to_z w64 (of_z w64 c.flow_in.result) ∷ [] = cc c.in_ok-push.ensures.items in
+    let low = to_z w64 (of_z w64 c.args.low) in
+    let high = to_z w64 (of_z w64 c.args.high) in
+    let none : Span = record { source = source.Stream 0; from = pos 0; to = pos 0; cp = pos 0 } in
+    let spans = c.args.spans.now in
+    let i = c.loop-span.span-index in
+    let s = get_or spans i none in
+    let before = c.loop-span.flows.items in
+    let flow : to_z w64 (of_z w64 c.flow_in.result) ≡ flow_in low high s
+    = to_z-of_z w64 c.flow_in.result (search rules) ∙ c.flow_in.ensures in
+    let added : c.push.new.self.items ≡ before ++ to_z w64 (of_z w64 c.flow_in.result) ∷ []
+    = cc c.in_ok-push.ensures.items in
     added ∙ ap (λ (f : ℤ). before ++ f ∷ []) flow ∙ ap (λ fs. fs ++ flow_in low high s ∷ []) c.loop-span.invariant
     ∙ sym (map_more (flow_in low high) spans i s c.loop-span-test.true (get_or_default spans i none s c.loop-span-test.true))
 
 pub returns-clause-flows : goal.returns-clause-flows
 returns-clause-flows c =
-    let low = to_z-of_z w64 c.args.low (search rules) in let high = to_z-of_z w64 c.args.high (search rules) in
+    let low = to_z-of_z w64 c.args.low (search rules) in
+    let high = to_z-of_z w64 c.args.high (search rules) in
     c.loop-span.invariant ∙ (λ j. flows_in (low j) (high j) (take_all c.loop-span.span-index c.args.spans.now c.loop-span-test.false j))
 
 pub returns-clause-each : goal.returns-clause-each
 returns-clause-each c =
-    let low = to_z w64 (of_z w64 c.args.low) in let high = to_z w64 (of_z w64 c.args.high) in
+    let low = to_z w64 (of_z w64 c.args.low) in
+    let high = to_z w64 (of_z w64 c.args.high) in
     subst (All IsFlow) (sym (c.loop-span.invariant ∙ ap (flows_in low high) (take_all c.loop-span.span-index c.args.spans.now c.loop-span-test.false)))
     (flows-within low high c.args.spans.now c.requires.each)

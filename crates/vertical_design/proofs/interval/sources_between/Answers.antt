@@ -10,5 +10,6 @@ loop-number-preserved c =
 
 pub returns : goal.returns
 returns c =
-    let all : c.loop-number._number ≡ length c.args.cuts.now - 1 = omega (arith, c.loop-number-test.false, c.count_of-number-end.ensures) in
+    let all : c.loop-number._number ≡ length c.args.cuts.now - 1
+    = omega (arith, c.loop-number-test.false, c.count_of-number-end.ensures) in
     c.loop-number.invariant ∙ ap (λ k. flat_map (λ n. sources_in c.args.spans.now) (range_with_len 0 k)) all

@@ -25,7 +25,8 @@ ready c =
 
 pub lead-requires : goal.lead-requires
 lead-requires c =
-    let is = ready c in let few = is.few in
+    let is = ready c in
+    let few = is.few in
     record {
       complete = c.requires.complete;
       hot = is.hot_there;
@@ -38,14 +39,19 @@ lead-requires c =
 pub returns : goal.returns
 unfolding network_of
 returns c =
-    let at = axis (goal.at.returns c).After-as_slice-3 in let between = c.in_ok-intervals.ensures.2 in let network = c.in_ok-network.network in
-    let given = c.in_ok-network.ensures in let led : IsLed at.case c.as_slice.result.now c.as_slice-2.result.now c.as_slice-3.result.now network =
+    let at = axis (goal.at.returns c).After-as_slice-3 in
+    let between = c.in_ok-intervals.ensures.2 in
+    let network = c.in_ok-network.network in
+    let given = c.in_ok-network.ensures in
+    let led : IsLed at.case c.as_slice.result.now c.as_slice-2.result.now c.as_slice-3.result.now network =
     record { drawn = given.drawn; exchangers = given.exchangers; few_lines = given.few_lines; law = given.led } in
     let is = moved (λ hot cold es. IsLed at.case hot cold es network) (c.as_slice.ensures.value ∙ between.hot_is) (c.as_slice-2.ensures.value ∙ between.cold_is)
     (c.as_slice-3.ensures.value ∙ between.exchanges_are) led in let es = exchanges at in
     let law = is.law (pieces at side.Hot) (pieces at side.Cold) (sources_are at side.Hot) (sources_are at side.Cold) (are_led at) in
-    let few = (can_be_led at).few in let lines = is.few_lines in
-    let declared = ap length is.exchangers ∙ length-map (enumerate_from 0 es) (exchanger_of (sources at side.Hot) (sources at side.Cold))
+    let few = (can_be_led at).few in
+    let lines = is.few_lines in
+    let declared = ap length is.exchangers
+    ∙ length-map (enumerate_from 0 es) (exchanger_of (sources at side.Hot) (sources at side.Cold))
     ∙ length-enumerate_from 0 es in
     record {
       drawn = (at.cuts, at.are_cuts, is.drawn);

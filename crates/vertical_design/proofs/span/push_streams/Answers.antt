@@ -10,24 +10,35 @@ overflow_cast-number c = omega (arith, length-AreStreams c.args.streams.now c.re
 
 pub loop-number-preserved-then-not-is_on : goal.loop-number-preserved-then-not-is_on
 loop-number-preserved-then-not-is_on c =
-    let s = c.index-streams-number.result in let streams = c.args.streams.now in let span = span_of c.args.side streams c.loop-number.number s in
+    let s = c.index-streams-number.result in
+    let streams = c.args.streams.now in
+    let span = span_of c.args.side streams c.loop-number.number s in
     span_skip (stream_span c.args.side streams) c.args.spans.now.items streams c.loop-number.number s c.loop-number-test.true c.index-streams-number.is
     c.loop-number.spans.items (ap (λ (b : Bool). if b then Some span else None) (sym c.is_on.ensures ∙ c.if-not-is_on.true)) c.loop-number.invariant
 
 pub loop-number-preserved : goal.loop-number-preserved
 loop-number-preserved c =
-    let s = c.index-streams-number.result in let streams = c.args.streams.now in let number = c.loop-number.number in let side = c.args.side in
-    let before = c.loop-number.spans.items in let span = span_of side streams number s in
-    let from : to_z w64 (of_z w64 c.heat_at-from.result) ≡ span.from = to_z-of_z w64 c.heat_at-from.result (search rules) ∙ c.heat_at-from.ensures
+    let s = c.index-streams-number.result in
+    let streams = c.args.streams.now in
+    let number = c.loop-number.number in
+    let side = c.args.side in
+    let before = c.loop-number.spans.items in
+    let span = span_of side streams number s in
+    let from : to_z w64 (of_z w64 c.heat_at-from.result) ≡ span.from
+    = to_z-of_z w64 c.heat_at-from.result (search rules) ∙ c.heat_at-from.ensures
     ∙ ap (heat_at side streams) (to_z-of_z w32 c.low_end.result (search rules) ∙ c.low_end.ensures.value) in
-    let to : to_z w64 (of_z w64 c.heat_at-to.result) ≡ span.to = to_z-of_z w64 c.heat_at-to.result (search rules) ∙ c.heat_at-to.ensures
+    let to : to_z w64 (of_z w64 c.heat_at-to.result) ≡ span.to
+    = to_z-of_z w64 c.heat_at-to.result (search rules) ∙ c.heat_at-to.ensures
     ∙ ap (heat_at side streams) (to_z-of_z w32 c.high_end.result (search rules) ∙ c.high_end.ensures.value) in
-    let cp : to_z w64 (of_z w64 s.cp) ≡ s.cp = to_z-of_z w64 s.cp (search rules) in let raw : Span = record {
+    let cp : to_z w64 (of_z w64 s.cp) ≡ s.cp = to_z-of_z w64 s.cp (search rules) in
+    let raw : Span = record {
       source = source.Stream number;
       from = to_z w64 (of_z w64 c.heat_at-from.result);
       to = to_z w64 (of_z w64 c.heat_at-to.result);
       cp = to_z w64 (of_z w64 s.cp);
-    } in let same : raw ≡ span = λ j. record { source = source.Stream number; from = from j; to = to j; cp = cp j } in
-    let added : c.push.new.self.items ≡ before ++ raw ∷ [] = cc c.in_ok-push.ensures.items in let pushed = added ∙ ap (λ (x : Span). before ++ x ∷ []) same in
+    } in
+    let same : raw ≡ span = λ j. record { source = source.Stream number; from = from j; to = to j; cp = cp j } in
+    let added : c.push.new.self.items ≡ before ++ raw ∷ [] = cc c.in_ok-push.ensures.items in
+    let pushed = added ∙ ap (λ (x : Span). before ++ x ∷ []) same in
     span_more (stream_span side streams) c.args.spans.now.items streams number s c.loop-number-test.true c.index-streams-number.is before
     c.push.new.self.items span (ap (λ (b : Bool). if b then Some span else None) (sym c.is_on.ensures ∙ c.if-not-is_on.false)) c.loop-number.invariant pushed

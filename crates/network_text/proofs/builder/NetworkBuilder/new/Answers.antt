@@ -5,7 +5,9 @@ use Rattle.network_text.proofs.builder.NetworkBuilder.new.Goals as goal
 
 pub own_branches-requires : goal.own_branches-requires
 own_branches-requires c =
-    let case = c.args.case.now in let valid = StaysValid-IsComplete case c.requires in rw c.as_slice.ensures (record {
+    let case = c.args.case.now in
+    let valid = StaysValid-IsComplete case c.requires in
+    rw c.as_slice.ensures (record {
       few = length-AreStreams case.streams valid.streams.are_streams;
       distinct = AllPairs-front (λ (a b : List ℕ). a ≢ b) (map (λ (s : Stream). s.name) case.streams)
           (map (λ (u : Utility). u.name) case.utilities) valid.distinct_names;

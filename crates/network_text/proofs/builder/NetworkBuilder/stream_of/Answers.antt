@@ -7,4 +7,5 @@ returns-in-Some c = rw (← c.self.view_is)
     (sym (stream_at-entry c.self.inside.branches.entries c.args.number (c.in-Some.field-0-0.now, c.in-Some.stream.now) (sym c.in-Some.ensures.entry)))
 
 pub returns-in-None : goal.returns-in-None
-returns-in-None c = rw (← c.self.view_is) (sym (stream_at-none c.self.inside.branches.entries c.args.number (sym c.in-None.ensures.entry)))
+returns-in-None c =
+    rw (← c.self.view_is) (sym (stream_at-none c.self.inside.branches.entries c.args.number (sym c.in-None.ensures.entry)))

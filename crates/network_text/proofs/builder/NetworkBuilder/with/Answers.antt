@@ -2,19 +2,25 @@ use Rattle.network_text.proofs.Tables.{new_exchanger, new_names, tracked-with, u
 use Rattle.network_text.proofs.builder.NetworkBuilder.with.Goals as goal
 
 pub add_declared-requires : goal.add_declared-requires
-add_declared-requires c = let fresh = rw (← c.builder.view_is) at c.requires.fresh in new_exchanger c.builder.invariant c.args.entry fresh
+add_declared-requires c =
+    let fresh = rw (← c.builder.view_is) at c.requires.fresh in
+    new_exchanger c.builder.invariant c.args.entry fresh
 
 pub mark_any_passed-requires : goal.mark_any_passed-requires
 mark_any_passed-requires c =
-    let fresh = rw (← c.builder.view_is) at c.requires.fresh in let passage = rw (← c.builder.view_is) at c.passage_of-passage.ensures in
+    let fresh = rw (← c.builder.view_is) at c.requires.fresh in
+    let passage = rw (← c.builder.view_is) at c.passage_of-passage.ensures in
     rw passage (unpassed c.builder.invariant c.args.entry fresh)
 
 pub add_branches-requires : goal.add_branches-requires
-add_branches-requires c = let fresh = rw (← c.builder.view_is) at c.requires.fresh in new_names c.builder.invariant c.args.entry fresh
+add_branches-requires c =
+    let fresh = rw (← c.builder.view_is) at c.requires.fresh in
+    new_names c.builder.invariant c.args.entry fresh
 
 pub invariant_of-builder : goal.invariant_of-builder
 invariant_of-builder c =
-    let fresh = rw (← c.builder.view_is) at c.requires.fresh in let room = rw (← c.builder.view_is) at c.requires.room in
+    let fresh = rw (← c.builder.view_is) at c.requires.fresh in
+    let room = rw (← c.builder.view_is) at c.requires.room in
     let passage = rw (← c.builder.view_is) at c.passage_of-passage.ensures in rw (
       c.in_ok-add_branches.ensures,
       c.in_ok-mark_all_used.ensures,

@@ -7,22 +7,30 @@ use Rattle.site.proofs.found.Found.add_stream.Goals as goal
 
 pub invariant_of-self : goal.invariant_of-self
 invariant_of-self c =
-    let plants = c.self.inside.plants.items in let last = vec_len c.self.inside.plants - 1 in let plant = c.in-Some.plant.now in
-    let same : record { name = plant.name; streams = c.push.new.self } ≡ plant = λ i. record { name = plant.name; streams = c.in_err-push.ensures.err i } in
+    let plants = c.self.inside.plants.items in
+    let last = vec_len c.self.inside.plants - 1 in
+    let plant = c.in-Some.plant.now in
+    let same : record { name = plant.name; streams = c.push.new.self } ≡ plant
+    = λ i. record { name = plant.name; streams = c.in_err-push.ensures.err i } in
     subst HaveFewStreams (sym (ap (set plants last) same ∙ set_same plants last plant c.in-Some.ensures.value)) c.self.invariant
 
 -- the plants behind the call
-plants_are : (c : goal.Joined-last_mut) → c.match-last_mut.self-inside.plants.items ≡ with_stream c.args.stream c.self.inside.plants.items
+plants_are : (c : goal.Joined-last_mut)
+    → c.match-last_mut.self-inside.plants.items ≡ with_stream c.args.stream c.self.inside.plants.items
 plants_are c =
-    let plants = c.self.inside.plants.items in let last = vec_len c.self.inside.plants - 1 in
+    let plants = c.self.inside.plants.items in
+    let last = vec_len c.self.inside.plants - 1 in
     elim c.match-last_mut.branch [
       | in-Some+in_ok-push w ↦
-          let plant = w.in-Some.plant.now in let some = w.in-Some.ensures.variant.0 refl in
+          let plant = w.in-Some.plant.now in
+          let some = w.in-Some.ensures.variant.0 refl in
           let is_last : suc last ≡ length plants = omega (arith, some, c.self.inside.plants.ok.0) in
-          ap (λ f. f.plants.items) w.self-inside-is ∙ ap (set plants last) (λ i. record { name = plant.name; streams = w.in_ok-push.ensures.ok i })
+          ap (λ f. f.plants.items) w.self-inside-is
+          ∙ ap (set plants last) (λ i. record { name = plant.name; streams = w.in_ok-push.ensures.ok i })
           ∙ set_last c.args.stream plants last plant is_last w.in-Some.ensures.value
       | in_default w ↦
-          let none : 0 < length plants → ⊥ = λ some. false≢true (w.in_default.ensures.variant.1 (omega (arith, some, c.self.inside.plants.ok.0))) in
+          let none : 0 < length plants → ⊥
+          = λ some. false≢true (w.in_default.ensures.variant.1 (omega (arith, some, c.self.inside.plants.ok.0))) in
           ap (λ f. f.plants.items) w.self-inside-is ∙ sym (with_stream-none c.args.stream plants none)
     ]
 

@@ -3,7 +3,8 @@ use Rattle.study.proofs.Words.{IsKnown, items_of}
 use Rattle.study.proofs.study_entries.Entries.study.Given as goal
 
 abbrev pub invariant-loop-entry : goal.invariant-loop-entry
-invariant-loop-entry l = record { same : l.items ++ items_of l.case l.left ≡ items_of l.case l.self; known : All (IsKnown l.case) l.left }
+invariant-loop-entry l =
+    record { same : l.items ++ items_of l.case l.left ≡ items_of l.case l.self; known : All (IsKnown l.case) l.left }
 
 abbrev pub decreases-loop-entry : goal.decreases-loop-entry
 decreases-loop-entry l = length l.left
