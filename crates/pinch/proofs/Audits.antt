@@ -71,8 +71,9 @@ unfolding reading_of EndsIn
 audited (Some (command.Audit case network)) old new shown is design held no_fault =
     of_held case_file lawful_case case old new is.end no_fault (HoldsDesign old.files network design) _ (AcceptsDesign design shown) held
     (λ mid c keeps then ends.
-    of_text (completed c) network mid new is.end design shown (no_later_fault old mid new keeps no_fault) (of_design c design then.counts then.drawn) then.counts
-    (subst (λ files. Holds files network (text design)) (sym keeps.files) then.file) ends is.shows) is.reads
+    let later = no_later_fault old mid new keeps no_fault in
+    of_text (completed c) network mid new is.end design shown later (of_design c design then.counts then.drawn)
+    then.counts (subst (λ files. Holds files network (text design)) (sym keeps.files) then.file) ends is.shows) is.reads
 audited other old new shown is design held no_fault = absurd held
 
 pub accepted-answered : (design shown : Shown) → AcceptsDesign design shown → status_of shown ≡ Answered

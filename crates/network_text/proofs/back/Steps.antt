@@ -86,8 +86,9 @@ module _ {case : Case} {network : Network} (readable : IsReadable case network) 
       let heat = is_read duty e.sound.duty in
       let known = and_from _ _ given_hot.known given_cold.known in
       let on = and_from _ _ given_hot.on given_cold.on in
-      let count : nat_lt (length (exchangers_of given.lines)) MOST_EXCHANGERS ≡ true = let few = e.few in
-      grind (arith, nat_tests) in
+      let few = e.few in
+      let count : nat_lt (length (exchangers_of given.lines)) MOST_EXCHANGERS ≡ true
+      = grind (arith, nat_tests) in
       record {
         passes = passes_of case given s kind.Exchanger (room readable of) refl
             (refl, (count, (name-passes name e.sound.name, (e.free, (known, (on, (heat.some, (heat.above, tt))))))));
@@ -97,7 +98,8 @@ module _ {case : Case} {network : Network} (readable : IsReadable case network) 
 
   split_says : (from first : ℕ) (size : Rational) (second : ℕ)
       → IsLineOf case network index (line.Split from first size second)
-      → Says case (front case network index) (statement_of case network (line.Split from first size second)) (entry_of network (line.Split from first size second))
+      → Says case (front case network index) (statement_of case network (line.Split from first size second))
+      (entry_of network (line.Split from first size second))
   unfolding entry_in kind_checks split_checks used_branch_checks new_branch_checks fraction_checks branch_name
   split_says from first size second of =
       let given = front case network index in

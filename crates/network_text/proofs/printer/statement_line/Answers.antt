@@ -10,8 +10,9 @@ bounds-exchangers-exchanger c =
 
 pub returns-in-Pass : goal.returns-in-Pass
 returns-in-Pass c =
-    let within : c.in-Pass.exchanger < length c.args.exchangers.now = let known = rw c.in-Pass.is at c.requires.known in
-    omega (arith, known.1, many_exchangers c.args.network.now, ap length c.requires.exchangers) in
+    let known = rw c.in-Pass.is at c.requires.known in
+    let within : c.in-Pass.exchanger < length c.args.exchangers.now
+    = omega (arith, known.1, many_exchangers c.args.network.now, ap length c.requires.exchangers) in
     let name : c.index-exchangers-exchanger.result ≡ exchanger_name c.args.network.now c.in-Pass.exchanger =
     c.index-exchangers-exchanger.is
     ∙ get_or_default c.args.exchangers.now c.in-Pass.exchanger c.index-exchangers-exchanger.result [] within
