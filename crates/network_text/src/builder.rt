@@ -1,6 +1,6 @@
 //! The network that the statements read so far give.
 
-ghost use Rattle.std.specs.Prelude.{◌≡◌, ◌≢◌, ◌==◌, ◌<◌, ◌≤◌, ◌+◌, ◌*◌, [], ◌∷◌, ◌++◌, false, length, map, AllPairs, is_some, IfOk, IfSome, OnOk};
+ghost use Rattle.std.specs.Prelude.{◌≡◌, ◌≢◌, ◌==◌, ◌<◌, ◌≤◌, ◌+◌, ◌*◌, [], ◌∷◌, ◌++◌, false, length, map, AllPairs, is_some, IfOk, IfSome, IsSome, OnErr, OnOk};
 ghost use Rattle.std.specs.List.{list_any};
 ghost use Rattle.std.specs.Map.{keys_of};
 ghost use Rattle.std.specs.Option.{ForSome, option_to_list};
@@ -70,10 +70,11 @@ fn mark_used(used: &mut KeyedSet<u32>, number: u32) -> Result<(), AllocError>
     Ok(())
 }
 
-/// Adds the branches that a line uses to those that are used.
+/// Adds the branches that a line uses to those that are used. No branch takes no memory.
 fn mark_all_used(used: &mut KeyedSet<u32>, numbers: AtMostTwo<u32>) -> Result<(), AllocError>
     requires { AllPairs (λ a b. a ≢ b) (used.old.keys ++ members numbers) }
-    ensures { OnOk result (used.new.keys ≡ used.old.keys ++ members numbers) }
+    ensures added { OnOk result (used.new.keys ≡ used.old.keys ++ members numbers) }
+    ensures memory { OnErr result (0 < length (members numbers)) }
 {
     match numbers {
         AtMostTwo::Nothing => Ok(()),
@@ -94,15 +95,16 @@ fn add_branch(branches: &mut KeyedMap<Name, u32>, name: Name, stream: u32) -> Re
     Ok(())
 }
 
-/// Adds branches of a stream with new names.
+/// Adds branches of a stream with new names. No name takes no memory.
 fn add_branches(
     branches: &mut KeyedMap<Name, u32>,
     names: AtMostTwo<Name>,
     stream: u32,
 ) -> Result<(), AllocError>
     requires { AllPairs (λ a b. a ≢ b) (keys_of branches.old.entries ++ members names) }
-    ensures { OnOk result (branches.new.entries ≡ branches.old.entries ++
+    ensures added { OnOk result (branches.new.entries ≡ branches.old.entries ++
         map (λ name. (name, stream)) (members names)) }
+    ensures memory { OnErr result (0 < length (members names)) }
 {
     match names {
         AtMostTwo::Nothing => Ok(()),
@@ -131,12 +133,13 @@ fn own_branches(
     Ok(branches)
 }
 
-/// Adds the exchanger that a line declares, if it declares one.
+/// Adds the exchanger that a line declares, if it declares one. Another line takes no memory.
 fn add_declared(exchangers: &mut KeyedMap<Name, Sides>, line: &Line) -> Result<(), AllocError>
     requires { AllPairs (λ a b. a ≢ b) (keys_of exchangers.old.entries ++
         map (λ e. e.name) (option_to_list (exchanger_of line.now))) }
-    ensures { OnOk result (exchangers.new.entries ≡ exchangers.old.entries ++
+    ensures added { OnOk result (exchangers.new.entries ≡ exchangers.old.entries ++
         map named_sides (option_to_list (exchanger_of line.now))) }
+    ensures memory { OnErr result (IsSome (exchanger_of line.now)) }
 {
     if let Line::Exchanger {
         name,
@@ -159,13 +162,15 @@ fn mark_passed(passed: &mut KeyedSet<Passage>, passage: Passage) -> Result<(), A
     Ok(())
 }
 
-/// Adds the side that a line passes, if it passes one, to those that are passed.
+/// Adds the side that a line passes, if it passes one, to those that are passed. A line that passes
+/// none takes no memory.
 fn mark_any_passed(
     passed: &mut KeyedSet<Passage>,
     passage: Option<Passage>,
 ) -> Result<(), AllocError>
     requires { ForSome passage (λ p. list_any (same_passage p) passed.old.keys ≡ false) }
-    ensures { OnOk result (passed.new.keys ≡ passed.old.keys ++ option_to_list passage) }
+    ensures added { OnOk result (passed.new.keys ≡ passed.old.keys ++ option_to_list passage) }
+    ensures memory { OnErr result (IsSome passage) }
 {
     match passage {
         None => Ok(()),

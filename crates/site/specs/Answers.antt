@@ -1,5 +1,5 @@
 -- What the rows that were read keep, and what may be added to them.
-use Rattle.std.specs.Prelude.{◌<◌, ◌≤◌, List}
+use Rattle.std.specs.Prelude.{◌<◌, ◌≤◌, List, ⊤}
 use Rattle.stream_case.specs.Stream.{count_on}
 use Rattle.stream_case.specs.declared.source.Side.{Side}
 use Rattle.plants.specs.Site.{streams_of}
@@ -20,3 +20,11 @@ IsFresh given (entry.Contribution n) = Unit {0}
 IsFresh given (entry.Plant name) = Unit {0}
 IsFresh given (entry.Main main) = Unit {0}
 IsFresh given (entry.Stream s) = count_on s.side (streams_of given.plants) < MOST_SIDE_STREAMS
+
+-- an entry that is kept in a list, and so takes memory
+abbrev pub TakesMemory : Entry → Type 0
+TakesMemory entry.Nothing = ⊥
+TakesMemory (entry.Contribution n) = ⊥
+TakesMemory (entry.Plant name) = ⊤
+TakesMemory (entry.Main main) = ⊤
+TakesMemory (entry.Stream s) = ⊤

@@ -1,11 +1,11 @@
 //! What the rows that were read gave.
 
-ghost use Rattle.std.specs.Prelude.{◌≡◌, ◌==◌, Some, length, map, not, is_some, IfOk, OnOk};
+ghost use Rattle.std.specs.Prelude.{◌≡◌, ◌==◌, Some, length, map, not, is_some, IfOk, OnErr, OnOk};
 ghost use Rattle.std.specs.List.{list_any};
 ghost use Rattle.first_fault.specs.Checks.{Checked};
 ghost use Rattle.stream_case.specs.Stream.{count_on};
 ghost use Rattle.plants.specs.Site.{streams_of};
-ghost use Rattle.site.specs.Answers.{HaveFewStreams, IsFresh};
+ghost use Rattle.site.specs.Answers.{HaveFewStreams, IsFresh, TakesMemory};
 ghost use Rattle.site.specs.Checks.{end_checks, is_among, is_main, is_plant, is_stream};
 ghost use Rattle.site.specs.Given.{nothing, plant_with, site_with, with_contribution, with_entry};
 
@@ -190,10 +190,11 @@ impl Found {
         have_streams(self.plants.as_slice())
     }
 
-    /// Takes what a row gave.
+    /// Takes what a row gave. A row that is passed over takes no memory, nor does a contribution.
     pub fn add(&mut self, entry: Entry) -> Result<(), AllocError>
         requires { IsFresh self.old entry }
-        ensures { OnOk result (self.new ≡ with_entry self.old entry) }
+        ensures added { OnOk result (self.new ≡ with_entry self.old entry) }
+        ensures memory { OnErr result (TakesMemory entry) }
     {
         match entry {
             Entry::Nothing => {}

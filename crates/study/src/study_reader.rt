@@ -1,6 +1,6 @@
 //! Reading a study file.
 
-ghost use Rattle.std.specs.Prelude.{◌≡◌, ◌≤◌, [], Err, length, IfErr, IfOk, OnOk, option_to_list, ◌++◌};
+ghost use Rattle.std.specs.Prelude.{◌≡◌, ◌≤◌, [], Err, length, IfErr, IfOk, IsSome, OnErr, OnOk, option_to_list, ◌++◌};
 ghost use Rattle.csv.specs.Records.{fields_of};
 ghost use Rattle.rows.specs.Rows.{rows_of};
 ghost use Rattle.first_fault.specs.Checks.{Checked};
@@ -42,9 +42,10 @@ fn entry_of(case: &Case, earlier: &Entries, row: &ByteRecord) -> Result<Option<E
     }
 }
 
-/// Takes what a row says, if it says something.
+/// Takes what a row says, if it says something. A row that says nothing takes no memory.
 fn take(entries: &mut Entries, entry: Option<Entry>) -> Result<(), AllocError>
-    ensures { OnOk result (entries.new ≡ entries.old ++ option_to_list entry) }
+    ensures added { OnOk result (entries.new ≡ entries.old ++ option_to_list entry) }
+    ensures memory { OnErr result (IsSome entry) }
 {
     match entry {
         Some(entry) => entries.push(entry),

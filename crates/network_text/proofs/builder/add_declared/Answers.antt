@@ -4,8 +4,8 @@ use Rattle.std.proofs.Common.{[], bytes_eq, refl, ◌∙◌}
 use Rattle.network_text.proofs.builder.add_declared.Goals as goal
 use Rattle.networks.specs.declared.few.AtMostTwo.TheVariants as few
 
-pub returns-in_ok-insert : goal.returns-in_ok-insert
-returns-in_ok-insert c =
+pub returns-in_ok-insert-clause-added : goal.returns-in_ok-insert-clause-added
+returns-in_ok-insert-clause-added c =
     let pairs = rw c.in-Exchanger.is at c.requires in
     let new = first_new bytes_eq (λ a b. (bytes_decides a b).0) (keys_of c.args.exchangers.now.entries)
     (few.One c.in-Exchanger.name) c.in-Exchanger.name [] refl pairs in

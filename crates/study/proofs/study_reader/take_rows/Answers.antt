@@ -6,7 +6,7 @@ pub loop-row-preserved : goal.loop-row-preserved
 loop-row-preserved c =
     let left = rw c.if-branch.true at c.in_ok-read.ensures.found in
     let (passes, says) = c.in-Ok.ensures in
-    one_more c.loop-row.invariant left passes (c.in_ok-take-in-Ok.ensures ∙ ap (λ e. c.loop-row.entries ++ option_to_list e) says)
+    one_more c.loop-row.invariant left passes (c.in_ok-take-in-Ok.ensures.added ∙ ap (λ e. c.loop-row.entries ++ option_to_list e) says)
 
 pub returns-in-Err-clause-fault : goal.returns-in-Err-clause-fault
 returns-in-Err-clause-fault c =

@@ -22,11 +22,11 @@ invariant_of-builder c =
     let fresh = rw (← c.builder.view_is) at c.requires.fresh in
     let room = rw (← c.builder.view_is) at c.requires.room in
     let passage = rw (← c.builder.view_is) at c.passage_of-passage.ensures in rw (
-      c.in_ok-add_branches.ensures,
-      c.in_ok-mark_all_used.ensures,
+      c.in_ok-add_branches.ensures.added,
+      c.in_ok-mark_all_used.ensures.added,
       c.uses-used.ensures,
-      c.in_ok-add_declared.ensures,
-      c.in_ok-mark_any_passed.ensures,
+      c.in_ok-add_declared.ensures.added,
+      c.in_ok-mark_any_passed.ensures.added,
       passage,
       c.in_ok-push.ensures.items,
     ) (tracked-with c.builder.invariant c.args.entry fresh c.first_stream-stream.result room)
@@ -35,5 +35,5 @@ pub returns : goal.returns
 returns c =
     let fresh = rw (← c.builder.view_is) at c.requires.fresh in
     let stream = rw (← c.builder.view_is) at (rw c.uses-used.ensures at c.first_stream-stream.ensures) in
-    rw (← c.builder.view_is, c.in_ok-add_branches.ensures, c.in_ok-push.ensures.items)
+    rw (← c.builder.view_is, c.in_ok-add_branches.ensures.added, c.in_ok-push.ensures.items)
     (view-with c.builder.invariant c.args.entry fresh c.first_stream-stream.result stream)
