@@ -86,7 +86,7 @@ module _ {case : Case} {network : Network} (readable : IsReadable case network) 
       let heat = is_read duty e.sound.duty in
       let known = and_from _ _ given_hot.known given_cold.known in
       let on = and_from _ _ given_hot.on given_cold.on in
-      let few = e.few in
+      let within = e.few in
       let count : nat_lt (length (exchangers_of given.lines)) MOST_EXCHANGERS ≡ true
       = grind (arith, nat_tests) in
       record {
