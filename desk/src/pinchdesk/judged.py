@@ -4,12 +4,15 @@ from __future__ import annotations
 from argparse import ArgumentParser, Namespace
 
 from .answers import Cut
-from .asked import answer_of, held_case, takes_case
-from .errors import about
+from .asked import answer_of, held_case, takes_case, takes_network
+from .case import print_case, print_comments
+from .errors import OutputError, about
 from .network import read_network
-from .output import read_bytes
+from .output import check_place, read_bytes, write_whole
 from .program import Pinch
+from .remaining import Rest, remaining
 from .reports import flow_sheets
+from .restsheets import rest_sheets, rounding_notes
 from .states import Followed, follow
 from .units import least_units
 from .unitsheets import units_sheets
@@ -41,8 +44,39 @@ def units(options: Namespace) -> Answer:
     return Answer(answer.content, answer.good, notes)
 
 
+def takes_rest(parser: ArgumentParser) -> None:
+    takes_network(parser)
+    parser.add_argument('--case', dest='rest_case', metavar='FILE', help='where the case of the rest is written too')
+
+
+def rest(options: Namespace) -> Answer:
+    content, text = read_bytes(options.case), read_bytes(options.network)
+    inputs = [options.case, options.network]
+    if options.rest_case is not None:
+        check_place(options.rest_case, [*inputs, *([options.output] if options.output else [])])
+    with about(case=options.case, network=options.network):
+        made = remaining(content, text)
+    notes = [f'{options.network}: {each}' for each in rounding_notes(made)]
+    if options.rest_case is not None:
+        write_whole(options.rest_case, rest_text(made, options.network), inputs)
+    answer = answer_of(rest_sheets(made), options, made.good)
+    return Answer(answer.content, answer.good, tuple(notes))
+
+
+def rest_text(made: Rest, network: str) -> str:
+    """The case of the rest as a file; `OutputError` where there is none."""
+    if made.harder is None:
+        raise OutputError('there is no case of the rest: nothing is left, or the network is rejected')
+    branches = ', '.join(f'{each.name} {each.branch.name}' for each in made.left if each.name != each.branch.name)
+    told = [f'What is left of {network}' + (f', by its branches: {branches}' if branches else '')]
+    return print_comments(told) + print_case(made.harder.case)
+
+
 WORDS = (
     Word('units', 'the least number of exchangers by the books\' rule, on each side of the pinch',
          'pinchdesk units examples/four-stream.csv examples/four-stream-network.txt', takes_units, units,
+         ('case', 'network')),
+    Word('rest', 'what is left of a network with open branches, and what the choice so far costs',
+         'pinchdesk rest examples/four-stream.csv examples/four-stream-network.txt', takes_rest, rest,
          ('case', 'network')),
 )

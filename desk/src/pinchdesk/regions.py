@@ -1,9 +1,9 @@
 """A case cut where no heat crosses: at its pinches, and at the utility pinches that the uses of a least-cost heat flow
 make.
 
-Streams are cut at the place; a utility has the heat that `pinch flow` printed, at its level. Temperatures are shifted, in
-tenths of °C, heats in W, whole. The cascade at a place is what everything above it gives less what it takes; where it is
-0 no heat flow with these uses moves heat across the place."""
+Streams are cut at the place; a utility has the heat that `pinch flow` printed, at its level. Temperatures are shifted,
+in tenths of °C, heats in W, whole. The cascade at a place is what everything above it gives less what it takes; where
+it is 0 no heat flow with these uses moves heat across the place."""
 from __future__ import annotations
 
 from collections.abc import Sequence

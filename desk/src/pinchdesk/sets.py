@@ -1,10 +1,10 @@
 """Independent sets: sources parted into as many sets as may be, each of which balances exactly.
 
 The books' rule for the least number of exchangers is sources less independent sets (Hohmann 1971; Linnhoff, Mason and
-Wardle 1979): a set of n sources whose heats balance wants n - 1 exchangers, and no heat from outside. Heats are whole W;
-what gives is above 0, what takes below. The partition is exact: every subset that balances is listed by its bits (the
-sums of two halves meet in the middle), and the most of them that part the whole come by dynamic programming over these
-bits. Where there are too many sources or subsets for that, bounds are given in its place, and `exact` says so."""
+Wardle 1979): a set of n sources whose heats balance wants n - 1 exchangers, and no heat from outside. Heats are whole
+W, above 0 where a source gives. The partition is exact: every subset that balances is listed by its bits (the sums of
+two halves meet in the middle), and the most of them that part the whole come by dynamic programming over these bits.
+Where there are too many sources or subsets for that, bounds are given in its place, and `exact` says so."""
 from __future__ import annotations
 
 from collections.abc import Iterator, Sequence
@@ -125,7 +125,8 @@ def balancing(members: Sequence[Member]) -> Masks | None:
     half = len(members) // 2
     first, second = (sums([each.heat for each in part]) for part in (members[:half], members[half:]))
     order = numpy.argsort(second, kind='stable')
-    begin, end = (numpy.searchsorted(second[order], -first, side) for side in ('left', 'right'))
+    rising = second[order]
+    begin, end = numpy.searchsorted(rising, -first, 'left'), numpy.searchsorted(rising, -first, 'right')
     if int((end - begin).sum()) > MOST_SUBSETS:
         return None
     found = [mask | int(other) << half for mask in numpy.flatnonzero(end > begin).tolist()

@@ -73,8 +73,8 @@ class Units:
 
 
 def least_units(case: CaseText, pinch: Pinch | None = None) -> Units | Cut:
-    """The rule's numbers of a case, or the proof that there is no heat flow whose uses could be counted. `Refused` where
-    the program refuses the case."""
+    """The rule's numbers of a case, or the proof that there is no heat flow whose uses could be counted. `Refused`
+    where the program refuses the case."""
     asked = pinch or Pinch()
     content = case_bytes(case)
     targets, flow = asked.targets(content), asked.flow(content)

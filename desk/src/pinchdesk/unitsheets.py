@@ -8,7 +8,7 @@ from fractions import Fraction
 
 from .case import Side, Utility, shifted
 from .regions import Piece, Place, Region
-from .sets import MOST_SOURCES
+from .sets import MOST_SOURCES, MOST_SUBSETS
 from .sheets import Cell, Sheet
 from .shown import Shown
 from .states import Followed, Passage, SideState, heat_above
@@ -136,9 +136,9 @@ def notes_sheet(units: Units, followed: Followed | None = None) -> Sheet:
     counted = [units.whole, *(each for level in units.levels for each in level)]
     for each in counted:
         if not each.exact:
-            told.append(f'{title_of(each.region, shown)}: too many sources, or sums, for the most sets to be known: with '
-                        f'the sets below {each.partition.found_exchangers}, and below {each.least} it cannot be '
-                        f'(beyond {MOST_SOURCES} sources, or at many equal heats)')
+            told.append(f'{title_of(each.region, shown)}: there are too many sources, or sums that balance, for the most '
+                        f'sets to be known ({MOST_SOURCES} sources, {MOST_SUBSETS} sums): the rule\'s number is from '
+                        f'{each.least} to {each.partition.found_exchangers}')
     if any(not one.joinable for each in counted for one in each.sets):
         told.append('a set that is marked balances, and cannot be joined: the rule\'s number cannot be reached with it')
     for cross in units.crossed:
