@@ -4,15 +4,19 @@ from __future__ import annotations
 from argparse import ArgumentParser, Namespace
 
 from .answers import Cut
-from .asked import answer_of, held_case, takes_case, takes_network
-from .case import print_case, print_comments
-from .errors import OutputError, about
+from .asked import answer_of, held_case, takes_case, takes_network, takes_workers
+from .case import print_case, print_comments, read_case
+from .changes import what_if
+from .changesheets import rounding_notes as scenario_notes
+from .changesheets import what_if_sheets
+from .errors import OutputError, Refused, about
 from .network import read_network
 from .output import check_place, read_bytes, write_whole
 from .program import Pinch
 from .remaining import Rest, remaining
 from .reports import flow_sheets
 from .restsheets import rest_sheets, rounding_notes
+from .scenarios import Scenarios, read_scenarios
 from .states import Followed, follow
 from .units import least_units
 from .unitsheets import units_sheets
@@ -72,6 +76,33 @@ def rest_text(made: Rest, network: str) -> str:
     return print_comments(told) + print_case(made.harder.case)
 
 
+def takes_changes(parser: ArgumentParser) -> None:
+    takes_case(parser)
+    parser.add_argument('changes', metavar='CHANGES', nargs='?',
+                        help='scenarios: .xlsx, or text with separators; without them the plus-minus numbers alone')
+    parser.add_argument('--sheet', metavar='NAME', help='the sheet of a workbook; else it is the first one')
+    parser.add_argument('--decimal', choices=['.', ','], help='the decimal mark, where the table does not settle it')
+    takes_workers(parser)
+
+
+def whatif(options: Namespace) -> Answer:
+    content = read_bytes(options.case)
+    table = read_bytes(options.changes) if options.changes is not None else None
+    with about(case=options.case):
+        pinch = Pinch()
+        pinch.targets(content)
+        try:
+            held = Scenarios(()) if table is None else \
+                read_scenarios(table, options.changes, read_case(content).basis, options.sheet, options.decimal)
+            made = what_if(content, held.scenarios, pinch, options.workers)
+        except Refused as fault:
+            fault.file = fault.file or options.changes or options.case
+            raise
+    notes = tuple(f'{options.changes}: {each}' for each in (*held.notes, *scenario_notes(made)))
+    answer = answer_of(what_if_sheets(made), options, not made.infeasible)
+    return Answer(answer.content, answer.good, notes, made.refused)
+
+
 WORDS = (
     Word('units', 'the least number of exchangers by the books\' rule, on each side of the pinch',
          'pinchdesk units examples/four-stream.csv examples/four-stream-network.txt', takes_units, units,
@@ -79,4 +110,7 @@ WORDS = (
     Word('rest', 'what is left of a network with open branches, and what the choice so far costs',
          'pinchdesk rest examples/four-stream.csv examples/four-stream-network.txt', takes_rest, rest,
          ('case', 'network')),
+    Word('whatif', 'targets, pinch and cost of scenarios beside those of the case, and what more of a stream would do',
+         'pinchdesk whatif examples/two-steam-levels.csv examples/changes.csv', takes_changes, whatif,
+         ('case', 'changes')),
 )
