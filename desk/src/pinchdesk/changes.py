@@ -23,7 +23,8 @@ from .scenarios import SOURCES, Change, Field, Scenario, Way
 LATENT, SENSIBLE = ('level', 'load', 'contribution'), ('supply', 'target', 'CP', 'load', 'contribution')
 OF_UTILITY = ('level', 'supply', 'least', 'most', 'price', 'contribution')
 ONE_KELVIN = 10
-Asked, Given = TypeVar('Asked'), TypeVar('Given')
+Asked = TypeVar('Asked')
+Given = TypeVar('Given')
 
 
 @dataclass(frozen=True)

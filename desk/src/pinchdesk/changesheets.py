@@ -48,8 +48,8 @@ def scenario_row(outcome: Outcome, base: Outcome, shown: Shown) -> tuple[Cell, .
     more = None if is_base or outcome.cost is None or base.cost is None \
         else Decimal(shown.cost(outcome.cost - base.cost))
     return (name, kilowatts(hot, shown), None if is_base else kilowatts(hot - base.targets.hot, shown),
-            kilowatts(cold, shown), None if is_base else kilowatts(cold - base.targets.cold, shown), pinches, cost, more,
-            '')
+            kilowatts(cold, shown), None if is_base else kilowatts(cold - base.targets.cold, shown), pinches, cost,
+            more, '')
 
 
 def kilowatts(watts: int, shown: Shown) -> Decimal:
@@ -96,7 +96,7 @@ def rounding_notes(made: WhatIf) -> Iterator[str]:
 
 def rounding_note(step: Step, shown: Shown) -> str:
     field, unit = step.change.field, unit_of(step.change.field, shown)
-    exact, held = (number(each, field, shown) for each in (step.exact, step.behind))
+    exact, held = number(step.exact, field, shown), number(step.behind, field, shown)
     return f'{step.change.place}: {field.word} of {step.change.source}: {exact} {unit} is rounded to {held} {unit}'
 
 

@@ -2,6 +2,7 @@
 from __future__ import annotations
 
 from argparse import ArgumentParser, Namespace
+from dataclasses import replace
 
 from .answers import Cut
 from .asked import answer_of, held_case, takes_case, takes_network, takes_workers
@@ -13,9 +14,9 @@ from .errors import OutputError, Refused, about
 from .network import read_network
 from .output import check_place, read_bytes, write_whole
 from .program import Pinch
-from .remaining import Rest, remaining
+from .remaining import Rest, remaining, written_case
 from .reports import flow_sheets
-from .restsheets import rest_sheets, rounding_notes
+from .restsheets import file_notes, rest_sheets, rounding_notes
 from .scenarios import Scenarios, read_scenarios
 from .states import Followed, follow
 from .units import least_units
@@ -44,8 +45,7 @@ def units(options: Namespace) -> Answer:
             followed = follow(made.case, read_network(text))
             if not isinstance(verdict, Accepted):
                 notes = (f'{options.network}: the network is not accepted: {verdict.text.strip()}',)
-    answer = answer_of(units_sheets(made, followed), options, not notes)
-    return Answer(answer.content, answer.good, notes)
+    return replace(answer_of(units_sheets(made, followed), options, not notes), notes=notes)
 
 
 def takes_rest(parser: ArgumentParser) -> None:
@@ -60,20 +60,21 @@ def rest(options: Namespace) -> Answer:
         check_place(options.rest_case, [*inputs, *([options.output] if options.output else [])])
     with about(case=options.case, network=options.network):
         made = remaining(content, text)
-    notes = [f'{options.network}: {each}' for each in rounding_notes(made)]
+    told = [*rounding_notes(made), *(file_notes(made) if options.rest_case is not None else ())]
+    notes = tuple(f'{options.network}: {each}' for each in told)
     if options.rest_case is not None:
         write_whole(options.rest_case, rest_text(made, options.network), inputs)
-    answer = answer_of(rest_sheets(made), options, made.good)
-    return Answer(answer.content, answer.good, tuple(notes))
+    return replace(answer_of(rest_sheets(made), options, made.good), notes=notes)
 
 
 def rest_text(made: Rest, network: str) -> str:
     """The case of the rest as a file; `OutputError` where there is none."""
-    if made.harder is None:
+    case = written_case(made)
+    if case is None:
         raise OutputError('there is no case of the rest: nothing is left, or the network is rejected')
     branches = ', '.join(f'{each.name} {each.branch.name}' for each in made.left if each.name != each.branch.name)
     told = [f'What is left of {network}' + (f', by its branches: {branches}' if branches else '')]
-    return print_comments(told) + print_case(made.harder.case)
+    return print_comments(told) + print_case(case)
 
 
 def takes_changes(parser: ArgumentParser) -> None:
@@ -100,7 +101,7 @@ def whatif(options: Namespace) -> Answer:
             raise
     notes = tuple(f'{options.changes}: {each}' for each in (*held.notes, *scenario_notes(made)))
     answer = answer_of(what_if_sheets(made), options, not made.infeasible)
-    return Answer(answer.content, answer.good, notes, made.refused)
+    return replace(answer, notes=notes, status=3 if made.refused else None)
 
 
 WORDS = (

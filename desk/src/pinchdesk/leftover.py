@@ -1,8 +1,9 @@
 """Open branches as streams: what is left of each, and the case that they make.
 
 A branch is open where it is never passed, mixed, split or ended. A case has whole numbers, so sizes are taken times a
-common whole number, and what is then no whole number is rounded, to the side that is harder for the hot target or to
-the easier one. Sizes are in 10 W/K or W, temperatures in tenths of °C, heats in W."""
+common whole number, and temperatures too where some are fractions: targets only know differences of shifted
+temperatures, so that these may be moved as well. What is then no whole number is rounded, to the side that is harder
+for the hot target or to the easier one. Sizes are in 10 W/K or W, temperatures in tenths of °C, heats in W."""
 from __future__ import annotations
 
 import enum
@@ -11,13 +12,13 @@ from dataclasses import dataclass, replace
 from fractions import Fraction
 from math import ceil, floor, lcm
 
-from .case import ANY_HEAT, Case, Forbid, Side, Stream, Utility
+from .case import ANY_HEAT, Case, Forbid, Side, Source, Stream, Utility, shifted
 from .naming import apart, fitted
 from .network import End, Mix, Network, Pass, Split
 from .states import Branch, Followed
 
 # The limits of a case (docs/FORMATS.md, Limits).
-LARGEST_CP, LARGEST_LOAD, MOST_OF_A_SIDE = 100_000, 10 ** 10, 30
+LARGEST_CP, LARGEST_LOAD, COLDEST, WARMEST = 100_000, 10 ** 10, -2731, 30_000
 
 
 class Rounding(enum.Enum):
@@ -99,52 +100,95 @@ def left_of(case: Case, branches: Sequence[Branch]) -> tuple[Left, ...]:
     return tuple(made)
 
 
-def factor_of(lefts: Iterable[Left], used: Iterable[Fraction]) -> int:
-    """The whole number by which sizes are taken: it makes all of them whole, and the heats that utilities have given,
-    as far as the limits of a case allow; else it is the largest power of ten that they do."""
+@dataclass(frozen=True)
+class Scale:
+    """How a case holds the rest: CPs are taken `sizes` times; temperatures `degrees` times and then with the offset, on
+    the shifted scale with no contributions, or as they are where `degrees` is 1."""
+
+    sizes: int
+    degrees: int = 1
+    offset: int = 0
+
+    @property
+    def factor(self) -> int:
+        """What heats are taken times."""
+        return self.sizes * self.degrees
+
+    def place(self, source: Source, temperature: Fraction) -> Fraction:
+        """A temperature of a source as the case has it."""
+        if self.degrees == 1:
+            return temperature
+        return (temperature + shifted(source, 0)) * self.degrees + self.offset
+
+    def back(self, place: int) -> Fraction:
+        """A shifted temperature of the case on the scale of the whole."""
+        return Fraction(place - self.offset, self.degrees)
+
+
+def scale_of(lefts: Iterable[Left], case: Case, used: Mapping[str, Fraction]) -> Scale:
+    """The numbers by which sizes and temperatures are taken: they make all of them whole, and the heats that utilities
+    have given, as far as the limits of a case allow; else they are as large as these do, and sizes a power of ten."""
     held = list(lefts)
-    limit = min((int(largest(each) / each.size) for each in held if each.size), default=1)
+    sensible, latent = ([each for each in held if each.stream.latent is kind] for kind in (False, True))
+    most = min((int(LARGEST_LOAD / each.size) for each in latent), default=LARGEST_LOAD)
+    degrees, offset = degrees_of(sensible, [*(each.stream for each in held), *case.utilities], most)
+    limit = min((int(LARGEST_CP / each.size) for each in sensible), default=LARGEST_CP)
+    limit = max(1, min(limit, most // degrees))
     sizes = lcm(*(each.size.denominator for each in held))
-    for factor in (lcm(sizes, *(each.denominator for each in used)), sizes):
+    for factor in (lcm(sizes, *(each.denominator for each in used.values())), sizes):
         if factor <= limit:
-            return factor
-    return int('1'.ljust(len(str(limit)), '0'))
+            return Scale(factor, degrees, offset)
+    return Scale(int('1'.ljust(len(str(limit)), '0')), degrees, offset)
 
 
-def largest(left: Left) -> int:
-    return LARGEST_LOAD if left.stream.latent else LARGEST_CP
+def degrees_of(lefts: Sequence[Left], sources: Iterable[Source], most: int) -> tuple[int, int]:
+    """What temperatures are taken times, so that they are whole, or as large as the limits allow, and the offset that
+    keeps them within these."""
+    wanted = lcm(*(each.state.denominator for each in lefts))
+    if wanted == 1:
+        return 1, 0
+    ends = [end for each in sources for end in
+            ((each.low, each.high) if isinstance(each, Stream) else (shifted(each, each.level),) * 2)]
+    width = max(1, max(ends) - min(ends))
+    degrees = min(wanted, (WARMEST - COLDEST) // width, most)
+    return (degrees, COLDEST - degrees * min(ends)) if degrees > 1 else (1, 0)
 
 
 def rounded(value: Fraction, up: bool) -> int:
     return ceil(value) if up else floor(value)
 
 
-def rest_stream(left: Left, factor: int, rounding: Rounding) -> Stream | None:
+def rest_stream(left: Left, scale: Scale, rounding: Rounding) -> Stream | None:
     """What is left of a branch as a stream; None where nothing is, or nothing that a case can hold. It is harder where
     a hot stream is smaller and a cold one larger, and where both begin at a lower temperature."""
-    hot, harder = left.stream.side is Side.HOT, rounding is Rounding.HARDER
-    size = rounded(left.size * factor, hot is not harder)
-    if left.stream.latent:
-        return replace(left.stream, name=left.name, load=size) if size else None
-    supply = rounded(left.state, not harder)
-    if size == 0 or supply == left.stream.target:
+    stream, harder = left.stream, rounding is Rounding.HARDER
+    up = (stream.side is Side.HOT) is not harder
+    share = stream.contribution if scale.degrees == 1 else 0
+    target = rounded(scale.place(stream, Fraction(stream.target)), False)
+    if stream.latent:
+        load = rounded(left.size * scale.factor, up)
+        return Stream(left.name, stream.side, target, target, 0, load, share) if load else None
+    size, supply = rounded(left.size * scale.sizes, up), rounded(scale.place(stream, left.state), not harder)
+    if size == 0 or supply == target:
         return None
-    return replace(left.stream, name=left.name, supply=supply, cp=size)
+    return Stream(left.name, stream.side, supply, target, size, 0, share)
 
 
-def rest_utility(utility: Utility, used: Fraction, factor: int, rounding: Rounding) -> Utility:
+def rest_utility(utility: Utility, used: Fraction, scale: Scale, rounding: Rounding) -> Utility:
     """A utility with its range less what it gives or takes already; a range is harder where it is narrower."""
     harder = rounding is Rounding.HARDER
-    least, most = (max(Fraction(0), each - used) * factor for each in (utility.least, utility.most))
+    least, most = (max(Fraction(0), each - used) * scale.factor for each in (utility.least, utility.most))
     high = ANY_HEAT if utility.most == ANY_HEAT else min(ANY_HEAT, rounded(most, not harder))
-    return replace(utility, least=min(high, rounded(least, harder)), most=high)
+    level = rounded(scale.place(utility, Fraction(utility.level)), False)
+    return replace(utility, level=level, least=min(high, rounded(least, harder)), most=high,
+                   contribution=utility.contribution if scale.degrees == 1 else 0)
 
 
-def rest_case(case: Case, lefts: Sequence[Left], used: Mapping[str, Fraction], factor: int,
+def rest_case(case: Case, lefts: Sequence[Left], used: Mapping[str, Fraction], scale: Scale,
               rounding: Rounding) -> Case:
     """The case of what is left of a completed case: its streams, its utilities with what is left of their ranges, and
-    its forbidden matches. All its heats are `factor` times those of the case."""
-    made = {each.name: rest_stream(each, factor, rounding) for each in lefts}
+    its forbidden matches. All its heats are the scale's `factor` times those of the case."""
+    made = {each.name: rest_stream(each, scale, rounding) for each in lefts}
     streams = tuple(each for each in made.values() if each)
     names: dict[str, list[str]] = {each.name: [each.name] for each in case.utilities}
     for left in lefts:
@@ -152,18 +196,19 @@ def rest_case(case: Case, lefts: Sequence[Left], used: Mapping[str, Fraction], f
             names.setdefault(left.stream.name, []).append(left.name)
     forbids = tuple(Forbid(hot, cold) for each in case.forbids
                     for hot in names.get(each.hot, []) for cold in names.get(each.cold, []))
-    utilities = tuple(rest_utility(each, used[each.name], factor, rounding)
+    utilities = tuple(rest_utility(each, used[each.name], scale, rounding)
                       for each in case.utilities if not each.invented)
     kept = {each.name for each in streams} | {each.name for each in utilities}
-    basis = replace(case.basis, scale=case.basis.scale * factor,
+    basis = replace(case.basis, scale=case.basis.scale * scale.factor,
                     names=tuple(each for each in case.basis.names if each[1] in kept))
-    return Case(case.contribution, streams, utilities, forbids, basis)
+    return Case(case.contribution if scale.degrees == 1 else 0, streams, utilities, forbids, basis)
 
 
-def is_exact(lefts: Iterable[Left], case: Case, used: Mapping[str, Fraction], factor: int) -> bool:
-    """Whether nothing is rounded at this factor."""
-    numbers = [each.size * factor for each in lefts] + [each.state for each in lefts if not each.stream.latent]
-    ranged = [used[each.name] * factor for each in case.utilities if (each.least, each.most) != (0, ANY_HEAT)]
+def is_exact(lefts: Iterable[Left], case: Case, used: Mapping[str, Fraction], scale: Scale) -> bool:
+    """Whether nothing is rounded at this scale."""
+    numbers = [number for each in lefts for number in ([each.size * scale.factor] if each.stream.latent else
+                                                       [each.size * scale.sizes, each.state * scale.degrees])]
+    ranged = [used[each.name] * scale.factor for each in case.utilities if (each.least, each.most) != (0, ANY_HEAT)]
     return all(each.denominator == 1 for each in (*numbers, *ranged))
 
 

@@ -16,7 +16,7 @@ from fractions import Fraction
 from .answers import Cut, HeatFlow, Targets
 from .case import ANY_HEAT, Case, Side, Utility, completed, read_case
 from .errors import Refused
-from .leftover import Left, Rounding, factor_of, is_exact, left_of, open_branches, rest_case, used_heats
+from .leftover import Left, Rounding, Scale, is_exact, left_of, open_branches, rest_case, scale_of, used_heats
 from .naming import apart
 from .network import End, Exchanger, Mix, Network, Pass, Statement, read_network
 from .program import CaseText, NetworkText, Pinch, case_bytes, network_bytes
@@ -26,10 +26,10 @@ from .verdicts import Accepted, PlaceKind, Rejected, Verdict
 
 @dataclass(frozen=True)
 class Posed:
-    """The rest as a case with the answers of `pinch`. Its heats are `factor` times those of the case of the whole."""
+    """The rest as a case with the answers of `pinch`, and how it holds the numbers of the whole."""
 
     case: Case
-    factor: int
+    scale: Scale
     targets: Targets
     flow: HeatFlow | Cut
     pinches: tuple[PinchPoint, ...]
@@ -37,15 +37,15 @@ class Posed:
     @property
     def hot(self) -> Fraction:
         """The hot target in the heats of the whole."""
-        return Fraction(self.targets.hot, self.factor)
+        return Fraction(self.targets.hot, self.scale.factor)
 
     @property
     def cold(self) -> Fraction:
-        return Fraction(self.targets.cold, self.factor)
+        return Fraction(self.targets.cold, self.scale.factor)
 
     @property
     def cost(self) -> Fraction | None:
-        return None if isinstance(self.flow, Cut) else Fraction(self.flow.cost, self.factor)
+        return None if isinstance(self.flow, Cut) else Fraction(self.flow.cost, self.scale.factor)
 
 
 @dataclass(frozen=True)
@@ -133,7 +133,7 @@ def check_ways(lefts: Iterable[Left]) -> None:
         if each.step < 0:
             place = f'branch {each.branch.name}'
             cause = 'is beyond the target of its stream: mix it with a branch that brings it back'
-            raise Refused(4, f'network {place}', 'beyond', f'network: {place} of {each.stream.name} {cause}')
+            raise Refused(4, f'network {place}', 'beyond', f'network {place} of {each.stream.name} {cause}')
 
 
 def judged(pinch: Pinch, followed: Followed, lefts: Sequence[Left]) -> tuple[Followed, Verdict]:
@@ -198,22 +198,32 @@ def posed_rest(pinch: Pinch, rest: Rest) -> Rest:
     """The rest with its case, or both of them, and their answers."""
     case = rest.followed.case
     lefts = [each for each in rest.left if each.heat]
-    factor = factor_of(lefts, rest.used.values())
-    harder = posed(pinch, rest_case(case, lefts, rest.used, factor, Rounding.HARDER), factor)
-    if is_exact(lefts, case, rest.used, factor):
+    scale = scale_of(lefts, case, rest.used)
+    harder = posed(pinch, rest_case(case, lefts, rest.used, scale, Rounding.HARDER), scale)
+    if is_exact(lefts, case, rest.used, scale):
         return replace(rest, harder=harder, easier=harder)
-    easier = posed(pinch, rest_case(case, lefts, rest.used, factor, Rounding.EASIER), factor)
+    easier = posed(pinch, rest_case(case, lefts, rest.used, scale, Rounding.EASIER), scale)
     return replace(rest, harder=harder, easier=easier)
 
 
-def posed(pinch: Pinch, case: Case, factor: int) -> Posed | None:
+def written_case(rest: Rest) -> Case | None:
+    """The case of the rest in °C as the whole has them, rounded to the harder side; None where nothing is left that it
+    can hold, or the network is rejected."""
+    if rest.harder is None:
+        return None
+    lefts = [each for each in rest.left if each.heat]
+    case = rest_case(rest.followed.case, lefts, rest.used, Scale(rest.harder.scale.sizes), Rounding.HARDER)
+    return case if case.streams else None
+
+
+def posed(pinch: Pinch, case: Case, scale: Scale) -> Posed | None:
     """A rest with its answers, None where rounding leaves no stream; `Refused` where it is more than a case can
     hold."""
     if not case.streams:
         return None
     try:
         targets = pinch.targets(case)
-        return Posed(case, factor, targets, pinch.flow(case), pinches_of(targets, pinch.curves(case)))
+        return Posed(case, scale, targets, pinch.flow(case), pinches_of(targets, pinch.curves(case)))
     except Refused as fault:
-        cause = f'the open branches are no case ({fault.text}): mix some of them'
-        raise Refused(4, 'network', fault.cause, f'network: {cause}') from fault
+        cause = f'network with more open branches than a case can hold ({fault.text}): mix some of them'
+        raise Refused(4, 'network', fault.cause, cause) from fault

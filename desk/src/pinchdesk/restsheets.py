@@ -3,17 +3,18 @@ and where the network loses heat already. What is rounded is told."""
 from __future__ import annotations
 
 from collections.abc import Callable, Iterator
+from dataclasses import replace
 from decimal import Decimal
 from fractions import Fraction
 
 from .answers import Cut
-from .case import Case, Side, Stream, actual
+from .case import Side, Stream, shifted
 from .findings import exact, finding_of
-from .leftover import Left
+from .leftover import Left, rounded
 from .remaining import Posed, Rest
 from .reports import cut_sheet
 from .sheets import Cell, Sheet
-from .shown import Shown
+from .shown import Shown, decimal
 from .states import PinchPoint
 from .verdicts import Accepted, Rejected
 
@@ -92,25 +93,27 @@ def stands(stream: Stream, pinch: PinchPoint) -> tuple[bool, bool]:
     return stream.low <= at < stream.high, stream.low < at <= stream.high
 
 
-def pinch_sheets(posed: Posed, left: tuple[Left, ...]) -> list[Sheet]:
+def pinch_sheets(posed: Posed, rest: Rest) -> list[Sheet]:
     """The open branches that meet at each pinch of the rest, and their numbers and CPs on both sides of it."""
     # The case of the rest has its own scale, which the CPs are divided by again.
-    shown = Shown(posed.case.basis)
-    branches = {each.name: each.branch.name for each in left}
-    rows: list[tuple[Cell, ...]] = []
-    for pinch in posed.pinches:
-        for stream in posed.case.streams:
-            above, below = stands(stream, pinch)
-            if above or below:
-                at = Decimal(shown.celsius(actual(stream, pinch.temperature)))
-                size = None if stream.latent else Decimal(shown.kilowatts_per_kelvin(stream.cp, 6))
-                rows.append((Decimal(shown.celsius(pinch.temperature)), stream.name, branches[stream.name],
-                             stream.side.value, at, size, ' '.join(word for word, is_there in
-                                                                   zip(SIDES, (above, below)) if is_there)))
+    basis = rest.followed.case.basis
+    shown = Shown(replace(basis, scale=basis.scale * posed.scale.sizes))
+    lefts = {each.name: each for each in rest.left}
+    rows = tuple(pinch_row(posed, pinch, stream, lefts[stream.name], shown) for pinch in posed.pinches
+                 for stream in posed.case.streams if any(stands(stream, pinch)))
     if not rows:
         return [Sheet('No pinch is left' if not posed.pinches else 'No open branch is at the pinch', (), ())]
     headings = ('pinch, shifted °C', 'in the rest', 'branch', 'side', 'at °C', 'CP kW/K', 'stands')
-    return [Sheet('Open branches at the pinch of the rest', headings, tuple(rows)), counts_sheet(posed, shown)]
+    return [Sheet('Open branches at the pinch of the rest', headings, rows), counts_sheet(posed, shown)]
+
+
+def pinch_row(posed: Posed, pinch: PinchPoint, stream: Stream, left: Left, shown: Shown) -> tuple[Cell, ...]:
+    place = posed.scale.back(pinch.temperature)
+    at = place - shifted(left.stream, 0)
+    size = None if stream.latent else Decimal(shown.kilowatts_per_kelvin(stream.cp, 6))
+    words = ' '.join(word for word, is_there in zip(SIDES, stands(stream, pinch)) if is_there)
+    return (Decimal(shown.celsius(place)), stream.name, left.branch.name, stream.side.value,
+            Decimal(shown.celsius(at)), size, words)
 
 
 def counts_sheet(posed: Posed, shown: Shown) -> Sheet:
@@ -123,7 +126,8 @@ def counts_sheet(posed: Posed, shown: Shown) -> Sheet:
             hot, cold = ([each for each in there if each.side is side] for side in (Side.HOT, Side.COLD))
             few = len(hot) > len(cold) if word == 'above' else len(cold) > len(hot)
             if there:
-                rows.append((Decimal(shown.celsius(pinch.temperature)), word, Decimal(len(hot)), Decimal(len(cold)),
+                place = Decimal(shown.celsius(posed.scale.back(pinch.temperature)))
+                rows.append((place, word, Decimal(len(hot)), Decimal(len(cold)),
                              *(Decimal(shown.kilowatts_per_kelvin(sum(each.cp for each in side), 6))
                                for side in (hot, cold)), SPLITS.get((word, few), '')))
     headings = ('pinch, shifted °C', 'side', 'hot', 'cold', 'hot CP kW/K', 'cold CP kW/K', 'to pair each')
@@ -158,10 +162,18 @@ def rest_sheets(rest: Rest) -> list[Sheet]:
         return fault_sheets(rest)
     sheets = [numbers_sheet(rest), open_sheet(rest)]
     if rest.harder:
-        sheets += pinch_sheets(rest.harder, rest.left)
+        sheets += pinch_sheets(rest.harder, rest)
         if isinstance(rest.harder.flow, Cut):
-            sheets.append(cut_sheet(rest.harder.flow, Shown(rest.harder.case.basis)))
+            sheets.append(unserved_sheet(rest.harder, rest.harder.flow))
     return [*sheets, *lost_sheets(rest)]
+
+
+def unserved_sheet(posed: Posed, cut: Cut) -> Sheet:
+    """The parts of the rest that cannot be served, in the temperatures of the whole."""
+    shown = Shown(posed.case.basis)
+    rows = tuple((each.name, *(Decimal(shown.celsius(posed.scale.back(end))) for end in (each.high, each.low)))
+                 for each in cut.parts)
+    return replace(cut_sheet(cut, shown), rows=rows)
 
 
 def rounding_notes(rest: Rest) -> Iterator[str]:
@@ -169,30 +181,33 @@ def rounding_notes(rest: Rest) -> Iterator[str]:
     if rest.exact:
         return
     shown = Shown(rest.followed.case.basis)
-    cases = [each.case for each in (rest.harder, rest.easier) if each]
-    factor = next(each.factor for each in (rest.harder, rest.easier) if each)
-    for left in rest.left:
-        where = f'branch {left.branch.name} of {left.stream.name}'
-        if (left.size * factor).denominator != 1:
-            size = shown.in_kilowatts(left.size) if left.stream.latent else shown.in_kilowatts_per_kelvin(left.size)
-            unit = 'kW' if left.stream.latent else 'kW/K'
-            yield f'{where}: {exact(size, 6)} {unit} is taken as {taken(cases, left, "size")}'
-        if left.heat and not left.stream.latent and left.state.denominator != 1:
-            yield f'{where}: {exact(left.state / 10, 3)} °C is taken as {taken(cases, left, "supply")}'
+    scale = next(each.scale for each in (rest.harder, rest.easier) if each)
+    for left in (each for each in rest.left if each.heat):
+        where, latent = f'branch {left.branch.name} of {left.stream.name}', left.stream.latent
+        times = scale.factor if latent else scale.sizes
+        if (left.size * times).denominator != 1:
+            show = shown.in_kilowatts if latent else shown.in_kilowatts_per_kelvin
+            yield f'{where}: {both(left.size, times, show, "kW" if latent else "kW/K")}'
+        if not latent and (left.state * scale.degrees).denominator != 1:
+            yield f'{where}: {both(left.state, scale.degrees, lambda each: each / 10, "°C")}'
     yield 'the exact targets of the rest lie between those of both'
 
 
-def taken(cases: list[Case], left: Left, what: str) -> str:
-    """The numbers that the cases of the rest have for a branch; `none` where it is too small for one of them."""
-    made: list[str] = []
-    for case in cases:
-        stream = next((each for each in case.streams if each.name == left.name), None)
-        shown = Shown(case.basis)
-        if stream is None:
-            made.append('none')
-        elif what == 'supply':
-            made.append(shown.celsius(stream.supply))
-        else:
-            made.append(shown.kilowatts(stream.load, 6) if stream.latent else
-                        shown.kilowatts_per_kelvin(stream.cp, 6))
-    return ' and '.join(dict.fromkeys(made))
+def both(value: Fraction, times: int, show: Callable[[Fraction], Fraction], unit: str) -> str:
+    """A number with the two that are taken for it: the nearest ones that are whole, taken so many times."""
+    low, high = (Fraction(rounded(value * times, up), times) for up in (False, True))
+    return f'{exact(show(value), 6)} {unit} is taken as {decimal(show(low), 6)} and {decimal(show(high), 6)}'
+
+
+def file_notes(rest: Rest) -> Iterator[str]:
+    """What the case of the rest as a file has rounded, to the side on which it needs more hot utility."""
+    scale = next((each.scale for each in (rest.harder, rest.easier) if each), None)
+    if scale is None:
+        return
+    if scale.sizes > 1:
+        yield f'in the case of the rest all heats and CPs are taken {scale.sizes} times (#scale)'
+    for left in (each for each in rest.left if each.heat and not each.stream.latent):
+        if left.state.denominator != 1:
+            low = decimal(Fraction(rounded(left.state, False), 10), 1)
+            yield (f'in the case of the rest branch {left.branch.name} of {left.stream.name} begins at {low} °C, '
+                   f'rounded from {exact(left.state / 10, 6)}')

@@ -2,8 +2,9 @@
 desk is (`tables`, `layout`, `cells`).
 
 A row names its scenario and its source; what changes stands in columns of the fields themselves (`supply`,
-`CP (MW/K)`), or in two columns, `field` and `value`. A value with a sign before it, `+10` or `-5 %`, or behind `by`, is a change; any
-other one, or one behind `to` or `=`, is the new value. Several rows with the same name are one scenario."""
+`CP (MW/K)`), or in two columns, `field` and `value`. A value with a sign before it, `+10` or `-5 %`, or behind `by`, is
+a change; any other one, or one behind `to` or `=`, is the new value. Several rows with the same name are one
+scenario."""
 from __future__ import annotations
 
 import enum
@@ -69,9 +70,9 @@ class Way(enum.Enum):
 
 @dataclass(frozen=True)
 class Change:
-    """A change of a field of a source; `case` and `all` are the whole case, whose contribution alone may change. `value`
-    is exact and in the program's units, or percent; of a price it is in the unit of the case's prices. `place` is that
-    of the table, `written` what stands there."""
+    """A change of a field of a source; `case` and `all` are the whole case, whose contribution alone may change.
+    `value` is exact and in the program's units, or percent; of a price it is in the unit of the case's prices.
+    `place` is that of the table, `written` what stands there."""
 
     source: str
     field: Field
@@ -147,7 +148,7 @@ def read_scenarios(content: bytes, name: str, basis: Basis, sheet: str | None = 
         held.setdefault(scenario, []).extend(changes)
     told.settle()
     if not held:
-        raise Refused(3, '', 'no scenario', 'changes: the table has no scenario')
+        raise Refused(3, '', 'no scenario', 'the table has no scenario')
     return Scenarios(tuple(Scenario(each, tuple(changes)) for each, changes in held.items()), tuple(told.notes))
 
 
@@ -160,7 +161,7 @@ def layout_of(table: Table) -> ChangeLayout:
     head = next((row for row in table.rows if headings(row) > 2), None)
     if head is None:
         wanted = '`scenario`, `source`, and `field` and `value`, or fields as `supply` and `CP`'
-        raise Refused(3, '', 'no headings', f'changes: no row has the headings {wanted}')
+        raise Refused(3, '', 'no headings', f'no row has the headings {wanted}')
     columns: dict[Column, int] = {}
     fields: dict[int, Field] = {}
     units: dict[int, str] = {}

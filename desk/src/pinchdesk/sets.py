@@ -7,14 +7,17 @@ two halves meet in the middle), and the most of them that part the whole come by
 Where there are too many sources or subsets for that, bounds are given in its place, and `exact` says so."""
 from __future__ import annotations
 
-from collections.abc import Iterator, Sequence
+from collections.abc import Callable, Iterator, Sequence
 from dataclasses import dataclass
+from typing import Any
 
 import numpy
 from numpy.typing import NDArray
 
 # More than these would take longer than a user waits.
-MOST_SOURCES, MOST_SUBSETS = 40, 12_000
+MOST_SOURCES, MOST_SUBSETS, MOST_JOINED = 40, 12_000, 4_000
+# What makes a chain of sets worth less than none.
+NEVER = -1_000
 Masks = NDArray[numpy.int64]
 
 
@@ -146,17 +149,50 @@ def parted(members: Sequence[Member], masks: Masks) -> list[int]:
     """The most sets into which the whole is parted, as bits. The masks go by rising size: the most sets of each come
     from those of a smaller one inside it, whose rest is one set more where it has a stream."""
     streams = numpy.int64(sum(1 << at for at, each in enumerate(members) if not each.utility))
+    most, before = chained(masks, lambda differences: (differences & streams) != 0)
+    return merged(list(steps(masks, before)), int(streams))
+
+
+def joinable_partition(members: Sequence[Member], near: Sequence[int]) -> Partition | None:
+    """The partition into the most sets of which each can be joined; `near` has for each member the bits of those with
+    which it may exchange heat. None where there is no such partition, or there are too many sums to know it."""
+    masks = balancing(members)
+    if masks is None or len(masks) > MOST_JOINED:
+        return None
+    rising = numpy.sort(masks)
+    can = numpy.array([is_joined(int(each), near) for each in rising])
+    worth = numpy.where(can, 1, NEVER)
+    most, before = chained(masks, lambda differences: numpy.take(worth, numpy.searchsorted(rising, differences)))
+    if most[-1] < 0:
+        return None
+    sets = tuple(tuple(members[at] for at in range(len(members)) if mask >> at & 1) for mask in steps(masks, before))
+    return Partition(sets, len(sets))
+
+
+def is_joined(mask: int, near: Sequence[int]) -> bool:
+    """Whether those of these bits that may exchange heat make one group."""
+    reached = fresh = mask & -mask
+    while fresh:
+        at = fresh.bit_length() - 1
+        fresh = (fresh & ~(1 << at)) | (near[at] & mask & ~reached)
+        reached |= near[at] & mask
+    return reached == mask
+
+
+def chained(masks: Masks, worth: Callable[[Masks], NDArray[Any]]) -> tuple[Masks, Masks]:
+    """For each mask the most that a chain of masks from the empty one up to it is worth, step by step by its
+    differences, and the place of the mask before it."""
     most = numpy.zeros(len(masks), dtype=numpy.int64)
     before = numpy.zeros(len(masks), dtype=numpy.int64)
     for at in range(1, len(masks)):
         inside = numpy.flatnonzero(masks[:at] & masks[at] == masks[:at])
-        counted = most[inside] + ((masks[at] & ~masks[inside] & streams) != 0)
+        counted = most[inside] + worth(masks[at] & ~masks[inside])
         best = int(counted.argmax())
         most[at], before[at] = counted[best], inside[best]
-    return merged(list(steps(masks, before)), int(streams))
+    return most, before
 
 
-def steps(masks: Masks, before: NDArray[numpy.int64]) -> Iterator[int]:
+def steps(masks: Masks, before: Masks) -> Iterator[int]:
     """What is added at each step on the way to the whole."""
     at = len(masks) - 1
     while at:

@@ -6,14 +6,14 @@ leaves out what matches are forbidden and whether temperatures let a set be join
 a network without a cut at the pinch, or with another use of utilities, may want fewer than both sides together."""
 from __future__ import annotations
 
-from collections.abc import Iterable, Sequence
+from collections.abc import Iterable, Mapping, Sequence
 from dataclasses import dataclass
 
 from .answers import Cut, HeatFlow, Targets
 from .case import Case, Side, Utility, completed, read_case
 from .program import CaseText, Pinch, case_bytes
 from .regions import Crossed, Piece, Place, Region, crossed, places, regions, whole_pieces
-from .sets import Member, Partition, partition
+from .sets import Member, Partition, joinable_partition, partition
 
 
 @dataclass(frozen=True)
@@ -32,11 +32,13 @@ class IndependentSet:
 @dataclass(frozen=True)
 class RegionUnits:
     """A region with its independent sets. `least` is the rule's number where the partition is exact; else it is one
-    that the rule's number is not below."""
+    that the rule's number is not below. Where a set cannot be joined `joined` is the partition into the most sets that
+    can; it is None where all can, or where it is not known."""
 
     region: Region
     sets: tuple[IndependentSet, ...]
     partition: Partition
+    joined: tuple[IndependentSet, ...] | None = None
 
     @property
     def exact(self) -> bool:
@@ -49,6 +51,13 @@ class RegionUnits:
     @property
     def least(self) -> int:
         return self.partition.least_exchangers
+
+    @property
+    def least_joined(self) -> int | None:
+        """Sources less the most sets that can be joined; None where that is not known."""
+        if all(each.joinable for each in self.sets) and self.exact:
+            return self.least
+        return None if self.joined is None else self.sources - len(self.joined)
 
 
 @dataclass(frozen=True)
@@ -97,12 +106,24 @@ def each_counted(case: Case, pieces: Sequence[Piece], cuts: Sequence[Place]) -> 
 def counted(case: Case, region: Region) -> RegionUnits:
     members = {Member(each.source.name, each.signed, isinstance(each.source, Utility)): each for each in region.pieces}
     parted = partition(list(members))
-    sets = tuple(independent(case, [members[each] for each in held]) for held in parted.sets)
-    return RegionUnits(region, sets, parted)
+    sets = independent(case, members, parted)
+    if all(each.joinable for each in sets):
+        return RegionUnits(region, sets, parted)
+    can = joinable_partition(list(members), near_of(case, list(members.values())))
+    joined_sets = independent(case, members, can) if can else None
+    if joined_sets is not None and parted.exact and len(joined_sets) == len(sets):
+        return RegionUnits(region, joined_sets, parted)
+    return RegionUnits(region, sets, parted, joined_sets)
 
 
-def independent(case: Case, pieces: Sequence[Piece]) -> IndependentSet:
-    return IndependentSet(tuple(pieces), tuple(joined(case, pieces)))
+def independent(case: Case, pieces: Mapping[Member, Piece], parted: Partition) -> tuple[IndependentSet, ...]:
+    made = [tuple(pieces[each] for each in held) for held in parted.sets]
+    return tuple(IndependentSet(each, tuple(joined(case, each))) for each in made)
+
+
+def near_of(case: Case, pieces: Sequence[Piece]) -> list[int]:
+    """For each piece the bits of those with which it may exchange heat."""
+    return [sum(1 << at for at, other in enumerate(pieces) if allowed(case, each, other)) for each in pieces]
 
 
 def joined(case: Case, pieces: Sequence[Piece]) -> Iterable[tuple[str, ...]]:

@@ -36,6 +36,13 @@ def sets_of(counted: RegionUnits) -> Cell:
     return Decimal(len(held.sets)) if held.exact else f'{len(held.sets)} to {held.most_sets}'
 
 
+def joined_number(counted: Sequence[RegionUnits], wanted: bool) -> tuple[Cell, ...]:
+    """The least number with sets that can be joined; empty where it is not known."""
+    held = [each.least_joined for each in counted]
+    known = [each for each in held if each is not None]
+    return ((Decimal(sum(known)) if len(known) == len(held) else '',) if wanted else ())
+
+
 def summed(counted: Sequence[RegionUnits]) -> tuple[Cell, ...]:
     """Sources, sets and exchangers of all regions together."""
     partitions = [each.partition for each in counted]
@@ -77,6 +84,10 @@ def exchangers_in(passages: Sequence[Passage], region: Region) -> tuple[int, int
     return whole, partly
 
 
+def all_counted(units: Units) -> Sequence[RegionUnits]:
+    return [units.whole, *(each for level in units.levels for each in level)]
+
+
 def found_in(followed: Followed | None, region: Region) -> tuple[Cell, ...]:
     if followed is None:
         return ()
@@ -87,14 +98,17 @@ def found_in(followed: Followed | None, region: Region) -> tuple[Cell, ...]:
 def numbers_sheet(units: Units, followed: Followed | None = None) -> Sheet:
     """A row for each region, the sum of each way to cut, and the exchangers of a network in each."""
     shown = Shown(units.case.basis)
+    parted = not all(one.joinable for each in all_counted(units) for one in each.sets)
     rows: list[tuple[Cell, ...]] = [(title_of(units.whole.region, shown), *summed([units.whole]),
-                                     *found_in(followed, units.whole.region))]
+                                     *joined_number([units.whole], parted), *found_in(followed, units.whole.region))]
     for level in units.levels:
         utility = any(not each.region.lower.process for each in level if each.region.lower)
         rows.extend((title_of(each.region, shown), Decimal(each.sources), sets_of(each), number_of(each),
-                     *found_in(followed, each.region)) for each in level)
-        rows.append(('all, utility pinches too' if utility else 'all sides of the pinch', *summed(level)))
-    headings = ('shifted', 'sources', 'sets', 'exchangers', *(('network', 'partly') if followed else ()))
+                     *joined_number([each], parted), *found_in(followed, each.region)) for each in level)
+        title = 'all, utility pinches too' if utility else 'all sides of the pinch'
+        rows.append((title, *summed(level), *joined_number(level, parted)))
+    headings = ('shifted', 'sources', 'sets', 'exchangers', *(('that can be joined',) if parted else ()),
+                *(('network', 'partly') if followed else ()))
     return Sheet('Least number of exchangers: sources less independent sets', headings, tuple(rows))
 
 
@@ -113,12 +127,13 @@ def sets_sheet(units: Units) -> Sheet:
     shown = Shown(units.case.basis)
     rows: list[tuple[Cell, ...]] = []
     marked: list[int] = []
-    for counted in (units.whole, *(each for level in units.levels for each in level)):
-        for at, one in enumerate(counted.sets):
-            if not one.joinable:
-                marked.append(len(rows))
-            rows.append((title_of(counted.region, shown) if at == 0 else '', Decimal(len(one.pieces) - 1),
-                         sum_text(one, shown), '' if one.joinable else parted_text(one)))
+    for counted in all_counted(units):
+        for title, sets in (('', counted.sets), (', with sets that can be joined', counted.joined or ())):
+            for at, one in enumerate(sets):
+                if not one.joinable:
+                    marked.append(len(rows))
+                rows.append((title_of(counted.region, shown) + title if at == 0 else '', Decimal(len(one.pieces) - 1),
+                             sum_text(one, shown), '' if one.joinable else parted_text(one)))
     headings = ('shifted', 'exchangers', 'kW', *(('cannot be joined',) if marked else ()))
     width = len(headings)
     return Sheet('Independent sets', headings, tuple(row[:width] for row in rows), frozenset(marked))
@@ -133,14 +148,15 @@ def notes_sheet(units: Units, followed: Followed | None = None) -> Sheet:
     """What the rule leaves out, and what was not cut or not counted to the end."""
     shown = Shown(units.case.basis)
     told = [LEFT_OUT]
-    counted = [units.whole, *(each for level in units.levels for each in level)]
+    counted = all_counted(units)
     for each in counted:
         if not each.exact:
-            told.append(f'{title_of(each.region, shown)}: there are too many sources, or sums that balance, for the most '
-                        f'sets to be known ({MOST_SOURCES} sources, {MOST_SUBSETS} sums): the rule\'s number is from '
-                        f'{each.least} to {each.partition.found_exchangers}')
+            told.append(f'{title_of(each.region, shown)}: the rule\'s number is from {each.least} to '
+                        f'{each.partition.found_exchangers}: there are more than {MOST_SOURCES} sources or '
+                        f'{MOST_SUBSETS} sums that balance, too many for the most sets to be known')
     if any(not one.joinable for each in counted for one in each.sets):
-        told.append('a set that is marked balances, and cannot be joined: the rule\'s number cannot be reached with it')
+        told.append('a set that is marked balances and cannot be joined: the rule\'s number cannot be reached; beside '
+                    'it is the number with sets that can, where it is known')
     for cross in units.crossed:
         told.append(f'{shown.kilowatts(cross.heat)} kW cross the pinch at {shown.celsius(cross.temperature)} °C at the '
                     'uses of least cost: there is no cut at it')
