@@ -15,10 +15,11 @@ from .answers import Cut, HeatFlow, Targets
 from .basis import basis_rows
 from .case import ANY_HEAT, Case, Source, Stream, Utility, case_rows, completed, read_case
 from .causes import CAUSES
+from .changelayout import Field
 from .errors import Refused
 from .program import CaseText, Pinch, case_bytes
 from .quantities import rounded
-from .scenarios import SOURCES, Change, Field, Scenario, Way
+from .scenarios import SOURCES, Change, Variant, Way
 
 LATENT, SENSIBLE = ('level', 'load', 'contribution'), ('supply', 'target', 'CP', 'load', 'contribution')
 OF_UTILITY = ('level', 'supply', 'least', 'most', 'price', 'contribution')
@@ -43,7 +44,7 @@ class Outcome:
     """A scenario with its changed case, completed, and its answers. `fault` is why it is refused: then there are
     none."""
 
-    scenario: Scenario
+    variant: Variant
     steps: tuple[Step, ...]
     case: Case
     targets: Targets | None = None
@@ -83,7 +84,7 @@ class WhatIf:
         return any(isinstance(each.flow, Cut) for each in (self.base, *self.outcomes))
 
 
-def what_if(case: CaseText, scenarios: Iterable[Scenario], pinch: Pinch | None = None, workers: int = 0) -> WhatIf:
+def what_if(case: CaseText, scenarios: Iterable[Variant], pinch: Pinch | None = None, workers: int = 0) -> WhatIf:
     """The scenarios of a case. `Refused` where the program refuses the case as it is, or a change names what is not
     there; a scenario that the program refuses says so in its outcome. `workers` of the program run side by side."""
     asked = pinch or Pinch()
@@ -103,7 +104,7 @@ def side_by_side(run: Callable[[Asked], Given], items: Sequence[Asked], workers:
 
 
 def unchanged(case: Case) -> Outcome:
-    return Outcome(Scenario('base', ()), (), completed(case))
+    return Outcome(Variant('base', ()), (), completed(case))
 
 
 def answered(pinch: Pinch, outcome: Outcome) -> Outcome:
@@ -123,7 +124,7 @@ def told(case: Case, fault: Refused) -> str:
     return f'{where}{CAUSES.get(fault.cause, "refused")} ({fault.cause})'
 
 
-def changed(case: Case, scenario: Scenario) -> Outcome:
+def changed(case: Case, scenario: Variant) -> Outcome:
     """The case with the changes of a scenario; `Refused` where a change names what is not there."""
     held, steps = case, []
     seen: set[tuple[str, Field]] = set()

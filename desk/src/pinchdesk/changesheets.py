@@ -1,4 +1,4 @@
-"""Scenarios as tables: targets, pinch and cost of each beside the case as it is, what was changed, and what a little
+"""Variants as tables: targets, pinch and cost of each beside the case as it is, what was changed, and what a little
 more of each stream would do."""
 from __future__ import annotations
 
@@ -8,8 +8,8 @@ from fractions import Fraction
 
 from .answers import Cut
 from .case import ANY_HEAT
+from .changelayout import Field
 from .changes import Outcome, PlusMinus, Step, WhatIf
-from .scenarios import Field
 from .sheets import Cell, Sheet
 from .shown import Shown, decimal
 
@@ -38,7 +38,7 @@ def scenarios_sheet(made: WhatIf) -> Sheet:
 
 
 def scenario_row(outcome: Outcome, base: Outcome, shown: Shown) -> tuple[Cell, ...]:
-    name = outcome.scenario.name
+    name = outcome.variant.name
     if outcome.targets is None or base.targets is None:
         return (name, None, None, None, None, REFUSED, None, None, outcome.fault)
     is_base = outcome is base
@@ -59,7 +59,7 @@ def kilowatts(watts: int, shown: Shown) -> Decimal:
 def steps_sheet(made: WhatIf) -> Sheet:
     """What each scenario changes, from what and to what."""
     shown = Shown(made.base.case.basis)
-    rows = tuple((each.scenario.name if at == 0 else '', step.change.source, step.change.field.word,
+    rows = tuple((each.variant.name if at == 0 else '', step.change.source, step.change.field.word,
                   step.change.written, number(step.before, step.change.field, shown),
                   number(step.behind, step.change.field, shown), unit_of(step.change.field, shown))
                  for each in made.outcomes for at, step in enumerate(each.steps))

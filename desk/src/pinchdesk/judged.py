@@ -17,7 +17,7 @@ from .program import Pinch
 from .remaining import Rest, remaining, written_case
 from .reports import flow_sheets
 from .restsheets import file_notes, rest_sheets, rounding_notes
-from .scenarios import Scenarios, read_scenarios
+from .scenarios import Variants, read_changes
 from .states import Followed, follow
 from .units import least_units
 from .unitsheets import units_sheets
@@ -93,9 +93,9 @@ def whatif(options: Namespace) -> Answer:
         pinch = Pinch()
         pinch.targets(content)
         try:
-            held = Scenarios(()) if table is None else \
-                read_scenarios(table, options.changes, read_case(content).basis, options.sheet, options.decimal)
-            made = what_if(content, held.scenarios, pinch, options.workers)
+            held = Variants(()) if table is None else \
+                read_changes(table, options.changes, read_case(content).basis, options.sheet, options.decimal)
+            made = what_if(content, held.variants, pinch, options.workers)
         except Refused as fault:
             fault.file = fault.file or options.changes or options.case
             raise

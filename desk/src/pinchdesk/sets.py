@@ -9,16 +9,17 @@ from __future__ import annotations
 
 from collections.abc import Callable, Iterator, Sequence
 from dataclasses import dataclass
-from typing import Any
+from typing import TYPE_CHECKING, Any
 
-import numpy
-from numpy.typing import NDArray
+if TYPE_CHECKING:
+    import numpy
+    from numpy.typing import NDArray
+    Masks = NDArray[numpy.int64]
 
 # More than these would take longer than a user waits.
 MOST_SOURCES, MOST_SUBSETS, MOST_JOINED = 40, 12_000, 4_000
 # What makes a chain of sets worth less than none.
 NEVER = -1_000
-Masks = NDArray[numpy.int64]
 
 
 @dataclass(frozen=True)
@@ -123,6 +124,7 @@ def bound(members: Sequence[Member]) -> int:
 
 def balancing(members: Sequence[Member]) -> Masks | None:
     """The bits of each subset that balances, the empty one and the whole among them; None where they are too many."""
+    import numpy
     if len(members) > MOST_SOURCES:
         return None
     half = len(members) // 2
@@ -137,8 +139,9 @@ def balancing(members: Sequence[Member]) -> Masks | None:
     return numpy.array(sorted(found, key=lambda mask: (mask.bit_count(), mask)), dtype=numpy.int64)
 
 
-def sums(heats: Sequence[int]) -> NDArray[numpy.int64]:
+def sums(heats: Sequence[int]) -> Masks:
     """The sum of each subset, by its bits."""
+    import numpy
     held = numpy.zeros(1, dtype=numpy.int64)
     for each in heats:
         held = numpy.concatenate((held, held + each))
@@ -148,14 +151,16 @@ def sums(heats: Sequence[int]) -> NDArray[numpy.int64]:
 def parted(members: Sequence[Member], masks: Masks) -> list[int]:
     """The most sets into which the whole is parted, as bits. The masks go by rising size: the most sets of each come
     from those of a smaller one inside it, whose rest is one set more where it has a stream."""
+    import numpy
     streams = numpy.int64(sum(1 << at for at, each in enumerate(members) if not each.utility))
-    most, before = chained(masks, lambda differences: (differences & streams) != 0)
+    most, before = chained(masks, lambda differences: numpy.not_equal(differences & streams, 0))
     return merged(list(steps(masks, before)), int(streams))
 
 
 def joinable_partition(members: Sequence[Member], near: Sequence[int]) -> Partition | None:
     """The partition into the most sets of which each can be joined; `near` has for each member the bits of those with
     which it may exchange heat. None where there is no such partition, or there are too many sums to know it."""
+    import numpy
     masks = balancing(members)
     if masks is None or len(masks) > MOST_JOINED:
         return None
@@ -182,6 +187,7 @@ def is_joined(mask: int, near: Sequence[int]) -> bool:
 def chained(masks: Masks, worth: Callable[[Masks], NDArray[Any]]) -> tuple[Masks, Masks]:
     """For each mask the most that a chain of masks from the empty one up to it is worth, step by step by its
     differences, and the place of the mask before it."""
+    import numpy
     most = numpy.zeros(len(masks), dtype=numpy.int64)
     before = numpy.zeros(len(masks), dtype=numpy.int64)
     for at in range(1, len(masks)):
