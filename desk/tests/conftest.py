@@ -45,5 +45,10 @@ def pinch() -> Pinch:
     return Pinch()
 
 
+def held(*values: object) -> tuple[object, ...]:
+    """Values that are compared with those of another type: fractions and decimals with whole numbers."""
+    return values
+
+
 def example(name: str) -> bytes:
     return (EXAMPLES / name).read_bytes()

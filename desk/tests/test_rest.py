@@ -6,7 +6,7 @@ from fractions import Fraction
 from pathlib import Path
 
 import pytest
-from conftest import CASES, NETWORKS, example
+from conftest import CASES, NETWORKS, example, held
 from hypothesis import given, settings
 from hypothesis import strategies as st
 
@@ -23,16 +23,16 @@ ACROSS = ('exchanger E1 H2 C1 100000\nexchanger Q1 HOT C3 50000\npass H2 E1 a\np
 LATENT = 'contribution,,50,,,,\nhot,H,1500,700,10,,\ncold,B,900,900,0,8000,\n'
 
 
-def targets_of(rest: Rest) -> tuple[Fraction, Fraction]:
+def targets_of(rest: Rest) -> tuple[object, ...]:
     assert rest.harder and rest.exact
-    return rest.harder.hot, rest.harder.cold
+    return held(rest.harder.hot, rest.harder.cold)
 
 
 @pytest.mark.parametrize('name', CASES)
 def test_the_rest_of_an_empty_network_is_the_whole(name: str, pinch: Pinch) -> None:
     case = example(f'{name}.csv')
     rest, whole = remaining(case, '', pinch), pinch.targets(case)
-    assert targets_of(rest) == (whole.hot, whole.cold) and rest.excess == (0, 0)
+    assert targets_of(rest) == (whole.hot, whole.cold) and held(*rest.excess) == (0, 0)
     assert rest.harder and rest.harder.targets == whole and rest.good == (name != 'too-little-cooling')
     assert written_case(rest) == read_case(case)
 
@@ -41,7 +41,7 @@ def test_the_rest_of_an_empty_network_is_the_whole(name: str, pinch: Pinch) -> N
 def test_the_rest_of_a_whole_network_is_nothing(name: str, pinch: Pinch) -> None:
     rest = remaining(example(f'{name}.csv'), example(f'{name}-network.txt'), pinch)
     assert isinstance(rest.verdict, Accepted) and rest.good and not rest.left and written_case(rest) is None
-    assert rest.excess == (rest.verdict.excess, rest.verdict.excess)
+    assert held(*rest.excess) == (rest.verdict.excess, rest.verdict.excess)
     assert (rest.hot_used, rest.cold_used, rest.cost_used) == (rest.verdict.hot, rest.verdict.cold, rest.verdict.cost)
 
 
@@ -50,11 +50,11 @@ def test_what_is_left_without_the_last_statements_costs_no_more_than_the_whole_n
                                                                                        pinch: Pinch) -> None:
     """All ends are left out: every branch stands at its target, and nothing is left to give or to take."""
     case, network = example(f'{name}.csv'), read_network(example(f'{name}-network.txt'))
-    held = Network(tuple(each for each in network.statements if not isinstance(each, End)))
-    rest = remaining(case, held, pinch)
+    endless = Network(tuple(each for each in network.statements if not isinstance(each, End)))
+    rest = remaining(case, endless, pinch)
     assert rest.good and rest.harder is None and len(rest.left) == len(rest.followed.case.streams)
     whole = pinch.audit(case, network)
-    assert isinstance(whole, Accepted) and rest.excess == (whole.excess, whole.excess)
+    assert isinstance(whole, Accepted) and held(*rest.excess) == (whole.excess, whole.excess)
 
 
 @pytest.mark.parametrize('name', NETWORKS)
@@ -63,8 +63,8 @@ def test_the_choice_of_each_beginning_of_a_network_costs_at_most_its_excess(name
     case, network = example(f'{name}.csv'), read_network(example(f'{name}-network.txt'))
     whole = pinch.audit(case, network)
     assert isinstance(whole, Accepted)
-    for held in beginnings(network):
-        rest = remaining(case, held, pinch)
+    for beginning in beginnings(network):
+        rest = remaining(case, beginning, pinch)
         assert rest.good and 0 <= rest.excess[0] <= whole.excess and rest.excess[0] <= rest.excess[1]
         assert rest.exact or rest.excess[1] - rest.excess[0] < 10_000
 
@@ -72,13 +72,13 @@ def test_the_choice_of_each_beginning_of_a_network_costs_at_most_its_excess(name
 def beginnings(network: Network) -> list[Network]:
     """The network without its last exchanger, without the last two, and so on, at most five."""
     made: list[Network] = []
-    held = network
+    longer = network
     while len(made) < 5:
-        shorter = without_last(held)
+        shorter = without_last(longer)
         if shorter is None:
             return made
         made.append(shorter)
-        held = shorter
+        longer = shorter
     return made
 
 
@@ -99,13 +99,13 @@ def without_last(network: Network) -> Network | None:
 
 def test_a_match_above_the_pinch_costs_nothing_and_its_end_stands_at_the_pinch(pinch: Pinch) -> None:
     rest = remaining(FOUR, AHEAD, pinch)
-    assert targets_of(rest) == (20_000, 60_000) and rest.excess == (0, 0) and rest.good
-    assert [(each.name, each.branch.name, each.state, each.heat) for each in rest.left] == [
+    assert targets_of(rest) == (20_000, 60_000) and held(*rest.excess) == (0, 0) and rest.good
+    assert [held(each.name, each.branch.name, each.state, each.heat) for each in rest.left] == [
         ('C1', 'C1', 200, 230_000), ('H2', 'a', 900, 90_000), ('H4', 'H4', 1500, 180_000)]
     sheets = rest_sheets(rest)
     assert [row[1:3] + row[6:] for row in sheets[2].rows] == [
         ('C1', 'C1', 'above below'), ('H2', 'a', 'below'), ('H4', 'H4', 'above below')]
-    assert [row[1:4] for row in sheets[3].rows] == [('above', 1, 1), ('below', 2, 1)]
+    assert [held(*row[1:4]) for row in sheets[3].rows] == [('above', 1, 1), ('below', 2, 1)]
     assert written_case(rest) == read_case('contribution,,50,,,,\ncold,C1,200,1350,200,,\nhot,H2,900,600,300,,\n'
                                            'hot,H4,1500,300,150,,\n')
 
@@ -116,21 +116,21 @@ def test_a_heater_too_many_counts_and_a_temperature_between_tenths_is_exact(pinc
     rest = remaining(FOUR, ACROSS, pinch)
     assert rest.left[1].state == Fraction(4100, 3) and rest.harder and rest.harder.scale.degrees == 3
     assert targets_of(rest) == (101_250, 191_250) and rest.hot_used == 50_000
-    assert rest.excess == (131_250, 131_250) and rest.good and not list(rounding_notes(rest))
+    assert held(*rest.excess) == (131_250, 131_250) and rest.good and not list(rounding_notes(rest))
     assert list(file_notes(rest)) == [
         'in the case of the rest branch a of H2 begins at 136.6 °C, rounded from 136.666667 (410/3)']
-    held = written_case(rest)
-    assert held and held.streams[1].supply == 1366
-    assert 101_250 <= pinch.targets(held).hot <= 101_250 + 200
-    assert [row for row in rest_sheets(rest)[-1].rows] == [('exchanger E1', 100)]
+    posed = written_case(rest)
+    assert posed and posed.streams[1].supply == 1366
+    assert 101_250 <= pinch.targets(posed).hot <= 101_250 + 200
+    assert [held(*row) for row in rest_sheets(rest)[-1].rows] == [('exchanger E1', 100)]
 
 
 def test_sizes_that_are_fractions_are_scaled(pinch: Pinch) -> None:
     network = 'split H2 a 100/7 b\nsplit b c 1/3 d\n'
     rest = remaining(FOUR, network, pinch)
     assert rest.harder and rest.harder.scale.sizes == 21 and targets_of(rest) == (20_000, 60_000)
-    held = written_case(rest)
-    assert held and held.basis.scale == 21 and [each.cp for each in held.streams[1:4]] == [300, 7, 5993]
+    posed = written_case(rest)
+    assert posed and posed.basis.scale == 21 and [each.cp for each in posed.streams[1:4]] == [300, 7, 5993]
     assert list(file_notes(rest)) == ['in the case of the rest all heats and CPs are taken 21 times (#scale)']
 
 
@@ -154,10 +154,10 @@ def test_what_no_scale_holds_is_rounded_to_both_sides_and_told(pinch: Pinch) -> 
 def test_of_a_latent_stream_the_load_is_left(pinch: Pinch) -> None:
     network = 'exchanger E1 H B 3000\npass H E1 a\nsplit B b 5000 c\npass b E1 d\n'
     rest = remaining(LATENT, network, pinch)
-    assert [(each.name, each.heat) for each in rest.left] == [('H', 5000), ('c', 3000), ('d', 2000)]
-    assert targets_of(rest) == (3000, 3000) and rest.excess == (0, 0)
-    held = written_case(rest)
-    assert held and [each.load for each in held.streams] == [0, 3000, 2000]
+    assert [held(each.name, each.heat) for each in rest.left] == [('H', 5000), ('c', 3000), ('d', 2000)]
+    assert targets_of(rest) == (3000, 3000) and held(*rest.excess) == (0, 0)
+    posed = written_case(rest)
+    assert posed and [each.load for each in posed.streams] == [0, 3000, 2000]
 
 
 def test_own_contributions_ranges_and_forbidden_matches_are_kept(pinch: Pinch) -> None:
@@ -165,10 +165,10 @@ def test_own_contributions_ranges_and_forbidden_matches_are_kept(pinch: Pinch) -
             'cooler,W,200,0,1000000,1,\nforbid,H,C,,,,\nforbid,H,W,,,,\n')
     network = 'exchanger Q1 S C 40000\nsplit C c1 50 c2\npass c1 Q1 c3\n'
     rest = remaining(case, network, pinch)
-    held = written_case(rest)
-    assert held is not None and [each.contribution for each in held.streams] == [20, 50, 50]
-    assert [(each.least, each.most) for each in held.utilities] == [(0, 50_000), (0, 1_000_000)]
-    assert [(each.hot, each.cold) for each in held.forbids] == [('H', 'c2'), ('H', 'c3'), ('H', 'W')]
+    posed = written_case(rest)
+    assert posed is not None and [each.contribution for each in posed.streams] == [20, 50, 50]
+    assert [(each.least, each.most) for each in posed.utilities] == [(0, 50_000), (0, 1_000_000)]
+    assert [(each.hot, each.cold) for each in posed.forbids] == [('H', 'c2'), ('H', 'c3'), ('H', 'W')]
     assert not rest.good and isinstance(rest.whole_flow, Cut)
     assert rest_sheets(rest)[-1].title.startswith('No heat flow: these parts have to ')
 
@@ -176,7 +176,7 @@ def test_own_contributions_ranges_and_forbidden_matches_are_kept(pinch: Pinch) -
 def test_a_utility_that_gave_all_has_nothing_left_and_one_that_gave_too_much_is_rejected(pinch: Pinch) -> None:
     case = 'contribution,,50,,,,\ncold,C,300,1300,100,,\nheater,S,2200,0,40000,2,\nheater,R,2000,0,90000,3,\n'
     rest = remaining(case, 'exchanger Q1 S C 40000\npass C Q1 a\n', pinch)
-    assert rest.good and isinstance(rest.whole_flow, HeatFlow) and rest.excess == (0, 0)
+    assert rest.good and isinstance(rest.whole_flow, HeatFlow) and held(*rest.excess) == (0, 0)
     assert rest.harder and [each.most for each in rest.harder.case.utilities] == [0, 90_000]
     assert rest.cost_used == 80_000 and rest.harder.cost == 180_000 and rest.whole_flow.cost == 260_000
     over = remaining(case, 'exchanger Q1 S C 40001\npass C Q1 a\n', pinch)
@@ -218,8 +218,8 @@ def test_the_word_writes_the_case_of_the_rest(tmp_path: Path, capsys: pytest.Cap
     case.write_bytes(FOUR)
     network.write_text(ACROSS)
     assert main(['rest', str(case), str(network), '--case', str(made)]) == 0
-    held = capsys.readouterr()
-    assert 'the choice costs above it   131.25  kW' in held.out and 'begins at 136.6 °C' in held.err
+    said = capsys.readouterr()
+    assert 'the choice costs above it   131.25  kW' in said.out and 'begins at 136.6 °C' in said.err
     assert made.read_text().startswith('"# What is left of ') and len(read_case(made.read_bytes()).streams) == 4
     assert main(['rest', str(case), str(network), '--case', str(case)]) == 2
     assert main(['rest', str(case), str(network), '--case', str(made), '-o', str(made)]) == 2
@@ -258,7 +258,7 @@ def test_splits_alone_leave_the_whole(case: Case, data: st.DataObject) -> None:
     rest, whole = remaining(case, network, pinch), pinch.targets(case)
     assert rest.harder and rest.easier and rest.excess[0] == 0
     assert rest.easier.hot <= whole.hot <= rest.harder.hot and rest.harder.cold <= whole.cold <= rest.easier.cold
-    assert not rest.exact or (rest.harder.hot, rest.harder.cold) == (whole.hot, whole.cold)
+    assert not rest.exact or targets_of(rest) == (whole.hot, whole.cold)
     assert sum((each.heat for each in rest.left), Fraction(0)) == sum(each.heat for each in case.streams)
 
 
@@ -271,12 +271,12 @@ def test_moved_and_scaled_temperatures_have_the_same_targets(case: Case, degrees
     plain = scale_of(rest.left, rest.followed.case, rest.used)
     assert (plain.sizes, plain.degrees) == (1, 1)
     scale = replace(plain, degrees=degrees, offset=-2731 + degrees * 100)
-    posed = pinch.targets(rest_case(rest.followed.case, rest.left, rest.used, scale, Rounding.HARDER))
-    assert (posed.hot, posed.cold) == (degrees * whole.hot, degrees * whole.cold)
-    assert tuple(scale.back(each) for each in posed.pinches) == whole.pinches
+    found = pinch.targets(rest_case(rest.followed.case, rest.left, rest.used, scale, Rounding.HARDER))
+    assert (found.hot, found.cold) == (degrees * whole.hot, degrees * whole.cold)
+    assert tuple(scale.back(each) for each in found.pinches) == whole.pinches
 
 
 def test_a_printed_case_of_the_rest_is_one(pinch: Pinch) -> None:
-    held = written_case(remaining(example('aromatics.csv'), 'split H1 a 100/3 b\n', pinch))
-    assert held and read_case(print_case(held)) == held and completed(held).source('a')
-    assert all(isinstance(each, Stream) for each in held.streams)
+    posed = written_case(remaining(example('aromatics.csv'), 'split H1 a 100/3 b\n', pinch))
+    assert posed and read_case(print_case(posed)) == posed and completed(posed).source('a')
+    assert all(isinstance(each, Stream) for each in posed.streams)
