@@ -2,6 +2,7 @@
 from __future__ import annotations
 
 from functools import lru_cache
+from pathlib import Path
 
 import pytest
 from conftest import CASES, NETWORKS, example, held
@@ -10,6 +11,7 @@ from hypothesis import strategies as st
 
 from pinchdesk import Cut, Member, Pinch, Units, completed, follow, least_units, partition, read_case, read_network
 from pinchdesk import units_sheets
+from pinchdesk.cli import main
 from pinchdesk.sets import is_joined, joinable_partition
 
 # Sources less sets on all sides of the pinches, and the exchangers of the published network or of that by hand.
@@ -169,3 +171,16 @@ def test_too_many_sources_have_bounds_and_no_guess() -> None:
 def test_a_sum_that_is_a_little_off_is_no_set(pinch: Pinch) -> None:
     text = example('four-stream.csv').decode().replace('cold,C3,800,1400,400', 'cold,C3,800,1401,400')
     assert [len(each.sets) for each in counted(pinch, text).at_pinches] == [1, 1]
+
+
+def test_a_network_that_is_rejected_is_counted_and_told(tmp_path: Path, capsys: pytest.CaptureFixture[str]) -> None:
+    case, network = tmp_path / 'case.csv', tmp_path / 'n.txt'
+    case.write_bytes(example('four-stream.csv'))
+    network.write_bytes(example('four-stream-network.txt').replace(b'C1 20000', b'C1 19000'))
+    assert main(['units', str(case), str(network)]) == 1
+    said = capsys.readouterr()
+    assert 'above 85 °C                     5     2           3        3       0' in said.out
+    assert 'n.txt: rejected at line 18 (C1): the target is missed: 134.5 °C in place of 135 °C (MissedTarget)' in said.err
+    case.write_bytes(example('too-little-cooling.csv'))
+    assert main(['units', str(case)]) == 1
+    assert capsys.readouterr().out.startswith('No heat flow: these parts have to give 5 kW')

@@ -98,9 +98,12 @@ def what_if(case: CaseText, scenarios: Iterable[Variant], pinch: Pinch | None = 
 
 
 def side_by_side(run: Callable[[Asked], Given], items: Sequence[Asked], workers: int) -> list[Given]:
-    """Runs in threads, each of which waits for its program."""
-    with ThreadPoolExecutor(workers or min(16, os.cpu_count() or 1)) as pool:
+    """Runs in threads, each of which waits for its program; where one fails the others are not begun."""
+    pool = ThreadPoolExecutor(workers or min(16, os.cpu_count() or 1))
+    try:
         return list(pool.map(run, items))
+    finally:
+        pool.shutdown(cancel_futures=True)
 
 
 def unchanged(case: Case) -> Outcome:

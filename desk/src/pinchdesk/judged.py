@@ -10,7 +10,8 @@ from .case import print_case, print_comments, read_case
 from .changes import what_if
 from .changesheets import rounding_notes as scenario_notes
 from .changesheets import what_if_sheets
-from .errors import OutputError, Refused, about
+from .errors import OutputError, Refused, WordsError, about
+from .exchangers import verdict_sheet
 from .network import read_network
 from .output import check_place, read_bytes, write_whole
 from .program import Pinch
@@ -44,7 +45,7 @@ def units(options: Namespace) -> Answer:
             verdict = pinch.audit(content, text)
             followed = follow(made.case, read_network(text))
             if not isinstance(verdict, Accepted):
-                notes = (f'{options.network}: the network is not accepted: {verdict.text.strip()}',)
+                notes = (f'{options.network}: {verdict_sheet(followed, verdict).rows[0][0]}',)
     return replace(answer_of(units_sheets(made, followed), options, not notes), notes=notes)
 
 
@@ -73,8 +74,9 @@ def rest_text(made: Rest, network: str) -> str:
     if case is None:
         raise OutputError('there is no case of the rest: nothing is left, or the network is rejected')
     branches = ', '.join(f'{each.name} {each.branch.name}' for each in made.left if each.name != each.branch.name)
-    told = [f'What is left of {network}' + (f', by its branches: {branches}' if branches else '')]
-    return print_comments(told) + print_case(case)
+    name = ''.join(each if each.isprintable() else '?' for each in network)
+    told = f'What is left of {name}' + (f', by its branches: {branches}' if branches else '')
+    return print_comments([told]) + print_case(case)
 
 
 def takes_changes(parser: ArgumentParser) -> None:
@@ -87,6 +89,8 @@ def takes_changes(parser: ArgumentParser) -> None:
 
 
 def whatif(options: Namespace) -> Answer:
+    if not 1 <= options.workers <= 16:
+        raise WordsError(f'{options.workers} is no number of workers: 1 to 16')
     content = read_bytes(options.case)
     table = read_bytes(options.changes) if options.changes is not None else None
     with about(case=options.case):
