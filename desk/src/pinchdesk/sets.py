@@ -9,6 +9,7 @@ from __future__ import annotations
 
 from collections.abc import Callable, Iterator, Sequence
 from dataclasses import dataclass
+from itertools import combinations
 from typing import TYPE_CHECKING, Any
 
 if TYPE_CHECKING:
@@ -17,7 +18,7 @@ if TYPE_CHECKING:
     Masks = NDArray[numpy.int64]
 
 # More than these would take longer than a user waits.
-MOST_SOURCES, MOST_SUBSETS, MOST_JOINED = 40, 12_000, 4_000
+MOST_SOURCES, MOST_SUBSETS, MOST_JOINED, SMALL = 40, 12_000, 4_000, 6
 # What makes a chain of sets worth less than none.
 NEVER = -1_000
 
@@ -70,7 +71,7 @@ def partition(members: Sequence[Member]) -> Partition:
     most = len(pairs) + bound(rest)
     masks = balancing(rest) if most > len(pairs) + 1 else None
     if masks is None:
-        return Partition((*pairs, tuple(rest)), most)
+        return Partition((*pairs, *peeled(rest)), most)
     sets = [tuple(rest[at] for at in range(len(rest)) if mask >> at & 1) for mask in parted(rest, masks)]
     return Partition((*pairs, *sets), len(pairs) + len(sets))
 
@@ -120,6 +121,31 @@ def bound(members: Sequence[Member]) -> int:
     streams = sum(not each.utility for each in members)
     smallest = 3 if few_utilities(members) else 2
     return max(1, min(len(members) // smallest, gives, len(members) - gives, streams))
+
+
+def peeled(members: Sequence[Member]) -> tuple[tuple[Member, ...], ...]:
+    """Some sets, where the most are not known: a small one is taken off, and what is left is parted in turn."""
+    small = small_set(members)
+    if small is None:
+        return (tuple(members),)
+    return (small, *partition([each for each in members if each not in small]).sets)
+
+
+def small_set(members: Sequence[Member]) -> tuple[Member, ...] | None:
+    """A balancing set of at most six members, of the fewest there are, that leaves some members with a stream; None
+    where there is none."""
+    places = range(len(members))
+    streams = sum(not each.utility for each in members)
+    for size in range(2, SMALL + 1):
+        sums: dict[int, list[tuple[int, ...]]] = {}
+        for part in combinations(places, size // 2):
+            sums.setdefault(sum(members[at].heat for at in part), []).append(part)
+        for part in combinations(places, size - size // 2):
+            for other in sums.get(-sum(members[at].heat for at in part), []):
+                found = [members[at] for at in {*part, *other}]
+                if len(found) == size and 0 < sum(not each.utility for each in found) < streams:
+                    return tuple(found)
+    return None
 
 
 def balancing(members: Sequence[Member]) -> Masks | None:
