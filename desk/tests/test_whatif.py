@@ -128,6 +128,7 @@ def test_headings_are_known_or_refused() -> None:
     assert 'the heading `colour` is not known' in refusal(FOUR, 'scenario;source;supply;colour\nS;C1;30;red\n')
     assert 'no column has the heading scenario' in refusal(FOUR, 'source;supply;CP\nC1;30;2\n')
     assert 'changes stand in columns of fields' in refusal(FOUR, 'scenario;source;field;value;CP\nS;C1;supply;30;2\n')
+    assert 'row 2 column 5: `5` stands under no heading' in refusal(FOUR, 'scenario,source,field,value\nS,C1,CP,2,5\n')
     assert 'the row changes nothing' in refusal(FOUR, 'scenario;source;supply;CP\nS;C1;;\n')
     assert 'the table has no scenario' in refusal(FOUR, HEAD)
     assert 'LP has no most that could be changed' in refusal(STEAM, HEAD + 'S;LP;most;+5 %\n')

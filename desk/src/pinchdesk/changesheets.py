@@ -108,7 +108,7 @@ def plus_minus_sheet(made: WhatIf) -> Sheet:
                 'target +1 K', 'level +1 K')
     width = 7 if any(each.stream.latent for each in made.plus_minus) else 6
     keep = [at for at in range(width) if at != 3 or width == 7]
-    return Sheet('Plus and minus: more hot kW with', tuple(headings[at] for at in keep),
+    return Sheet('Plus and minus: more hot kW', tuple(headings[at] for at in keep),
                  tuple(tuple(row[at] for at in keep) for row in rows))
 
 

@@ -104,7 +104,7 @@ def pinch_sheets(posed: Posed, rest: Rest) -> list[Sheet]:
     if not rows:
         return [Sheet('No pinch is left' if not posed.pinches else 'No open branch is at the pinch', (), ())]
     headings = ('pinch, shifted °C', 'in the rest', 'branch', 'side', 'at °C', 'CP kW/K', 'stands')
-    return [Sheet('Open branches at the pinch of the rest', headings, rows), counts_sheet(posed, shown)]
+    return [Sheet('Branches at the pinch', headings, rows), counts_sheet(posed, shown)]
 
 
 def pinch_row(posed: Posed, pinch: PinchPoint, stream: Stream, left: Left, shown: Shown) -> tuple[Cell, ...]:
@@ -131,7 +131,7 @@ def counts_sheet(posed: Posed, shown: Shown) -> Sheet:
                              *(Decimal(shown.kilowatts_per_kelvin(sum(each.cp for each in side), 6))
                                for side in (hot, cold)), SPLITS.get((word, few), '')))
     headings = ('pinch, shifted °C', 'side', 'hot', 'cold', 'hot CP kW/K', 'cold CP kW/K', 'to pair each')
-    return Sheet('At the pinch of the rest', headings, tuple(rows))
+    return Sheet('Numbers at the pinch', headings, tuple(rows))
 
 
 def lost_sheets(rest: Rest) -> list[Sheet]:
@@ -143,7 +143,7 @@ def lost_sheets(rest: Rest) -> list[Sheet]:
     lines = len(rest.followed.network.statements)
     rows = tuple((str(each.place), Decimal(shown.kilowatts(each.heat))) for each in rest.verdict.penalties
                  if each.heat and (each.place.name in names or 0 < each.place.line <= lines))
-    return [Sheet('Penalties: where it loses heat already', ('', 'kW'), rows)] if rows else []
+    return [Sheet('Penalties so far', ('', 'kW'), rows)] if rows else []
 
 
 def fault_sheets(rest: Rest) -> list[Sheet]:

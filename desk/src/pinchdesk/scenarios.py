@@ -124,6 +124,9 @@ class ChangeReader:
 
     def row(self, row: TableRow) -> tuple[str, list[Change]]:
         """The scenario of a row and its changes."""
+        for at, cell in row.filled():
+            if at not in self.layout.titles:
+                self.told.fault(row.number, at, f'`{cell.text}` stands under no heading')
         scenario, source = self.text(row, Column.SCENARIO), self.text(row, Column.SOURCE)
         if Column.FIELD in self.layout.columns:
             text = self.text(row, Column.FIELD)

@@ -14,7 +14,8 @@ from .shown import Shown
 from .states import Followed, Passage, SideState, heat_above
 from .units import IndependentSet, RegionUnits, Units
 
-LEFT_OUT = 'the rule counts heats: a network may want more, where temperatures or forbidden matches bar it'
+LEFT_OUT = ('the number is that of sources less independent sets: it counts heats, and a network may want more where '
+            'temperatures or forbidden matches bar it')
 
 
 def title_of(region: Region, shown: Shown) -> str:
@@ -109,7 +110,7 @@ def numbers_sheet(units: Units, followed: Followed | None = None) -> Sheet:
         rows.append((title, *summed(level), *joined_number(level, parted)))
     headings = ('shifted', 'sources', 'sets', 'exchangers', *(('that can be joined',) if parted else ()),
                 *(('network', 'partly') if followed else ()))
-    return Sheet('Least number of exchangers: sources less independent sets', headings, tuple(rows))
+    return Sheet('Least number of exchangers', headings, tuple(rows))
 
 
 def sum_of(pieces: Iterable[Piece], shown: Shown) -> str:
