@@ -170,6 +170,18 @@ def test_what_is_refused_or_infeasible_says_so_in_its_row(pinch: Pinch, tmp_path
     assert f'pinchdesk: {changes}: row 2 column 4: `XP` is no source of it' in capsys.readouterr().err
 
 
+def test_a_hostile_name_is_made_harmless(pinch: Pinch, tmp_path: Path, capsys: pytest.CaptureFixture[str]) -> None:
+    case, changes = tmp_path / 'case.csv', tmp_path / 'changes.csv'
+    case.write_bytes(FOUR)
+    changes.write_text(HEAD + '=cmd|x;C1;supply;30\n\x1b[31m<b>;C1;supply;30\n', encoding='utf-8')
+    for form in ('text', 'csv'):
+        assert main(['whatif', str(case), str(changes), '--form', form]) == 0
+        said = capsys.readouterr().out
+        assert "'=cmd|x" in said and '?[31m<b>' in said and '\x1b' not in said
+    assert main(['whatif', str(case), str(changes), '-o', str(tmp_path / 'out.xlsx')]) == 0
+    assert main(['whatif', str(case), str(changes), '--workers', '0']) == 2
+
+
 def test_plus_and_minus_are_what_pinch_says_of_a_little_more(pinch: Pinch) -> None:
     made = {each.stream.name: each for each in what_if(FOUR, (), pinch).plus_minus}
     # Above the pinch a hot stream's CP is a plus, and so is a cold one's that ends there (Linnhoff and Vredeveld 1984).

@@ -60,10 +60,10 @@ def steps_sheet(made: WhatIf) -> Sheet:
     """What each scenario changes, from what and to what."""
     shown = Shown(made.base.case.basis)
     rows = tuple((each.variant.name if at == 0 else '', step.change.source, step.change.field.word,
-                  step.change.written, number(step.before, step.change.field, shown),
+                  number(step.before, step.change.field, shown),
                   number(step.behind, step.change.field, shown), unit_of(step.change.field, shown))
                  for each in made.outcomes for at, step in enumerate(each.steps))
-    return Sheet('What is changed', ('scenario', 'source', 'field', 'written', 'from', 'to', ''), rows)
+    return Sheet('What is changed', ('scenario', 'source', 'field', 'from', 'to', ''), rows)
 
 
 def number(value: int | Fraction, field: Field, shown: Shown) -> Cell:

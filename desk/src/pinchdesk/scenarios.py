@@ -13,7 +13,7 @@ from collections.abc import Iterator
 from dataclasses import dataclass, replace
 from fractions import Fraction
 
-from .basis import Basis
+from .basis import Basis, plain
 from .cells import CellReader, Told, decimal_mark
 from .changelayout import FIELDS, KINDS, ChangeLayout, Column, Field, headings, layout_of
 from .errors import Refused
@@ -84,7 +84,13 @@ def read_changes(content: bytes, name: str, basis: Basis, sheet: str | None = No
     told.settle()
     if not held:
         raise Refused(3, '', 'no scenario', 'the table has no scenario')
-    return Variants(tuple(Variant(each, tuple(changes)) for each, changes in held.items()), tuple(told.notes))
+    return Variants(tuple(Variant(fit_name(each), tuple(changes)) for each, changes in held.items()),
+                    tuple(told.notes))
+
+
+def fit_name(name: str) -> str:
+    """A name that steers no terminal, and that no spreadsheet takes for a formula."""
+    return plain(''.join(each if each.isprintable() else '?' for each in name))
 
 
 def is_note(row: TableRow) -> bool:
@@ -154,8 +160,8 @@ class ChangeReader:
         if number.endswith('%'):
             return self.percentage(row, at, source, field, word, number)
         way = Way.BY if word == 'by' or not word and number[:1] in tuple(SIGNED) else Way.TO
-        plain = TableRow(row.number, (*row.cells[:at], replace(cell, text=number), *row.cells[at + 1:]))
-        value = self.price(plain, at) if field is Field.PRICE else self.measured(plain, at, field, way)
+        bare = TableRow(row.number, (*row.cells[:at], replace(cell, text=number), *row.cells[at + 1:]))
+        value = self.price(bare, at) if field is Field.PRICE else self.measured(bare, at, field, way)
         if value is None:
             return None
         return Change(source, field, way, value, self.told.table.place(row.number, at), cell.text)
