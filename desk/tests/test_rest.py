@@ -70,10 +70,10 @@ def test_the_choice_of_each_beginning_of_a_network_costs_at_most_its_excess(name
 
 
 def beginnings(network: Network) -> list[Network]:
-    """The network without its last exchanger, without the last two, and so on, at most five."""
+    """The network without its last exchanger, without the last two, and so on, at most three."""
     made: list[Network] = []
     longer = network
-    while len(made) < 5:
+    while len(made) < 3:
         shorter = without_last(longer)
         if shorter is None:
             return made
@@ -247,7 +247,7 @@ def cases(draw: st.DrawFn) -> Case:
     return read_case('\n'.join(rows) + '\n')
 
 
-@settings(max_examples=20)
+@settings(max_examples=8)
 @given(cases(), st.data())
 def test_splits_alone_leave_the_whole(case: Case, data: st.DataObject) -> None:
     """A network that only splits moves no heat: the targets of its rest are those of the whole, in any fractions."""
@@ -262,7 +262,7 @@ def test_splits_alone_leave_the_whole(case: Case, data: st.DataObject) -> None:
     assert sum((each.heat for each in rest.left), Fraction(0)) == sum(each.heat for each in case.streams)
 
 
-@settings(max_examples=20)
+@settings(max_examples=8)
 @given(cases(), st.integers(2, 9))
 def test_moved_and_scaled_temperatures_have_the_same_targets(case: Case, degrees: int) -> None:
     """The case with all temperatures taken several times, shifted and without contributions, as fractions make it."""

@@ -159,11 +159,11 @@ def test_sets_that_can_be_joined_are_as_many_as_trying_all_finds(members: tuple[
 
 
 def test_too_many_sources_have_bounds_and_no_guess() -> None:
-    members = [Member(f's{at}', heat) for at, heat in enumerate((3 * each + 1) * (-1) ** each for each in range(60))]
+    members = [Member(f's{at}', heat) for at, heat in enumerate((3 * each + 1) * (-1) ** each for each in range(44))]
     members.append(Member('x', -sum(each.heat for each in members)))
     made = partition(members)
     assert not made.exact and made.least_exchangers < made.found_exchangers
-    assert made.members == 61 and made.most_sets <= 61 // 2
+    assert made.members == 45 and made.most_sets <= 45 // 2
     with pytest.raises(ValueError):
         partition([Member('h', 5), Member('c', -4)])
 
