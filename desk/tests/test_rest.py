@@ -125,6 +125,12 @@ def test_a_heater_too_many_counts_and_a_temperature_between_tenths_is_exact(pinc
     assert [held(*row) for row in rest_sheets(rest)[-1].rows] == [('exchanger E1', 100)]
 
 
+def test_the_example_that_is_begun_loses_what_its_heater_gives_below_the_pinch(pinch: Pinch) -> None:
+    rest = remaining(FOUR, example('four-stream-begun.txt'), pinch)
+    assert held(*rest.excess) == (20_000, 20_000) and targets_of(rest) == (20_000, 80_000)
+    assert [held(*row) for row in rest_sheets(rest)[-1].rows] == [('exchanger Q1', 20)]
+
+
 def test_sizes_that_are_fractions_are_scaled(pinch: Pinch) -> None:
     network = 'split H2 a 100/7 b\nsplit b c 1/3 d\n'
     rest = remaining(FOUR, network, pinch)

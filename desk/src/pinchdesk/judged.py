@@ -113,7 +113,7 @@ WORDS = (
          'pinchdesk units examples/four-stream.csv examples/four-stream-network.txt', takes_units, units,
          ('case', 'network')),
     Word('rest', 'what is left of a network with open branches, and what the choice so far costs',
-         'pinchdesk rest examples/four-stream.csv examples/four-stream-network.txt', takes_rest, rest,
+         'pinchdesk rest examples/four-stream.csv examples/four-stream-begun.txt', takes_rest, rest,
          ('case', 'network')),
     Word('whatif', 'targets, pinch and cost of scenarios beside those of the case, and what more of a stream would do',
          'pinchdesk whatif examples/two-steam-levels.csv examples/changes.csv', takes_changes, whatif,
