@@ -15,7 +15,7 @@ from pinchdesk import Pinch
 DESK = Path(__file__).resolve().parents[1]
 EXAMPLES = DESK.parent / 'examples'
 SITES = ('site-books', 'three-plants')
-NO_CASES = (*SITES, 'steam-prices', 'table')
+NO_CASES = (*SITES, 'changes', 'steam-prices', 'table')
 CASES = sorted(each.stem for each in EXAMPLES.glob('*.csv') if each.stem not in NO_CASES)
 NETWORKS = [each for each in CASES if (EXAMPLES / f'{each}-network.txt').exists()]
 # The same examples each time, with no memory of earlier runs; the program is slow to start on a busy machine.
@@ -43,6 +43,11 @@ def pinchdesk(*words: str, cwd: Path | None = None) -> Done:
 @pytest.fixture(scope='session')
 def pinch() -> Pinch:
     return Pinch()
+
+
+def held(*values: object) -> tuple[object, ...]:
+    """Values that are compared with those of another type: fractions and decimals with whole numbers."""
+    return values
 
 
 def example(name: str) -> bytes:

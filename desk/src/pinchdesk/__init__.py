@@ -3,28 +3,41 @@ truth inside: each number that decides is what `pinch` printed in this run."""
 from .answers import (Curves, Cut, Design, HeatFlow, Move, Part, Point, Price, PriceAnswer, Prices, Profile, Rows,
                       ScenarioAnswer, Segment, SiteAnswer, SpanAnswer, Sweep, SweepRow, Targets, Use)
 from .case import (Basis, Case, Forbid, Side, Stream, Utility, actual, completed, print_case, read_case, shifted)
+from .changelayout import Field
+from .changes import Outcome, PlusMinus, Step, WhatIf, what_if
+from .changesheets import what_if_sheets
 from .convert import Converted, Wanted, case_of_table, checked
 from .errors import DeskError, OutputError, ProgramError, Refused, WordsError
 from .exchangers import exchangers_sheet, streams_sheet, sums_sheet
+from .leftover import Left
 from .network import End, Exchanger, Mix, Network, Pass, Split, print_network, read_network
 from .program import Pinch
+from .regions import Piece, Region
+from .remaining import Posed, Rest, remaining, written_case
 from .reports import (audit_sheets, flow_sheets, prices_sheets, site_sheets, sweep_sheets, targets_sheets)
+from .restsheets import rest_sheets
+from .scenarios import Change, Variant, Variants, Way, read_changes
+from .sets import Member, Partition, partition
 from .sheets import Sheet
 from .site import Main, Plant, Site, read_site
 from .states import (Branch, Followed, Passage, PinchPoint, PinchSide, SideState, StreamEnd, follow,
                      pinches_of)
 from .study import Scenario, Span, Study, print_study, read_study
+from .units import IndependentSet, RegionUnits, Units, least_units
+from .unitsheets import units_sheets
 from .verdicts import Accepted, Penalty, Place, PlaceKind, Rejected, TooFine, Verdict
 
 __all__ = [
-    'Accepted', 'Basis', 'Branch', 'Case', 'Converted', 'Curves', 'Cut', 'Design', 'DeskError', 'End', 'Exchanger',
-    'Followed', 'Forbid', 'HeatFlow', 'Main', 'Mix', 'Move', 'Network', 'OutputError', 'Part', 'Pass', 'Passage',
-    'Penalty', 'Pinch', 'PinchPoint', 'PinchSide', 'Place', 'PlaceKind', 'Plant', 'Point', 'Price', 'PriceAnswer',
-    'Prices', 'Profile', 'ProgramError', 'Refused', 'Rejected', 'Rows', 'Scenario', 'ScenarioAnswer', 'Segment',
-    'Sheet', 'Side', 'SideState', 'Site', 'SiteAnswer', 'Span', 'SpanAnswer', 'Split', 'Stream', 'StreamEnd', 'Study',
-    'Sweep', 'SweepRow', 'Targets', 'TooFine', 'Use', 'Utility', 'Verdict', 'Wanted', 'WordsError', 'actual',
-    'audit_sheets', 'case_of_table', 'checked', 'completed', 'exchangers_sheet', 'flow_sheets', 'follow',
-    'pinches_of', 'prices_sheets', 'print_case', 'print_network', 'print_study', 'read_case', 'read_network',
-    'read_site', 'read_study', 'shifted', 'site_sheets', 'streams_sheet', 'sums_sheet', 'sweep_sheets',
-    'targets_sheets',
+    'Accepted', 'Basis', 'Branch', 'Case', 'Change', 'Converted', 'Curves', 'Cut', 'Design', 'DeskError', 'End',
+    'Exchanger', 'Field', 'Followed', 'Forbid', 'HeatFlow', 'IndependentSet', 'Left', 'Main', 'Member', 'Mix', 'Move',
+    'Network', 'Outcome', 'OutputError', 'Part', 'Partition', 'Pass', 'Passage', 'Penalty', 'Piece', 'Pinch',
+    'PinchPoint', 'PinchSide', 'Place', 'PlaceKind', 'Plant', 'PlusMinus', 'Point', 'Posed', 'Price', 'PriceAnswer',
+    'Prices', 'Profile', 'ProgramError', 'Refused', 'Region', 'RegionUnits', 'Rejected', 'Rest', 'Rows', 'Scenario',
+    'ScenarioAnswer', 'Segment', 'Sheet', 'Side', 'SideState', 'Site', 'SiteAnswer', 'Span', 'SpanAnswer', 'Split',
+    'Step', 'Stream', 'StreamEnd', 'Study', 'Sweep', 'SweepRow', 'Targets', 'TooFine', 'Units', 'Use', 'Utility',
+    'Variant', 'Variants', 'Verdict', 'Wanted', 'Way', 'WhatIf', 'WordsError', 'actual', 'audit_sheets',
+    'case_of_table', 'checked', 'completed', 'exchangers_sheet', 'flow_sheets', 'follow', 'least_units', 'partition',
+    'pinches_of', 'prices_sheets', 'print_case', 'print_network', 'print_study', 'read_case', 'read_changes',
+    'read_network', 'read_site', 'read_study', 'remaining', 'rest_sheets', 'shifted', 'site_sheets', 'streams_sheet',
+    'sums_sheet', 'sweep_sheets', 'targets_sheets', 'units_sheets', 'what_if', 'what_if_sheets', 'written_case',
 ]

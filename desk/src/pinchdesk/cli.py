@@ -65,7 +65,7 @@ def answer(word: Word, options: argparse.Namespace) -> int:
         put(given.content)
     else:
         write_whole(options.output, given.content, inputs)
-    return 0 if given.good else 1
+    return given.status if given.status is not None else 0 if given.good else 1
 
 
 def lines_of(fault: DeskError) -> list[str]:

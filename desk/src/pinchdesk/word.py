@@ -8,11 +8,13 @@ from dataclasses import dataclass
 
 @dataclass(frozen=True)
 class Answer:
-    """What a word gives: its content, whether it is a good answer (status 0, else 1), and notes for standard error."""
+    """What a word gives: its content, whether it is a good answer (status 0, else 1), and notes for standard error.
+    `status` is how the word ends, where that is neither 0 nor 1."""
 
     content: str | bytes
     good: bool = True
     notes: tuple[str, ...] = ()
+    status: int | None = None
 
 
 @dataclass(frozen=True)
