@@ -4,6 +4,7 @@ from __future__ import annotations
 
 import hashlib
 import io
+import lzma
 import os
 import re
 import subprocess
@@ -42,7 +43,8 @@ def committed(root: Path, commit: Commit, *paths: str) -> list[Member]:
     held = subprocess.run(['git', 'archive', '--format=tar', commit.name, *paths], cwd=root, capture_output=True,
                           check=True).stdout
     with tarfile.open(fileobj=io.BytesIO(held)) as tar:
-        return [Member(each.name, read(tar, each), bool(each.mode & 0o100)) for each in tar.getmembers() if each.isfile()]
+        files = [each for each in tar.getmembers() if each.isfile()]
+        return [Member(each.name, read(tar, each), bool(each.mode & 0o100)) for each in files]
 
 
 def read(tar: tarfile.TarFile, member: tarfile.TarInfo) -> bytes:
@@ -80,14 +82,15 @@ def wheel(root: Path, commit: Commit) -> Member:
     with tempfile.TemporaryDirectory(prefix='pinch-wheel-') as folder:
         for each in committed(root, commit, 'desk'):
             lay(Path(folder), each)
-        environment = dict(os.environ, SOURCE_DATE_EPOCH=str(commit.seconds), PYTHONHASHSEED='0', PIP_CONFIG_FILE=os.devnull)
+        environment = dict(os.environ, SOURCE_DATE_EPOCH=str(commit.seconds), PYTHONHASHSEED='0',
+                           PIP_CONFIG_FILE=os.devnull)
         words = [sys.executable, '-m', 'pip', 'wheel', '--quiet', '--no-deps', '--no-index', '--no-build-isolation',
                  '--no-cache-dir', '--disable-pip-version-check', '-w', 'made', './desk']
         done = subprocess.run(words, cwd=folder, env=environment, stdin=subprocess.DEVNULL, capture_output=True,
                               text=True, check=False, umask=0o022)
         if done.returncode:
-            raise OSError(f'the wheel could not be made (python3-pip, python3-setuptools and python3-wheel of Debian do '
-                          f'it): {done.stderr.strip()}')
+            raise OSError('the wheel could not be made (it wants python3-pip, python3-setuptools and python3-wheel of '
+                          f'Debian): {done.stderr.strip()}')
         made, = (Path(folder) / 'made').glob('*.whl')
         return Member(f'desk/{made.name}', made.read_bytes())
 
@@ -122,10 +125,10 @@ def ordered(members: list[Member]) -> list[Member]:
 def packed(top: str, members: list[Member], commit: Commit) -> bytes:
     """The archive, with all below one top folder."""
     held = io.BytesIO()
-    with tarfile.open(fileobj=held, mode='w:xz', preset=9, format=tarfile.USTAR_FORMAT) as tar:
+    with tarfile.open(fileobj=held, mode='w', format=tarfile.USTAR_FORMAT) as tar:
         for each in ordered(members):
             entry = tarfile.TarInfo(f'{top}/{each.path}')
             entry.size, entry.mtime, entry.mode = len(each.content), commit.seconds, mode_of(each)
             entry.uname = entry.gname = 'root'
             tar.addfile(entry, io.BytesIO(each.content))
-    return held.getvalue()
+    return lzma.compress(held.getvalue(), preset=9)
