@@ -46,7 +46,7 @@ def release_text(version: str, commit: Commit, gate: str, kit: str, program: Pat
     licences = [each.name for each in ROOT.iterdir() if archived.LICENCE.fullmatch(each.name)]
     rows = [('version', version), ('commit', f'{commit.name}, {when}'), ('gate', gate), ('kit', kit),
             ('program', f'bin/pinch, SHA-256 {checked.sum_of(program)}'),
-            ('wants', f'Linux on x86-64 and the C library (glibc) {checked.library_of(program)} or later, nothing else'),
+            ('wants', f'Linux on x86-64 with the C library (glibc) {checked.library_of(program)} or later'),
             ('desk', 'Python 3.11 or later, and the libraries that desk/libraries names'),
             ('licence', ', '.join(sorted(licences)) or 'none is named in the repository')]
     text = ''.join(f'{name:<9}{held}\n' for name, held in rows)
@@ -56,6 +56,11 @@ def release_text(version: str, commit: Commit, gate: str, kit: str, program: Pat
         held_by = [each.text for each in findings if each.state is state]
         text += f'\n{head}:\n' + ''.join(f'- {each}\n' for each in held_by) if held_by else ''
     return text
+
+
+def top_of(version: str, is_trial: bool) -> str:
+    """The top folder of the archive, by which it is named."""
+    return f'pinch-{version}{"-trial" if is_trial else ""}-x86_64-linux'
 
 
 def pack(options: argparse.Namespace) -> Path:
@@ -76,7 +81,7 @@ def pack(options: argparse.Namespace) -> Path:
     members = [*archived.documents(ROOT, commit), archived.wheel(ROOT, commit), Member('RELEASE', text.encode()),
                Member('desk/libraries', archived.libraries(ROOT).encode()),
                Member('bin/pinch', program.read_bytes(), True)]
-    top = f'pinch-{version}{"-trial" if wrong else ""}-x86_64-linux'
+    top = top_of(version, bool(wrong))
     return written(options.output / f'{top}.tar.xz', archived.packed(top, [*members, archived.sums(members)], commit))
 
 
