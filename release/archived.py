@@ -131,4 +131,4 @@ def packed(top: str, members: list[Member], commit: Commit) -> bytes:
             entry.size, entry.mtime, entry.mode = len(each.content), commit.seconds, mode_of(each)
             entry.uname = entry.gname = 'root'
             tar.addfile(entry, io.BytesIO(each.content))
-    return lzma.compress(held.getvalue(), preset=9)
+    return lzma.compress(held.getvalue(), preset=6)
