@@ -8,6 +8,14 @@ from collections.abc import Iterator
 from contextlib import contextmanager
 
 PATIENCE = 2.0
+# What long work last told of itself.
+told = ''
+
+
+def tell(text: str) -> None:
+    """How far long work is: it is shown with the next sign of life."""
+    global told
+    told = text
 
 
 @contextmanager
@@ -16,6 +24,7 @@ def progress(what: str) -> Iterator[None]:
     if not sys.stderr.isatty():
         yield
         return
+    tell('')
     ended = threading.Event()
     shower = threading.Thread(target=show, args=(what, ended), daemon=True)
     shower.start()
@@ -31,5 +40,6 @@ def show(what: str, ended: threading.Event) -> None:
     if ended.wait(PATIENCE):
         return
     while not ended.wait(0.5):
-        print(f'\r{what}: {time.monotonic() - begun:.0f} s ', end='', file=sys.stderr, flush=True)
+        held = f'{told}, ' if told else ''
+        print(f'\r{what}: {held}{time.monotonic() - begun:.0f} s \033[K', end='', file=sys.stderr, flush=True)
     print('\r\033[K', end='', file=sys.stderr, flush=True)
