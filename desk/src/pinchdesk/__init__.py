@@ -8,7 +8,9 @@ from .errors import DeskError, OutputError, ProgramError, Refused, WordsError
 from .exchangers import exchangers_sheet, streams_sheet, sums_sheet
 from .network import End, Exchanger, Mix, Network, Pass, Split, print_network, read_network
 from .program import Pinch
+from .repeated import many
 from .reports import (audit_sheets, flow_sheets, prices_sheets, site_sheets, sweep_sheets, targets_sheets)
+from .results import Done, Results
 from .sheets import Sheet
 from .site import Main, Plant, Site, read_site
 from .states import (Branch, Followed, Passage, PinchPoint, PinchSide, SideState, StreamEnd, follow,
@@ -17,14 +19,14 @@ from .study import Scenario, Span, Study, print_study, read_study
 from .verdicts import Accepted, Penalty, Place, PlaceKind, Rejected, TooFine, Verdict
 
 __all__ = [
-    'Accepted', 'Basis', 'Branch', 'Case', 'Converted', 'Curves', 'Cut', 'Design', 'DeskError', 'End', 'Exchanger',
-    'Followed', 'Forbid', 'HeatFlow', 'Main', 'Mix', 'Move', 'Network', 'OutputError', 'Part', 'Pass', 'Passage',
-    'Penalty', 'Pinch', 'PinchPoint', 'PinchSide', 'Place', 'PlaceKind', 'Plant', 'Point', 'Price', 'PriceAnswer',
-    'Prices', 'Profile', 'ProgramError', 'Refused', 'Rejected', 'Rows', 'Scenario', 'ScenarioAnswer', 'Segment',
-    'Sheet', 'Side', 'SideState', 'Site', 'SiteAnswer', 'Span', 'SpanAnswer', 'Split', 'Stream', 'StreamEnd', 'Study',
-    'Sweep', 'SweepRow', 'Targets', 'TooFine', 'Use', 'Utility', 'Verdict', 'Wanted', 'WordsError', 'actual',
-    'audit_sheets', 'case_of_table', 'checked', 'completed', 'exchangers_sheet', 'flow_sheets', 'follow',
-    'pinches_of', 'prices_sheets', 'print_case', 'print_network', 'print_study', 'read_case', 'read_network',
-    'read_site', 'read_study', 'shifted', 'site_sheets', 'streams_sheet', 'sums_sheet', 'sweep_sheets',
-    'targets_sheets',
+    'Accepted', 'Basis', 'Branch', 'Case', 'Converted', 'Curves', 'Cut', 'Design', 'DeskError', 'Done', 'End',
+    'Exchanger', 'Followed', 'Forbid', 'HeatFlow', 'Main', 'Mix', 'Move', 'Network', 'OutputError', 'Part', 'Pass',
+    'Passage', 'Penalty', 'Pinch', 'PinchPoint', 'PinchSide', 'Place', 'PlaceKind', 'Plant', 'Point', 'Price',
+    'PriceAnswer', 'Prices', 'Profile', 'ProgramError', 'Refused', 'Rejected', 'Results', 'Rows', 'Scenario',
+    'ScenarioAnswer', 'Segment', 'Sheet', 'Side', 'SideState', 'Site', 'SiteAnswer', 'Span', 'SpanAnswer', 'Split',
+    'Stream', 'StreamEnd', 'Study', 'Sweep', 'SweepRow', 'Targets', 'TooFine', 'Use', 'Utility', 'Verdict', 'Wanted',
+    'WordsError', 'actual', 'audit_sheets', 'case_of_table', 'checked', 'completed', 'exchangers_sheet',
+    'flow_sheets', 'follow', 'many', 'pinches_of', 'prices_sheets', 'print_case', 'print_network', 'print_study',
+    'read_case', 'read_network', 'read_site', 'read_study', 'shifted', 'site_sheets', 'streams_sheet', 'sums_sheet',
+    'sweep_sheets', 'targets_sheets',
 ]

@@ -5,11 +5,13 @@ has not, or has others, is left out, and that is told. A worker that dies loses 
 another one; where none is left that may have it, it is given out anew. An outcome counts once, whoever comes with it."""
 from __future__ import annotations
 
+import asyncio
 import importlib
 import logging
 import time
 import uuid
-from collections.abc import Callable, Generator, Iterator
+from collections.abc import Callable, Collection, Generator, Iterator
+from concurrent.futures import ThreadPoolExecutor
 from typing import Any
 
 from .digests import Digests, digests
@@ -17,9 +19,9 @@ from .errors import WordsError
 from .jobs import FAILED, Job, Outcome, done, following, lost
 
 # How long a scheduler may take to answer, and how long there may be no worker, in seconds.
-ANSWERS, PATIENCE = 15.0, 60.0
-# How often it is asked which workers there are.
-LOOK = 1.0
+ANSWERS, PATIENCE = 10.0, 60.0
+# How often it is asked which workers there are, and how long a pause is between two looks at what came.
+LOOK, PAUSE = 1.0, 0.02
 # What a thread of a worker has waiting beside the job that it does.
 AHEAD = 2
 
@@ -56,6 +58,7 @@ class Cluster:
     def look(self) -> None:
         """Which workers there are; those that are new are asked what they have."""
         workers = self.client.scheduler_info()['workers']
+        self.known = {each: fault for each, fault in self.known.items() if each in workers}
         new = [each for each in workers if each not in self.known]
         told = self.client.run(question(), workers=new, on_error='return') if new else {}
         for worker, answer in told.items():
@@ -122,7 +125,7 @@ class Cluster:
             self.fill(jobs)
             if not self.open and not self.again:
                 return
-            wait_for_one(list(self.open))
+            wait_for_one(self.open)
             yield from self.ended()
             if time.monotonic() - self.looked > LOOK:
                 self.look()
@@ -149,16 +152,11 @@ def failed(job: Job, fault: BaseException) -> Outcome:
     return Outcome(job.number, FAILED, told=f'no worker could do it: {type(fault).__name__}: {fault}')
 
 
-def wait_for_one(futures: list[Any]) -> None:
-    """Waits until one of them has ended, a look long at most."""
-    if not futures:
-        time.sleep(LOOK)
-        return
-    distributed = package()
-    try:
-        distributed.wait(futures, timeout=LOOK, return_when='FIRST_COMPLETED')
-    except (distributed.TimeoutError, distributed.CancelledError):
-        pass
+def wait_for_one(futures: Collection[Any]) -> None:
+    """Waits until one of them has ended, a look long at most. What the client knows of them comes by itself."""
+    until = time.monotonic() + LOOK
+    while time.monotonic() < until and not any(each.done() for each in futures):
+        time.sleep(PAUSE)
 
 
 def package() -> Any:
@@ -176,9 +174,19 @@ def connected(address: str) -> Any:
     # What it says of workers that come and go is told in the desk's words.
     logging.getLogger('distributed').setLevel(logging.CRITICAL)
     try:
+        # A client that fails to begin says so once more when it is thrown away; a thread has no loop of a notebook.
+        with ThreadPoolExecutor(1) as pool:
+            pool.submit(lambda: asyncio.run(reached(address))).result()
         return distributed.Client(address, timeout=ANSWERS, set_as_default=False)
     except (OSError, ValueError, TimeoutError) as fault:
         raise WordsError(f'{address}: there is no scheduler: {str(fault) or type(fault).__name__}') from fault
+
+
+async def reached(address: str) -> None:
+    """Whether somebody answers there; an `OSError` where nobody does, a `ValueError` where this is no address."""
+    distributed = package()
+    how = distributed.Security().get_connection_args('client')
+    await (await distributed.comm.connect(address, timeout=ANSWERS, **how)).close()
 
 
 def by_cluster(jobs: Iterator[Job], address: str, notes: list[str]) -> Generator[Outcome, None, None]:

@@ -108,7 +108,7 @@ def in_list(place: str, roles: Sequence[Role], common: Mapping[str, tuple[str, .
 def fitting(tables: Sequence[Table], roles: Sequence[Role]) -> Table:
     """Of the readings of a text the one that has the headings, else the one with as many columns as there are
     files."""
-    headed = [each for each in tables if each.rows and headings(each.rows[0], roles)]
+    headed = [each for each in tables if head_of(each, roles)]
     plain = [each for each in tables if width(each) <= len(roles) or roles[-1].several]
     held = headed or plain
     if len(held) > 1:
@@ -136,13 +136,23 @@ def headings(row: TableRow, roles: Sequence[Role]) -> dict[int, str]:
     return {column: known[text] for column, text in cells} if all(text in known for _, text in cells) else {}
 
 
+def head_of(table: Table, roles: Sequence[Role]) -> TableRow | None:
+    """The row of headings: the first row, or one that remarks alone stand above."""
+    for row in table.rows:
+        if headings(row, roles):
+            return row
+        if not remark(row):
+            break
+    return None
+
+
 def rows_of(table: Table, roles: Sequence[Role], place: str,
             common: Mapping[str, tuple[str, ...]]) -> tuple[Listed, ...]:
-    columns = headings(table.rows[0], roles) if table.rows else {}
-    body = [each for each in table.rows[bool(columns):] if not remark(each)]
-    last = len(roles) - 1
-    columns = columns or {column: roles[min(column, last)].option for column in range(width(table))}
-    if roles[0].option not in columns.values():
+    head, last = head_of(table, roles), len(roles) - 1
+    body = [each for each in table.rows if each is not head and not remark(each)]
+    columns = headings(head, roles) if head else {column: roles[min(column, last)].option
+                                                  for column in range(width(table))}
+    if body and roles[0].option not in columns.values():
         raise Refused(3, '', 'columns', f'it has no column `{roles[0].name}`')
     return tuple(row_of(table, row, columns, roles, place, common) for row in body)
 

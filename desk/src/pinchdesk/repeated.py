@@ -1,6 +1,7 @@
 """One word of the desk over many cases: what is to be done, and who does it."""
 from __future__ import annotations
 
+import importlib
 import os
 from collections import Counter
 from collections.abc import Generator, Iterator, Mapping, Sequence
@@ -16,8 +17,9 @@ from .jobs import File, Job, Outcome, word_of
 from .lists import Listed, Role, listed
 from .network import Network
 from .output import check_place, read_bytes, write_whole
-from .program import as_bytes, case_bytes, network_bytes
+from .program import as_bytes, case_bytes, found, network_bytes
 from .progress import tell
+from .quantities import registry
 from .results import Done, Results
 from .study import Study, print_study
 from .taking import options_of
@@ -111,6 +113,9 @@ class Work:
 
     def begun(self, jobs: Iterator[Job]) -> Generator[Outcome, None, None]:
         if self.order.scheduler is None:
+            # That there is no program is no outcome of each case.
+            found()
+            load(self.order.words[0])
             return by_processes(jobs, min(self.order.processes, len(self.rows)))
         from .cluster import by_cluster
         return by_cluster(jobs, self.order.scheduler, self.notes)
@@ -121,6 +126,14 @@ class Work:
                      for number, row in enumerate(self.rows))
         notes = [f'{each.name}: {note}' for each in done for note in each.outcome.notes]
         return Results(' '.join(self.order.words), done, (*self.notes, *notes), self.stopped)
+
+
+def load(word: str) -> None:
+    """Loads here what takes long to load, so that no process has to do it for itself."""
+    if word == 'case':
+        registry()
+    if word in ('draw', 'page'):
+        importlib.import_module('pinchdesk.pictures')
 
 
 def bad_of(word: Word) -> str:
@@ -147,6 +160,8 @@ def many(word: str, cases: str | os.PathLike[str] | Mapping[str, Held | Sequence
         held = word_of(names)
     except (KeyError, IndexError) as fault:
         raise WordsError(f'{word} is no word of the desk that many cases can be given to') from fault
+    if not held.inputs or held.parts:
+        raise WordsError(f'{word} has no files by itself')
     taken = options_of(held, words)
     order = Order(names, taken.options, scheduler, processes or processors(), into, ending)
     if not isinstance(cases, Mapping):
