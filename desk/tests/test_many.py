@@ -4,6 +4,8 @@ from __future__ import annotations
 import csv
 import io
 import os
+import subprocess
+import sys
 from collections.abc import Callable, Iterator
 from dataclasses import replace
 from pathlib import Path
@@ -11,14 +13,15 @@ from typing import Any
 
 import openpyxl
 import pytest
-from conftest import CASES, EXAMPLES, NETWORKS, Done, example
+from conftest import CASES, DESK, EXAMPLES, NETWORKS, Done, example
 from tabled import workbook
 
 import pinchdesk
 from pinchdesk import Pinch, Refused, WordsError, read_case
 from pinchdesk.cli import main
 from pinchdesk.digests import digests
-from pinchdesk.jobs import TRIES
+from pinchdesk.facts import facts_of
+from pinchdesk.jobs import TRIES, File, Job, Outcome, done
 from pinchdesk.word import Answer
 
 LIST = str(EXAMPLES / 'list.txt')
@@ -122,6 +125,14 @@ def test_one_study_may_be_that_of_all_cases(desk: Desk, tmp_path: Path) -> None:
     assert [row['scenario'] for row in rows if row['case'] == 'two.csv' and row['scenario']] == ['Today', 'Winter']
 
 
+def test_a_text_without_tables_says_of_itself_what_its_comments_say() -> None:
+    text = '# 7 exchangers\n# bound: at least 7 by the solver\n# cost 107500\n#,a,,,\nexchanger E1 H C 5\n# 3 x\n'
+    facts, = facts_of(Answer(text))
+    assert {key: str(value) for key, value in facts.items()} == {
+        'exchangers': '7', 'cost': '107500', 'said': 'bound: at least 7 by the solver; a'}
+    assert facts_of(Answer(b'#7 x')) == ({},)
+
+
 @pytest.mark.parametrize('words, row', [
     (['site', 'sites'], {'site': 'three-plants.csv', 'boiler kW': '25', 'cooling kW': '9'}),
     (['case', 'tables', '-d', '10'], {'table': 'table.xlsx', 'answer': 'good'}),
@@ -129,13 +140,13 @@ def test_one_study_may_be_that_of_all_cases(desk: Desk, tmp_path: Path) -> None:
 def test_other_words_have_rows_too(words: list[str], row: dict[str, str], desk: Desk, tmp_path: Path,
                                    monkeypatch: pytest.MonkeyPatch) -> None:
     monkeypatch.chdir(tmp_path)
-    for place, names in (('sites', ['three-plants.csv']), ('tables', ['table.xlsx']), ('cases', ['tc3.csv',
-                                                                                                'tc3-network.txt'])):
+    for place, names in (('sites', ['three-plants.csv']), ('tables', ['table.xlsx']),
+                         ('cases', ['tc3.csv', 'tc3-network.txt'])):
         Path(place).mkdir()
         for name in names:
             Path(place, name).write_bytes(example(name))
-    done = desk(*words, '--form', 'csv')
-    assert done.status == 0 and row.items() <= rows_of(done)[0].items()
+    ended = desk(*words, '--form', 'csv')
+    assert ended.status == 0 and row.items() <= rows_of(ended)[0].items()
 
 
 def test_the_answers_are_kept_where_it_is_asked(desk: Desk, folder: Path, tmp_path: Path) -> None:
@@ -174,7 +185,8 @@ def test_networks_stand_beside_the_cases_of_a_folder(desk: Desk, tmp_path: Path)
 
 LISTS: list[bytes] = [
     b'four-stream.csv\n\ntc3.csv\n', b'# two cases\ncase\nfour-stream.csv\ntc3.csv\n',
-    b'network,case,note\nx,four-stream.csv,"a, b"\n,tc3.csv\n', b'\xef\xbb\xbfname;Case\r\nA;four-stream.csv\r\nB;tc3.csv',
+    b'network,case,note\nx,four-stream.csv,"a, b"\n,tc3.csv\n',
+    b'\xef\xbb\xbfname;Case\r\nA;four-stream.csv\r\nB;tc3.csv',
     workbook([['case', 'network'], ['four-stream.csv', 'x'], ['tc3.csv']])]
 
 
@@ -194,7 +206,8 @@ FAULTS = [
 
 
 @pytest.mark.parametrize('content, status, said', FAULTS, ids=range(len(FAULTS)))
-def test_a_list_that_is_not_clear_is_refused(content: bytes, status: int, said: str, desk: Desk, tmp_path: Path) -> None:
+def test_a_list_that_is_not_clear_is_refused(content: bytes, status: int, said: str, desk: Desk,
+                                             tmp_path: Path) -> None:
     path = tmp_path / 'list.txt'
     path.write_bytes(content)
     done = desk('targets', str(path))
@@ -275,13 +288,22 @@ def test_a_case_at_which_each_process_dies_is_given_up(folder: Path, tmp_path: P
     assert (tmp_path / 'deaths').read_text() == '\n' * TRIES
 
 
-def test_an_error_of_the_desk_is_a_row(folder: Path, monkeypatch: pytest.MonkeyPatch) -> None:
+def test_an_error_of_the_desk_is_an_outcome(monkeypatch: pytest.MonkeyPatch) -> None:
     def broken(*_: object) -> Answer:
         raise ZeroDivisionError('here')
     monkeypatch.setattr('pinchdesk.asked.targets_sheets', broken)
-    results = pinchdesk.many('targets', folder, processes=2)
-    assert [each.outcome.told for each in results.done][0] == 'the desk failed: ZeroDivisionError: here'
-    assert results.status == 3 and results.told == '3 cases: 2 failed, 1 refused'
+    job = Job(0, ('targets',), {'form': None}, {'case': (File('tc3.csv', example('tc3.csv')),)})
+    assert done(job) == Outcome(0, 2, told='the desk failed: ZeroDivisionError: here')
+
+
+def test_processes_that_cannot_be_forked_are_started(folder: Path, tmp_path: Path) -> None:
+    """As after a search for networks in a notebook or a script, which is not run once more."""
+    script = tmp_path / 'script.py'
+    script.write_text('import sys, types\nimport pinchdesk\nsys.modules["scipy.optimize"] = types.ModuleType("x")\n'
+                      f'print(pinchdesk.many("targets", {str(folder)!r}, processes=2).told)\n')
+    ended = subprocess.run([sys.executable, str(script)], capture_output=True, check=False, text=True,
+                           env={**os.environ, 'PYTHONPATH': str(DESK / 'src')})
+    assert (ended.stdout, ended.stderr) == ('3 cases: 2 good, 1 refused\n', '')
 
 
 def test_what_was_done_is_kept_when_it_is_stopped(desk: Desk, folder: Path, monkeypatch: pytest.MonkeyPatch) -> None:
@@ -338,6 +360,7 @@ def test_without_a_scheduler_or_the_package_it_is_told(desk: Desk, monkeypatch: 
     for address in ('tcp://127.0.0.1:1', 'nothing://x'):
         done = desk('targets', LIST, '--scheduler', address)
         assert done.status == 2 and done.err.startswith(f'pinchdesk: {address}: there is no scheduler')
-    monkeypatch.setitem(__import__('sys').modules, 'distributed', None)
+    modules: dict[str, Any] = sys.modules
+    monkeypatch.setitem(modules, 'distributed', None)
     done = desk('targets', LIST, '--scheduler', 'tcp://127.0.0.1:1')
     assert done.status == 2 and done.err.count('\n') == 1 and 'wants the package distributed' in done.err

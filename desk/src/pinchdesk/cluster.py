@@ -2,7 +2,7 @@
 
 A worker is given work only after it told what it has: the same desk and the same program, by their digests. One that
 has not, or has others, is left out, and that is told. A worker that dies loses no job: the scheduler gives it to
-another one; where none is left that may have it, it is given out anew. An outcome counts once, whoever comes with it."""
+another one; where none is left that may have it, it is given out anew. Each outcome counts once, whoever has it."""
 from __future__ import annotations
 
 import asyncio

@@ -10,16 +10,18 @@ import signal
 import sys
 from collections import Counter
 from collections.abc import Generator, Iterable, Iterator
-from contextlib import suppress
+from contextlib import contextmanager, suppress
 from multiprocessing.connection import Connection, wait
-from types import FrameType
+from types import FrameType, ModuleType
+from typing import Any
 
 from .jobs import TRIES, Job, Outcome, done, following, lost
 
 # How long a process may take to end when it is told to, in seconds.
 PATIENCE = 2.0
-# By fork a process has all that is loaded here at once, and a notebook or a script without a guard is not run again.
-CONTEXT = multiprocessing.get_context('fork')
+# By fork a process has at once all that is loaded here; but the solver of scipy has threads of its own, for which a
+# fork of it waits for ever.
+SOLVER = 'scipy.optimize'
 
 
 def processors() -> int:
@@ -43,14 +45,28 @@ def work(jobs: Connection, others: list[Connection]) -> None:
             jobs.send(done(jobs.recv()))
 
 
+@contextmanager
+def without_main() -> Iterator[None]:
+    """A process that is spawned runs the script of this one once more, but for this: it needs nothing of it."""
+    held = sys.modules['__main__']
+    sys.modules['__main__'] = ModuleType('__main__')
+    try:
+        yield
+    finally:
+        sys.modules['__main__'] = held
+
+
 class Hand:
     """A process of the crew, and the job that it has."""
 
     def __init__(self, others: Iterable[Connection]) -> None:
-        self.pipe, there = CONTEXT.Pipe()
+        forked = SOLVER not in sys.modules
+        context: Any = multiprocessing.get_context('fork' if forked else 'spawn')
+        self.pipe, there = context.Pipe()
         self.job: Job | None = None
-        self.process = CONTEXT.Process(target=work, args=(there, [*others, self.pipe]))
-        self.process.start()
+        self.process = context.Process(target=work, args=(there, [*others, self.pipe] if forked else []))
+        with without_main():
+            self.process.start()
         there.close()
 
     def give(self, job: Job | None) -> None:

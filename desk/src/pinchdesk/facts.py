@@ -1,6 +1,7 @@
 """Answers as rows of a table of many answers: cells by their headings, in engineers' units."""
 from __future__ import annotations
 
+import re
 from collections.abc import Iterator, Sequence
 from decimal import Decimal
 
@@ -13,6 +14,7 @@ from .word import Answer, Facts
 
 SAID = 'said'
 LONGEST = 300
+NUMBERED = re.compile(r'(?P<first>-?\d+(?:\.\d+)?) (?P<behind>[^\W\d]+)|(?P<before>[^\W\d]+) (?P<last>-?\d+(?:\.\d+)?)')
 
 
 def targets_facts(case: Case, targets: Targets) -> Facts:
@@ -44,8 +46,7 @@ def facts_of(answer: Answer) -> tuple[Facts, ...]:
     rows = tuple(row for each in answer.sheets for row in facts_of_rows(each, len(answer.sheets) > 1))
     if rows:
         return rows
-    told = comments_of(answer.content) if not answer.sheets else ''
-    return ({SAID: told} if told else {},)
+    return (facts_of_comments(answer.content) if not answer.sheets else {},)
 
 
 def facts_of_lines(rows: Sequence[Sequence[Cell]]) -> Facts:
@@ -69,11 +70,17 @@ def facts_of_rows(sheet: Sheet, named: bool) -> Iterator[Facts]:
         yield {'table': sheet.title, **cells} if named else cells
 
 
-def comments_of(content: str | bytes) -> str:
-    """The comments with which a text begins, on one line."""
+def facts_of_comments(content: str | bytes) -> Facts:
+    """The comments with which a text begins: a number with its name (`7 exchangers`, `cost 107500`) is a cell, all
+    else is said."""
+    found: dict[str, Cell] = {}
     said: list[str] = []
     for line in content.split('\n') if isinstance(content, str) else []:
         if not line.startswith('#'):
             break
-        said.append(line.strip('#, '))
-    return '; '.join(said)[:LONGEST]
+        match = NUMBERED.fullmatch(line.strip('#, '))
+        if match:
+            found[match['before'] or match['behind']] = Decimal(match['first'] or match['last'])
+        else:
+            said.append(line.strip('#, '))
+    return found | ({SAID: '; '.join(said)[:LONGEST]} if said else {})

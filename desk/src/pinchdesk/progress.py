@@ -8,14 +8,8 @@ from collections.abc import Iterator
 from contextlib import contextmanager
 
 PATIENCE = 2.0
-# What long work last told of itself.
-told = ''
-
-
-def tell(text: str) -> None:
-    """How far long work is: it is shown with the next sign of life."""
-    global told
-    told = text
+# How far the work is, where it says so.
+FAR = ['']
 
 
 @contextmanager
@@ -24,7 +18,6 @@ def progress(what: str) -> Iterator[None]:
     if not sys.stderr.isatty():
         yield
         return
-    tell('')
     ended = threading.Event()
     shower = threading.Thread(target=show, args=(what, ended), daemon=True)
     shower.start()
@@ -35,11 +28,16 @@ def progress(what: str) -> Iterator[None]:
         shower.join()
 
 
+def tell(text: str) -> None:
+    """Says how far the work is: it stands behind the seconds."""
+    FAR[0] = text
+
+
 def show(what: str, ended: threading.Event) -> None:
     begun = time.monotonic()
     if ended.wait(PATIENCE):
         return
     while not ended.wait(0.5):
-        held = f'{told}, ' if told else ''
-        print(f'\r{what}: {held}{time.monotonic() - begun:.0f} s \033[K', end='', file=sys.stderr, flush=True)
+        far = f', {FAR[0]}' if FAR[0] else ''
+        print(f'\r\033[K{what}: {time.monotonic() - begun:.0f} s{far} ', end='', file=sys.stderr, flush=True)
     print('\r\033[K', end='', file=sys.stderr, flush=True)

@@ -184,7 +184,8 @@ def files_of(name: str, given: Held | Sequence[Held], roles: Sequence[Role]) -> 
     files: dict[str, tuple[File, ...]] = {}
     for at, content in enumerate(held):
         role = roles[min(at, len(roles) - 1)]
-        files[role.option] = (*files.get(role.option, ()), File(name if not at else f'{name} {role.name}', held_bytes(content)))
+        file = File(f'{name} {role.name}' if at else name, held_bytes(content))
+        files[role.option] = (*files.get(role.option, ()), file)
     return files
 
 
