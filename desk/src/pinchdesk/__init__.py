@@ -11,7 +11,8 @@ from .program import Pinch
 from .repeated import many
 from .reports import (audit_sheets, flow_sheets, prices_sheets, site_sheets, sweep_sheets, targets_sheets)
 from .results import Done, Results
-from .sheets import Sheet
+from .sheets import Sheet, rendered
+from .shown import Shown
 from .site import Main, Plant, Site, read_site
 from .states import (Branch, Followed, Passage, PinchPoint, PinchSide, SideState, StreamEnd, follow,
                      pinches_of)
@@ -23,10 +24,10 @@ __all__ = [
     'Exchanger', 'Followed', 'Forbid', 'HeatFlow', 'Main', 'Mix', 'Move', 'Network', 'OutputError', 'Part', 'Pass',
     'Passage', 'Penalty', 'Pinch', 'PinchPoint', 'PinchSide', 'Place', 'PlaceKind', 'Plant', 'Point', 'Price',
     'PriceAnswer', 'Prices', 'Profile', 'ProgramError', 'Refused', 'Rejected', 'Results', 'Rows', 'Scenario',
-    'ScenarioAnswer', 'Segment', 'Sheet', 'Side', 'SideState', 'Site', 'SiteAnswer', 'Span', 'SpanAnswer', 'Split',
-    'Stream', 'StreamEnd', 'Study', 'Sweep', 'SweepRow', 'Targets', 'TooFine', 'Use', 'Utility', 'Verdict', 'Wanted',
-    'WordsError', 'actual', 'audit_sheets', 'case_of_table', 'checked', 'completed', 'exchangers_sheet',
+    'ScenarioAnswer', 'Segment', 'Sheet', 'Shown', 'Side', 'SideState', 'Site', 'SiteAnswer', 'Span', 'SpanAnswer',
+    'Split', 'Stream', 'StreamEnd', 'Study', 'Sweep', 'SweepRow', 'Targets', 'TooFine', 'Use', 'Utility', 'Verdict',
+    'Wanted', 'WordsError', 'actual', 'audit_sheets', 'case_of_table', 'checked', 'completed', 'exchangers_sheet',
     'flow_sheets', 'follow', 'many', 'pinches_of', 'prices_sheets', 'print_case', 'print_network', 'print_study',
-    'read_case', 'read_network', 'read_site', 'read_study', 'shifted', 'site_sheets', 'streams_sheet', 'sums_sheet',
-    'sweep_sheets', 'targets_sheets',
+    'read_case', 'read_network', 'read_site', 'read_study', 'rendered', 'shifted', 'site_sheets', 'streams_sheet',
+    'sums_sheet', 'sweep_sheets', 'targets_sheets',
 ]

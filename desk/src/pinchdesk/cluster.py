@@ -12,6 +12,7 @@ import time
 import uuid
 from collections.abc import Callable, Collection, Generator, Iterator
 from concurrent.futures import ThreadPoolExecutor
+from contextlib import closing, contextmanager
 from typing import Any
 
 from .digests import Digests, digests
@@ -171,8 +172,6 @@ def package() -> Any:
 def connected(address: str) -> Any:
     """A client of a scheduler; `WordsError` where there is none."""
     distributed = package()
-    # What it says of workers that come and go is told in the desk's words.
-    logging.getLogger('distributed').setLevel(logging.CRITICAL)
     try:
         # A client that fails to begin says so once more when it is thrown away; a thread has no loop of a notebook.
         with ThreadPoolExecutor(1) as pool:
@@ -189,14 +188,28 @@ async def reached(address: str) -> None:
     await (await distributed.comm.connect(address, timeout=ANSWERS, **how)).close()
 
 
+@contextmanager
+def quiet() -> Iterator[None]:
+    """What the package logs of workers and schedulers that come and go is told in the desk's words alone."""
+    package()
+    loggers = [logging.getLogger(name) for name in list(logging.root.manager.loggerDict)
+               if name.partition('.')[0] in ('distributed', 'tornado', 'asyncio')]
+    levels = [each.level for each in loggers]
+    for each in loggers:
+        each.setLevel(logging.CRITICAL + 1)
+    try:
+        yield
+    finally:
+        for each, level in zip(loggers, levels):
+            each.setLevel(level)
+
+
 def by_cluster(jobs: Iterator[Job], address: str, notes: list[str]) -> Generator[Outcome, None, None]:
     """The outcomes of jobs, as they come, by the workers of a scheduler; what is to be told goes to `notes`."""
-    client = connected(address)
-    try:
+    with quiet(), closing(connected(address)) as client:
         cluster = Cluster(client, address)
         cluster.notes = notes
-        yield from cluster.outcomes(jobs)
-    except (OSError, TimeoutError) as fault:
-        notes.append(f'{address}: the scheduler answers no longer: {str(fault) or type(fault).__name__}')
-    finally:
-        client.close(timeout=ANSWERS)
+        try:
+            yield from cluster.outcomes(jobs)
+        except (OSError, TimeoutError) as fault:
+            notes.append(f'{address}: the scheduler answers no longer: {str(fault) or type(fault).__name__}')
