@@ -6,8 +6,10 @@ import io
 import os
 import subprocess
 import sys
+from argparse import ArgumentParser
 from collections.abc import Callable, Iterator
 from dataclasses import replace
+from decimal import Decimal
 from pathlib import Path
 from typing import Any
 
@@ -22,7 +24,9 @@ from pinchdesk.cli import main
 from pinchdesk.digests import digests
 from pinchdesk.facts import facts_of
 from pinchdesk.jobs import TRIES, File, Job, Outcome, done
-from pinchdesk.word import Answer
+from pinchdesk.sheets import Sheet
+from pinchdesk.taking import options_of
+from pinchdesk.word import Answer, Word
 
 LIST = str(EXAMPLES / 'list.txt')
 Desk = Callable[..., Done]
@@ -123,6 +127,32 @@ def test_one_study_may_be_that_of_all_cases(desk: Desk, tmp_path: Path) -> None:
     rows = rows_of(desk('prices', str(tmp_path), '--study', str(EXAMPLES / 'steam-prices.csv'), '--form', 'csv'))
     assert {row['case'] for row in rows} == {'one.csv', 'two.csv'}
     assert [row['scenario'] for row in rows if row['case'] == 'two.csv' and row['scenario']] == ['Today', 'Winter']
+
+
+def test_remarks_stand_beside_the_rows_of_tables() -> None:
+    one = Sheet('One', ('pinch', 'kW'), (('80', Decimal(5)), ('90', Decimal(6))))
+    facts = facts_of(Answer('', sheets=(one, Sheet('', (), (('a remark',),)))))
+    assert facts == ({'pinch': '80', 'kW': 5, 'said': 'a remark'}, {'pinch': '90', 'kW': 6})
+    facts = facts_of(Answer('', sheets=(one, replace(one, title='Two', rows=one.rows[:1]))))
+    assert [row['table'] for row in facts] == ['One', 'One', 'Two']
+    assert facts_of(Answer('', sheets=(Sheet('', (), ()),))) == ({},)
+
+
+def test_an_option_that_is_an_output_is_not_asked_for() -> None:
+    def arguments(parser: ArgumentParser) -> None:
+        parser.add_argument('case')
+        parser.add_argument('--start', metavar='FILE')
+        parser.add_argument('--report', metavar='FILE', default='none')
+        group = parser.add_mutually_exclusive_group()
+        group.add_argument('--cost')
+        group.add_argument('--above')
+    word = Word('w', '', '', arguments, lambda options: Answer(''), ('case', 'start'))
+    taken = options_of(word, ['--above', '5', '--start', 'a.txt'])
+    assert taken.common == {'start': ('a.txt',)} and [each.option for each in taken.roles] == ['case', 'start']
+    assert taken.options == {'above': '5', 'cost': None, 'case': None, 'start': None, 'form': None, 'report': 'none'}
+    for words in (['--report', 'x'], ['--above', '5', '--cost', '6']):
+        with pytest.raises(WordsError):
+            options_of(word, words)
 
 
 def test_a_text_without_tables_says_of_itself_what_its_comments_say() -> None:

@@ -36,17 +36,20 @@ def flow_facts(case: Case, flow: HeatFlow | Cut) -> Facts:
 
 
 def facts_of(answer: Answer) -> tuple[Facts, ...]:
-    """The rows that stand for an answer: its own, else those that its tables have, else what its text says of itself
-    in comments above all else. There is one row at least."""
+    """The rows that stand for an answer: its own; else one row of its tables that have a number a line; else the rows
+    of those with headings; else what its text says of itself in comments above all else. There is one row at least."""
     if answer.facts:
         return answer.facts
-    plain = [each for each in answer.sheets if not any(each.headings)]
-    if plain:
-        return (facts_of_lines([row for each in plain for row in each.rows]),)
-    rows = tuple(row for each in answer.sheets for row in facts_of_rows(each, len(answer.sheets) > 1))
-    if rows:
-        return rows
-    return (facts_of_comments(answer.content) if not answer.sheets else {},)
+    if not answer.sheets:
+        return (facts_of_comments(answer.content),)
+    lines = facts_of_lines([row for each in answer.sheets if not any(each.headings) for row in each.rows])
+    headed = [each for each in answer.sheets if any(each.headings)]
+    rows = [dict(row) for each in headed for row in facts_of_rows(each, len(headed) > 1)]
+    if lines.keys() - {SAID} or not rows:
+        return (lines,)
+    # A remark beside a table stands in its first row.
+    rows[0].update(lines)
+    return tuple(rows)
 
 
 def facts_of_lines(rows: Sequence[Sequence[Cell]]) -> Facts:

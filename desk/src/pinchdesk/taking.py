@@ -10,6 +10,9 @@ from .errors import WordsError
 from .lists import Role
 from .word import Word
 
+# What an option of a word is called that is a path and none of its inputs.
+OUTPUTS = ('FILE', 'FOLDER')
+
 
 class Others(ArgumentParser):
     """Declares the arguments of a word at a parser, but for its files, of which each case has its own."""
@@ -24,6 +27,10 @@ class Others(ArgumentParser):
         action = super().add_argument(*names, **how)
         self.options.append(action.dest)
         if action.dest == 'form':
+            return action
+        if action.dest not in self.inputs and action.metavar in OUTPUTS:
+            # What would be written once for all cases, by whoever does them, is not asked for.
+            self.parser.set_defaults(**{action.dest: action.default})
             return action
         if action.dest not in self.inputs:
             return self.parser.add_argument(*names, **how)
