@@ -10,6 +10,7 @@ from argparse import ArgumentParser
 from collections.abc import Callable, Iterator
 from dataclasses import replace
 from decimal import Decimal
+from importlib import import_module
 from pathlib import Path
 from typing import Any
 
@@ -274,6 +275,24 @@ def test_words_that_are_none(words: list[str], said: str, capfd: pytest.CaptureF
 def test_without_a_program_nothing_is_begun(desk: Desk, monkeypatch: pytest.MonkeyPatch) -> None:
     monkeypatch.setenv('PINCH', '/nowhere/pinch')
     assert desk('targets', LIST) == Done(2, '', 'pinchdesk: $PINCH is /nowhere/pinch, and that is no program\n')
+
+
+def test_each_case_is_taken_in_each_scenario(desk: Desk, tmp_path: Path) -> None:
+    changes = tmp_path / 'changes.csv'
+    changes.write_text('scenario;source;field;value\nhotter;H2;supply;+10 K\nless;H2;CP;-5 %\n')
+    (tmp_path / 'list').write_text(f'{EXAMPLES}/four-stream.csv\n{EXAMPLES}/column.csv\n')
+    words = ['targets', str(tmp_path / 'list'), '--scenarios', str(changes), '--form', 'csv']
+    try:
+        import_module('pinchdesk.scenarios')
+    except ImportError:
+        assert desk(*words) == Done(2, '', 'pinchdesk: --scenarios wants the word whatif, which this desk has not\n')
+        return
+    done = desk(*words, '--into', str(tmp_path / 'kept'))
+    rows = [(row['scenario'], row['answer'], row['hot utility kW']) for row in rows_of(done)]
+    assert rows[:3] == [('base', 'good', '20'), ('hotter', 'good', '0'), ('less', 'good', '32')]
+    assert [row[:2] for row in rows[3:]] == [('base', 'good'), ('hotter', 'refused'), ('less', 'refused')]
+    assert (done.status, len(os.listdir(tmp_path / 'kept'))) == (3, 4)
+    assert 'four-stream-hotter.txt' in os.listdir(tmp_path / 'kept')
 
 
 # From a notebook.

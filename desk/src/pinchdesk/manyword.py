@@ -14,7 +14,7 @@ from .sheets import FORMS, form_of, rendered
 from .taking import declared, taken
 from .word import Answer, Word
 
-OWN = ('place', 'scheduler', 'processes', 'into', 'ending', 'output', 'form', 'word', 'part', 'its')
+OWN = ('place', 'scenarios', 'scheduler', 'processes', 'into', 'ending', 'output', 'form', 'word', 'part', 'its')
 EXAMPLE = 'examples/list.txt'
 
 
@@ -23,6 +23,9 @@ def takes(word: Word, parser: ArgumentParser) -> None:
     parser.add_argument('place', metavar='FOLDER|LIST', help='a folder of files, or a list: text with separators or '
                         '.xlsx, a case a row, with its further files in further columns')
     declared(word, parser)
+    if word.inputs[0] == 'case':
+        parser.add_argument('--scenarios', metavar='TABLE', help='a table of changes, as whatif takes it: each case is '
+                            'taken as it is and in each scenario')
     parser.add_argument('--form', choices=FORMS, help='the form of the table; else the ending of FILE says it')
     parser.add_argument('--processes', type=int, default=processors(), metavar='N',
                         help='by how many processes it is done here')
@@ -41,7 +44,8 @@ def answer(word: Word, words: tuple[str, ...], options: Namespace) -> Answer:
     rows = listed(options.place, held.roles, held.common)
     if options.output is not None:
         check_place(options.output, [path for row in rows for paths in row.paths.values() for path in paths])
-    order = Order(words, held.options, options.scheduler, options.processes, options.into, options.ending)
+    order = Order(words, held.options, options.scheduler, options.processes, options.into, options.ending,
+                  getattr(options, 'scenarios', None))
     results = done_all(order, rows)
     return Answer(rendered([results.sheet()], form), notes=(*results.notes, results.told), status=results.status)
 

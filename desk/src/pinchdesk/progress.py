@@ -18,6 +18,7 @@ def progress(what: str) -> Iterator[None]:
     if not sys.stderr.isatty():
         yield
         return
+    tell('')
     ended = threading.Event()
     shower = threading.Thread(target=show, args=(what, ended), daemon=True)
     shower.start()

@@ -23,6 +23,7 @@ from .quantities import registry
 from .results import Done, Results
 from .study import Study, print_study
 from .taking import options_of
+from .varied import SCENARIO, varied, with_scenarios
 from .word import Word
 
 Held = Case | Network | Study | str | bytes
@@ -33,7 +34,8 @@ ENDINGS = {'case': 'csv', 'draw': 'svg', 'page': 'html'}
 @dataclass(frozen=True)
 class Order:
     """A word with its part, its options, and who does it: so many processes here, or the workers of a scheduler.
-    `into` is the folder where each answer is kept, and `ending` what the files there end with."""
+    `into` is the folder where each answer is kept, and `ending` what the files there end with; `scenarios` is a table
+    of changes, by each of which each case is taken too."""
 
     words: tuple[str, ...]
     options: Mapping[str, object]
@@ -41,17 +43,20 @@ class Order:
     processes: int = field(default_factory=processors)
     into: str | None = None
     ending: str | None = None
+    scenarios: str | None = None
 
     def kept(self, rows: Sequence[Listed]) -> list[str]:
         """The names of the files of the answers, each of its own."""
         ending = self.ending or ENDINGS.get(self.words[0], 'txt')
-        stems = Counter(Path(each.name).stem for each in rows)
+        stems = Counter((Path(each.name).stem, each.names.get(SCENARIO)) for each in rows)
         seen: Counter[str] = Counter()
         names = []
         for row in rows:
             path = Path(row.name)
             # Of two with one name their folders tell them apart, and else a number.
-            stem = path.stem if stems[path.stem] == 1 else str(path.with_suffix('')).strip('/.')
+            alone = stems[path.stem, row.names.get(SCENARIO)] == 1
+            stem = path.stem if alone else str(path.with_suffix('')).strip('/.')
+            stem = '-'.join([stem, *([row.names[SCENARIO]] if SCENARIO in row.names else [])])
             stem = stem.replace(os.sep, '_') or '_'
             seen[stem] += 1
             names.append(f'{stem}-{seen[stem]}.{ending}' if seen[stem] > 1 else f'{stem}.{ending}')
@@ -62,10 +67,13 @@ class Work:
     """The jobs of an order, their outcomes, and what is to be told."""
 
     def __init__(self, order: Order, rows: Sequence[Listed]) -> None:
+        self.table = read_bytes(order.scenarios) if order.scenarios is not None else None
         self.order, self.rows = order, rows
+        if self.table is not None and order.scenarios is not None:
+            self.rows = with_scenarios(rows, self.table, order.scenarios)
         self.outcomes: dict[int, Outcome] = {}
         self.notes: list[str] = []
-        self.names = order.kept(rows) if order.into is not None else None
+        self.names = order.kept(self.rows) if order.into is not None else None
         self.stopped = False
 
     def check(self) -> None:
@@ -84,10 +92,19 @@ class Work:
             try:
                 files = {option: tuple(File(each, read_bytes(each)) for each in paths)
                          for option, paths in row.paths.items()}
+                files |= self.varied(row, files)
             except Refused as fault:
                 self.take(Outcome(number, fault.status, told='; '.join(lines_of(fault))))
                 continue
             yield self.job(number, files)
+
+    def varied(self, row: Listed, files: Mapping[str, tuple[File, ...]]) -> dict[str, tuple[File, ...]]:
+        """The case in the scenario of its row, where there are scenarios."""
+        if self.table is None or self.order.scenarios is None:
+            return {}
+        case, = files['case']
+        content = varied(case.content, self.table, self.order.scenarios, row.names[SCENARIO])
+        return {'case': (File(case.path, content),)}
 
     def job(self, number: int, files: Mapping[str, tuple[File, ...]]) -> Job:
         return Job(number, self.order.words, self.order.options, files, self.names[number] if self.names else None)
@@ -122,6 +139,7 @@ class Work:
 
     def results(self, bad: str) -> Results:
         """What came of all rows, in their order."""
+        # The order of the input is that of the rows, whoever was quicker.
         done = tuple(Done(row.names, self.outcomes.get(number) or Outcome(number, None), bad)
                      for number, row in enumerate(self.rows))
         notes = [f'{each.name}: {note}' for each in done for note in each.outcome.notes]
