@@ -1,5 +1,5 @@
-# A plant from its table to the trade-off, cell by cell: for a notebook that knows `# %%` (VS Code, Spyder, jupytext), or
-# as a script: `python3 examples/plant.py FOLDER`. It writes into that folder alone. It wants the desk and `pinch`.
+# A plant from its table to the trade-off, cell by cell: for a notebook that knows `# %%` (VS Code, Spyder, jupytext),
+# or as a script: `python3 examples/plant.py FOLDER`. It writes into that folder alone. It wants the desk and `pinch`.
 
 # %% The desk: as it is installed, or as it stands in this checkout.
 import sys
@@ -27,7 +27,8 @@ def show(*sheets):
 
 # %% The table of the plant becomes a case. What is rounded, or taken because the table says nothing, is told.
 table = HERE / 'table.xlsx'
-made = pinchdesk.checked(pinchdesk.case_of_table(table.read_bytes(), table.name, pinchdesk.Wanted(difference='10')), pinch)
+wanted = pinchdesk.Wanted(difference='10')
+made = pinchdesk.checked(pinchdesk.case_of_table(table.read_bytes(), table.name, wanted), pinch)
 case = pinchdesk.completed(made.case)
 text = pinchdesk.print_case(made.case)
 (FOLDER / 'case.csv').write_text(text)
