@@ -3,6 +3,7 @@ from __future__ import annotations
 
 import re
 import sys
+import time
 import types
 from typing import Any
 
@@ -11,7 +12,7 @@ from conftest import DESK, example
 
 import pinchdesk
 from pinchdesk import Pinch, WordsError
-from pinchdesk.progress import progress
+from pinchdesk.progress import progress, tell
 
 
 def test_the_readme_runs_as_it_is_shown(monkeypatch: pytest.MonkeyPatch) -> None:
@@ -62,10 +63,14 @@ def test_a_sign_of_life_is_for_terminals_alone(capsys: pytest.CaptureFixture[str
     assert capsys.readouterr().err == ''
     monkeypatch.setattr('pinchdesk.progress.PATIENCE', 0.0)
     monkeypatch.setattr(sys.stderr, 'isatty', lambda: True)
+    shown, until = '', time.monotonic() + 60
     with progress('sweep'):
-        import time
-        time.sleep(0.7)
-    assert capsys.readouterr().err.startswith('\rsweep: ')
+        tell('3 of 7')
+        while 'sweep: ' not in shown and time.monotonic() < until:
+            time.sleep(0.05)
+            shown += capsys.readouterr().err
+    assert 'sweep: ' in shown and '3 of 7' in shown
+    assert (shown + capsys.readouterr().err).endswith('\r\033[K')
 
 
 def test_the_program_is_started_in_one_place_and_no_shell_is() -> None:

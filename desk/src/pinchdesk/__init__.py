@@ -14,11 +14,14 @@ from .network import End, Exchanger, Mix, Network, Pass, Split, print_network, r
 from .program import Pinch
 from .regions import Piece, Region
 from .remaining import Posed, Rest, remaining, written_case
+from .repeated import many
 from .reports import (audit_sheets, flow_sheets, prices_sheets, site_sheets, sweep_sheets, targets_sheets)
 from .restsheets import rest_sheets
+from .results import Done, Results
 from .scenarios import Change, Variant, Variants, Way, read_changes
 from .sets import Member, Partition, partition
-from .sheets import Sheet
+from .sheets import Sheet, rendered
+from .shown import Shown
 from .site import Main, Plant, Site, read_site
 from .states import (Branch, Followed, Passage, PinchPoint, PinchSide, SideState, StreamEnd, follow,
                      pinches_of)
@@ -28,16 +31,17 @@ from .unitsheets import units_sheets
 from .verdicts import Accepted, Penalty, Place, PlaceKind, Rejected, TooFine, Verdict
 
 __all__ = [
-    'Accepted', 'Basis', 'Branch', 'Case', 'Change', 'Converted', 'Curves', 'Cut', 'Design', 'DeskError', 'End',
+    'Accepted', 'Basis', 'Branch', 'Case', 'Change', 'Converted', 'Curves', 'Cut', 'Design', 'DeskError', 'Done', 'End',
     'Exchanger', 'Field', 'Followed', 'Forbid', 'HeatFlow', 'IndependentSet', 'Left', 'Main', 'Member', 'Mix', 'Move',
     'Network', 'Outcome', 'OutputError', 'Part', 'Partition', 'Pass', 'Passage', 'Penalty', 'Piece', 'Pinch',
     'PinchPoint', 'PinchSide', 'Place', 'PlaceKind', 'Plant', 'PlusMinus', 'Point', 'Posed', 'Price', 'PriceAnswer',
-    'Prices', 'Profile', 'ProgramError', 'Refused', 'Region', 'RegionUnits', 'Rejected', 'Rest', 'Rows', 'Scenario',
-    'ScenarioAnswer', 'Segment', 'Sheet', 'Side', 'SideState', 'Site', 'SiteAnswer', 'Span', 'SpanAnswer', 'Split',
-    'Step', 'Stream', 'StreamEnd', 'Study', 'Sweep', 'SweepRow', 'Targets', 'TooFine', 'Units', 'Use', 'Utility',
-    'Variant', 'Variants', 'Verdict', 'Wanted', 'Way', 'WhatIf', 'WordsError', 'actual', 'audit_sheets',
-    'case_of_table', 'checked', 'completed', 'exchangers_sheet', 'flow_sheets', 'follow', 'least_units', 'partition',
-    'pinches_of', 'prices_sheets', 'print_case', 'print_network', 'print_study', 'read_case', 'read_changes',
-    'read_network', 'read_site', 'read_study', 'remaining', 'rest_sheets', 'shifted', 'site_sheets', 'streams_sheet',
-    'sums_sheet', 'sweep_sheets', 'targets_sheets', 'units_sheets', 'what_if', 'what_if_sheets', 'written_case',
+    'Prices', 'Profile', 'ProgramError', 'Refused', 'Region', 'RegionUnits', 'Rejected', 'Rest', 'Results', 'Rows',
+    'Scenario', 'ScenarioAnswer', 'Segment', 'Sheet', 'Shown', 'Side', 'SideState', 'Site', 'SiteAnswer', 'Span',
+    'SpanAnswer', 'Split', 'Step', 'Stream', 'StreamEnd', 'Study', 'Sweep', 'SweepRow', 'Targets', 'TooFine', 'Units',
+    'Use', 'Utility', 'Variant', 'Variants', 'Verdict', 'Wanted', 'Way', 'WhatIf', 'WordsError', 'actual',
+    'audit_sheets', 'case_of_table', 'checked', 'completed', 'exchangers_sheet', 'flow_sheets', 'follow', 'least_units',
+    'many', 'partition', 'pinches_of', 'prices_sheets', 'print_case', 'print_network', 'print_study', 'read_case',
+    'read_changes', 'read_network', 'read_site', 'read_study', 'remaining', 'rendered', 'rest_sheets', 'shifted',
+    'site_sheets', 'streams_sheet', 'sums_sheet', 'sweep_sheets', 'targets_sheets', 'units_sheets', 'what_if',
+    'what_if_sheets', 'written_case',
 ]

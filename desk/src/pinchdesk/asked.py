@@ -9,6 +9,7 @@ from decimal import Decimal, InvalidOperation
 from .answers import Cut
 from .case import Case, completed, read_case
 from .errors import WordsError, about
+from .facts import flow_facts, targets_facts
 from .network import read_network
 from .output import read_bytes
 from .program import Pinch
@@ -16,7 +17,7 @@ from .reports import audit_sheets, flow_sheets, prices_sheets, site_sheets, swee
 from .sheets import FORMS, Sheet, form_of, rendered
 from .states import follow
 from .verdicts import Accepted
-from .word import Answer, Word
+from .word import Answer, Facts, Word
 
 CASE_HELP = 'a case file, as `pinchdesk case` writes it'
 
@@ -58,8 +59,9 @@ def takes_site(parser: ArgumentParser) -> None:
     takes_form(parser)
 
 
-def answer_of(sheets: Sequence[Sheet], options: Namespace, good: bool = True) -> Answer:
-    return Answer(rendered(sheets, form_of(options.output, options.form)), good)
+def answer_of(sheets: Sequence[Sheet], options: Namespace, good: bool = True, facts: Sequence[Facts] = ()) -> Answer:
+    content = rendered(sheets, form_of(options.output, options.form))
+    return Answer(content, good, sheets=tuple(sheets), facts=tuple(facts))
 
 
 def held_case(content: bytes) -> Case:
@@ -70,15 +72,16 @@ def held_case(content: bytes) -> Case:
 def targets(options: Namespace) -> Answer:
     content = read_bytes(options.case)
     with about(case=options.case):
-        answer = Pinch().targets(content)
-        return answer_of(targets_sheets(held_case(content), answer), options)
+        answer, held = Pinch().targets(content), held_case(content)
+        return answer_of(targets_sheets(held, answer), options, facts=[targets_facts(held, answer)])
 
 
 def flow(options: Namespace) -> Answer:
     content = read_bytes(options.case)
     with about(case=options.case):
-        answer = Pinch().flow(content)
-        return answer_of(flow_sheets(held_case(content), answer), options, not isinstance(answer, Cut))
+        answer, held = Pinch().flow(content), held_case(content)
+        good, facts = not isinstance(answer, Cut), [flow_facts(held, answer)]
+        return answer_of(flow_sheets(held, answer), options, good, facts)
 
 
 def audit(options: Namespace) -> Answer:

@@ -1,5 +1,7 @@
-"""The causes of refusals in words (docs/FORMATS.md has an example of each)."""
+"""The causes of refusals in words (docs/FORMATS.md has an example of each), and the lines that an error has."""
 from __future__ import annotations
+
+from .errors import DeskError, Refused
 
 CAUSES = {
     'FieldCount': 'a row or a statement has not its number of fields, or a field that has to be empty is not',
@@ -32,3 +34,11 @@ CAUSES = {
     'TooWide': 'a span has at most 100,000 prices',
     'NoItem': 'there is no scenario and no span',
 }
+
+
+def lines_of(fault: DeskError) -> list[str]:
+    """What an error says; a refusal may have a line for each fault of its file."""
+    if not isinstance(fault, Refused):
+        return [str(fault)]
+    words = f': {CAUSES[fault.cause]}' if fault.cause in CAUSES and fault.text.endswith(fault.cause) else ''
+    return [(f'{fault.file}: {line}' if fault.file else line) + words for line in fault.text.split('\n')]

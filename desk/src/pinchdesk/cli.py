@@ -8,8 +8,8 @@ from collections.abc import Iterable, Sequence
 from typing import Any, NoReturn
 
 from . import words
-from .causes import CAUSES
-from .errors import DeskError, Refused
+from .causes import lines_of
+from .errors import DeskError
 from .output import check_place, put, write_whole
 from .progress import progress
 from .word import Word
@@ -66,14 +66,6 @@ def answer(word: Word, options: argparse.Namespace) -> int:
     else:
         write_whole(options.output, given.content, inputs)
     return given.status if given.status is not None else 0 if given.good else 1
-
-
-def lines_of(fault: DeskError) -> list[str]:
-    """What an error says; a refusal may have a line for each fault of its file."""
-    if not isinstance(fault, Refused):
-        return [str(fault)]
-    words = f': {CAUSES[fault.cause]}' if fault.cause in CAUSES and fault.text.endswith(fault.cause) else ''
-    return [(f'{fault.file}: {line}' if fault.file else line) + words for line in fault.text.split('\n')]
 
 
 def printable(text: str) -> str:

@@ -2,19 +2,28 @@
 from __future__ import annotations
 
 import argparse
-from collections.abc import Callable
+from collections.abc import Callable, Mapping
 from dataclasses import dataclass
+
+from .sheets import Cell, Sheet
+
+Facts = Mapping[str, Cell]
 
 
 @dataclass(frozen=True)
 class Answer:
     """What a word gives: its content, whether it is a good answer (status 0, else 1), and notes for standard error.
-    `status` is how the word ends, where that is neither 0 nor 1."""
+    `status` is how the word ends, where that is neither 0 nor 1.
+
+    `sheets` are the tables that the content shows; `facts` are the rows that stand for the answer in a table of many
+    answers, cells by their headings, where these are not to be taken from the sheets."""
 
     content: str | bytes
     good: bool = True
     notes: tuple[str, ...] = ()
     status: int | None = None
+    sheets: tuple[Sheet, ...] = ()
+    facts: tuple[Facts, ...] = ()
 
 
 @dataclass(frozen=True)

@@ -2,6 +2,8 @@
 from __future__ import annotations
 
 from . import asked, drawn, entered, exchangers, judged, paged
+from .manyword import many_of
 from .word import Word
 
-WORDS: tuple[Word, ...] = (*entered.WORDS, *asked.WORDS, *exchangers.WORDS, *judged.WORDS, *drawn.WORDS, *paged.WORDS)
+SINGLE: tuple[Word, ...] = (*entered.WORDS, *asked.WORDS, *exchangers.WORDS, *judged.WORDS, *drawn.WORDS, *paged.WORDS)
+WORDS = (*SINGLE, many_of(SINGLE))

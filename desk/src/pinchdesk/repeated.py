@@ -1,0 +1,216 @@
+"""One word of the desk over many cases: what is to be done, and who does it."""
+from __future__ import annotations
+
+import importlib
+import os
+from collections import Counter
+from collections.abc import Generator, Iterator, Mapping, Sequence
+from contextlib import closing
+from dataclasses import dataclass, field
+from pathlib import Path
+
+from .case import Case
+from .causes import lines_of
+from .crew import by_processes, processors
+from .errors import Refused, WordsError
+from .jobs import File, Job, Outcome, word_of
+from .lists import Listed, Role, listed
+from .network import Network
+from .output import check_place, read_bytes, write_whole
+from .program import as_bytes, case_bytes, found, network_bytes
+from .progress import tell
+from .quantities import registry
+from .results import Done, Results
+from .study import Study, print_study
+from .taking import options_of
+from .varied import SCENARIO, varied, with_scenarios
+from .word import Word
+
+Held = Case | Network | Study | str | bytes
+# What an answer that is kept is a file of, where the word says nothing by its tables.
+ENDINGS = {'case': 'csv', 'draw': 'svg', 'page': 'html'}
+
+
+@dataclass(frozen=True)
+class Order:
+    """A word with its part, its options, and who does it: so many processes here, or the workers of a scheduler.
+    `into` is the folder where each answer is kept, and `ending` what the files there end with; `scenarios` is a table
+    of changes, by each of which each case is taken too."""
+
+    words: tuple[str, ...]
+    options: Mapping[str, object]
+    scheduler: str | None = None
+    processes: int = field(default_factory=processors)
+    into: str | None = None
+    ending: str | None = None
+    scenarios: str | None = None
+
+    def kept(self, rows: Sequence[Listed]) -> list[str]:
+        """The names of the files of the answers, each of its own."""
+        ending = self.ending or ENDINGS.get(self.words[0], 'txt')
+        stems = Counter((Path(each.name).stem, each.names.get(SCENARIO)) for each in rows)
+        seen: Counter[str] = Counter()
+        names = []
+        for row in rows:
+            path = Path(row.name)
+            # Of two with one name their folders tell them apart, and else a number.
+            alone = stems[path.stem, row.names.get(SCENARIO)] == 1
+            stem = path.stem if alone else str(path.with_suffix('')).strip('/.')
+            stem = '-'.join([stem, *([row.names[SCENARIO]] if SCENARIO in row.names else [])])
+            stem = stem.replace(os.sep, '_') or '_'
+            seen[stem] += 1
+            names.append(f'{stem}-{seen[stem]}.{ending}' if seen[stem] > 1 else f'{stem}.{ending}')
+        return names
+
+
+class Work:
+    """The jobs of an order, their outcomes, and what is to be told."""
+
+    def __init__(self, order: Order, rows: Sequence[Listed]) -> None:
+        self.table = read_bytes(order.scenarios) if order.scenarios is not None else None
+        self.order, self.rows = order, rows
+        if self.table is not None and order.scenarios is not None:
+            self.rows = with_scenarios(rows, self.table, order.scenarios)
+        self.outcomes: dict[int, Outcome] = {}
+        self.notes: list[str] = []
+        self.names = order.kept(self.rows) if order.into is not None else None
+        self.stopped = False
+
+    def check(self) -> None:
+        """`OutputError` where an answer would be written over one of the files that are read."""
+        if self.order.into is None or self.names is None:
+            return
+        os.makedirs(self.order.into, exist_ok=True)
+        inputs = {os.path.realpath(path) for row in self.rows for paths in row.paths.values() for path in paths}
+        for name in self.names:
+            path = os.path.join(self.order.into, name)
+            check_place(path, [path] if os.path.realpath(path) in inputs else [])
+
+    def jobs(self) -> Iterator[Job]:
+        """The jobs, each with what its files hold when it is its turn. A file that cannot be read is an outcome."""
+        for number, row in enumerate(self.rows):
+            try:
+                files = {option: tuple(File(each, read_bytes(each)) for each in paths)
+                         for option, paths in row.paths.items()}
+                files |= self.varied(row, files)
+            except Refused as fault:
+                self.take(Outcome(number, fault.status, told='; '.join(lines_of(fault))))
+                continue
+            yield self.job(number, files)
+
+    def varied(self, row: Listed, files: Mapping[str, tuple[File, ...]]) -> dict[str, tuple[File, ...]]:
+        """The case in the scenario of its row, where there are scenarios."""
+        if self.table is None or self.order.scenarios is None:
+            return {}
+        case, = files['case']
+        content = varied(case.content, self.table, self.order.scenarios, row.names[SCENARIO])
+        return {'case': (File(case.path, content),)}
+
+    def job(self, number: int, files: Mapping[str, tuple[File, ...]]) -> Job:
+        return Job(number, self.order.words, self.order.options, files, self.names[number] if self.names else None)
+
+    def take(self, outcome: Outcome) -> None:
+        """Takes an outcome, once, and keeps its answer."""
+        if outcome.number in self.outcomes:
+            return
+        if outcome.content is not None and self.order.into is not None and self.names is not None:
+            write_whole(os.path.join(self.order.into, self.names[outcome.number]), outcome.content)
+        self.outcomes[outcome.number] = outcome
+        bad = sum(each.status != 0 for each in self.outcomes.values())
+        tell(f'{len(self.outcomes)} of {len(self.rows)}' + (f', {bad} not good' if bad else ''))
+
+    def run(self, jobs: Iterator[Job]) -> None:
+        """Does the jobs, until all are done or it is stopped (Ctrl-C): what was done by then stays."""
+        try:
+            with closing(self.begun(jobs)) as outcomes:
+                for outcome in outcomes:
+                    self.take(outcome)
+        except KeyboardInterrupt:
+            self.stopped = True
+
+    def begun(self, jobs: Iterator[Job]) -> Generator[Outcome, None, None]:
+        if self.order.scheduler is None:
+            # That there is no program is no outcome of each case.
+            found()
+            load(self.order.words[0])
+            return by_processes(jobs, min(self.order.processes, len(self.rows)))
+        from .cluster import by_cluster
+        return by_cluster(jobs, self.order.scheduler, self.notes)
+
+    def results(self, bad: str) -> Results:
+        """What came of all rows, in their order."""
+        # The order of the input is that of the rows, whoever was quicker.
+        done = tuple(Done(row.names, self.outcomes.get(number) or Outcome(number, None), bad)
+                     for number, row in enumerate(self.rows))
+        notes = [f'{each.name}: {note}' for each in done for note in each.outcome.notes]
+        return Results(' '.join(self.order.words), done, (*self.notes, *notes), self.stopped)
+
+
+def load(word: str) -> None:
+    """Loads here what takes long to load, so that no process has to do it for itself."""
+    if word == 'case':
+        registry()
+    if word in ('draw', 'page'):
+        importlib.import_module('pinchdesk.pictures')
+
+
+def bad_of(word: Word) -> str:
+    """What the status 1 of a word says of a case."""
+    return 'rejected' if {'network', 'networks'} & set(word.inputs) else 'infeasible'
+
+
+def done_all(order: Order, rows: Sequence[Listed]) -> Results:
+    """Does an order over cases whose files are read here."""
+    work = Work(order, rows)
+    work.check()
+    work.run(work.jobs())
+    return work.results(bad_of(word_of(order.words)))
+
+
+def many(word: str, cases: str | os.PathLike[str] | Mapping[str, Held | Sequence[Held]], *words: str,
+         scheduler: str | None = None, processes: int | None = None, into: str | None = None,
+         ending: str | None = None) -> Results:
+    """One word of the desk (`draw grid` is one too) over many cases: those of a folder or of a list, or cases by their
+    names, each alone or with the further files that the word wants. `words` are those that follow the files of the
+    word at the command (`'0', '20', '2'` of `sweep`)."""
+    names = tuple(word.split())
+    try:
+        held = word_of(names)
+    except (KeyError, IndexError) as fault:
+        raise WordsError(f'{word} is no word of the desk that many cases can be given to') from fault
+    if not held.inputs or held.parts:
+        raise WordsError(f'{word} has no files by itself')
+    taken = options_of(held, words)
+    order = Order(names, taken.options, scheduler, processes or processors(), into, ending)
+    if not isinstance(cases, Mapping):
+        return done_all(order, listed(os.fspath(cases), taken.roles, taken.common))
+    first = taken.roles[0].name
+    work = Work(order, [Listed({first: name}, taken.common) for name in cases])
+    work.check()
+    common = {option: tuple(File(each, read_bytes(each)) for each in paths) for option, paths in taken.common.items()}
+    work.run(work.job(number, {**common, **files_of(name, given, taken.roles)})
+             for number, (name, given) in enumerate(cases.items()))
+    return work.results(bad_of(held))
+
+
+def files_of(name: str, given: Held | Sequence[Held], roles: Sequence[Role]) -> Mapping[str, tuple[File, ...]]:
+    """The files of a case that is held here, in the order in which the word takes them."""
+    held = [given] if isinstance(given, (Case, Network, Study, str, bytes)) else list(given)
+    wanted = [role for role in roles if role.needed]
+    if len(held) < len(wanted) or len(held) > len(roles) and not roles[-1].several:
+        raise WordsError(f'{name}: {", ".join(each.name for each in roles)} are wanted, and {len(held)} are given')
+    files: dict[str, tuple[File, ...]] = {}
+    for at, content in enumerate(held):
+        role = roles[min(at, len(roles) - 1)]
+        file = File(f'{name} {role.name}' if at else name, held_bytes(content))
+        files[role.option] = (*files.get(role.option, ()), file)
+    return files
+
+
+def held_bytes(content: Held) -> bytes:
+    """A file as it would be written."""
+    if isinstance(content, Study):
+        return print_study(content).encode()
+    if isinstance(content, Network):
+        return network_bytes(content)
+    return case_bytes(content) if isinstance(content, Case) else as_bytes(content)

@@ -1,0 +1,84 @@
+"""What came of many cases, as one table: a row or more for each, in the order in which they were given."""
+from __future__ import annotations
+
+from collections import Counter
+from collections.abc import Iterator, Mapping
+from dataclasses import dataclass
+from typing import Any
+
+from .facts import SAID
+from .jobs import Outcome
+from .sheets import Cell, Sheet
+from .word import Facts
+
+ANSWER = 'answer'
+# By the status with which the word would have ended.
+ANSWERS = {0: 'good', 2: 'failed', 3: 'refused', None: 'not done'}
+STOPPED = 130
+
+
+@dataclass(frozen=True)
+class Done:
+    """One case: the names of its files by their headings, and what came of it."""
+
+    names: Mapping[str, str]
+    outcome: Outcome
+    bad: str = 'infeasible'
+
+    @property
+    def name(self) -> str:
+        return next(iter(self.names.values()))
+
+    @property
+    def answer(self) -> str:
+        """What came of it in a word; `bad` is what a status of 1 means."""
+        return ANSWERS.get(self.outcome.status, self.bad)
+
+    def rows(self) -> Iterator[Facts]:
+        for facts in self.outcome.facts:
+            said = '; '.join(each for each in (str(facts.get(SAID) or ''), self.outcome.told) if each)
+            yield {**self.names, ANSWER: self.answer, **facts, SAID: said or None}
+
+
+@dataclass(frozen=True)
+class Results:
+    """All cases in their order. `status` is that of the whole: 0 where all are good, 1 where one is infeasible or
+    rejected, 2 where one failed or was not done, 3 where one is refused, 130 where it was stopped."""
+
+    word: str
+    done: tuple[Done, ...]
+    notes: tuple[str, ...] = ()
+    stopped: bool = False
+
+    @property
+    def status(self) -> int:
+        if self.stopped:
+            return STOPPED
+        return max((2 if each.outcome.status is None else each.outcome.status for each in self.done), default=0)
+
+    @property
+    def told(self) -> str:
+        """How many there are of each answer: `15 cases: 12 good, 3 refused`."""
+        counts = Counter(each.answer for each in self.done)
+        return f'{len(self.done)} cases: ' + ', '.join(f'{count} {answer}' for answer, count in counts.items())
+
+    def sheet(self) -> Sheet:
+        """The table: names, the answer in a word, what the answers say of themselves, and what is said of a row. A
+        row that is not good is marked."""
+        held = [(row, each.outcome.status != 0) for each in self.done for row in each.rows()]
+        headings = list(dict.fromkeys(heading for row, _ in held for heading in row if heading != SAID))
+        if any(row[SAID] for row, _ in held):
+            headings.append(SAID)
+        rows = tuple(tuple(row.get(heading) for heading in headings) for row, _ in held)
+        return Sheet(self.word, tuple(headings), tuple(map(printable, rows)),
+                     frozenset(at for at, (_, bad) in enumerate(held) if bad))
+
+    def frame(self) -> Any:
+        """The table as a `pandas.DataFrame`; `WordsError` where pandas is not installed."""
+        return self.sheet().frame()
+
+
+def printable(row: tuple[Cell, ...]) -> tuple[Cell, ...]:
+    """Cells without what would steer a terminal, or break a line: names of files are anybody's."""
+    return tuple(''.join(sign if sign.isprintable() else '?' for sign in cell) if isinstance(cell, str) else cell
+                 for cell in row)

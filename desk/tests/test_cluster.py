@@ -1,0 +1,149 @@
+"""What is given to workers of a cluster, and taken back: by a cluster that is made up, each step of which is told."""
+from __future__ import annotations
+
+from collections.abc import Callable, Iterator
+from typing import Any
+
+import pytest
+from conftest import example
+
+from pinchdesk import WordsError
+from pinchdesk.cluster import Cluster
+from pinchdesk.digests import digests
+from pinchdesk.jobs import File, Job, Outcome
+
+
+class KilledWorker(Exception):
+    """As distributed calls a job at which worker after worker died."""
+
+
+class Future:
+    """A job that was given out, and what becomes of it."""
+
+    def __init__(self, job: Job, workers: list[str]) -> None:
+        self.job, self.workers, self.status, self.held = job, workers, 'pending', None
+
+    def ends(self, status: str, held: Any = None) -> None:
+        self.status, self.held = status, held
+
+    def done(self) -> bool:
+        return self.status != 'pending'
+
+    def result(self, timeout: float) -> Any:
+        if isinstance(self.held, Exception):
+            self.status, held, self.held = 'pending', self.held, None
+            raise held
+        return self.held
+
+    def exception(self) -> Any:
+        return self.held
+
+    def cancel(self) -> None:
+        self.status = 'cancelled'
+
+
+class Client:
+    """Workers by their addresses, with what each answers when it is asked, and the jobs that are open."""
+
+    def __init__(self, **workers: Any) -> None:
+        self.workers, self.open = workers, list[Future]()
+        self.steps: list[Callable[[], None]] = []
+
+    def scheduler_info(self) -> Any:
+        return {'workers': {each: {'nthreads': 1} for each in self.workers}}
+
+    def run(self, question: object, workers: list[str], on_error: str) -> Any:
+        return {each: self.workers[each] for each in workers}
+
+    def submit(self, function: object, job: Job, key: str, pure: bool, workers: list[str]) -> Future:
+        self.open.append(Future(job, workers))
+        return self.open[-1]
+
+
+def jobs(count: int) -> Iterator[Job]:
+    for number in range(count):
+        yield Job(number, ('targets',), {}, {'case': (File('tc3.csv', example('tc3.csv')),)})
+
+
+@pytest.fixture
+def good() -> tuple[str, str]:
+    held = digests()
+    return held.desk, held.program
+
+
+@pytest.fixture(autouse=True)
+def quick(monkeypatch: pytest.MonkeyPatch) -> None:
+    monkeypatch.setattr('pinchdesk.cluster.LOOK', 0.0)
+    monkeypatch.setattr('pinchdesk.cluster.PAUSE', 0.0)
+
+
+def answers(client: Client, count: int, *steps: Callable[[list[Future]], None]) -> tuple[list[Outcome], Cluster]:
+    """All outcomes where each look finds what the next step did to the open jobs; then all of them end well."""
+    cluster = Cluster(client, 'tcp://there')
+    left = list(steps)
+
+    def wait(_: object) -> None:
+        held = [each for each in client.open if each.status == 'pending']
+        if left:
+            left.pop(0)(held)
+        else:
+            for each in held:
+                each.ends('finished', Outcome(each.job.number, 0))
+    with pytest.MonkeyPatch.context() as patch:
+        patch.setattr('pinchdesk.cluster.wait_for_one', wait)
+        return list(cluster.outcomes(jobs(count))), cluster
+
+
+def test_workers_are_given_a_little_more_than_they_do(good: tuple[str, str]) -> None:
+    client = Client(a=good, b=good)
+    outcomes, cluster = answers(client, 9, lambda held: None)
+    assert sorted(each.number for each in outcomes) == list(range(9)) and not cluster.notes
+    assert all(set(each.workers) == {'a', 'b'} for each in client.open)
+
+
+def test_only_fit_workers_are_given_anything(good: tuple[str, str]) -> None:
+    client = Client(a=good, b='it has no pinch: none', c=(good[0], '0' * 64), d=OSError('gone'), e=('1' * 64, good[1]))
+    outcomes, cluster = answers(client, 5)
+    assert len(outcomes) == 5 and {tuple(each.workers) for each in client.open} == {('a',)}
+    assert cluster.notes == ['b is left out: it has no pinch: none',
+                             f'c is left out: it has another pinch (digest {"0" * 12}, here {good[1][:12]})',
+                             f'e is left out: it has another pinchdesk (digest {"1" * 12}, here {good[0][:12]})']
+    with pytest.raises(WordsError, match='no worker at tcp://there can be asked; b is left out'):
+        answers(Client(b='it has no pinch: none'), 1)
+
+
+def test_what_only_workers_have_that_are_gone_is_given_out_anew(good: tuple[str, str]) -> None:
+    client = Client(a=good)
+
+    def replaced(held: list[Future]) -> None:
+        client.workers = {'b': good}
+    outcomes, _ = answers(client, 2, replaced)
+    assert sorted(each.number for each in outcomes) == [0, 1]
+    assert [(each.job.number, each.workers) for each in client.open] == [
+        (0, ['a']), (1, ['a']), (1, ['b']), (0, ['b'])]
+
+
+def test_an_outcome_that_is_lost_on_the_way_is_waited_for_or_asked_again(good: tuple[str, str]) -> None:
+    client = Client(a=good)
+    outcomes, _ = answers(client, 3, lambda held: held[0].ends('finished', OSError('worker gone')),
+                          lambda held: held[0].ends('lost'), lambda held: held[0].ends('cancelled'))
+    assert sorted(each.number for each in outcomes) == [0, 1, 2]
+
+
+def test_a_job_that_kills_its_workers_is_given_up(good: tuple[str, str]) -> None:
+    outcomes, _ = answers(Client(a=good), 2, lambda held: held[0].ends('error', KilledWorker()),
+                          lambda held: held[0].ends('error', ImportError('pinchdesk')))
+    assert [(each.status, each.told) for each in outcomes] == [
+        (2, 'whoever did it died, 3 times: several workers'),
+        (2, 'no worker could do it: ImportError: pinchdesk')]
+
+
+def test_without_a_worker_it_ends_with_what_is_done(good: tuple[str, str], monkeypatch: pytest.MonkeyPatch) -> None:
+    client = Client(a=good)
+
+    def gone(held: list[Future]) -> None:
+        held[0].ends('finished', Outcome(0, 0))
+        client.workers = {}
+        monkeypatch.setattr('pinchdesk.cluster.PATIENCE', -1.0)
+    outcomes, cluster = answers(client, 3, gone)
+    assert ([each.number for each in outcomes], cluster.notes) == ([0], ['no worker is left at tcp://there'])
