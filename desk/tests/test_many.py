@@ -10,7 +10,6 @@ from argparse import ArgumentParser
 from collections.abc import Callable, Iterator
 from dataclasses import replace
 from decimal import Decimal
-from importlib import import_module
 from pathlib import Path
 from typing import Any
 
@@ -282,11 +281,6 @@ def test_each_case_is_taken_in_each_scenario(desk: Desk, tmp_path: Path) -> None
     changes.write_text('scenario;source;field;value\nhotter;H2;supply;+10 K\nless;H2;CP;-5 %\n')
     (tmp_path / 'list').write_text(f'{EXAMPLES}/four-stream.csv\n{EXAMPLES}/column.csv\n')
     words = ['targets', str(tmp_path / 'list'), '--scenarios', str(changes), '--form', 'csv']
-    try:
-        import_module('pinchdesk.scenarios')
-    except ImportError:
-        assert desk(*words) == Done(2, '', 'pinchdesk: --scenarios wants the word whatif, which this desk has not\n')
-        return
     done = desk(*words, '--into', str(tmp_path / 'kept'))
     rows = [(row['scenario'], row['answer'], row['hot utility kW']) for row in rows_of(done)]
     assert rows[:3] == [('base', 'good', '20'), ('hotter', 'good', '0'), ('less', 'good', '32')]

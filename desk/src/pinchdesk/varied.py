@@ -1,25 +1,17 @@
 """Scenarios of cases: each case as it is, and as each scenario of a table of changes has it, as `whatif` reads them."""
 from __future__ import annotations
 
-import importlib
 from collections.abc import Iterable, Iterator
 from contextlib import contextmanager
 from dataclasses import replace
-from typing import Any
 
 from .case import Basis, print_case, read_case
-from .errors import Refused, WordsError
+from .changes import changed
+from .errors import Refused
 from .lists import Listed
+from .scenarios import Variant, read_changes
 
 SCENARIO, BASE = 'scenario', 'base'
-
-
-def module(name: str) -> Any:
-    """A module of `whatif`; `WordsError` where this desk has none."""
-    try:
-        return importlib.import_module(f'pinchdesk.{name}')
-    except ImportError as fault:
-        raise WordsError('--scenarios wants the word whatif, which this desk has not') from fault
 
 
 @contextmanager
@@ -32,8 +24,8 @@ def of_file(path: str) -> Iterator[None]:
         raise
 
 
-def scenarios_of(table: bytes, path: str, basis: Basis) -> Any:
-    return module('scenarios').read_changes(table, path, basis).variants
+def scenarios_of(table: bytes, path: str, basis: Basis) -> tuple[Variant, ...]:
+    return read_changes(table, path, basis).variants
 
 
 def with_scenarios(rows: Iterable[Listed], table: bytes, path: str) -> tuple[Listed, ...]:
@@ -50,4 +42,4 @@ def varied(case: bytes, table: bytes, path: str, name: str) -> bytes:
     held = read_case(case)
     with of_file(path):
         scenario = next(each for each in scenarios_of(table, path, held.basis) if each.name == name)
-        return print_case(module('changes').changed(held, scenario).case).encode()
+        return print_case(changed(held, scenario).case).encode()
