@@ -1,0 +1,79 @@
+"""A network made simpler at no higher cost: exchangers that a loop lets go (Linnhoff and Hindmarsh 1983), pairs that
+meet twice in a row, and splits whose lanes can stand one behind the other.
+
+A mixed-integer program says which exchangers of a structure can go together; the others take their duties. Every step
+is judged by `pinch audit`: accepted, and not dearer."""
+from __future__ import annotations
+
+import time
+from collections.abc import Iterator
+from random import Random
+
+from ..case import Case, completed
+from ..network import Network
+from ..program import Pinch
+from .changes import structures, unsplit
+from .costed import cheapest, fewest
+from .judged import Judge, Judged
+from .structure import Structure, levelled
+from .wider import pairs_of, widened
+
+# How many wider structures are tried without a gain, how many exchangers each has more, and how long one may take.
+TRIES, MORE, SLICE = 12, 6, 4.0
+
+
+def simpler(case: Case, network: Network, pinch: Pinch | None = None, seconds: float = 2.0) -> Network:
+    """An accepted network of no more exchangers, and as many with no more splits, at no higher cost: the network
+    itself where nothing was found. `WordsError` where the network is not accepted, or its branches are joined across
+    one another."""
+    judge = Judge(pinch or Pinch(), completed(case))
+    begun = judge.given(network)
+    return simplified(judge, begun, time.monotonic() + seconds).network
+
+
+def simplified(judge: Judge, begun: Judged, end: float) -> Judged:
+    """The same of a network that was judged, until a time by `time.monotonic`."""
+    best = without_spare(judge, begun, end)
+    best = without_splits(judge, best, end)
+    chance, pairs, tries = Random(1), pairs_of(judge.case), 0
+    while pairs and tries < TRIES and time.monotonic() < end:
+        wide = widened(judge.case, best.structure, pairs, MORE, chance)
+        found = judge.of(fewest(judge.case, wide, begun.cost, min(SLICE, end - time.monotonic())))
+        tries += 1
+        if found and found.rank < best.rank:
+            best, tries = without_splits(judge, found, end), 0
+    return best
+
+
+def kinds(structure: Structure) -> Iterator[Structure]:
+    """A structure with its shares as they are, and with isothermal mixing."""
+    yield structure
+    level = levelled(structure)
+    if level != structure:
+        yield level
+
+
+def without_spare(judge: Judge, begun: Judged, end: float) -> Judged:
+    """Without the exchangers that can go at no higher cost."""
+    best = begun
+    for structure in kinds(begun.structure):
+        found = judge.of(fewest(judge.case, structure, begun.cost, max(SLICE, end - time.monotonic())))
+        if found and found.rank < best.rank:
+            best = found
+    return best
+
+
+def without_splits(judge: Judge, begun: Judged, end: float) -> Judged:
+    """Without the splits that can go at no higher cost and with no exchanger more."""
+    best, gained = begun, True
+    while gained:
+        gained = False
+        for structure in structures(best.structure, unsplit):
+            if time.monotonic() > end:
+                return best
+            costed = cheapest(judge.case, structure)
+            found = judge.of(costed) if costed and costed.cost <= begun.cost else None
+            if found and found.rank < best.rank:
+                best, gained = found, True
+                break
+    return best
