@@ -66,6 +66,12 @@ def beside(step: Through | Parting, name: str) -> Iterator[Course]:
         yield from within(step, lambda course: put_in(course, name))
 
 
+def letter_of(case: Case, pair: tuple[str, str]) -> str:
+    """With what the name of an exchanger begins: of a heater, a cooler, or two streams."""
+    utilities = {each.name for each in case.utilities}
+    return 'H' if pair[0] in utilities else 'C' if pair[1] in utilities else 'E'
+
+
 def next_name(taken: set[str], letter: str) -> str:
     """A name that no exchanger has, which is then taken."""
     number = 1
@@ -73,6 +79,27 @@ def next_name(taken: set[str], letter: str) -> str:
         number += 1
     taken.add(f'{letter}{number}')
     return f'{letter}{number}'
+
+
+def misplaced(case: Case, structure: Structure) -> int:
+    """How many heaters and coolers have something else behind them on their stream."""
+    return sum(len(course) - at for course in structure.courses.values() for at in early(case, structure, course))
+
+
+def early(case: Case, structure: Structure, course: Course) -> Iterator[int]:
+    """The places of heaters and coolers behind which something else stands."""
+    utilities = {name for name, pair in structure.pairs.items() if letter_of(case, pair) != 'E'}
+    kinds = [isinstance(step, Through) and step.exchanger in utilities for step in course]
+    for at, utility in enumerate(kinds):
+        if utility and not all(kinds[at:]):
+            yield at
+
+
+def later(case: Case, structure: Structure) -> Iterator[Structure]:
+    """The structures in which a heater or a cooler has moved to the end of its stream."""
+    for stream, course in structure.courses.items():
+        for at in early(case, structure, course):
+            yield structure.with_course(stream, (*course[:at], *course[at + 1:], course[at]))
 
 
 def with_ends(case: Case, structure: Structure) -> Structure:
@@ -88,7 +115,7 @@ def with_ends(case: Case, structure: Structure) -> Structure:
             place = place_of(case, courses[stream.name], pairs, utility)
             if place is None:
                 continue
-            name = next_name(taken, 'C' if stream.side is Side.HOT else 'H')
+            name = next_name(taken, letter_of(case, pair))
             pairs[name] = pair
             course = courses[stream.name]
             courses[stream.name] = (*course[:place], Through(name), *course[place:])

@@ -35,11 +35,6 @@ class Judged:
     def splits(self) -> int:
         return splits(self.structure)
 
-    @property
-    def rank(self) -> tuple[int, int, Fraction]:
-        """The smaller the simpler: exchangers, then splits, then cost."""
-        return self.count, self.splits, self.cost
-
 
 @dataclass
 class Judge:
@@ -53,7 +48,7 @@ class Judge:
         verdict = self.pinch.audit(self.case, network)
         if not isinstance(verdict, Accepted):
             told = f'rejected at {verdict.place}: {verdict.reason}' if isinstance(verdict, Rejected) else 'too fine'
-            raise WordsError(f'the network is {told} (`pinchdesk audit` says more): only an accepted one can be changed')
+            raise WordsError(f'the network is {told} (`pinchdesk audit` says more), and only an accepted one is changed')
         return Judged(structure_of(self.case, network), duties_of(network), network, verdict)
 
     def of(self, costed: Costed | None) -> Judged | None:

@@ -7,12 +7,13 @@ from __future__ import annotations
 
 import time
 from collections.abc import Iterator
+from fractions import Fraction
 from random import Random
 
 from ..case import Case, completed
 from ..network import Network
 from ..program import Pinch
-from .changes import structures, unsplit
+from .changes import later, misplaced, structures, unsplit
 from .costed import cheapest, fewest
 from .judged import Judge, Judged
 from .structure import Structure, levelled
@@ -40,7 +41,7 @@ def simplified(judge: Judge, begun: Judged, end: float) -> Judged:
         wide = widened(judge.case, best.structure, pairs, MORE, chance)
         found = judge.of(fewest(judge.case, wide, begun.cost, min(SLICE, end - time.monotonic())))
         tries += 1
-        if found and found.rank < best.rank:
+        if found and rank(judge.case, found) < rank(judge.case, best):
             best, tries = without_splits(judge, found, end), 0
     return best
 
@@ -58,22 +59,28 @@ def without_spare(judge: Judge, begun: Judged, end: float) -> Judged:
     best = begun
     for structure in kinds(begun.structure):
         found = judge.of(fewest(judge.case, structure, begun.cost, max(SLICE, end - time.monotonic())))
-        if found and found.rank < best.rank:
+        if found and rank(judge.case, found) < rank(judge.case, best):
             best = found
     return best
 
 
 def without_splits(judge: Judge, begun: Judged, end: float) -> Judged:
-    """Without the splits that can go at no higher cost and with no exchanger more."""
+    """Without the splits that can go at no higher cost and with no exchanger more, and with heaters and coolers at the
+    ends of their streams where that costs nothing."""
     best, gained = begun, True
     while gained:
         gained = False
-        for structure in structures(best.structure, unsplit):
+        for structure in (*structures(best.structure, unsplit), *later(judge.case, best.structure)):
             if time.monotonic() > end:
                 return best
             costed = cheapest(judge.case, structure)
             found = judge.of(costed) if costed and costed.cost <= begun.cost else None
-            if found and found.rank < best.rank:
+            if found and rank(judge.case, found) < rank(judge.case, best):
                 best, gained = found, True
                 break
     return best
+
+
+def rank(case: Case, judged: Judged) -> tuple[int, int, int, Fraction]:
+    """The smaller the simpler: exchangers, splits, utilities that are not at the ends of their streams, cost."""
+    return judged.count, judged.splits, misplaced(case, judged.structure), judged.cost

@@ -10,7 +10,7 @@ from random import Random
 
 from ..case import Case, Side, Source, Stream
 from .balances import beginning
-from .changes import next_name, put_in, with_ends
+from .changes import letter_of, next_name, put_in, with_ends
 from .structure import Structure
 
 Pair = tuple[str, str]
@@ -35,7 +35,7 @@ def widened(case: Case, structure: Structure, pairs: Sequence[Pair], count: int,
     ends of its streams."""
     held, courses, taken = dict(structure.pairs), dict(structure.courses), set(structure.pairs)
     for pair in chance.choices(pairs, k=count):
-        name = next_name(taken, 'E')
+        name = next_name(taken, letter_of(case, pair))
         held[name] = pair
         for each in pair:
             if each in courses:
