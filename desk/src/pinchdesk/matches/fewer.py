@@ -135,4 +135,4 @@ class Fewer:
             made = [self.chosen(with_ends(self.case, each), judged.count) for each in kinds(rows[at - 1].structure)]
             near = [each for each in made if each and (each.cost, len(each.duties)) <= (judged.cost, judged.count)]
             rows[at] = self.judge.of(near[0] if near else None) or judged
-        return [without_splits(self.judge, each, self.end + SLICE) if each is not self.begun else each for each in rows]
+        return [without_splits(self.judge, each, max(self.end, time.monotonic() + SLICE)) if each is not self.begun else each for each in rows]

@@ -5,13 +5,19 @@ from dataclasses import dataclass
 from fractions import Fraction
 
 from ..case import Case
-from ..errors import Refused, WordsError
+from ..errors import DeskError, Refused
 from ..network import Network
 from ..program import Pinch
 from ..verdicts import Accepted, Rejected
 from .costed import Costed
 from .structure import Structure, splits
 from .texts import Duties, duties_of, network_of, structure_of
+
+
+class NotAccepted(DeskError):
+    """There is no network: the one that is given is not accepted, or the case has none."""
+
+    status = 1
 
 
 @dataclass(frozen=True)
@@ -44,11 +50,11 @@ class Judge:
     case: Case
 
     def given(self, network: Network) -> Judged:
-        """A network that somebody has; `WordsError` where it is not accepted, or has no structure."""
+        """A network that somebody has; `NotAccepted` where it is not, `Refused` where it has no structure."""
         verdict = self.pinch.audit(self.case, network)
         if not isinstance(verdict, Accepted):
             told = f'rejected at {verdict.place}: {verdict.reason}' if isinstance(verdict, Rejected) else 'too fine'
-            raise WordsError(f'the network is {told} (`pinchdesk audit` says more), and only an accepted one is changed')
+            raise NotAccepted(f'the network is {told} (`pinchdesk audit` says more): only an accepted one is changed')
         return Judged(structure_of(self.case, network), duties_of(network), network, verdict)
 
     def of(self, costed: Costed | None) -> Judged | None:

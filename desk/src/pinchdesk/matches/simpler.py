@@ -25,8 +25,8 @@ TRIES, MORE, SLICE = 12, 6, 4.0
 
 def simpler(case: Case, network: Network, pinch: Pinch | None = None, seconds: float = 2.0) -> Network:
     """An accepted network of no more exchangers, and as many with no more splits, at no higher cost: the network
-    itself where nothing was found. `WordsError` where the network is not accepted, or its branches are joined across
-    one another."""
+    itself where nothing was found. `NotAccepted` where the network is not, `Refused` where its branches are joined
+    across one another."""
     judge = Judge(pinch or Pinch(), completed(case))
     begun = judge.given(network)
     return simplified(judge, begun, time.monotonic() + seconds).network
@@ -34,15 +34,14 @@ def simpler(case: Case, network: Network, pinch: Pinch | None = None, seconds: f
 
 def simplified(judge: Judge, begun: Judged, end: float) -> Judged:
     """The same of a network that was judged, until a time by `time.monotonic`."""
-    best = without_spare(judge, begun, end)
-    best = without_splits(judge, best, end)
+    best = without_splits(judge, without_spare(judge, begun, end), max(end, time.monotonic() + SLICE))
     chance, pairs, tries = Random(1), pairs_of(judge.case), 0
     while pairs and tries < TRIES and time.monotonic() < end:
         wide = widened(judge.case, best.structure, pairs, MORE, chance)
         found = judge.of(fewest(judge.case, wide, begun.cost, min(SLICE, end - time.monotonic())))
         tries += 1
         if found and rank(judge.case, found) < rank(judge.case, best):
-            best, tries = without_splits(judge, found, end), 0
+            best, tries = without_splits(judge, found, max(end, time.monotonic() + SLICE)), 0
     return best
 
 
@@ -58,7 +57,7 @@ def without_spare(judge: Judge, begun: Judged, end: float) -> Judged:
     """Without the exchangers that can go at no higher cost."""
     best = begun
     for structure in kinds(begun.structure):
-        found = judge.of(fewest(judge.case, structure, begun.cost, max(SLICE, end - time.monotonic())))
+        found = judge.of(fewest(judge.case, structure, begun.cost, max(SLICE, (end - time.monotonic()) / 2)))
         if found and rank(judge.case, found) < rank(judge.case, best):
             best = found
     return best

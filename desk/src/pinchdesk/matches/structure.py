@@ -9,7 +9,7 @@ from collections.abc import Iterator, Mapping
 from dataclasses import dataclass, replace
 from fractions import Fraction
 
-from ..errors import WordsError
+from ..errors import Refused
 
 
 @dataclass(frozen=True)
@@ -131,6 +131,7 @@ def levelled(structure: Structure) -> Structure:
     return replace(structure, courses={name: with_levels(each) for name, each in structure.courses.items()})
 
 
-def odd_course(stream: str) -> WordsError:
-    return WordsError(f'the branches of {stream} are joined across one another: only a network whose splits are closed '
-                      'inside one another can be changed')
+def odd_course(stream: str) -> Refused:
+    place, cause = f'network stream {stream}', 'branches are joined across one another'
+    return Refused(4, place, cause, f'{place}: its {cause}, and only splits that are closed inside one another are '
+                                    'changed')

@@ -68,7 +68,7 @@ class Reader:
 
 
 def structure_of(case: Case, network: Network) -> Structure:
-    """The structure of an accepted network of a case; `WordsError` where a stream has none."""
+    """The structure of an accepted network of a case; `Refused` where a stream has none."""
     reader = Reader(case)
     for statement in network.statements:
         reader.take(statement)

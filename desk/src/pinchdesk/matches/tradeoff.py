@@ -9,13 +9,12 @@ from fractions import Fraction
 
 from ..answers import Cut
 from ..case import Case, Stream, completed
-from ..errors import WordsError
 from ..network import Exchanger, Network, read_network
 from ..program import Pinch
 from .changes import letter_of, next_name
 from .costed import Costed
 from .fewer import Fewer, Telling, nobody
-from .judged import Judge, Judged
+from .judged import Judge, Judged, NotAccepted
 from .paths import Shift, shifts
 from .simpler import simplified
 from .structure import Course, Lane, Parting, Structure, Through
@@ -70,8 +69,8 @@ class TradeOff:
 
 def tradeoff(case: Case, network: Network | None = None, pinch: Pinch | None = None, seconds: float = 30.0,
              tell: Telling = nobody) -> TradeOff:
-    """The trade-off of a case, from a network or from one that is searched. `WordsError` where the network is not
-    accepted, or the case has none. Control-C ends the search with what was found."""
+    """The trade-off of a case, from a network or from one that is searched. `NotAccepted` where the network is not, or
+    the case has none. Control-C ends the search with what was found."""
     judge = Judge(pinch or Pinch(), completed(case))
     end = time.monotonic() + seconds
     begun = judge.given(network) if network else first_network(judge, end)
@@ -85,10 +84,10 @@ def tradeoff(case: Case, network: Network | None = None, pinch: Pinch | None = N
 
 
 def first_network(judge: Judge, end: float) -> Judged:
-    """A network at the least cost, made of what `pinch design` prints; `WordsError` where there is none."""
+    """A network at the least cost, made of what `pinch design` prints; `NotAccepted` where there is none."""
     design = judge.pinch.design(judge.case)
     if isinstance(design, Cut):
-        raise WordsError('the case has no heat flow, so there is no network (`pinchdesk flow` says why)')
+        raise NotAccepted('the case has no heat flow, so there is no network (`pinchdesk flow` says why)')
     left = max(2.0, (end - time.monotonic()) / 2)
     return simplified(judge, judge.given(read_network(design.text)), time.monotonic() + left)
 
