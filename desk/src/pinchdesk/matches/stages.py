@@ -56,15 +56,14 @@ class Joint:
 
 @dataclass(frozen=True)
 class Asked:
-    """What a model is asked for: windows, each with its number of stages; the pairs that may be used (None for all);
-    the most that the utilities may cost (None where their uses are fixed); whether exchangers may be joined across
-    the cuts."""
+    """What a model is asked for: windows, each with its number of stages; the slots that may be used (None for all);
+    the most that the utilities may cost (None where their uses are fixed). Exchangers may be joined across the cuts
+    between the windows."""
 
     windows: tuple[Window, ...]
     stages: tuple[int, ...]
-    pairs: frozenset[tuple[str, str]] | None = None
+    slots: frozenset[Slot] | None = None
     most_cost: Fraction | None = None
-    joints: bool = False
 
 
 @dataclass
@@ -130,15 +129,28 @@ def places(hot: Piece, cold: Piece, stages: int) -> Sequence[int]:
     return range(stages)
 
 
+def places_in(window: Window, at: int, stages: int) -> Iterator[tuple[Slot, Piece, Piece]]:
+    """All slots of a window."""
+    for hot in window.hots:
+        for cold in window.colds:
+            if may_meet(hot, cold, window):
+                for stage in places(hot, cold, stages):
+                    yield Slot(at, stage, hot.name, cold.name), hot, cold
+
+
+def slots_of(asked: Asked) -> frozenset[Slot]:
+    """All slots of some windows."""
+    held = zip(asked.windows, asked.stages)
+    return frozenset(slot for at, (window, stages) in enumerate(held) for slot, _, _ in places_in(window, at, stages))
+
+
 def model_of(asked: Asked) -> Model:
     """The model of some windows, together."""
-    greatest = max((each.most for window in asked.windows for each in window.pieces if not loose(each)), default=0)
-    model = Model(asked, Fraction(max(greatest, 1), 1000))
+    model = Model(asked, unit_of(asked.windows))
     for at, window in enumerate(asked.windows):
         add_window(model, at, window, asked.stages[at])
-    if asked.joints:
-        for at in range(len(asked.windows) - 1):
-            add_joints(model, at)
+    for at in range(len(asked.windows) - 1):
+        add_joints(model, at)
     if asked.most_cost is not None:
         prices = {each.name: each.price for window in asked.windows for each in window.pieces if each.price}
         terms = [(at, Fraction(prices.get(slot.hot, 0) + prices.get(slot.cold, 0))) for slot, at in model.duties.items()]
@@ -146,24 +158,20 @@ def model_of(asked: Asked) -> Model:
     return model
 
 
-def loose(piece: Piece) -> bool:
-    """Whether a piece is a utility whose heat is open."""
-    return piece.least != piece.most
+def unit_of(windows: Iterable[Window]) -> Fraction:
+    """A thousandth of the greatest heat of a source whose heat is given, in W."""
+    held = (each.most for window in windows for each in window.pieces if not each.is_loose)
+    return Fraction(max(held, default=1000), 1000)
 
 
 def add_window(model: Model, at: int, window: Window, stages: int) -> None:
-    total = max(sum(each.least if loose(each) else each.most for each in held) for held in (window.hots, window.colds))
     for piece in window.pieces:
         if not piece.is_level:
             add_states(model, at, piece, window, stages)
-    for hot in window.hots:
-        for cold in window.colds:
-            wanted = model.asked.pairs is None or (hot.name, cold.name) in model.asked.pairs
-            if wanted and may_meet(hot, cold, window):
-                limit = min(capacity(hot, cold), total)
-                for stage in places(hot, cold, stages):
-                    add_slot(model, Slot(at, stage, hot.name, cold.name), Fraction(limit) / model.unit)
-                    add_approach(model, at, hot, cold, stage)
+    for slot, hot, cold in places_in(window, at, stages):
+        if model.asked.slots is None or slot in model.asked.slots:
+            add_slot(model, slot, Fraction(min(capacity(hot, cold), window.total)) / model.unit)
+            add_approach(model, slot, hot, cold)
     for piece in window.pieces:
         add_balance(model, at, piece, stages)
 
@@ -191,19 +199,19 @@ def add_slot(model: Model, slot: Slot, limit: Fraction) -> None:
     model.row([(model.duties[slot], 1), (model.uses[slot], -limit)], None, ZERO)
 
 
-def add_approach(model: Model, at: int, hot: Piece, cold: Piece, stage: int) -> None:
+def add_approach(model: Model, slot: Slot, hot: Piece, cold: Piece) -> None:
     """The hot side is as warm as the cold one at both ends of an exchanger."""
-    if stage < 0:
+    if slot.stage < 0:
         return
-    use = model.uses[Slot(at, stage, hot.name, cold.name)]
-    for boundary in (stage, stage + 1):
+    use = model.uses[slot]
+    for boundary in (slot.stage, slot.stage + 1):
         wrong = Fraction(0)
         terms: list[tuple[int, Fraction | int]] = []
         for piece, sign in ((hot, 1), (cold, -1)):
             if piece.is_level:
                 wrong -= sign * piece.high
                 continue
-            state = model.states[at, piece.name, boundary]
+            state = model.states[slot.window, piece.name, boundary]
             terms.append((state, sign))
             bound = model.lows[state] if sign > 0 else model.highs[state]
             assert bound is not None

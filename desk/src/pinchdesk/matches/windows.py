@@ -31,6 +31,11 @@ class Piece:
     def is_level(self) -> bool:
         return self.cp == 0
 
+    @property
+    def is_loose(self) -> bool:
+        """Whether it is a utility whose heat is open."""
+        return self.least != self.most
+
 
 @dataclass(frozen=True)
 class Window:
@@ -46,6 +51,11 @@ class Window:
     @property
     def colds(self) -> tuple[Piece, ...]:
         return tuple(each for each in self.pieces if each.side is Side.COLD)
+
+    @property
+    def total(self) -> int:
+        """What is exchanged at most where no more utility is used than has to be."""
+        return max(sum(each.least if each.is_loose else each.most for each in held) for held in (self.hots, self.colds))
 
 
 # A place of a cut: a temperature, and whether what stands at it is above the cut.
