@@ -15,8 +15,7 @@ CASE_HELP = 'a case file, as `pinchdesk case` writes it'
 def takes(parser: ArgumentParser) -> None:
     parser.add_argument('case', metavar='CASE', help=CASE_HELP)
     cost = parser.add_mutually_exclusive_group()
-    cost.add_argument('--cost', metavar='MOST', help='what it may cost at most, in price times W; the least cost unless '
-                                                     'given')
+    cost.add_argument('--cost', metavar='MOST', help='what it may cost at most, in price times W (the least cost)')
     cost.add_argument('--above', metavar='PERCENT', help='how far above the least cost it may be')
     parser.add_argument('--seconds', metavar='S', default='60', help='how long it may search (60 unless given)')
     parser.add_argument('--start', metavar='NETWORK', help='a network that is to be bettered')

@@ -8,7 +8,9 @@ from .apart import Apart
 from .effort import Effort, rounded_up
 from .linear import OutOfTime, exact
 from .pairs import Pair, transshipment
-from .stages import Asked, Model, Slot, model_of
+from .model import Model
+from .slots import Asked, Slot
+from .stages import model_of
 from .windows import Window
 
 

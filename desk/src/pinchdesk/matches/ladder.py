@@ -4,7 +4,7 @@ from __future__ import annotations
 from dataclasses import replace
 
 from .asking import Answer, Solver
-from .stages import Asked, slots_of
+from .slots import Asked, slots_of
 from .windows import Window
 
 # The most stages of a window; a model of more slots than `LARGE` is tried with few pairs first.

@@ -5,7 +5,7 @@ from dataclasses import replace
 
 from ..case import Side
 from .asking import Answer
-from .stages import Asked, End, Slot, places
+from .slots import Asked, End, Slot, places
 from .windows import Window
 
 
@@ -20,13 +20,7 @@ def as_one(every: Window, answer: Answer) -> tuple[Asked, frozenset[Slot]]:
         return End(place) if place < 0 else None
 
     staged = [slot for slot in answer.used if placed(slot) is None]
-    order = {step: at for at, step in enumerate(sorted(set(map(step_of, staged))))}
-    used = [replace(slot, window=0, stage=order[step_of(slot)]) for slot in staged]
+    order = {step: at for at, step in enumerate(sorted({slot.step for slot in staged}))}
+    used = [replace(slot, window=0, stage=order[slot.step]) for slot in staged]
     used += [replace(slot, window=0, stage=placed(slot) or 0) for slot in answer.used if placed(slot) is not None]
     return Asked((every,), (len(order),)), frozenset(used)
-
-
-def step_of(slot: Slot) -> tuple[int, int]:
-    """The place of a slot from the hot end: its window, and in it the top, the stages, the bottom."""
-    place = {End.TOP: -1, End.BOTTOM: 10 ** 6, End.LEVELS: -1}.get(End(slot.stage), 0) if slot.stage < 0 else slot.stage
-    return (slot.window, place)

@@ -8,7 +8,8 @@ from fractions import Fraction
 
 from ..case import Side
 from .linear import Program
-from .stages import ONE, ZERO, Asked, Model, capacity, may_meet, unit_of
+from .model import ONE, ZERO, Model, unit_of
+from .slots import Asked, capacity, may_meet
 from .windows import Piece, Window
 
 Pair = tuple[str, str]

@@ -6,7 +6,7 @@ from collections.abc import Callable
 from dataclasses import replace
 
 from .asking import Answer, Solver
-from .stages import Slot, slots_of
+from .slots import Slot, slots_of
 
 # How many slots are free at first, and for how long the solver may think of them.
 FREE = 40

@@ -21,7 +21,7 @@ from .onewindow import as_one
 from .parts import Parts
 from .plan import plan_of
 from .simpler import simpler
-from .stages import Asked
+from .slots import Asked
 from .windows import Window, whole, windows
 from .written import written
 

@@ -74,7 +74,8 @@ def piece_of(source: Source, uses: Mapping[str, int] | None) -> Piece:
 def whole(case: Case, uses: Mapping[str, int] | None) -> Window:
     """The case as one window. A utility that gives nothing is left out."""
     pieces = [piece_of(each, uses) for each in case.sources]
-    return Window(tuple(each for each in pieces if each.most), frozenset((each.hot, each.cold) for each in case.forbids))
+    forbids = frozenset((each.hot, each.cold) for each in case.forbids)
+    return Window(tuple(each for each in pieces if each.most), forbids)
 
 
 def windows(case: Case, uses: Mapping[str, int]) -> tuple[Window, ...]:
