@@ -15,10 +15,11 @@ from looking import cut_off, overlapping, svg_texts
 from test_pictures import THREE, THREE_NETWORK
 from test_words import Captured
 
-from pinchdesk import (Accepted, Case, Exchanger, Network, Pinch, Refused, completed, print_network, read_case, read_network,
-                       simpler, tradeoff)
+from pinchdesk import (Accepted, Case, Exchanger, Network, Pinch, Refused, completed, print_network, read_case,
+                       read_network, simpler, tradeoff)
 from pinchdesk.matches.changes import later, structures, unsplit, with_ends
 from pinchdesk.matches.costed import Costed, cheapest, cheapest_of
+from pinchdesk.matches.found import NoNetwork
 from pinchdesk.matches.judged import Judge, Judged, NotAccepted
 from pinchdesk.matches.paths import Shift, shifts
 from pinchdesk.matches.shares import reshared
@@ -77,8 +78,9 @@ def test_branches_that_are_joined_across_one_another_are_refused(pinch: Pinch) -
                            'mix f d g\npass e E3 i\npass g E4 j\nmix i j k\nend k\n'
                            'pass A E1 m\npass m E2 n\npass n E3 o\npass o E4 p\nend p\n')
     assert isinstance(pinch.audit(case, network), Accepted)
+    assert simpler(case, network, pinch) is network
     with pytest.raises(Refused, match='network stream H: its branches are joined across'):
-        simpler(case, network, pinch)
+        tradeoff(case, network, pinch)
 
 
 # The least cost of a structure.
@@ -117,7 +119,7 @@ def test_latent_streams_in_lanes_keep_their_parts(pinch: Pinch) -> None:
                                b'cold,B,300,600,20,,\n'))
     network = read_network('exchanger E1 V A 3000\nexchanger E2 V B 6000\nsplit V a 3000 b\npass a E1 c\npass b E2 d\n'
                            'mix c d e\nend e\npass A E1 f\nend f\npass B E2 g\nend g\n')
-    made = simpler(case, network, pinch, seconds=0.2)
+    made = simpler(case, network, pinch)
     assert splits(structure_of(case, made)) == 0 and cost_of(pinch, case, made) == 0
 
 
@@ -127,7 +129,7 @@ def test_latent_streams_in_lanes_keep_their_parts(pinch: Pinch) -> None:
                                         ('three-levels', 10)])
 def test_a_network_made_simpler_costs_no_more(name: str, most: int, pinch: Pinch) -> None:
     case, network = those(name)
-    made = simpler(case, network, pinch, seconds=0.3)
+    made = simpler(case, network, pinch)
     assert len(made.exchangers) <= most
     assert cost_of(pinch, case, made) <= cost_of(pinch, case, network)
     assert splits(structure_of(case, made)) <= splits(structure_of(case, network))
@@ -135,12 +137,10 @@ def test_a_network_made_simpler_costs_no_more(name: str, most: int, pinch: Pinch
 
 def test_a_network_that_is_not_accepted_is_not_changed(pinch: Pinch) -> None:
     case, network = those('tc3')
-    wrong = Network(tuple(each for each in network.statements if 's2e' not in repr(each)))
-    with pytest.raises((NotAccepted, Refused)):
-        simpler(case, wrong, pinch)
     first, *others = network.statements
     assert isinstance(first, Exchanger)
     short = Network((replace(first, duty=Fraction(1)), *others))
+    assert simpler(case, short, pinch) is short
     with pytest.raises(NotAccepted, match='rejected at line'):
         tradeoff(case, short, pinch)
 
@@ -234,7 +234,7 @@ def test_without_a_network_one_is_searched(pinch: Pinch) -> None:
     made = tradeoff(those('preheater')[0], None, pinch, seconds=0.5)
     assert {row.exchangers: int(row.cost) for row in made.rows} == {3: 2000, 2: 4000}
     little = read_case(example('too-little-cooling.csv'))
-    with pytest.raises(NotAccepted, match='no heat flow'):
+    with pytest.raises(NoNetwork, match='no heat flow'):
         tradeoff(little, None, pinch)
 
 

@@ -8,6 +8,8 @@ from collections.abc import Iterator
 from contextlib import contextmanager
 
 PATIENCE = 2.0
+# How far the work is, where it says so.
+FAR = ['']
 
 
 @contextmanager
@@ -26,10 +28,16 @@ def progress(what: str) -> Iterator[None]:
         shower.join()
 
 
+def tell(text: str) -> None:
+    """Says how far the work is: it stands behind the seconds."""
+    FAR[0] = text
+
+
 def show(what: str, ended: threading.Event) -> None:
     begun = time.monotonic()
     if ended.wait(PATIENCE):
         return
     while not ended.wait(0.5):
-        print(f'\r{what}: {time.monotonic() - begun:.0f} s ', end='', file=sys.stderr, flush=True)
+        far = f', {FAR[0]}' if FAR[0] else ''
+        print(f'\r\033[K{what}: {time.monotonic() - begun:.0f} s{far} ', end='', file=sys.stderr, flush=True)
     print('\r\033[K', end='', file=sys.stderr, flush=True)

@@ -2,7 +2,6 @@
 from __future__ import annotations
 
 import os
-import sys
 from argparse import ArgumentParser, Namespace
 from collections.abc import Callable
 from decimal import Decimal
@@ -15,6 +14,7 @@ from .errors import OutputError, WordsError, about
 from .network import Exchanger, print_network, read_network
 from .output import check_place, read_bytes, reason, write_whole
 from .program import Pinch
+from .progress import tell
 from .sheets import Cell, Sheet
 from .shown import Number, Shown
 from .word import Answer, Word
@@ -112,13 +112,9 @@ def write_networks(traded: TradeOff, folder: str, stem: str, inputs: list[str]) 
 
 
 def told_on(case: Case) -> Callable[[Judged], None]:
-    """Tells what was found where standard error is a terminal."""
+    """Tells what was found last."""
     shown = Shown(case.basis)
-
-    def tell(judged: Judged) -> None:
-        if sys.stderr.isatty():
-            print(f'\r\033[K{judged.count} exchangers: {shown.cost(judged.cost)} {shown.cost_unit}', file=sys.stderr)
-    return tell
+    return lambda judged: tell(f'{judged.count} exchangers at {shown.cost(judged.cost)} {shown.cost_unit}')
 
 
 def tradeoff(options: Namespace) -> Answer:

@@ -1,8 +1,8 @@
 """The words of the command, in the order in which the help lists them."""
 from __future__ import annotations
 
-from . import asked, drawn, entered, exchangers, paged, traded
+from . import asked, drawn, entered, exchangers, networked, paged, traded
 from .word import Word
 
 WORDS: tuple[Word, ...] = (*entered.WORDS, *asked.WORDS, *exchangers.WORDS, *drawn.WORDS, *paged.WORDS,
-                           *traded.WORDS)
+                           *networked.WORDS, *traded.WORDS)

@@ -184,8 +184,9 @@ class Model:
         highs = tuple(each / self.unit for each in self.most)
         return Program((Fraction(0),) * count, highs, frozenset(), rows, tuple(self.cost.terms.items()))
 
-    def chosen(self, most: int | None, cost: Fraction | None) -> Program:
-        """The least cost with so many of the exchangers, or the fewest exchangers of no more than a cost."""
+    def chosen(self, most: int | None, cost: Fraction | None, fresh: frozenset[str] = frozenset()) -> Program:
+        """The least cost with so many of the exchangers, or the fewest exchangers of no more than a cost. Each of the
+        `fresh` ones counts as a little cost, so that of the cheapest choices one with few of them is taken."""
         count = len(self.names)
         rows = [*self.balance_rows(), *self.approach_rows(True)]
         for at, high in enumerate(self.most):
@@ -196,7 +197,8 @@ class Model:
         if cost is not None:
             rows.append(self.cost.row(None, cost))
         highs = (*(each / self.unit for each in self.most), *(Fraction(each > 0) for each in self.most))
-        aim = tuple(self.cost.terms.items()) if cost is None else counted
+        little = tuple((count + at, self.scale / 10 ** 4) for name, at in self.at.items() if name in fresh)
+        aim = (*self.cost.terms.items(), *little) if cost is None else counted
         return Program((Fraction(0),) * (2 * count), highs, frozenset(range(count, 2 * count)), tuple(rows), aim)
 
 

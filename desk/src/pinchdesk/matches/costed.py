@@ -49,9 +49,10 @@ def fewest(case: Case, structure: Structure, cost: Fraction, seconds: float) -> 
     return made if made and made.cost <= cost else None
 
 
-def cheapest_of(case: Case, structure: Structure, most: int, seconds: float) -> Costed | None:
-    """The least cost with at most so many of the exchangers of a structure."""
-    return settled(case, structure, Model(case, structure).chosen(most, None), seconds)
+def cheapest_of(case: Case, structure: Structure, most: int, seconds: float,
+                fresh: frozenset[str] = frozenset()) -> Costed | None:
+    """The least cost with at most so many of the exchangers of a structure, or nearly so with few of the fresh ones."""
+    return settled(case, structure, Model(case, structure).chosen(most, None, fresh), seconds)
 
 
 def settled(case: Case, structure: Structure, program: Program, seconds: float) -> Costed | None:

@@ -92,8 +92,10 @@ class Fewer:
             structure = made.structure if len(made.duties) < count else structure
             count = min(count, len(made.duties)) - 1
 
-    def chosen(self, structure: Structure, count: int) -> Costed | None:
-        return cheapest_of(self.case, structure, count, max(1.0, min(SLICE, self.left)))
+    def chosen(self, structure: Structure, count: int, held: Structure | None = None) -> Costed | None:
+        """The cheapest with so many; of equal ones one with few exchangers that are not held."""
+        fresh = frozenset(structure.pairs).difference(held.pairs) if held else frozenset()
+        return cheapest_of(self.case, structure, count, max(1.0, min(SLICE, self.left)), fresh)
 
     def open(self) -> Iterator[int]:
         """The numbers of exchangers that may still be bettered: those of networks above the floor, and one at each end
@@ -132,7 +134,14 @@ class Fewer:
         """The rows, each made from the one before where that costs no more: so that few things change."""
         rows = self.rows()
         for at, judged in enumerate(rows[1:], 1):
-            made = [self.chosen(with_ends(self.case, each), judged.count) for each in kinds(rows[at - 1].structure)]
+            held = rows[at - 1].structure
+            made = [self.chosen(with_ends(self.case, each), judged.count, held) for each in kinds(held)]
             near = [each for each in made if each and (each.cost, len(each.duties)) <= (judged.cost, judged.count)]
             rows[at] = self.judge.of(near[0] if near else None) or judged
-        return [without_splits(self.judge, each, max(self.end, time.monotonic() + SLICE)) if each is not self.begun else each for each in rows]
+        return [self.plain(each) for each in rows]
+
+    def plain(self, judged: Judged) -> Judged:
+        """A network without the splits that can go; the one that was given stays as it is."""
+        if judged is self.begun:
+            return judged
+        return without_splits(self.judge, judged, judged.cost, max(self.end, time.monotonic() + SLICE))

@@ -6,7 +6,7 @@ from dataclasses import replace
 from fractions import Fraction
 
 from ..case import Case, Side, Stream
-from .plan import Match, Plan, Segment
+from .plan import Plan, Segment
 
 
 def joined(case: Case, plan: Plan) -> Plan:
@@ -53,7 +53,3 @@ def renamed(segment: Segment, one: int, other: int) -> Segment:
         return segment
     held = {at: size for at, size in segment.items() if at != other}
     return held | {one: held.get(one, Fraction(0)) + segment[other]}
-
-
-def count_of(matches: dict[int, Match]) -> int:
-    return len(matches)

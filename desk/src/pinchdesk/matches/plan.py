@@ -6,7 +6,8 @@ from dataclasses import dataclass
 from fractions import Fraction
 
 from ..case import Case, Side, Stream
-from .stages import End, Model, Slot
+from .model import Model
+from .slots import Slot
 
 
 @dataclass(frozen=True)
@@ -38,7 +39,7 @@ def plan_of(case: Case, model: Model, point: Sequence[Fraction]) -> Plan:
     duties = {slot: point[model.duties[slot]] * model.unit for slot in slots}
     numbers = {slot: at for at, slot in enumerate(slots)}
     matches = {numbers[slot]: Match(slot.hot, slot.cold, duty) for slot, duty in duties.items()}
-    segments = {}
+    segments: dict[str, tuple[Segment, ...]] = {}
     for stream in case.streams:
         held = [slot for slot in slots if stream.name in slot.pair]
         if stream.latent:
@@ -56,9 +57,8 @@ def in_order(slots: Sequence[Slot], stream: Stream) -> list[list[Slot]]:
     """The exchangers of a stream from its supply on, those of a stage together."""
     down: dict[tuple[int, int, int], list[Slot]] = {}
     for slot in slots:
-        # From the hot end: the top, then the stages, then the bottom. What stands at an end is one behind the other.
-        place = {End.TOP: -1, End.BOTTOM: 10 ** 6}.get(End(slot.stage), 0) if slot.stage < 0 else slot.stage
+        # What stands at an end is one behind the other.
         alone = len(down) if slot.stage < 0 else 0
-        down.setdefault((slot.window, place, alone), []).append(slot)
+        down.setdefault((*slot.step, alone), []).append(slot)
     steps = [down[each] for each in sorted(down)]
     return steps if stream.side is Side.HOT else steps[::-1]

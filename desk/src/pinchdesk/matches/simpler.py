@@ -15,33 +15,38 @@ from ..network import Network
 from ..program import Pinch
 from .changes import later, misplaced, structures, unsplit
 from .costed import cheapest, fewest
-from .judged import Judge, Judged
-from .structure import Structure, levelled
+from .judged import Judge, Judged, NotAccepted
+from .structure import OddCourse, Structure, levelled
 from .wider import pairs_of, widened
 
 # How many wider structures are tried without a gain, how many exchangers each has more, and how long one may take.
 TRIES, MORE, SLICE = 12, 6, 4.0
 
 
-def simpler(case: Case, network: Network, pinch: Pinch | None = None, seconds: float = 2.0) -> Network:
-    """An accepted network of no more exchangers, and as many with no more splits, at no higher cost: the network
-    itself where nothing was found. `NotAccepted` where the network is not, `Refused` where its branches are joined
-    across one another."""
+def simpler(case: Case, network: Network, pinch: Pinch | None = None, seconds: float = 0.0,
+            most_cost: Fraction | None = None) -> Network:
+    """An accepted network of no more exchangers, and as many with no more splits, that costs no more than the network,
+    or than is allowed (price times W). It is the network itself where nothing was found, where it is not accepted, or
+    where its branches are joined across one another. For so many seconds other pairs and places are tried too."""
     judge = Judge(pinch or Pinch(), completed(case))
-    begun = judge.given(network)
-    return simplified(judge, begun, time.monotonic() + seconds).network
+    try:
+        begun = judge.given(network)
+    except (NotAccepted, OddCourse):
+        return network
+    cost = begun.cost if most_cost is None else max(begun.cost, most_cost)
+    return simplified(judge, begun, cost, time.monotonic() + seconds).network
 
 
-def simplified(judge: Judge, begun: Judged, end: float) -> Judged:
-    """The same of a network that was judged, until a time by `time.monotonic`."""
-    best = without_splits(judge, without_spare(judge, begun, end), max(end, time.monotonic() + SLICE))
+def simplified(judge: Judge, begun: Judged, cost: Fraction, end: float) -> Judged:
+    """The same of a network that was judged, at a cost, until a time by `time.monotonic`."""
+    best = without_splits(judge, without_spare(judge, begun, cost, end), cost, max(end, time.monotonic() + SLICE))
     chance, pairs, tries = Random(1), pairs_of(judge.case), 0
     while pairs and tries < TRIES and time.monotonic() < end:
         wide = widened(judge.case, best.structure, pairs, MORE, chance)
-        found = judge.of(fewest(judge.case, wide, begun.cost, min(SLICE, end - time.monotonic())))
+        found = judge.of(fewest(judge.case, wide, cost, min(SLICE, end - time.monotonic())))
         tries += 1
         if found and rank(judge.case, found) < rank(judge.case, best):
-            best, tries = without_splits(judge, found, max(end, time.monotonic() + SLICE)), 0
+            best, tries = without_splits(judge, found, cost, max(end, time.monotonic() + SLICE)), 0
     return best
 
 
@@ -53,18 +58,18 @@ def kinds(structure: Structure) -> Iterator[Structure]:
         yield level
 
 
-def without_spare(judge: Judge, begun: Judged, end: float) -> Judged:
-    """Without the exchangers that can go at no higher cost."""
+def without_spare(judge: Judge, begun: Judged, cost: Fraction, end: float) -> Judged:
+    """Without the exchangers that can go at a cost."""
     best = begun
     for structure in kinds(begun.structure):
-        found = judge.of(fewest(judge.case, structure, begun.cost, max(SLICE, (end - time.monotonic()) / 2)))
+        found = judge.of(fewest(judge.case, structure, cost, max(SLICE, (end - time.monotonic()) / 2)))
         if found and rank(judge.case, found) < rank(judge.case, best):
             best = found
     return best
 
 
-def without_splits(judge: Judge, begun: Judged, end: float) -> Judged:
-    """Without the splits that can go at no higher cost and with no exchanger more, and with heaters and coolers at the
+def without_splits(judge: Judge, begun: Judged, cost: Fraction, end: float) -> Judged:
+    """Without the splits that can go at a cost and with no exchanger more, and with heaters and coolers at the
     ends of their streams where that costs nothing."""
     best, gained = begun, True
     while gained:
@@ -73,7 +78,7 @@ def without_splits(judge: Judge, begun: Judged, end: float) -> Judged:
             if time.monotonic() > end:
                 return best
             costed = cheapest(judge.case, structure)
-            found = judge.of(costed) if costed and costed.cost <= begun.cost else None
+            found = judge.of(costed) if costed and costed.cost <= cost else None
             if found and rank(judge.case, found) < rank(judge.case, best):
                 best, gained = found, True
                 break

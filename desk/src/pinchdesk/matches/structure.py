@@ -131,7 +131,10 @@ def levelled(structure: Structure) -> Structure:
     return replace(structure, courses={name: with_levels(each) for name, each in structure.courses.items()})
 
 
-def odd_course(stream: str) -> Refused:
-    place, cause = f'network stream {stream}', 'branches are joined across one another'
-    return Refused(4, place, cause, f'{place}: its {cause}, and only splits that are closed inside one another are '
-                                    'changed')
+class OddCourse(Refused):
+    """A network whose splits are not closed inside one another."""
+
+    def __init__(self, stream: str) -> None:
+        place, cause = f'network stream {stream}', 'branches are joined across one another'
+        super().__init__(4, place, cause, f'{place}: its {cause}, and only splits that are closed inside one another '
+                                          'are changed')

@@ -7,7 +7,7 @@ from fractions import Fraction
 
 from ..case import Case, Stream
 from ..network import End, Exchanger, Mix, Network, Pass, Split, Statement
-from .structure import Course, Lane, Parting, Structure, Through, odd_course, parted, throughs
+from .structure import Course, Lane, OddCourse, Parting, Structure, Through, parted, throughs
 
 Duties = Mapping[str, Fraction]
 LONGEST = 16
@@ -86,7 +86,7 @@ def course_of(stream: str, edges: list[Edge], start: int, end: int) -> Course:
         made = contracted(edges, start, end) or in_a_row(edges, start, end) \
             or side_by_side(edges, start, end)
         if made is None:
-            raise odd_course(stream)
+            raise OddCourse(stream)
         edges, start, end = made
     return edges[0].course
 

@@ -7,16 +7,15 @@ from collections.abc import Iterator, Mapping
 from dataclasses import dataclass
 from fractions import Fraction
 
-from ..answers import Cut
 from ..case import Case, Stream, completed
-from ..network import Exchanger, Network, read_network
+from ..network import Exchanger, Network
 from ..program import Pinch
 from .changes import letter_of, next_name
 from .costed import Costed
 from .fewer import Fewer, Telling, nobody
-from .judged import Judge, Judged, NotAccepted
+from .found import find_network
+from .judged import Judge, Judged
 from .paths import Shift, shifts
-from .simpler import simplified
 from .structure import Course, Lane, Parting, Structure, Through
 
 
@@ -69,11 +68,11 @@ class TradeOff:
 
 def tradeoff(case: Case, network: Network | None = None, pinch: Pinch | None = None, seconds: float = 30.0,
              tell: Telling = nobody) -> TradeOff:
-    """The trade-off of a case, from a network or from one that is searched. `NotAccepted` where the network is not, or
-    the case has none. Control-C ends the search with what was found."""
+    """The trade-off of a case, from a network or from one that is searched. `NotAccepted` where the network is not,
+    `NoNetwork` where the case has none. Control-C ends the search with what was found."""
     judge = Judge(pinch or Pinch(), completed(case))
     end = time.monotonic() + seconds
-    begun = judge.given(network) if network else first_network(judge, end)
+    begun = judge.given(network or find_network(judge.case, seconds=seconds / 3, pinch=judge.pinch).network)
     search, stopped = Fewer(judge, begun, end, tell), False
     try:
         search.run()
@@ -81,15 +80,6 @@ def tradeoff(case: Case, network: Network | None = None, pinch: Pinch | None = N
     except KeyboardInterrupt:
         found, stopped = search.rows(), True
     return TradeOff(judge.case, begun.verdict.floor, begun, tuple(rows_of(judge, begun, found)), stopped)
-
-
-def first_network(judge: Judge, end: float) -> Judged:
-    """A network at the least cost, made of what `pinch design` prints; `NotAccepted` where there is none."""
-    design = judge.pinch.design(judge.case)
-    if isinstance(design, Cut):
-        raise NotAccepted('the case has no heat flow, so there is no network (`pinchdesk flow` says why)')
-    left = max(2.0, (end - time.monotonic()) / 2)
-    return simplified(judge, judge.given(read_network(design.text)), time.monotonic() + left)
 
 
 def rows_of(judge: Judge, begun: Judged, found: list[Judged]) -> Iterator[Row]:

@@ -31,6 +31,11 @@ class Piece:
     def is_level(self) -> bool:
         return self.cp == 0
 
+    @property
+    def is_loose(self) -> bool:
+        """Whether it is a utility whose heat is open."""
+        return self.least != self.most
+
 
 @dataclass(frozen=True)
 class Window:
@@ -46,6 +51,11 @@ class Window:
     @property
     def colds(self) -> tuple[Piece, ...]:
         return tuple(each for each in self.pieces if each.side is Side.COLD)
+
+    @property
+    def total(self) -> int:
+        """What is exchanged at most where no more utility is used than has to be."""
+        return max(sum(each.least if each.is_loose else each.most for each in held) for held in (self.hots, self.colds))
 
 
 # A place of a cut: a temperature, and whether what stands at it is above the cut.
@@ -64,7 +74,8 @@ def piece_of(source: Source, uses: Mapping[str, int] | None) -> Piece:
 def whole(case: Case, uses: Mapping[str, int] | None) -> Window:
     """The case as one window. A utility that gives nothing is left out."""
     pieces = [piece_of(each, uses) for each in case.sources]
-    return Window(tuple(each for each in pieces if each.most), frozenset((each.hot, each.cold) for each in case.forbids))
+    forbids = frozenset((each.hot, each.cold) for each in case.forbids)
+    return Window(tuple(each for each in pieces if each.most), forbids)
 
 
 def windows(case: Case, uses: Mapping[str, int]) -> tuple[Window, ...]:

@@ -1,0 +1,133 @@
+"""The search for a network of few exchangers. Nothing that it gives has not been accepted by `pinch audit`.
+
+At the least cost the case is cut into windows where no heat crosses. Each is solved by itself; then all of them
+together, so that exchangers may be joined across the cuts; then parts of them anew, as long as there is time. With a
+higher cost there is one window, and the answer at the least cost is where it begins."""
+from __future__ import annotations
+
+from collections.abc import Mapping, Sequence
+from dataclasses import dataclass, replace
+from fractions import Fraction
+
+from ..case import Case
+from ..network import Network
+from ..program import Pinch
+from ..verdicts import Accepted
+from .asking import Answer, Solver
+from .effort import Effort, TimeOver
+from .joined import joined
+from .ladder import Ladder
+from .onewindow import as_one
+from .parts import Parts
+from .plan import plan_of
+from .simpler import simpler
+from .slots import Asked
+from .windows import Window, whole, windows
+from .written import written
+
+
+@dataclass(frozen=True)
+class Found:
+    """A network with what `pinch audit` says of it."""
+
+    network: Network
+    verdict: Accepted
+
+    @property
+    def exchangers(self) -> int:
+        return len(self.network.exchangers)
+
+    @property
+    def rank(self) -> tuple[int, Fraction, int]:
+        """What is less is better: exchangers, then the cost, then statements."""
+        return (self.exchangers, self.verdict.cost, len(self.network.statements))
+
+
+class Search:
+    """A search in a completed case, for a network that costs at most so much. `staged` is what the solver says that
+    no network of the staged model has fewer exchangers than, None where that was not settled."""
+
+    def __init__(self, pinch: Pinch, case: Case, floor: int, most_cost: Fraction, effort: Effort) -> None:
+        self.pinch, self.case, self.effort = pinch, case, effort
+        self.floor, self.most_cost = floor, most_cost
+        self.best: Found | None = None
+        self.staged: int | None = None
+        self.solver = Solver(effort)
+
+    def run(self, uses: Mapping[str, int], first: Sequence[Network]) -> None:
+        """Searches until the best is known to be so, or the time is over."""
+        for each in first:
+            self.offer(each)
+        try:
+            self.search(uses)
+        except TimeOver:
+            pass
+        finally:
+            self.solver.apart.end()
+
+    def search(self, uses: Mapping[str, int]) -> None:
+        every = whole(self.case, None)
+        self.effort.bound = max(1, self.solver.pairs(every, self.effort.seconds / 10, self.most_cost)[0])
+        self.effort.told()
+        answer = self.at_least_cost(windows(self.case, uses))
+        if self.most_cost > self.floor and not self.enough():
+            self.at_higher_cost(every, answer)
+
+    def enough(self) -> bool:
+        return self.best is not None and self.best.exchangers <= self.effort.bound
+
+    def offer(self, network: Network) -> None:
+        """Takes a network where it is accepted, costs no more than it may, and is better than the best one."""
+        verdict = self.pinch.audit(self.case, network)
+        if not isinstance(verdict, Accepted) or verdict.cost > self.most_cost:
+            return
+        found = Found(network, verdict)
+        if self.best is None or found.rank < self.best.rank:
+            self.best, self.effort.best = found, found.exchangers
+            self.effort.told()
+
+    def take(self, answer: Answer) -> None:
+        """Writes an answer, and offers it as it is and made simpler."""
+        network = written(self.case, joined(self.case, plan_of(self.case, answer.model, answer.point)))
+        self.offer(network)
+        less = simpler(self.case, network)
+        if less != network:
+            self.offer(less)
+
+    def at_least_cost(self, cut: Sequence[Window]) -> Answer | None:
+        """The windows one by one, then together."""
+        share = self.effort.seconds / (6 * max(1, len(cut)))
+        answers = [Ladder(self.solver, each, min(share, 20.0)).run() for each in cut]
+        asked = Asked(tuple(cut), tuple(each.asked.stages[0] for each in answers))
+        used = frozenset(replace(slot, window=at) for at, each in enumerate(answers) for slot in each.used)
+        answer = self.solver.again(asked, used)
+        if answer is None:
+            return None
+        self.take(answer)
+        return self.together(answer, self.most_cost == self.floor)
+
+    def together(self, answer: Answer, to_the_end: bool) -> Answer:
+        """All windows of an answer together: the whole at once, then part by part."""
+        share = self.effort.left / (4 if to_the_end else 12)
+        outcome = self.solver.ask(replace(answer.asked, slots=None), share, None, answer.count - 1)
+        if outcome.answer is not None:
+            answer = outcome.answer
+            self.take(answer)
+        if outcome.settled:
+            self.staged = answer.count
+            return answer
+        parts = Parts(self.solver, answer, self.take)
+        until = self.effort.spent + (self.effort.left if to_the_end else self.effort.left / 4)
+        parts.run(lambda: self.enough() or self.effort.spent > until)
+        return parts.answer
+
+    def at_higher_cost(self, every: Window, answer: Answer | None) -> None:
+        """The whole case with open utilities, begun at an answer of the least cost."""
+        if answer is None:
+            return
+        asked, used = as_one(every, answer)
+        begun = self.solver.again(replace(asked, most_cost=self.most_cost), used)
+        if begun is not None:
+            self.take(begun)
+            self.staged = None
+            self.together(begun, True)
