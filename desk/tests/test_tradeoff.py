@@ -37,7 +37,7 @@ def those(name: str) -> tuple[Case, Network]:
 
 @pytest.fixture(scope='module')
 def traded(pinch: Pinch) -> TradeOff:
-    return tradeoff(*those('tc3'), pinch, seconds=0.5)
+    return tradeoff(*those('tc3'), pinch, seconds=0.01)
 
 
 @pytest.fixture
@@ -230,6 +230,15 @@ def test_control_c_gives_the_rows_so_far(pinch: Pinch) -> None:
     assert made.stopped and [row.exchangers for row in made.rows] == [7, 6] and len(told) == 1
 
 
+def test_other_pairs_and_places_are_tried(pinch: Pinch) -> None:
+    # With S1 on S4, which needs no split, five cost less than what is left of the network by hand.
+    made = tradeoff(*those('tc3'), pinch, seconds=3)
+    costs = {row.exchangers: row.cost for row in made.rows}
+    assert costs[6] <= 111500 and costs[5] <= 172500 and costs[4] <= 307500
+    for row in made.rows:
+        assert cost_of(pinch, made.case, row.network) == row.cost
+
+
 def test_without_a_network_one_is_searched(pinch: Pinch) -> None:
     made = tradeoff(those('preheater')[0], None, pinch, seconds=0.5)
     assert {row.exchangers: int(row.cost) for row in made.rows} == {3: 2000, 2: 4000}
@@ -249,7 +258,7 @@ def test_a_picture_has_each_network(traded: TradeOff) -> None:
 
 def test_the_word_gives_a_table_and_the_networks(desk: Captured, tmp_path: Path, pinch: Pinch) -> None:
     folder = tmp_path / 'networks'
-    done = desk('tradeoff', *TC3, '--seconds', '0.2', '--form', 'csv', '--networks', str(folder))
+    done = desk('tradeoff', *TC3, '--seconds', '0.01', '--form', 'csv', '--networks', str(folder))
     assert done.status == 0 and done.out.startswith('exchangers,cost price times W,above the floor,excess kW,splits,')
     rows = [line.split(',') for line in done.out.split('\r\n')[1:]]
     assert [row[:4] for row in rows[:3]] == [['floor', '107500', '0', ''], ['7', '107500', '0', '0'],

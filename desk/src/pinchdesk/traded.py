@@ -154,6 +154,6 @@ def shown_as(traded: TradeOff, options: Namespace, notes: tuple[str, ...]) -> An
 
 WORDS = (
     Word('tradeoff', 'exchangers against cost: networks of fewer and fewer exchangers, as a table or a picture',
-         'pinchdesk tradeoff examples/tc3.csv examples/tc3-network.txt --seconds 2 -o tc3.svg', takes_tradeoff,
+         'pinchdesk tradeoff examples/tc3.csv examples/tc3-network.txt --seconds 1 -o tc3.svg', takes_tradeoff,
          tradeoff, ('case', 'network')),
 )

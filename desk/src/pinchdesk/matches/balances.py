@@ -49,8 +49,7 @@ class Ends:
 
 
 class Model:
-    """The rows of a structure. `whole` has, for each exchanger, the variable that is 1 where it is there; without it
-    each is there."""
+    """The rows of a structure, and the programs that are made of them."""
 
     def __init__(self, case: Case, structure: Structure) -> None:
         self.case, self.structure = case, structure
@@ -184,21 +183,28 @@ class Model:
         highs = tuple(each / self.unit for each in self.most)
         return Program((Fraction(0),) * count, highs, frozenset(), rows, tuple(self.cost.terms.items()))
 
-    def chosen(self, most: int | None, cost: Fraction | None, fresh: frozenset[str] = frozenset()) -> Program:
-        """The least cost with so many of the exchangers, or the fewest exchangers of no more than a cost. Each of the
-        `fresh` ones counts as a little cost, so that of the cheapest choices one with few of them is taken."""
+    def fewest(self, cost: Fraction, most: int) -> Program:
+        """The fewest of the exchangers, and at most so many, that cost no more than this."""
+        count = len(self.names)
+        return self.chosen(most, cost, tuple((count + at, Fraction(1)) for at in range(count)))
+
+    def cheapest_of(self, most: int, cost: Fraction | None, fresh: frozenset[str]) -> Program:
+        """The least cost with at most so many of the exchangers, and no more than this. Each of the `fresh` ones counts
+        as a little cost, so that of the cheapest choices one with few of them is taken."""
+        little = ((len(self.names) + at, self.scale / 10 ** 4) for name, at in self.at.items() if name in fresh)
+        return self.chosen(most, cost, (*self.cost.terms.items(), *little))
+
+    def chosen(self, most: int, cost: Fraction | None, aim: Terms) -> Program:
+        """A choice of at most so many of the exchangers: behind the duties stand variables that are 1 for those that
+        are there."""
         count = len(self.names)
         rows = [*self.balance_rows(), *self.approach_rows(True)]
         for at, high in enumerate(self.most):
             rows.append(Row(((at, Fraction(1)), (count + at, -high / self.unit)), None, Fraction(0)))
-        counted = tuple((count + at, Fraction(1)) for at in range(count))
-        if most is not None:
-            rows.append(Row(counted, None, Fraction(most)))
+        rows.append(Row(tuple((count + at, Fraction(1)) for at in range(count)), None, Fraction(most)))
         if cost is not None:
             rows.append(self.cost.row(None, cost))
         highs = (*(each / self.unit for each in self.most), *(Fraction(each > 0) for each in self.most))
-        little = tuple((count + at, self.scale / 10 ** 4) for name, at in self.at.items() if name in fresh)
-        aim = (*self.cost.terms.items(), *little) if cost is None else counted
         return Program((Fraction(0),) * (2 * count), highs, frozenset(range(count, 2 * count)), tuple(rows), aim)
 
 

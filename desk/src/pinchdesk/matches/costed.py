@@ -12,6 +12,9 @@ from .linear import OutOfTime, Program, exact, solve
 from .structure import Structure, reduced
 from .texts import Duties
 
+# Two costs that differ by less than this part of the greatest are one to the solver.
+FINE = 10 ** 6
+
 
 @dataclass(frozen=True)
 class Costed:
@@ -40,19 +43,21 @@ def least_cost(case: Case, structure: Structure) -> float:
     return found.aim if found else math.inf
 
 
-def fewest(case: Case, structure: Structure, cost: Fraction, seconds: float) -> Costed | None:
-    """The fewest of the exchangers of a structure with which it costs no more than this."""
+def fewest(case: Case, structure: Structure, cost: Fraction, most: int, seconds: float) -> Costed | None:
+    """The fewest of the exchangers of a structure, and at most so many, with which it costs no more than this."""
     model = Model(case, structure)
     # A little more for the solver, whose rows hold as far as floats do; what it chooses is costed exactly.
-    slack = model.scale / 10 ** 6
-    made = settled(case, structure, model.chosen(None, cost + slack), seconds)
+    made = settled(case, structure, model.fewest(cost + model.scale / FINE, most), seconds)
     return made if made and made.cost <= cost else None
 
 
-def cheapest_of(case: Case, structure: Structure, most: int, seconds: float,
+def cheapest_of(case: Case, structure: Structure, most: int, seconds: float, below: Fraction | None = None,
                 fresh: frozenset[str] = frozenset()) -> Costed | None:
-    """The least cost with at most so many of the exchangers of a structure, or nearly so with few of the fresh ones."""
-    return settled(case, structure, Model(case, structure).chosen(most, None, fresh), seconds)
+    """The least cost with at most so many of the exchangers of a structure, or nearly so with few of the fresh ones;
+    None where it is not below a cost."""
+    model = Model(case, structure)
+    most_cost = None if below is None else below - model.scale / FINE
+    return settled(case, structure, model.cheapest_of(most, most_cost, fresh), seconds)
 
 
 def settled(case: Case, structure: Structure, program: Program, seconds: float) -> Costed | None:

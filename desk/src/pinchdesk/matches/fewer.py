@@ -8,6 +8,7 @@ from __future__ import annotations
 import time
 from collections.abc import Callable, Iterator
 from dataclasses import dataclass, field
+from fractions import Fraction
 from random import Random
 
 from ..case import Case
@@ -21,6 +22,9 @@ from .wider import pairs_of, widened
 
 # How often a number is tried without a gain, and how many seconds one program may take.
 TRIES, SLICE = 10, 5.0
+# The parts of the time at which wider structures and then shares are over; the least seconds for what comes first, and
+# for what comes last.
+WIDE, SHARED, FIRST, LAST = 0.75, 0.9, 10.0, 5.0
 # How many exchangers a wider structure has more: the fewest and the most.
 MORE = (4, 10)
 Telling = Callable[[Judged], None]
@@ -36,8 +40,9 @@ class Fewer:
 
     judge: Judge
     begun: Judged
-    end: float
+    seconds: float
     tell: Telling = nobody
+    start: float = field(default_factory=time.monotonic)
     best: dict[int, Judged] = field(default_factory=dict)
     idle: dict[int, int] = field(default_factory=dict)
     chance: Random = field(default_factory=lambda: Random(1))
@@ -54,9 +59,12 @@ class Fewer:
     def floor(self) -> int:
         return self.begun.verdict.floor
 
-    @property
-    def left(self) -> float:
-        return self.end - time.monotonic()
+    def until(self, part: float, least: float = 0.0) -> float:
+        """When so much of the time is over, or at least so many seconds from the start."""
+        return self.start + max(self.seconds * part, least)
+
+    def left(self, part: float = 1.0, least: float = 0.0) -> float:
+        return self.until(part, least) - time.monotonic()
 
     def offer(self, costed: Costed | None) -> bool:
         """Takes what was found where no network of so many exchangers is cheaper, and none of as much is simpler."""
@@ -72,18 +80,18 @@ class Fewer:
 
     def run(self) -> None:
         """Searches until the time is over, or nothing more is gained."""
-        self.down(self.begun.structure, self.begun.count)
-        while self.left > 0:
+        self.down(self.begun.structure, self.begun.count, FIRST)
+        while self.left(WIDE) > 0:
             count = min(self.open(), key=lambda each: (self.idle.get(each, 0), each), default=None)
             if count is None:
                 break
             self.widen(count)
         for judged in self.rows():
-            self.offer(reshared(self.case, Costed(judged.structure, judged.duties, judged.cost), self.end))
+            self.offer(reshared(self.case, Costed(judged.structure, judged.duties, judged.cost), self.until(SHARED)))
 
-    def down(self, structure: Structure, count: int) -> None:
-        """Takes one exchanger after another from a structure, until none can go."""
-        while count > 0:
+    def down(self, structure: Structure, count: int, least: float = 0.0) -> None:
+        """Takes one exchanger after another from a structure, until none can go, or the time is over."""
+        while count > 0 and self.left(WIDE, least) > 0:
             held = [self.chosen(with_ends(self.case, each), count) for each in kinds(structure)]
             made = min((each for each in held if each), key=lambda each: each.cost, default=None)
             if made is None:
@@ -92,10 +100,11 @@ class Fewer:
             structure = made.structure if len(made.duties) < count else structure
             count = min(count, len(made.duties)) - 1
 
-    def chosen(self, structure: Structure, count: int, held: Structure | None = None) -> Costed | None:
-        """The cheapest with so many; of equal ones one with few exchangers that are not held."""
+    def chosen(self, structure: Structure, count: int, below: Fraction | None = None,
+               held: Structure | None = None) -> Costed | None:
+        """The cheapest with so many, below a cost; of equal ones one with few exchangers that are not held."""
         fresh = frozenset(structure.pairs).difference(held.pairs) if held else frozenset()
-        return cheapest_of(self.case, structure, count, max(1.0, min(SLICE, self.left)), fresh)
+        return cheapest_of(self.case, structure, count, max(1.0, min(SLICE, self.left(WIDE))), below, fresh)
 
     def open(self) -> Iterator[int]:
         """The numbers of exchangers that may still be bettered: those of networks above the floor, and one at each end
@@ -115,7 +124,7 @@ class Fewer:
         from_one = self.chance.choice(near or self.rows())
         wide = widened(self.case, from_one.structure, self.pairs, self.chance.randint(*MORE), self.chance)
         before = self.best.get(count)
-        made = self.chosen(wide, count)
+        made = self.chosen(wide, count, before.cost if before else None)
         self.idle[count] = self.idle.get(count, 0) + 1
         if self.offer(made) and made and (before is None or made.cost < before.cost):
             # What is near may be bettered from here.
@@ -133,15 +142,13 @@ class Fewer:
     def near(self) -> list[Judged]:
         """The rows, each made from the one before where that costs no more: so that few things change."""
         rows = self.rows()
+        end = max(self.until(1.0), time.monotonic() + LAST)
         for at, judged in enumerate(rows[1:], 1):
+            if time.monotonic() > end:
+                break
             held = rows[at - 1].structure
-            made = [self.chosen(with_ends(self.case, each), judged.count, held) for each in kinds(held)]
+            made = [self.chosen(with_ends(self.case, each), judged.count, None, held) for each in kinds(held)]
             near = [each for each in made if each and (each.cost, len(each.duties)) <= (judged.cost, judged.count)]
             rows[at] = self.judge.of(near[0] if near else None) or judged
-        return [self.plain(each) for each in rows]
-
-    def plain(self, judged: Judged) -> Judged:
-        """A network without the splits that can go; the one that was given stays as it is."""
-        if judged is self.begun:
-            return judged
-        return without_splits(self.judge, judged, judged.cost, max(self.end, time.monotonic() + SLICE))
+        # The network that was given stays as it is.
+        return [each if each is self.begun else without_splits(self.judge, each, each.cost, end) for each in rows]

@@ -43,7 +43,7 @@ def simplified(judge: Judge, begun: Judged, cost: Fraction, end: float) -> Judge
     chance, pairs, tries = Random(1), pairs_of(judge.case), 0
     while pairs and tries < TRIES and time.monotonic() < end:
         wide = widened(judge.case, best.structure, pairs, MORE, chance)
-        found = judge.of(fewest(judge.case, wide, cost, min(SLICE, end - time.monotonic())))
+        found = judge.of(fewest(judge.case, wide, cost, best.count - 1, min(SLICE, end - time.monotonic())))
         tries += 1
         if found and rank(judge.case, found) < rank(judge.case, best):
             best, tries = without_splits(judge, found, cost, max(end, time.monotonic() + SLICE)), 0
@@ -62,7 +62,8 @@ def without_spare(judge: Judge, begun: Judged, cost: Fraction, end: float) -> Ju
     """Without the exchangers that can go at a cost."""
     best = begun
     for structure in kinds(begun.structure):
-        found = judge.of(fewest(judge.case, structure, cost, max(SLICE, (end - time.monotonic()) / 2)))
+        seconds = max(SLICE, (end - time.monotonic()) / 2)
+        found = judge.of(fewest(judge.case, structure, cost, best.count, seconds))
         if found and rank(judge.case, found) < rank(judge.case, best):
             best = found
     return best

@@ -71,9 +71,9 @@ def tradeoff(case: Case, network: Network | None = None, pinch: Pinch | None = N
     """The trade-off of a case, from a network or from one that is searched. `NotAccepted` where the network is not,
     `NoNetwork` where the case has none. Control-C ends the search with what was found."""
     judge = Judge(pinch or Pinch(), completed(case))
-    end = time.monotonic() + seconds
+    start = time.monotonic()
     begun = judge.given(network or find_network(judge.case, seconds=seconds / 3, pinch=judge.pinch).network)
-    search, stopped = Fewer(judge, begun, end, tell), False
+    search, stopped = Fewer(judge, begun, seconds, tell, start), False
     try:
         search.run()
         found = search.near()
