@@ -12,19 +12,21 @@ from .pairsets import PairSets
 from .slots import Asked, slots_of
 from .windows import Window
 
-# The most stages of a window; how many places are many; how many sets of few pairs are tried.
+# The most stages of a window at first; how many places are many; how many sets of few pairs are tried.
 STAGES, MANY, SETS = 8, 50, 12
 
 
 class Ladder:
     """The search in one window, which may take so many seconds, or longer where it found nothing; with a limit of cost
-    where the uses of its utilities are open."""
+    where the uses of its utilities are open. With an answer already, it looks for better ones alone."""
 
-    def __init__(self, solver: Solver, window: Window, seconds: float, most_cost: Fraction | None = None) -> None:
+    def __init__(self, solver: Solver, window: Window, seconds: float, most_cost: Fraction | None = None,
+                 best: Answer | None = None) -> None:
         self.solver, self.window, self.seconds, self.most_cost = solver, window, seconds, most_cost
         self.until = solver.effort.spent + seconds
         self.sets = PairSets(solver, window, most_cost)
-        self.best: Answer | None = None
+        self.best = best
+        self.most_stages = STAGES
 
     @property
     def left(self) -> float:
@@ -45,7 +47,8 @@ class Ladder:
             self.climb(None, max(1.0, self.left / 4))
             if self.best is not None and self.best is held:
                 break
-            self.until = max(self.until, self.solver.effort.spent + self.seconds / 2)
+            if self.best is None:
+                self.until, self.most_stages = self.solver.effort.spent + self.seconds, self.most_stages + 2
         assert self.best is not None
         return self.best
 
@@ -66,7 +69,7 @@ class Ladder:
 
     def climb(self, pairs: frozenset[Pair] | None, seconds: float) -> None:
         """More stages, until there is an answer and one more did not better it."""
-        for stages in range(STAGES + 1):
+        for stages in range(self.most_stages + 1):
             if self.is_done or self.best is not None and stages > self.best.asked.stages[0] + 1:
                 return
             slots = slots_of(self.asked(stages))

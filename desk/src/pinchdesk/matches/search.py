@@ -49,13 +49,14 @@ class Found:
 
 class Search:
     """A search in a completed case, for a network that costs at most so much. `staged` is what the solver says that
-    no network of the staged model has fewer exchangers than, None where that was not settled."""
+    no network of the staged model has fewer exchangers than, with the stages of each window; None where that was not
+    settled."""
 
     def __init__(self, pinch: Pinch, case: Case, floor: int, most_cost: Fraction, effort: Effort) -> None:
         self.pinch, self.case, self.effort = pinch, case, effort
         self.floor, self.most_cost = floor, most_cost
         self.best: Found | None = None
-        self.staged: int | None = None
+        self.staged: tuple[int, tuple[int, ...]] | None = None
         self.solver = Solver(effort)
 
     def run(self, uses: Mapping[str, int], first: Sequence[Network]) -> None:
@@ -117,26 +118,26 @@ class Search:
         until = self.effort.spent + seconds
         asked = replace(answer.asked, slots=None)
         if len(slots_of(asked)) <= LARGE:
-            outcome = self.solver.ask(asked, seconds / 2, None, answer.count - 1)
+            least = answer.count if self.best is None else min(answer.count, self.best.exchangers)
+            outcome = self.solver.ask(asked, seconds / 2, None, least - 1)
             if outcome.answer is not None:
                 answer = outcome.answer
                 self.take(answer)
             if outcome.settled:
-                self.staged = answer.count
+                self.staged = (outcome.bound, answer.asked.stages)
                 return answer
         parts = Parts(self.solver, answer, self.take)
         if parts.run(lambda: self.enough() or self.effort.spent > until):
-            self.staged = parts.answer.count
+            self.staged = (parts.answer.count, parts.answer.asked.stages)
         return parts.answer
 
     def at_higher_cost(self, every: Window, answer: Answer | None) -> None:
-        """The whole case with open utilities: anew, and begun at an answer of the least cost."""
+        """The whole case with open utilities, from an answer at the least cost on."""
         self.staged = None
-        ladder = Ladder(self.solver, every, self.effort.left / 3, self.most_cost)
-        begun = [ladder.run()]
-        self.take(begun[0])
+        begun = None
         if answer is not None:
             asked, used = as_one(every, answer)
-            held = self.solver.again(replace(asked, most_cost=self.most_cost), used)
-            begun += [] if held is None else [held]
-        self.together(min(begun, key=lambda each: each.count), self.effort.left)
+            begun = self.solver.again(replace(asked, most_cost=self.most_cost), used)
+        begun = Ladder(self.solver, every, self.effort.left / 3, self.most_cost, begun).run()
+        self.take(begun)
+        self.together(begun, self.effort.left)
