@@ -8,6 +8,7 @@ from .case import (Basis, Case, Forbid, Side, Stream, Utility, actual, completed
 from .convert import Converted, Wanted, case_of_table, checked
 from .errors import DeskError, OutputError, ProgramError, Refused, WordsError
 from .exchangers import exchangers_sheet, streams_sheet, sums_sheet
+from .matches.found import FewExchangers, NoNetwork, find_network
 from .network import End, Exchanger, Mix, Network, Pass, Split, print_network, read_network
 from .program import Pinch
 from .reports import (audit_sheets, flow_sheets, prices_sheets, site_sheets, sweep_sheets, targets_sheets)
@@ -35,13 +36,13 @@ def __getattr__(name: str) -> Any:
 
 __all__ = [
     'Accepted', 'Basis', 'Branch', 'Case', 'Converted', 'Curves', 'Cut', 'Design', 'DeskError', 'End', 'Exchanger',
-    'Followed', 'Forbid', 'HeatFlow', 'Main', 'Mix', 'Move', 'Network', 'OutputError', 'Part', 'Pass', 'Passage',
-    'Penalty', 'Pinch', 'PinchPoint', 'PinchSide', 'Place', 'PlaceKind', 'Plant', 'Point', 'Price', 'PriceAnswer',
-    'Prices', 'Profile', 'ProgramError', 'Refused', 'Rejected', 'Rows', 'Scenario', 'ScenarioAnswer', 'Segment',
-    'Sheet', 'Side', 'SideState', 'Site', 'SiteAnswer', 'Span', 'SpanAnswer', 'Split', 'Stream', 'StreamEnd', 'Study',
-    'Sweep', 'SweepRow', 'Targets', 'TooFine', 'TradeOff', 'Use', 'Utility', 'Verdict', 'Wanted', 'WordsError',
-    'actual', 'audit_sheets', 'case_of_table', 'checked', 'completed', 'exchangers_sheet', 'flow_sheets', 'follow',
-    'pinches_of', 'prices_sheets', 'print_case', 'print_network', 'print_study', 'read_case', 'read_network',
-    'read_site', 'read_study', 'shifted', 'simpler', 'site_sheets', 'streams_sheet', 'sums_sheet',
-    'sweep_sheets', 'targets_sheets', 'tradeoff',
+    'FewExchangers', 'Followed', 'Forbid', 'HeatFlow', 'Main', 'Mix', 'Move', 'Network', 'NoNetwork', 'OutputError',
+    'Part', 'Pass', 'Passage', 'Penalty', 'Pinch', 'PinchPoint', 'PinchSide', 'Place', 'PlaceKind', 'Plant', 'Point',
+    'Price', 'PriceAnswer', 'Prices', 'Profile', 'ProgramError', 'Refused', 'Rejected', 'Rows', 'Scenario',
+    'ScenarioAnswer', 'Segment', 'Sheet', 'Side', 'SideState', 'Site', 'SiteAnswer', 'Span', 'SpanAnswer', 'Split',
+    'Stream', 'StreamEnd', 'Study', 'Sweep', 'SweepRow', 'Targets', 'TooFine', 'TradeOff', 'Use', 'Utility', 'Verdict',
+    'Wanted', 'WordsError', 'actual', 'audit_sheets', 'case_of_table', 'checked', 'completed', 'exchangers_sheet',
+    'find_network', 'flow_sheets', 'follow', 'pinches_of', 'prices_sheets', 'print_case', 'print_network',
+    'print_study', 'read_case', 'read_network', 'read_site', 'read_study', 'shifted', 'simpler', 'site_sheets',
+    'streams_sheet', 'sums_sheet', 'sweep_sheets', 'targets_sheets', 'tradeoff',
 ]

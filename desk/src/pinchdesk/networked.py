@@ -5,6 +5,7 @@ from argparse import ArgumentParser, Namespace
 from fractions import Fraction
 
 from .errors import WordsError, about
+from .matches.found import find_network
 from .output import read_bytes
 from .progress import tell
 from .word import Answer, Word
@@ -38,7 +39,6 @@ def network(options: Namespace) -> Answer:
         raise WordsError('the seconds are above 0, the percent at least 0')
     content = read_bytes(options.case)
     start = None if options.start is None else read_bytes(options.start)
-    from .matches.found import find_network
     with about(case=options.case, network=options.start or 'network'):
         found = find_network(content, most, above, float(seconds), start, tell)
     return Answer(found.text)

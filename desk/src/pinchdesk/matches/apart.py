@@ -29,13 +29,13 @@ class Apart:
     def __init__(self) -> None:
         self.process: subprocess.Popen[bytes] | None = None
 
-    def solve(self, program: Program, seconds: float) -> Solved | None:
+    def solve(self, program: Program, seconds: float, gap: float = 1e-6) -> Solved | None:
         """As `linear.solve`."""
         if len(program.wholes) <= SMALL:
-            return solve(program, seconds)
+            return solve(program, seconds, gap)
         done = False
         try:
-            found = self.ask(program, seconds)
+            found = self.ask(program, seconds, gap)
             done = True
         finally:
             if not done:
@@ -45,11 +45,11 @@ class Apart:
         assert found is None or isinstance(found, Solved)
         return found
 
-    def ask(self, program: Program, seconds: float) -> object:
+    def ask(self, program: Program, seconds: float, gap: float) -> object:
         process = self.begun()
         assert process.stdin is not None and process.stdout is not None
         try:
-            pickle.dump((program, seconds), process.stdin)
+            pickle.dump((program, seconds, gap), process.stdin)
             process.stdin.flush()
             held: object = self.answer(process, seconds + GRACE)
         except (OSError, EOFError) as fault:
@@ -89,12 +89,12 @@ def serve() -> None:
     put(None)
     while True:
         try:
-            program, seconds = pickle.load(sys.stdin.buffer)
+            program, seconds, gap = pickle.load(sys.stdin.buffer)
         except EOFError:
             return
         found: object
         try:
-            found = solve(program, seconds)
+            found = solve(program, seconds, gap)
         except OutOfTime as fault:
             found = fault
         put(found)

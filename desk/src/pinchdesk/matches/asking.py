@@ -7,11 +7,9 @@ from fractions import Fraction
 from .apart import Apart
 from .effort import Effort, rounded_up
 from .linear import OutOfTime, exact
-from .pairs import Pair, transshipment
 from .model import Model
 from .slots import Asked, Slot
 from .stages import model_of
-from .windows import Window
 
 
 @dataclass(frozen=True)
@@ -72,14 +70,3 @@ class Solver:
     def again(self, asked: Asked, used: frozenset[Slot]) -> Answer | None:
         """An answer that uses no other slots than these."""
         return self.ask(replace(asked, slots=used), 30.0).answer
-
-    def pairs(self, window: Window, seconds: float, most_cost: Fraction | None = None) -> tuple[int, frozenset[Pair]]:
-        """A bound on the number of exchangers of every network, and pairs that could do; none where no time was."""
-        program, used = transshipment(window, most_cost)
-        try:
-            solved = self.apart.solve(program, self.effort.slice(seconds))
-        except OutOfTime as fault:
-            return rounded_up(fault.bound), frozenset()
-        if solved is None:
-            return 0, frozenset()
-        return rounded_up(solved.bound), frozenset(pair for pair, at in used.items() if solved.values[at] > 0.5)

@@ -12,7 +12,6 @@ from ..network import Network, print_network, read_network
 from ..program import CaseText, NetworkText, Pinch
 from ..verdicts import Accepted
 from .effort import Effort, nobody
-from .search import Search
 
 SECONDS = 60.0
 
@@ -26,13 +25,13 @@ class NoNetwork(DeskError):
 @dataclass(frozen=True)
 class FewExchangers:
     """A network that `pinch audit` accepted, with what it said. `bound` is what the solver says that no network at
-    this cost has fewer exchangers than; `staged` the same for networks of stages with isothermal mixing, None where
-    that was not settled; `ended` is why the search ended."""
+    this cost has fewer exchangers than; `staged` the same for networks of so many stages, in each of the windows, with
+    isothermal mixing, None where that was not settled; `ended` is why the search ended."""
 
     network: Network
     verdict: Accepted
     bound: int
-    staged: int | None
+    staged: tuple[int, tuple[int, ...]] | None
     ended: str
 
     @property
@@ -46,7 +45,10 @@ class FewExchangers:
 
     def comments(self) -> list[str]:
         verdict = self.verdict
-        staged = '' if self.staged is None else f'; at least {self.staged} in stages with isothermal mixing'
+        staged = ''
+        if self.staged is not None:
+            stages = '+'.join(map(str, self.staged[1]))
+            staged = f'; at least {self.staged[0]} in {stages} stages with isothermal mixing'
         return [f'{self.exchangers} exchangers', f'bound: at least {self.bound} by the solver{staged} ({self.ended})',
                 f'cost {verdict.cost}', f'floor {verdict.floor}', f'excess {verdict.excess}']
 
@@ -64,6 +66,8 @@ def find_network(case: CaseText, most_cost: Fraction | int | None = None, above:
         raise NoNetwork('there is no heat flow, so there is no network (`pinchdesk flow` says why)')
     held = completed(case if isinstance(case, Case) else read_case(case))
     limit = limit_of(flow.cost, most_cost, above)
+    # The solver takes a while to load, which no other word should wait for.
+    from .search import Search
     search = Search(pinch, held, flow.cost, limit, effort)
     ended = 'interrupted'
     try:
@@ -74,7 +78,7 @@ def find_network(case: CaseText, most_cost: Fraction | int | None = None, above:
     best = search.best
     if best is None:
         raise NoNetwork('interrupted before there was a network')
-    staged = search.staged if search.staged is not None and search.staged <= best.exchangers else None
+    staged = search.staged if search.staged is not None and search.staged[0] <= best.exchangers else None
     return FewExchangers(best.network, best.verdict, min(effort.bound, best.exchangers), staged, ended)
 
 

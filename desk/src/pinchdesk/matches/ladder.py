@@ -1,50 +1,85 @@
-"""One window: more stages from time to time, until there is an answer, and one more to see whether it gets fewer."""
+"""One window: more stages from time to time until there is an answer, and one more to see whether it gets fewer.
+
+Where there are many places for exchangers, the pairs are few at first: as many as the transshipment model needs."""
 from __future__ import annotations
 
 from dataclasses import replace
+from fractions import Fraction
 
 from .asking import Answer, Solver
+from .pairs import Pair
+from .pairsets import PairSets
 from .slots import Asked, slots_of
 from .windows import Window
 
-# The most stages of a window; a model of more slots than `LARGE` is tried with few pairs first.
-STAGES = 8
-LARGE = 90
+# The most stages of a window at first; how many places are many; how many sets of few pairs are tried.
+STAGES, MANY, SETS = 8, 50, 12
 
 
 class Ladder:
-    """The search in one window. `least` is a bound for its exchangers; `seconds` is a slice of the time, which is
-    doubled where no answer was found."""
+    """The search in one window, which may take so many seconds, or longer where it found nothing; with a limit of cost
+    where the uses of its utilities are open. With an answer already, it looks for better ones alone."""
 
-    def __init__(self, solver: Solver, window: Window, seconds: float) -> None:
-        self.solver, self.window, self.seconds = solver, window, seconds
-        self.least, self.few = solver.pairs(window, seconds)
-        self.best: Answer | None = None
+    def __init__(self, solver: Solver, window: Window, seconds: float, most_cost: Fraction | None = None,
+                 best: Answer | None = None) -> None:
+        self.solver, self.window, self.seconds, self.most_cost = solver, window, seconds, most_cost
+        self.until = solver.effort.spent + seconds
+        self.sets = PairSets(solver, window, most_cost)
+        self.best = best
+        self.most_stages = STAGES
+
+    @property
+    def left(self) -> float:
+        return self.until - self.solver.effort.spent
+
+    @property
+    def is_done(self) -> bool:
+        """Whether there is an answer that cannot be better, or no time for a better one."""
+        return self.best is not None and (self.best.count <= self.sets.least or self.left <= 0)
 
     def run(self) -> Answer:
         """An answer; `TimeOver` where none was found."""
-        while True:
-            for stages in range(STAGES + 1):
-                self.step(stages)
-                if self.best is not None and (self.best.count <= self.least or stages > self.best.asked.stages[0]):
-                    return self.best
-            if self.best is not None:
-                return self.best
-            self.seconds *= 2
+        few = self.sets.first(self.seconds / 4)
+        if len(slots_of(self.asked(2))) > MANY:
+            self.with_few(few)
+        while not self.is_done:
+            held = self.best
+            self.climb(None, max(1.0, self.left / 4))
+            if self.best is not None and self.best is held:
+                break
+            if self.best is None:
+                self.until, self.most_stages = self.solver.effort.spent + self.seconds, self.most_stages + 2
+        assert self.best is not None
+        return self.best
 
-    def step(self, stages: int) -> None:
-        """A number of stages: in a large model with the pairs of the transshipment first."""
-        asked = Asked((self.window,), (stages,))
-        slots = slots_of(asked)
-        if not slots:
-            return
-        if len(slots) > LARGE and self.few:
-            self.attempt(replace(asked, slots=frozenset(each for each in slots if each.pair in self.few)))
-        if self.best is None or self.best.count > self.least:
-            self.attempt(replace(asked, slots=slots))
+    def with_few(self, few: frozenset[Pair] | None) -> None:
+        """One set of few pairs after the other, with half of the time."""
+        tried: set[frozenset[Pair]] = set()
+        until = self.solver.effort.spent + self.left / 2
+        for _ in range(SETS):
+            if few is not None and few not in tried:
+                tried.add(few)
+                self.climb(few, max(1.0, self.left / 8))
+            if self.is_done or self.solver.effort.spent > until or not self.sets.count:
+                return
+            few = self.sets.other(max(1.0, self.left / 8))
 
-    def attempt(self, asked: Asked) -> None:
+    def asked(self, stages: int) -> Asked:
+        return Asked((self.window,), (stages,), None, self.most_cost)
+
+    def climb(self, pairs: frozenset[Pair] | None, seconds: float) -> None:
+        """More stages, until there is an answer and one more did not better it."""
+        for stages in range(self.most_stages + 1):
+            if self.is_done or self.best is not None and stages > self.best.asked.stages[0] + 1:
+                return
+            slots = slots_of(self.asked(stages))
+            if pairs is not None:
+                slots = frozenset(each for each in slots if each.pair in pairs)
+            if slots:
+                self.attempt(replace(self.asked(stages), slots=slots), seconds)
+
+    def attempt(self, asked: Asked, seconds: float) -> None:
         most = None if self.best is None else self.best.count - 1
-        outcome = self.solver.ask(asked, self.seconds, self.least, most)
+        outcome = self.solver.ask(asked, seconds, self.sets.least, most)
         if outcome.answer is not None:
             self.best = outcome.answer

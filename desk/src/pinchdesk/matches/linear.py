@@ -69,13 +69,13 @@ class OutOfTime(Exception):
         self.bound = bound
 
 
-def solve(program: Program, seconds: float | None = None) -> Solved | None:
-    """A point at which the aim is least, or the best that was found in the time. None where there is no point;
-    `OutOfTime` where there was no time to tell."""
+def solve(program: Program, seconds: float | None = None, gap: float = 1e-6) -> Solved | None:
+    """A point at which the aim is least (within a gap, as a share of it), or the best that was found in the time. None
+    where there is no point; `OutOfTime` where there was no time to tell."""
     if not program.lows:
         return Solved((), 0.0, 0.0, True) if allows(program, ()) else None
     integrality = numpy.array([1 if at in program.wholes else 0 for at in range(len(program.lows))])
-    options: dict[str, float] = {'mip_rel_gap': 1e-6} | ({} if seconds is None else {'time_limit': seconds})
+    options: dict[str, float] = {'mip_rel_gap': gap} | ({} if seconds is None else {'time_limit': seconds})
     found = milp(aim_of(program), integrality=integrality, bounds=Bounds(*bounds_of(program)),
                  constraints=constraints_of(program), options=options)
     if found.x is not None:

@@ -21,15 +21,17 @@ class Parts:
         self.slots = slots_of(answer.asked)
         self.random = random.Random(1)
 
-    def run(self, enough: Callable[[], bool]) -> None:
-        """Searches until it is enough, the whole was looked through, or the time is over (`TimeOver`)."""
+    def run(self, enough: Callable[[], bool]) -> bool:
+        """Searches until it is enough, or the whole was looked through: whether it was. `TimeOver` where there is no
+        time."""
         free = FREE
         while not enough():
             part = self.part(free)
             settled = self.attempt(part | self.answer.used)
             if part == self.slots and settled:
-                return
+                return True
             free = free + free // 8 + 1 if settled else max(FREE // 2, free * 3 // 4)
+        return False
 
     def attempt(self, slots: frozenset[Slot]) -> bool:
         """One part; whether it was looked through."""

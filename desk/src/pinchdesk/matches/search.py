@@ -18,12 +18,16 @@ from .effort import Effort, TimeOver
 from .joined import joined
 from .ladder import Ladder
 from .onewindow import as_one
+from .pairsets import PairSets
 from .parts import Parts
 from .plan import plan_of
 from .simpler import simpler
-from .slots import Asked
+from .slots import Asked, slots_of
 from .windows import Window, whole, windows
 from .written import written
+
+# With so many places for exchangers a model is looked at part by part.
+LARGE = 120
 
 
 @dataclass(frozen=True)
@@ -45,13 +49,14 @@ class Found:
 
 class Search:
     """A search in a completed case, for a network that costs at most so much. `staged` is what the solver says that
-    no network of the staged model has fewer exchangers than, None where that was not settled."""
+    no network of the staged model has fewer exchangers than, with the stages of each window; None where that was not
+    settled."""
 
     def __init__(self, pinch: Pinch, case: Case, floor: int, most_cost: Fraction, effort: Effort) -> None:
         self.pinch, self.case, self.effort = pinch, case, effort
         self.floor, self.most_cost = floor, most_cost
         self.best: Found | None = None
-        self.staged: int | None = None
+        self.staged: tuple[int, tuple[int, ...]] | None = None
         self.solver = Solver(effort)
 
     def run(self, uses: Mapping[str, int], first: Sequence[Network]) -> None:
@@ -67,7 +72,9 @@ class Search:
 
     def search(self, uses: Mapping[str, int]) -> None:
         every = whole(self.case, None)
-        self.effort.bound = max(1, self.solver.pairs(every, self.effort.seconds / 10, self.most_cost)[0])
+        sets = PairSets(self.solver, every, self.most_cost)
+        sets.first(self.effort.seconds / 10)
+        self.effort.bound = max(1, sets.least)
         self.effort.told()
         answer = self.at_least_cost(windows(self.case, uses))
         if self.most_cost > self.floor and not self.enough():
@@ -96,38 +103,41 @@ class Search:
 
     def at_least_cost(self, cut: Sequence[Window]) -> Answer | None:
         """The windows one by one, then together."""
-        share = self.effort.seconds / (6 * max(1, len(cut)))
-        answers = [Ladder(self.solver, each, min(share, 20.0)).run() for each in cut]
+        share = self.effort.left / (3 if self.most_cost == self.floor else 6)
+        answers = [Ladder(self.solver, each, share / len(cut)).run() for each in cut]
         asked = Asked(tuple(cut), tuple(each.asked.stages[0] for each in answers))
         used = frozenset(replace(slot, window=at) for at, each in enumerate(answers) for slot in each.used)
         answer = self.solver.again(asked, used)
         if answer is None:
             return None
         self.take(answer)
-        return self.together(answer, self.most_cost == self.floor)
+        return self.together(answer, self.effort.left / (1 if self.most_cost == self.floor else 6))
 
-    def together(self, answer: Answer, to_the_end: bool) -> Answer:
-        """All windows of an answer together: the whole at once, then part by part."""
-        share = self.effort.left / (4 if to_the_end else 12)
-        outcome = self.solver.ask(replace(answer.asked, slots=None), share, None, answer.count - 1)
-        if outcome.answer is not None:
-            answer = outcome.answer
-            self.take(answer)
-        if outcome.settled:
-            self.staged = answer.count
-            return answer
+    def together(self, answer: Answer, seconds: float) -> Answer:
+        """All windows of an answer together: the whole at once where it is not large, then part by part."""
+        until = self.effort.spent + seconds
+        asked = replace(answer.asked, slots=None)
+        if len(slots_of(asked)) <= LARGE:
+            least = answer.count if self.best is None else min(answer.count, self.best.exchangers)
+            outcome = self.solver.ask(asked, seconds / 2, None, least - 1)
+            if outcome.answer is not None:
+                answer = outcome.answer
+                self.take(answer)
+            if outcome.settled:
+                self.staged = (outcome.bound, answer.asked.stages)
+                return answer
         parts = Parts(self.solver, answer, self.take)
-        until = self.effort.spent + (self.effort.left if to_the_end else self.effort.left / 4)
-        parts.run(lambda: self.enough() or self.effort.spent > until)
+        if parts.run(lambda: self.enough() or self.effort.spent > until):
+            self.staged = (parts.answer.count, parts.answer.asked.stages)
         return parts.answer
 
     def at_higher_cost(self, every: Window, answer: Answer | None) -> None:
-        """The whole case with open utilities, begun at an answer of the least cost."""
-        if answer is None:
-            return
-        asked, used = as_one(every, answer)
-        begun = self.solver.again(replace(asked, most_cost=self.most_cost), used)
-        if begun is not None:
-            self.take(begun)
-            self.staged = None
-            self.together(begun, True)
+        """The whole case with open utilities, from an answer at the least cost on."""
+        self.staged = None
+        begun = None
+        if answer is not None:
+            asked, used = as_one(every, answer)
+            begun = self.solver.again(replace(asked, most_cost=self.most_cost), used)
+        begun = Ladder(self.solver, every, self.effort.left / 3, self.most_cost, begun).run()
+        self.take(begun)
+        self.together(begun, self.effort.left)
