@@ -21,10 +21,10 @@ FEW = {'four-stream': 6, 'tc3': 7, 'two-reactors': 7, 'own-contributions': 7, 'c
 @pytest.mark.parametrize('name', FEW)
 def test_as_few_as_published_at_the_least_cost(pinch: Pinch, name: str) -> None:
     found = find_network(example(f'{name}.csv'), pinch=pinch, seconds=30)
-    assert found.exchangers == FEW[name] and found.bound <= FEW[name]
+    assert found.bound <= found.exchangers <= FEW[name]
     verdict = pinch.audit(example(f'{name}.csv'), found.text)
     assert isinstance(verdict, Accepted) and verdict.cost == verdict.floor == found.verdict.cost
-    assert found.text.startswith(f'# {FEW[name]} exchangers\n# bound: at least ')
+    assert found.text.startswith(f'# {found.exchangers} exchangers\n# bound: at least ')
     assert f'\n# cost {verdict.cost}\n# floor {verdict.floor}\n# excess {verdict.excess}\n' in found.text
 
 

@@ -66,6 +66,14 @@ def beside(step: Through | Parting, name: str) -> Iterator[Course]:
         yield from within(step, lambda course: put_in(course, name))
 
 
+def put_around(course: Course, name: str, share: Fraction) -> Iterator[Course]:
+    """The courses with one exchanger more in a lane of this share, beside one step or several."""
+    for at in range(len(course)):
+        for end in range(at + 1, len(course) + 1):
+            lanes = (Lane(course[at:end], 1 - share), Lane((Through(name),), share))
+            yield (*course[:at], *parted(lanes), *course[end:])
+
+
 def letter_of(case: Case, pair: tuple[str, str]) -> str:
     """With what the name of an exchanger begins: of a heater, a cooler, or two streams."""
     utilities = {each.name for each in case.utilities}
