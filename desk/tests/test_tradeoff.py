@@ -2,6 +2,7 @@
 judged by the audit."""
 from __future__ import annotations
 
+import os
 from collections.abc import Iterator
 from dataclasses import replace
 from fractions import Fraction
@@ -23,6 +24,7 @@ from pinchdesk.matches.found import NoNetwork
 from pinchdesk.matches.judged import Judge, Judged, NotAccepted
 from pinchdesk.matches.paths import Shift, shifts
 from pinchdesk.matches.shares import reshared
+from pinchdesk.matches.silent import silent
 from pinchdesk.matches.structure import Parting, levelled, splits
 from pinchdesk.matches.texts import duties_of, network_of, structure_of
 from pinchdesk.matches.tradeoff import TradeOff
@@ -121,6 +123,13 @@ def test_latent_streams_in_lanes_keep_their_parts(pinch: Pinch) -> None:
                            'mix c d e\nend e\npass A E1 f\nend f\npass B E2 g\nend g\n')
     made = simpler(case, network, pinch)
     assert splits(structure_of(case, made)) == 0 and cost_of(pinch, case, made) == 0
+
+
+def test_what_the_solver_writes_goes_nowhere(capfd: pytest.CaptureFixture[str]) -> None:
+    with silent():
+        os.write(1, b'a remark')
+    os.write(1, b'an answer')
+    assert capfd.readouterr().out == 'an answer'
 
 
 # Simpler networks.

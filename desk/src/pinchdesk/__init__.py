@@ -17,6 +17,7 @@ from .site import Main, Plant, Site, read_site
 from .states import (Branch, Followed, Passage, PinchPoint, PinchSide, SideState, StreamEnd, follow,
                      pinches_of)
 from .study import Scenario, Span, Study, print_study, read_study
+from .traded import tradeoff_sheets
 from .verdicts import Accepted, Penalty, Place, PlaceKind, Rejected, TooFine, Verdict
 
 if TYPE_CHECKING:
@@ -44,5 +45,5 @@ __all__ = [
     'Wanted', 'WordsError', 'actual', 'audit_sheets', 'case_of_table', 'checked', 'completed', 'exchangers_sheet',
     'find_network', 'flow_sheets', 'follow', 'pinches_of', 'prices_sheets', 'print_case', 'print_network',
     'print_study', 'read_case', 'read_network', 'read_site', 'read_study', 'shifted', 'simpler', 'site_sheets',
-    'streams_sheet', 'sums_sheet', 'sweep_sheets', 'targets_sheets', 'tradeoff',
+    'streams_sheet', 'sums_sheet', 'sweep_sheets', 'targets_sheets', 'tradeoff', 'tradeoff_sheets',
 ]

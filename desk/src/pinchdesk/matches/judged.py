@@ -4,10 +4,10 @@ from __future__ import annotations
 from dataclasses import dataclass
 from fractions import Fraction
 
-from ..case import Case
+from ..case import Case, completed, read_case
 from ..errors import DeskError, Refused
-from ..network import Network
-from ..program import Pinch
+from ..network import Network, read_network
+from ..program import CaseText, NetworkText, Pinch
 from ..verdicts import Accepted, Rejected
 from .costed import Costed
 from .structure import Structure, splits
@@ -40,6 +40,16 @@ class Judged:
     @property
     def splits(self) -> int:
         return splits(self.structure)
+
+
+def case_of(case: CaseText) -> Case:
+    """A case that may be a text, completed."""
+    return completed(case if isinstance(case, Case) else read_case(case))
+
+
+def held_network(network: NetworkText) -> Network:
+    """A network that may be a text."""
+    return network if isinstance(network, Network) else read_network(network)
 
 
 @dataclass

@@ -10,12 +10,12 @@ from collections.abc import Iterator
 from fractions import Fraction
 from random import Random
 
-from ..case import Case, completed
+from ..case import Case
 from ..network import Network
-from ..program import Pinch
+from ..program import CaseText, NetworkText, Pinch
 from .changes import later, misplaced, structures, unsplit
 from .costed import cheapest, fewest
-from .judged import Judge, Judged, NotAccepted
+from .judged import Judge, Judged, NotAccepted, case_of, held_network
 from .structure import OddCourse, Structure, levelled
 from .wider import pairs_of, widened
 
@@ -23,16 +23,16 @@ from .wider import pairs_of, widened
 TRIES, MORE, SLICE = 12, 6, 4.0
 
 
-def simpler(case: Case, network: Network, pinch: Pinch | None = None, seconds: float = 0.0,
+def simpler(case: CaseText, network: NetworkText, pinch: Pinch | None = None, seconds: float = 0.0,
             most_cost: Fraction | None = None) -> Network:
     """An accepted network of no more exchangers, and as many with no more splits, that costs no more than the network,
     or than is allowed (price times W). It is the network itself where nothing was found, where it is not accepted, or
     where its branches are joined across one another. For so many seconds other pairs and places are tried too."""
-    judge = Judge(pinch or Pinch(), completed(case))
+    judge, held = Judge(pinch or Pinch(), case_of(case)), held_network(network)
     try:
-        begun = judge.given(network)
+        begun = judge.given(held)
     except (NotAccepted, OddCourse):
-        return network
+        return held
     cost = begun.cost if most_cost is None else max(begun.cost, most_cost)
     return simplified(judge, begun, cost, time.monotonic() + seconds).network
 

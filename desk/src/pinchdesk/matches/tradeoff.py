@@ -7,14 +7,14 @@ from collections.abc import Iterator, Mapping
 from dataclasses import dataclass
 from fractions import Fraction
 
-from ..case import Case, Stream, completed
+from ..case import Case, Stream
 from ..network import Exchanger, Network
-from ..program import Pinch
+from ..program import CaseText, NetworkText, Pinch
 from .changes import letter_of, next_name
 from .costed import Costed
 from .fewer import Fewer, Telling, nobody
 from .found import find_network
-from .judged import Judge, Judged
+from .judged import Judge, Judged, case_of, held_network
 from .paths import Shift, shifts
 from .structure import Course, Lane, Parting, Structure, Through
 
@@ -66,13 +66,15 @@ class TradeOff:
         return all(each.judged is not self.begun for each in self.rows)
 
 
-def tradeoff(case: Case, network: Network | None = None, pinch: Pinch | None = None, seconds: float = 30.0,
+def tradeoff(case: CaseText, network: NetworkText | None = None, pinch: Pinch | None = None, seconds: float = 30.0,
              tell: Telling = nobody) -> TradeOff:
     """The trade-off of a case, from a network or from one that is searched. `NotAccepted` where the network is not,
     `NoNetwork` where the case has none. Control-C ends the search with what was found."""
-    judge = Judge(pinch or Pinch(), completed(case))
+    judge = Judge(pinch or Pinch(), case_of(case))
     start = time.monotonic()
-    begun = judge.given(network or find_network(judge.case, seconds=seconds / 3, pinch=judge.pinch).network)
+    if network is None:
+        network = find_network(judge.case, seconds=seconds / 3, pinch=judge.pinch).network
+    begun = judge.given(held_network(network))
     search, stopped = Fewer(judge, begun, seconds, tell, start), False
     try:
         search.run()
