@@ -16,15 +16,15 @@ from .changes import with_ends
 from .costed import Costed, cheapest_of
 from .judged import Judge, Judged
 from .shares import reshared
-from .simpler import kinds, without_splits
+from .simpler import kinds, simplified, without_splits
 from .structure import Structure
 from .wider import pairs_of, widened
 
 # How often a number is tried without a gain, and how many seconds one program may take.
 TRIES, SLICE = 10, 5.0
-# The parts of the time at which wider structures and then shares are over; the least seconds for what comes first, and
-# for what comes last.
-WIDE, SHARED, FIRST, LAST = 0.75, 0.9, 10.0, 5.0
+# The parts of the time at which what costs no more, wider structures, and then shares are over; the least seconds for
+# what comes first, and for what comes last.
+PLAIN, WIDE, SHARED, FIRST, LAST = 0.2, 0.75, 0.9, 10.0, 5.0
 # How many exchangers a wider structure has more: the fewest and the most.
 MORE = (4, 10)
 Telling = Callable[[Judged], None]
@@ -72,7 +72,12 @@ class Fewer:
         if costed is None or held and held.cost < costed.cost:
             return False
         judged = self.judge.of(costed)
-        if judged is None or held and (held.cost, held.splits) <= (judged.cost, judged.splits):
+        return judged is not None and self.take(judged)
+
+    def take(self, judged: Judged) -> bool:
+        """Takes a network where none of so many exchangers is cheaper, or as cheap and as simple."""
+        held = self.best.get(judged.count)
+        if held and (held.cost, held.splits) <= (judged.cost, judged.splits):
             return False
         self.best[judged.count] = judged
         self.tell(judged)
@@ -81,6 +86,9 @@ class Fewer:
     def run(self) -> None:
         """Searches until the time is over, or nothing more is gained."""
         self.down(self.begun.structure, self.begun.count, FIRST)
+        plain = simplified(self.judge, self.begun, self.begun.cost, self.until(PLAIN))
+        if self.take(plain):
+            self.down(plain.structure, plain.count - 1, FIRST)
         while self.left(WIDE) > 0:
             count = min(self.open(), key=lambda each: (self.idle.get(each, 0), each), default=None)
             if count is None:

@@ -14,7 +14,7 @@ from ..case import Case
 from ..network import Network
 from ..program import CaseText, NetworkText, Pinch
 from .changes import later, misplaced, structures, unsplit
-from .costed import cheapest, fewest
+from .costed import Costed, cheapest, fewest
 from .judged import Judge, Judged, NotAccepted, case_of, held_network
 from .structure import OddCourse, Structure, levelled
 from .wider import pairs_of, widened
@@ -43,9 +43,10 @@ def simplified(judge: Judge, begun: Judged, cost: Fraction, end: float) -> Judge
     chance, pairs, tries = Random(1), pairs_of(judge.case), 0
     while pairs and tries < TRIES and time.monotonic() < end:
         wide = widened(judge.case, best.structure, pairs, MORE, chance)
-        found = judge.of(fewest(judge.case, wide, cost, best.count - 1, min(SLICE, end - time.monotonic())))
+        made = fewest(judge.case, wide, cost, best.count - 1, min(SLICE, end - time.monotonic()))
+        found = simplest(judge, best, made, cost)
         tries += 1
-        if found and rank(judge.case, found) < rank(judge.case, best):
+        if found is not best:
             best, tries = without_splits(judge, found, cost, max(end, time.monotonic() + SLICE)), 0
     return best
 
@@ -59,14 +60,22 @@ def kinds(structure: Structure) -> Iterator[Structure]:
 
 
 def without_spare(judge: Judge, begun: Judged, cost: Fraction, end: float) -> Judged:
-    """Without the exchangers that can go at a cost."""
+    """Without the exchangers that can go at a cost. A vertex of the linear program leaves many without a duty; which
+    others can go together is chosen."""
     best = begun
     for structure in kinds(begun.structure):
-        seconds = max(SLICE, (end - time.monotonic()) / 2)
-        found = judge.of(fewest(judge.case, structure, cost, best.count, seconds))
-        if found and rank(judge.case, found) < rank(judge.case, best):
-            best = found
-    return best
+        best = simplest(judge, best, cheapest(judge.case, structure), cost)
+        seconds = max(SLICE, (end - time.monotonic()) / 4)
+        best = simplest(judge, best, fewest(judge.case, structure, cost, best.count, seconds), cost)
+    return simplest(judge, best, fewest(judge.case, best.structure, cost, best.count - 1, SLICE), cost)
+
+
+def simplest(judge: Judge, best: Judged, costed: Costed | None, cost: Fraction) -> Judged:
+    """What was found, where it is accepted at a cost and simpler than the best."""
+    if costed is None or costed.cost > cost or len(costed.duties) > best.count:
+        return best
+    found = judge.of(costed)
+    return found if found and rank(judge.case, found) < rank(judge.case, best) else best
 
 
 def without_splits(judge: Judge, begun: Judged, cost: Fraction, end: float) -> Judged:
@@ -78,9 +87,8 @@ def without_splits(judge: Judge, begun: Judged, cost: Fraction, end: float) -> J
         for structure in (*structures(best.structure, unsplit), *later(judge.case, best.structure)):
             if time.monotonic() > end:
                 return best
-            costed = cheapest(judge.case, structure)
-            found = judge.of(costed) if costed and costed.cost <= cost else None
-            if found and rank(judge.case, found) < rank(judge.case, best):
+            found = simplest(judge, best, cheapest(judge.case, structure), cost)
+            if found is not best:
                 best, gained = found, True
                 break
     return best

@@ -16,6 +16,7 @@ from .fewer import Fewer, Telling, nobody
 from .found import find_network
 from .judged import Judge, Judged, case_of, held_network
 from .paths import Shift, shifts
+from .simpler import simpler
 from .structure import Course, Lane, Parting, Structure, Through
 
 
@@ -73,7 +74,8 @@ def tradeoff(case: CaseText, network: NetworkText | None = None, pinch: Pinch | 
     judge = Judge(pinch or Pinch(), case_of(case))
     start = time.monotonic()
     if network is None:
-        network = find_network(judge.case, seconds=seconds / 3, pinch=judge.pinch).network
+        few = find_network(judge.case, seconds=seconds / 3, pinch=judge.pinch)
+        network = simpler(judge.case, few.network, judge.pinch)
     begun = judge.given(held_network(network))
     search, stopped = Fewer(judge, begun, seconds, tell, start), False
     try:
