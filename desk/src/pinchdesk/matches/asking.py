@@ -67,6 +67,6 @@ class Solver:
         answer = None if point is None else Answer(model, point)
         return Outcome(answer, rounded_up(solved.bound), solved.optimal and answer is not None)
 
-    def again(self, asked: Asked, used: frozenset[Slot]) -> Answer | None:
+    def again(self, asked: Asked, used: frozenset[Slot], seconds: float = 30.0) -> Answer | None:
         """An answer that uses no other slots than these."""
-        return self.ask(replace(asked, slots=used), 30.0).answer
+        return self.ask(replace(asked, slots=used), seconds).answer

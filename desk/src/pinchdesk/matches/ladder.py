@@ -3,17 +3,23 @@
 Where there are many places for exchangers, the pairs are few at first: as many as the transshipment model needs."""
 from __future__ import annotations
 
+import random
 from dataclasses import replace
 from fractions import Fraction
 
 from .asking import Answer, Solver
+from .onewindow import as_one
 from .pairs import Pair
 from .pairsets import PairSets
 from .slots import Asked, slots_of
+from .upright import point_of, upright
 from .windows import Window
 
-# The most stages of a window at first; how many places are many; how many sets of few pairs are tried.
-STAGES, MANY, SETS = 8, 50, 12
+# The most stages of a window at first; how many places are many; how many sets of few pairs, and how
+# many answers by the composite curves, are tried.
+STAGES, MANY, SETS, STARTS = 8, 50, 12, 10
+# With more places than that a model is not looked at as a whole where there is an answer already.
+LARGE = 150
 
 
 class Ladder:
@@ -41,6 +47,8 @@ class Ladder:
         """An answer; `TimeOver` where none was found."""
         few = self.sets.first(self.seconds / 4)
         if len(slots_of(self.asked(2))) > MANY:
+            if self.most_cost is None:
+                self.upright()
             self.with_few(few)
         while not self.is_done:
             held = self.best
@@ -55,31 +63,54 @@ class Ladder:
     def with_few(self, few: frozenset[Pair] | None) -> None:
         """One set of few pairs after the other, with half of the time."""
         tried: set[frozenset[Pair]] = set()
+        last: frozenset[Pair] = frozenset()
         until = self.solver.effort.spent + self.left / 2
         for _ in range(SETS):
             if few is not None and few not in tried:
                 tried.add(few)
                 self.climb(few, max(1.0, self.left / 8))
+                if self.best is None and len(tried) > 1:
+                    self.climb(last | few, max(1.0, self.left / 8))
+                last = few
             if self.is_done or self.solver.effort.spent > until or not self.sets.count:
                 return
             few = self.sets.other(max(1.0, self.left / 8))
+
+    def upright(self) -> None:
+        """Answers by the composite curves; then the best that uses no other places than the best of them."""
+        chance = random.Random(1)
+        for _ in range(STARTS):
+            begun = upright(self.window, chance)
+            if begun is None or self.solver.effort.left <= 0:
+                break
+            asked, used = as_one(self.window, begun.slots or frozenset())
+            if self.best is None or len(used) < self.best.count:
+                held = point_of(replace(asked, slots=used))
+                self.best = self.best if held is None else Answer(*held)
+        if self.best is not None:
+            self.attempt(replace(self.best.asked, slots=self.best.used), max(1.0, self.left / 8))
 
     def asked(self, stages: int) -> Asked:
         return Asked((self.window,), (stages,), None, self.most_cost)
 
     def climb(self, pairs: frozenset[Pair] | None, seconds: float) -> None:
-        """More stages, until there is an answer and one more did not better it."""
+        """More stages, until there is a better answer, and one more did not better it."""
+        found = 0
         for stages in range(self.most_stages + 1):
-            if self.is_done or self.best is not None and stages > self.best.asked.stages[0] + 1:
+            if self.is_done or found and stages > found:
                 return
             slots = slots_of(self.asked(stages))
             if pairs is not None:
                 slots = frozenset(each for each in slots if each.pair in pairs)
-            if slots:
-                self.attempt(replace(self.asked(stages), slots=slots), seconds)
+            if not slots or self.best is not None and len(slots) > LARGE:
+                continue
+            if self.attempt(replace(self.asked(stages), slots=slots), seconds):
+                found = stages + 1
 
-    def attempt(self, asked: Asked, seconds: float) -> None:
+    def attempt(self, asked: Asked, seconds: float) -> bool:
+        """One model; whether it bettered the answer."""
         most = None if self.best is None else self.best.count - 1
         outcome = self.solver.ask(asked, seconds, self.sets.least, most)
         if outcome.answer is not None:
             self.best = outcome.answer
+        return outcome.answer is not None

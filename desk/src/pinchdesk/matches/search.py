@@ -136,7 +136,7 @@ class Search:
         self.staged = None
         begun = None
         if answer is not None:
-            asked, used = as_one(every, answer)
+            asked, used = as_one(every, answer.used)
             begun = self.solver.again(replace(asked, most_cost=self.most_cost), used)
         begun = Ladder(self.solver, every, self.effort.left / 3, self.most_cost, begun).run()
         self.take(begun)
