@@ -4,6 +4,7 @@ Where there are many places for exchangers, the pairs are few at first: as many 
 from __future__ import annotations
 
 import random
+from collections.abc import Sequence
 from dataclasses import replace
 from fractions import Fraction
 
@@ -24,15 +25,16 @@ LARGE = 150
 
 class Ladder:
     """The search in one window, which may take so many seconds, or longer where it found nothing; with a limit of cost
-    where the uses of its utilities are open. With an answer already, it looks for better ones alone."""
+    where the uses of its utilities are open; then `begins` is the window with some uses that do. With an answer
+    already, it looks for better ones alone."""
 
     def __init__(self, solver: Solver, window: Window, seconds: float, most_cost: Fraction | None = None,
-                 best: Answer | None = None) -> None:
+                 best: Answer | None = None, begins: Sequence[Window] = ()) -> None:
         self.solver, self.window, self.seconds, self.most_cost = solver, window, seconds, most_cost
         self.until = solver.effort.spent + seconds
         self.sets = PairSets(solver, window, most_cost)
-        self.best = best
-        self.most_stages = STAGES
+        self.best, self.begins = best, begins or (window,)
+        self.most_stages, self.chance = STAGES, random.Random(1)
 
     @property
     def left(self) -> float:
@@ -45,10 +47,12 @@ class Ladder:
 
     def run(self) -> Answer:
         """An answer; `TimeOver` where none was found."""
+        self.until = self.solver.effort.spent + self.seconds
         few = self.sets.first(self.seconds / 4)
         if len(slots_of(self.asked(2))) > MANY:
-            if self.most_cost is None:
-                self.upright()
+            self.upright(STARTS)
+            if self.best is not None:
+                self.attempt(replace(self.best.asked, slots=self.best.used), max(1.0, self.left / 8))
             self.with_few(few)
         while not self.is_done:
             held = self.best
@@ -76,19 +80,16 @@ class Ladder:
                 return
             few = self.sets.other(max(1.0, self.left / 8))
 
-    def upright(self) -> None:
-        """Answers by the composite curves; then the best that uses no other places than the best of them."""
-        chance = random.Random(1)
-        for _ in range(STARTS):
-            begun = upright(self.window, chance)
+    def upright(self, starts: int) -> None:
+        """Answers by the composite curves, the best of so many."""
+        for _ in range(starts):
+            begun = upright(self.asked(0), self.chance.choice(self.begins), self.chance)
             if begun is None or self.solver.effort.left <= 0:
-                break
+                return
             asked, used = as_one(self.window, begun.slots or frozenset())
             if self.best is None or len(used) < self.best.count:
-                held = point_of(replace(asked, slots=used))
+                held = point_of(replace(asked, slots=used, most_cost=self.most_cost))
                 self.best = self.best if held is None else Answer(*held)
-        if self.best is not None:
-            self.attempt(replace(self.best.asked, slots=self.best.used), max(1.0, self.left / 8))
 
     def asked(self, stages: int) -> Asked:
         return Asked((self.window,), (stages,), None, self.most_cost)

@@ -94,12 +94,14 @@ def upright_slots(window: Window, chance: random.Random) -> tuple[int, frozenset
     return len(places) - 1, frozenset(slots)
 
 
-def upright(window: Window, chance: random.Random) -> Asked | None:
-    """What is asked for with such slots, made less. None where they do not do, as where many pairs are forbidden."""
-    stages, slots = upright_slots(window, chance)
+def upright(asked: Asked, begin: Window, chance: random.Random) -> Asked | None:
+    """What is asked for, of one window, with such slots, made less. Where the uses of its utilities are open, `begin`
+    is the window with uses that do. None where the slots do not, as where many pairs are forbidden."""
+    stages, slots = upright_slots(begin, chance)
+    asked = replace(asked, stages=(stages,), ends=False)
     duties: dict[Slot, Fraction] = {}
     for _ in range(ROUNDS):
-        model = model_of(Asked((window,), (stages,), slots, None, False))
+        model = model_of(replace(asked, slots=slots))
         weights = tuple((at, 1 / (1 + duties.get(slot, Fraction(0)) / (HALF * 1000)))
                         for slot, at in model.duties.items())
         solved = solve(all_used(model, weights))
@@ -110,7 +112,7 @@ def upright(window: Window, chance: random.Random) -> Asked | None:
         if len(duties) == len(slots):
             break
         slots = frozenset(duties)
-    return Asked((window,), (stages,), slots, None, False)
+    return replace(asked, slots=slots)
 
 
 def all_used(model: Model, aim: tuple[tuple[int, Fraction], ...]) -> Program:
@@ -125,5 +127,6 @@ def all_used(model: Model, aim: tuple[tuple[int, Fraction], ...]) -> Program:
 def point_of(asked: Asked) -> tuple[Model, tuple[Fraction, ...]] | None:
     """The model of what is asked for, and an exact point of it in which each slot has its exchanger."""
     model = model_of(asked)
-    point = exact(replace(model.program(), aim=()), [1.0] * len(model.lows))
+    used = set(model.uses.values())
+    point = exact(replace(model.program(), aim=()), [1.0 if at in used else 0.0 for at in range(len(model.lows))])
     return None if point is None else (model, point)
