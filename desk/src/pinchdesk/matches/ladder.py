@@ -3,6 +3,7 @@
 Where there are many places for exchangers, the pairs are few at first: as many as the transshipment model needs."""
 from __future__ import annotations
 
+import math
 import random
 from collections.abc import Sequence
 from dataclasses import replace
@@ -24,14 +25,13 @@ LARGE = 150
 
 
 class Ladder:
-    """The search in one window, which may take so many seconds, or longer where it found nothing; with a limit of cost
-    where the uses of its utilities are open; then `begins` is the window with some uses that do. With an answer
-    already, it looks for better ones alone."""
+    """The search in one window; with a limit of cost where the uses of its utilities are open, and then `begins` is
+    the window with some uses that do. With an answer already, it looks for better ones alone."""
 
-    def __init__(self, solver: Solver, window: Window, seconds: float, most_cost: Fraction | None = None,
-                 best: Answer | None = None, begins: Sequence[Window] = ()) -> None:
-        self.solver, self.window, self.seconds, self.most_cost = solver, window, seconds, most_cost
-        self.until = solver.effort.spent + seconds
+    def __init__(self, solver: Solver, window: Window, most_cost: Fraction | None = None, best: Answer | None = None,
+                 begins: Sequence[Window] = ()) -> None:
+        self.solver, self.window, self.most_cost = solver, window, most_cost
+        self.until = math.inf
         self.sets = PairSets(solver, window, most_cost)
         self.best, self.begins = best, begins or (window,)
         self.most_stages, self.chance = STAGES, random.Random(1)
@@ -45,10 +45,10 @@ class Ladder:
         """Whether there is an answer that cannot be better, or no time for a better one."""
         return self.best is not None and (self.best.count <= self.sets.least or self.left <= 0)
 
-    def run(self) -> Answer:
-        """An answer; `TimeOver` where none was found."""
-        self.until = self.solver.effort.spent + self.seconds
-        few = self.sets.first(self.seconds / 4)
+    def run(self, seconds: float) -> Answer:
+        """An answer, in so many seconds, or in more where none was found; `TimeOver` where none was at all."""
+        self.until = self.solver.effort.spent + seconds
+        few = self.sets.first(seconds / 4)
         if len(slots_of(self.asked(2))) > MANY:
             self.upright(STARTS)
             if self.best is not None:
@@ -60,7 +60,7 @@ class Ladder:
             if self.best is not None and self.best is held:
                 break
             if self.best is None:
-                self.until, self.most_stages = self.solver.effort.spent + self.seconds, self.most_stages + 2
+                self.until, self.most_stages = self.solver.effort.spent + seconds, self.most_stages + 2
         assert self.best is not None
         return self.best
 

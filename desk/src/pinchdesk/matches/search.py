@@ -59,6 +59,8 @@ class Search:
         self.best: Found | None = None
         self.staged: tuple[int, tuple[int, ...]] | None = None
         self.solver = Solver(effort)
+        sides = [sum(each.side is side for each in case.streams) for side in Side]
+        effort.bound = max(effort.bound, *sides)
 
     def run(self, uses: Mapping[str, int], first: Sequence[Network]) -> None:
         """Searches until the best is known to be so, or the time is over."""
@@ -73,11 +75,17 @@ class Search:
 
     def search(self, uses: Mapping[str, int]) -> None:
         every = whole(self.case, None)
+        ladders = [Ladder(self.solver, each) for each in windows(self.case, uses)]
+        for each in ladders:
+            each.upright(1)
+        self.of_windows(ladders)
         sets = PairSets(self.solver, every, self.most_cost)
         sets.first(self.effort.seconds / 10)
-        self.effort.bound = max(1, sets.least)
+        self.effort.bound = max(self.effort.bound, sets.least)
         self.effort.told()
-        answer = self.at_least_cost(windows(self.case, uses))
+        if self.enough():
+            return
+        answer = self.at_least_cost(ladders)
         if self.most_cost > self.floor and not self.enough():
             self.at_higher_cost(every, answer, uses)
 
@@ -102,16 +110,13 @@ class Search:
         if less != network:
             self.offer(less)
 
-    def at_least_cost(self, cut: Sequence[Window]) -> Answer | None:
-        """The windows one by one, first by the composite curves, then in earnest; then together."""
+    def at_least_cost(self, ladders: Sequence[Ladder]) -> Answer | None:
+        """The windows one by one, then together."""
         only = self.most_cost == self.floor
-        share = self.effort.left / (3 if only else 6) / len(cut)
-        ladders = [Ladder(self.solver, each, share) for each in cut]
+        share = self.effort.left / (3 if only else 6) / len(ladders)
+        answer = None
         for each in ladders:
-            each.upright(1)
-        answer = self.of_windows(ladders)
-        for each in ladders:
-            each.run()
+            each.run(share)
             answer = self.of_windows(ladders) or answer
         return None if answer is None else self.together(answer, self.effort.left / (1 if only else 6))
 
@@ -155,7 +160,7 @@ class Search:
             asked, used = as_one(every, answer.used)
             begun = self.solver.ask(replace(asked, slots=used, most_cost=self.most_cost), self.effort.left / 12).answer
         begins = [whole(self.case, each) for each in dearer(self.case, uses, self.most_cost - self.floor)]
-        begun = Ladder(self.solver, every, self.effort.left / 3, self.most_cost, begun, begins).run()
+        begun = Ladder(self.solver, every, self.most_cost, begun, begins).run(self.effort.left / 3)
         self.take(begun)
         self.together(begun, self.effort.left)
 
