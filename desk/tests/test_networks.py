@@ -20,7 +20,7 @@ FEW = {'four-stream': 6, 'tc3': 7, 'two-reactors': 7, 'own-contributions': 7, 'c
 
 @pytest.mark.parametrize('name', FEW)
 def test_as_few_as_published_at_the_least_cost(pinch: Pinch, name: str) -> None:
-    found = find_network(example(f'{name}.csv'), pinch=pinch, seconds=30)
+    found = find_network(example(f'{name}.csv'), pinch=pinch, seconds=300)
     assert found.bound <= found.exchangers <= FEW[name]
     verdict = pinch.audit(example(f'{name}.csv'), found.text)
     assert isinstance(verdict, Accepted) and verdict.cost == verdict.floor == found.verdict.cost
@@ -43,9 +43,9 @@ def test_windows_end_where_no_heat_crosses(pinch: Pinch) -> None:
 
 def test_more_cost_buys_fewer_exchangers(pinch: Pinch) -> None:
     case = example('tc3.csv')
-    found = find_network(case, most_cost=115000, seconds=30, pinch=pinch)
+    found = find_network(case, most_cost=115000, seconds=300, pinch=pinch)
     assert found.exchangers == 6 and found.verdict.cost <= 115000
-    assert find_network(case, above=Fraction(100), seconds=30, pinch=pinch).exchangers == 5
+    assert find_network(case, above=Fraction(100), seconds=300, pinch=pinch).exchangers == 5
 
 
 def test_no_network(pinch: Pinch) -> None:

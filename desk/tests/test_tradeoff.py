@@ -265,6 +265,15 @@ def test_a_picture_has_each_network(traded: TradeOff) -> None:
     assert overlapping(figure) == [] and cut_off(figure) == []
 
 
+def test_a_picture_of_long_costs_and_many_networks_has_room(pinch: Pinch) -> None:
+    made = tradeoff(*those('three-levels'), pinch, seconds=0.01)
+    assert made.left_begun
+    for rows in (made.rows, made.rows + made.rows[-1:] * 4):
+        figure = tradeoff_figure(replace(made, rows=rows))
+        assert cut_off(figure) == []
+    assert 'the network at the beginning: 11, 105500000' in svg_texts(figure)
+
+
 def test_the_word_gives_a_table_and_the_networks(desk: Captured, tmp_path: Path, pinch: Pinch) -> None:
     folder = tmp_path / 'networks'
     done = desk('tradeoff', *TC3, '--seconds', '0.01', '--form', 'csv', '--networks', str(folder))

@@ -1,7 +1,7 @@
 """Models asked of the solver, in slices of the time that a search has."""
 from __future__ import annotations
 
-from dataclasses import dataclass, replace
+from dataclasses import dataclass
 from fractions import Fraction
 
 from .apart import Apart
@@ -66,7 +66,3 @@ class Solver:
         point = exact(model.program(), solved.values)
         answer = None if point is None else Answer(model, point)
         return Outcome(answer, rounded_up(solved.bound), solved.optimal and answer is not None)
-
-    def again(self, asked: Asked, used: frozenset[Slot]) -> Answer | None:
-        """An answer that uses no other slots than these."""
-        return self.ask(replace(asked, slots=used), 30.0).answer

@@ -9,7 +9,7 @@ from collections.abc import Mapping, Sequence
 from dataclasses import dataclass, replace
 from fractions import Fraction
 
-from ..case import Case
+from ..case import Case, Side, shifted
 from ..network import Network
 from ..program import Pinch
 from ..verdicts import Accepted
@@ -23,6 +23,7 @@ from .parts import Parts
 from .plan import plan_of
 from .simpler import simpler
 from .slots import Asked, slots_of
+from .upright import point_of
 from .windows import Window, whole, windows
 from .written import written
 
@@ -58,6 +59,8 @@ class Search:
         self.best: Found | None = None
         self.staged: tuple[int, tuple[int, ...]] | None = None
         self.solver = Solver(effort)
+        sides = [sum(each.side is side for each in case.streams) for side in Side]
+        effort.bound = max(effort.bound, *sides)
 
     def run(self, uses: Mapping[str, int], first: Sequence[Network]) -> None:
         """Searches until the best is known to be so, or the time is over."""
@@ -72,13 +75,19 @@ class Search:
 
     def search(self, uses: Mapping[str, int]) -> None:
         every = whole(self.case, None)
+        ladders = [Ladder(self.solver, each) for each in windows(self.case, uses)]
+        for each in ladders:
+            each.upright(1)
+        self.of_windows(ladders)
         sets = PairSets(self.solver, every, self.most_cost)
         sets.first(self.effort.seconds / 10)
-        self.effort.bound = max(1, sets.least)
+        self.effort.bound = max(self.effort.bound, sets.least)
         self.effort.told()
-        answer = self.at_least_cost(windows(self.case, uses))
+        if self.enough():
+            return
+        answer = self.at_least_cost(ladders)
         if self.most_cost > self.floor and not self.enough():
-            self.at_higher_cost(every, answer)
+            self.at_higher_cost(every, answer, uses)
 
     def enough(self) -> bool:
         return self.best is not None and self.best.exchangers <= self.effort.bound
@@ -101,17 +110,29 @@ class Search:
         if less != network:
             self.offer(less)
 
-    def at_least_cost(self, cut: Sequence[Window]) -> Answer | None:
+    def at_least_cost(self, ladders: Sequence[Ladder]) -> Answer | None:
         """The windows one by one, then together."""
-        share = self.effort.left / (3 if self.most_cost == self.floor else 6)
-        answers = [Ladder(self.solver, each, share / len(cut)).run() for each in cut]
-        asked = Asked(tuple(cut), tuple(each.asked.stages[0] for each in answers))
-        used = frozenset(replace(slot, window=at) for at, each in enumerate(answers) for slot in each.used)
-        answer = self.solver.again(asked, used)
-        if answer is None:
+        only = self.most_cost == self.floor
+        share = self.effort.left / (3 if only else 6) / len(ladders)
+        answer = None
+        for each in ladders:
+            each.run(share)
+            answer = self.of_windows(ladders) or answer
+        return None if answer is None else self.together(answer, self.effort.left / (1 if only else 6))
+
+    def of_windows(self, ladders: Sequence[Ladder]) -> Answer | None:
+        """What was found for the windows, as one answer; None where there is none for one of them."""
+        answers = [each.best for each in ladders if each.best is not None]
+        if len(answers) < len(ladders):
             return None
+        asked = Asked(tuple(each.window for each in ladders), tuple(each.asked.stages[0] for each in answers))
+        used = frozenset(replace(slot, window=at) for at, each in enumerate(answers) for slot in each.used)
+        held = point_of(replace(asked, slots=used))
+        if held is None:
+            return None
+        answer = Answer(*held)
         self.take(answer)
-        return self.together(answer, self.effort.left / (1 if self.most_cost == self.floor else 6))
+        return answer
 
     def together(self, answer: Answer, seconds: float) -> Answer:
         """All windows of an answer together: the whole at once where it is not large, then part by part."""
@@ -131,13 +152,30 @@ class Search:
             self.staged = (parts.answer.count, parts.answer.asked.stages)
         return parts.answer
 
-    def at_higher_cost(self, every: Window, answer: Answer | None) -> None:
+    def at_higher_cost(self, every: Window, answer: Answer | None, uses: Mapping[str, int]) -> None:
         """The whole case with open utilities, from an answer at the least cost on."""
         self.staged = None
         begun = None
         if answer is not None:
-            asked, used = as_one(every, answer)
-            begun = self.solver.again(replace(asked, most_cost=self.most_cost), used)
-        begun = Ladder(self.solver, every, self.effort.left / 3, self.most_cost, begun).run()
+            asked, used = as_one(every, answer.used)
+            begun = self.solver.ask(replace(asked, slots=used, most_cost=self.most_cost), self.effort.left / 12).answer
+        begins = [whole(self.case, each) for each in dearer(self.case, uses, self.most_cost - self.floor)]
+        begun = Ladder(self.solver, every, self.most_cost, begun, begins).run(self.effort.left / 3)
         self.take(begun)
         self.together(begun, self.effort.left)
+
+
+def dearer(case: Case, uses: Mapping[str, int], slack: Fraction) -> list[dict[str, int]]:
+    """Uses that cost more than these, by at most so much: a heater and a cooler more, each as far as it may be."""
+    made = [dict(uses)]
+    for heater in case.utilities:
+        for cooler in case.utilities:
+            price = heater.price + cooler.price
+            if heater.side is not Side.HOT or cooler.side is not Side.COLD or price <= 0:
+                continue
+            if shifted(heater, heater.level) < shifted(cooler, cooler.level):
+                continue
+            more = min(int(slack / price), heater.most - uses[heater.name], cooler.most - uses[cooler.name])
+            made += [{**uses, heater.name: uses[heater.name] + part, cooler.name: uses[cooler.name] + part}
+                     for part in (more, more // 2) if part > 0]
+    return made

@@ -56,12 +56,13 @@ class Joint:
 class Asked:
     """What a model is asked for: windows, each with its number of stages; the slots that may be used (None for all);
     the most that the utilities may cost (None where their uses are fixed). Exchangers may be joined across the cuts
-    between the windows."""
+    between the windows. Without `ends`, exchangers of streams with levels stand in stages like all others."""
 
     windows: tuple[Window, ...]
     stages: tuple[int, ...]
     slots: frozenset[Slot] | None = None
     most_cost: Fraction | None = None
+    ends: bool = True
 
 
 def may_meet(hot: Piece, cold: Piece, window: Window) -> bool:
@@ -79,10 +80,12 @@ def capacity(hot: Piece, cold: Piece) -> int:
     return min(given, taken)
 
 
-def places(hot: Piece, cold: Piece, stages: int) -> Sequence[int]:
+def places(hot: Piece, cold: Piece, stages: int, ends: bool = True) -> Sequence[int]:
     """Where exchangers of a pair may stand in a window."""
     if hot.is_level and cold.is_level:
         return (End.LEVELS,)
+    if not ends:
+        return range(stages)
     if hot.is_level and hot.high >= cold.high:
         return (End.TOP,)
     if cold.is_level and cold.low <= hot.low:
@@ -90,16 +93,16 @@ def places(hot: Piece, cold: Piece, stages: int) -> Sequence[int]:
     return range(stages)
 
 
-def places_in(window: Window, at: int, stages: int) -> Iterator[tuple[Slot, Piece, Piece]]:
+def places_in(window: Window, at: int, stages: int, ends: bool) -> Iterator[tuple[Slot, Piece, Piece]]:
     """All slots of a window, each with its pieces."""
     for hot in window.hots:
         for cold in window.colds:
             if may_meet(hot, cold, window):
-                for stage in places(hot, cold, stages):
+                for stage in places(hot, cold, stages, ends):
                     yield Slot(at, stage, hot.name, cold.name), hot, cold
 
 
 def slots_of(asked: Asked) -> frozenset[Slot]:
     """All slots of some windows."""
     held = enumerate(zip(asked.windows, asked.stages))
-    return frozenset(slot for at, (window, stages) in held for slot, _, _ in places_in(window, at, stages))
+    return frozenset(slot for at, (window, stages) in held for slot, _, _ in places_in(window, at, stages, asked.ends))

@@ -34,7 +34,7 @@ def add_window(model: Model, at: int, window: Window, stages: int) -> None:
     for piece in window.pieces:
         if not piece.is_level:
             add_states(model, at, piece, window, stages)
-    for slot, hot, cold in places_in(window, at, stages):
+    for slot, hot, cold in places_in(window, at, stages, model.asked.ends):
         if model.asked.slots is None or slot in model.asked.slots:
             add_slot(model, slot, min(capacity(hot, cold), window.total) / model.unit)
             add_approach(model, slot, hot, cold)
@@ -49,7 +49,7 @@ def add_states(model: Model, at: int, piece: Piece, window: Window, stages: int)
     """The temperatures of a stream at each boundary. Its ends are fixed, but for one at which a level may stand."""
     hot = piece.side is Side.HOT
     pairs = [(piece, each) for each in window.colds] if hot else [(each, piece) for each in window.hots]
-    ends = {place for pair in pairs if may_meet(*pair, window) for place in places(*pair, 1)}
+    ends = {place for pair in pairs if may_meet(*pair, window) for place in places(*pair, 1, model.asked.ends)}
     for boundary in range(stages + 1):
         is_high = boundary == 0 and (hot or End.TOP not in ends)
         is_low = boundary == stages and not (hot and End.BOTTOM in ends)

@@ -17,6 +17,8 @@ if TYPE_CHECKING:
 
 # Of more exchangers than these that went at once only the number is written.
 MOST_NAMES = 2
+# Of more networks than these what went and came is not written; the table has it.
+MOST_LABELS = 9
 
 
 def tradeoff_figure(traded: TradeOff) -> Figure:
@@ -25,14 +27,15 @@ def tradeoff_figure(traded: TradeOff) -> Figure:
     with styled():
         figure = blank(8, 5.4)
         axes = figure.subplots()
-        figure.subplots_adjust(left=0.12, right=0.97, top=0.91, bottom=0.13)
+        digits = max(len(shown.cost(each.cost)) for each in traded.rows)
+        figure.subplots_adjust(left=0.08 + 0.0105 * digits, right=0.97, top=0.91, bottom=0.13)
         points = [point_of(each, shown) for each in traded.rows]
         put_points(axes, traded, points, shown)
         framed(axes)
         axes.margins(0.12, 0.14)
         labels = Labels(axes, [points, floor_line(axes, float(shown.in_cost(traded.floor)))])
         for row, point in zip(traded.rows, points):
-            labels.put(label_of(row, shown), point, fontsize=8)
+            labels.put(label_of(row, shown, len(traded.rows) <= MOST_LABELS), point, fontsize=8)
     return figure
 
 
@@ -61,10 +64,11 @@ def put_points(axes: Axes, traded: TradeOff, points: list[Xy], shown: Shown) -> 
     axes.legend(loc='upper right')
 
 
-def label_of(row: Row, shown: Shown) -> str:
-    """The number of exchangers, the cost, and what went and came."""
-    parts = [f'{word} {names_of(each)}' for word, each in (('without', row.gone), ('with', row.come)) if each]
-    return '\n'.join((f'{row.exchangers}: {shown.cost(row.cost)}', *parts))
+def label_of(row: Row, shown: Shown, whole: bool) -> str:
+    """The number of exchangers, the cost, and (where it is the whole) what went and came."""
+    told = (('without', row.gone), ('with', row.come)) if whole else ()
+    return '\n'.join((f'{row.exchangers}: {shown.cost(row.cost)}',
+                      *(f'{word} {names_of(each)}' for word, each in told if each)))
 
 
 def names_of(exchangers: tuple[Exchanger, ...]) -> str:
