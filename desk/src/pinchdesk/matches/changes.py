@@ -80,6 +80,11 @@ def letter_of(case: Case, pair: tuple[str, str]) -> str:
     return 'H' if pair[0] in utilities else 'C' if pair[1] in utilities else 'E'
 
 
+def taken_names(case: Case, structure: Structure) -> set[str]:
+    """The names that a new exchanger does not take: those of exchangers, and for the reader's sake those of sources."""
+    return {*structure.pairs, *(each.name for each in case.sources)}
+
+
 def next_name(taken: set[str], letter: str) -> str:
     """A name that no exchanger has, which is then taken."""
     number = 1
@@ -113,7 +118,7 @@ def later(case: Case, structure: Structure) -> Iterator[Structure]:
 def with_ends(case: Case, structure: Structure) -> Structure:
     """A structure in which each stream may end at each utility: the heaters of a cold stream from the coldest up, the
     coolers of a hot one from the warmest down."""
-    taken, pairs, courses = set(structure.pairs), dict(structure.pairs), dict(structure.courses)
+    taken, pairs, courses = taken_names(case, structure), dict(structure.pairs), dict(structure.courses)
     forbidden = {(each.hot, each.cold) for each in case.forbids}
     for stream in case.streams:
         for utility in case.utilities:

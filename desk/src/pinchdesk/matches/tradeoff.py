@@ -10,7 +10,7 @@ from fractions import Fraction
 from ..case import Case, Stream
 from ..network import Exchanger, Network
 from ..program import CaseText, NetworkText, Pinch
-from .changes import letter_of, next_name
+from .changes import letter_of, next_name, taken_names
 from .costed import Costed
 from .fewer import Fewer, Telling, nobody
 from .found import find_network
@@ -89,7 +89,7 @@ def tradeoff(case: CaseText, network: NetworkText | None = None, pinch: Pinch | 
 def rows_of(judge: Judge, begun: Judged, found: list[Judged]) -> Iterator[Row]:
     """The rows with the names of the network from which the search went out: an exchanger of one pair keeps its name
     from row to row."""
-    taken, before = set(begun.structure.pairs), begun
+    taken, before = taken_names(judge.case, begun.structure), begun
     for at, judged in enumerate(found):
         named = judge.of(named_like(judge.case, judged, before.structure, taken)) if judged is not begun else judged
         judged = named or judged

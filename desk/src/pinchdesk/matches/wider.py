@@ -11,7 +11,7 @@ from random import Random
 
 from ..case import Case, Side, Source, Stream
 from .balances import beginning
-from .changes import letter_of, next_name, put_around, put_in, with_ends
+from .changes import letter_of, next_name, put_around, put_in, taken_names, with_ends
 from .structure import Structure
 
 Pair = tuple[str, str]
@@ -41,7 +41,7 @@ def split_off(case: Case, structure: Structure, pairs: Sequence[Pair], chance: R
     parted = [each for each in pair if structure.courses.get(each)]
     if not parted:
         return structure
-    name, stream = next_name(set(structure.pairs), letter_of(case, pair)), chance.choice(parted)
+    name, stream = next_name(taken_names(case, structure), letter_of(case, pair)), chance.choice(parted)
     courses = dict(structure.courses)
     for each in pair:
         if each == stream:
@@ -65,7 +65,7 @@ def widened(case: Case, structure: Structure, pairs: Sequence[Pair], count: int,
     ends of its streams; of every two one has a lane more."""
     if chance.random() < 0.5:
         structure = split_off(case, structure, pairs, chance)
-    held, courses, taken = dict(structure.pairs), dict(structure.courses), set(structure.pairs)
+    held, courses, taken = dict(structure.pairs), dict(structure.courses), taken_names(case, structure)
     for pair in chance.choices(pairs, k=count):
         name = next_name(taken, letter_of(case, pair))
         held[name] = pair

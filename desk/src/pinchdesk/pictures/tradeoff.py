@@ -60,6 +60,7 @@ def put_points(axes: Axes, traded: TradeOff, points: list[Xy], shown: Shown) -> 
     axes.set_title('Exchangers against cost')
     axes.set_xlabel('exchangers, with heaters and coolers')
     axes.set_ylabel(f'cost of utilities, {said(shown.cost_unit)}')
+    axes.ticklabel_format(axis='y', style='plain')
     axes.xaxis.set_major_locator(MaxNLocator(integer=True))
     axes.legend(loc='upper right')
 
