@@ -8,5 +8,7 @@ from .prices import prices_figure
 from .site import site_figure
 from .style import FORMS, rendered
 from .sweep import sweep_figure
+from .tradeoff import tradeoff_figure
 
-__all__ = ['FORMS', 'MOST', 'curves_figure', 'grid_figure', 'prices_figure', 'rendered', 'site_figure', 'sweep_figure']
+__all__ = ['FORMS', 'MOST', 'curves_figure', 'grid_figure', 'prices_figure', 'rendered', 'site_figure', 'sweep_figure',
+           'tradeoff_figure']

@@ -1,0 +1,105 @@
+"""A network of few exchangers for a case: the call behind the word `network`."""
+from __future__ import annotations
+
+from collections.abc import Callable
+from dataclasses import dataclass
+from fractions import Fraction
+
+from ..answers import Cut, Design
+from ..case import Case, completed, read_case
+from ..errors import DeskError
+from ..network import Network, print_network, read_network
+from ..program import CaseText, NetworkText, Pinch
+from ..verdicts import Accepted
+from .effort import Effort, nobody
+
+SECONDS = 60.0
+
+
+class NoNetwork(DeskError):
+    """There is no network of the kind that is asked for."""
+
+    status = 1
+
+
+@dataclass(frozen=True)
+class FewExchangers:
+    """A network that `pinch audit` accepted, with what it said. `bound` is what the solver says that no network at
+    this cost has fewer exchangers than; `staged` the same for networks of so many stages, in each of the windows, with
+    isothermal mixing, None where that was not settled; `ended` is why the search ended."""
+
+    network: Network
+    verdict: Accepted
+    bound: int
+    staged: tuple[int, tuple[int, ...]] | None
+    ended: str
+
+    @property
+    def exchangers(self) -> int:
+        return len(self.network.exchangers)
+
+    @property
+    def text(self) -> str:
+        """The network as a text, with what it is as comments at its head."""
+        return ''.join(f'# {each}\n' for each in self.comments()) + print_network(self.network)
+
+    def comments(self) -> list[str]:
+        verdict = self.verdict
+        staged = ''
+        if self.staged is not None:
+            stages = '+'.join(map(str, self.staged[1]))
+            staged = f'; at least {self.staged[0]} in {stages} stages with isothermal mixing'
+        return [f'{self.exchangers} exchangers', f'bound: at least {self.bound} by the solver{staged} ({self.ended})',
+                f'cost {verdict.cost}', f'floor {verdict.floor}', f'excess {verdict.excess}']
+
+
+def find_network(case: CaseText, most_cost: Fraction | int | None = None, above: Fraction | int | None = None,
+                 seconds: float = SECONDS, start: NetworkText | None = None,
+                 tell: Callable[[str], None] = nobody, pinch: Pinch | None = None) -> FewExchangers:
+    """A network with as few exchangers as were found in the time, at the least cost; or at most at this cost (price
+    times W), or so many percent above the least. `start` is a network to be bettered. `NoNetwork` where there is none.
+    An interruption from the keyboard ends the search, and the best so far is given."""
+    pinch = pinch or Pinch()
+    effort = Effort(seconds, tell)
+    flow = pinch.flow(case)
+    if isinstance(flow, Cut):
+        raise NoNetwork('there is no heat flow, so there is no network (`pinchdesk flow` says why)')
+    held = completed(case if isinstance(case, Case) else read_case(case))
+    limit = limit_of(flow.cost, most_cost, above)
+    # The solver takes a while to load, which no other word should wait for.
+    from .search import Search
+    search = Search(pinch, held, flow.cost, limit, effort)
+    ended = 'interrupted'
+    try:
+        search.run({each.name: each.heat for each in flow.uses}, first_of(pinch, held, start))
+        ended = 'time over' if effort.left <= 0 else 'searched to the end'
+    except KeyboardInterrupt:
+        pass
+    best = search.best
+    if best is None:
+        raise NoNetwork('interrupted before there was a network')
+    staged = search.staged if search.staged is not None and search.staged[0] <= best.exchangers else None
+    return FewExchangers(best.network, best.verdict, min(effort.bound, best.exchangers), staged, ended)
+
+
+def limit_of(floor: int, most_cost: Fraction | int | None, above: Fraction | int | None) -> Fraction:
+    """The most that the network may cost; `NoNetwork` where that is below the least cost of all."""
+    if most_cost is not None:
+        limit = Fraction(most_cost)
+    else:
+        limit = floor + abs(Fraction(floor)) * Fraction(above or 0) / 100
+    if limit < floor:
+        raise NoNetwork(f'no network costs less than {floor}, the least cost of a heat flow')
+    return limit
+
+
+def first_of(pinch: Pinch, case: Case, start: NetworkText | None) -> list[Network]:
+    """Networks to begin with: that of `design`, and the one that is to be bettered."""
+    design = pinch.design(case)
+    first = [read_network(design.text)] if isinstance(design, Design) else []
+    if start is None:
+        return first
+    verdict = pinch.audit(case, start)
+    if not isinstance(verdict, Accepted):
+        raise NoNetwork(f'the network to begin with is not accepted: {verdict.text.strip()}')
+    return [start if isinstance(start, Network) else read_network(start), *first]

@@ -1,0 +1,82 @@
+"""Networks that `pinch audit` has accepted, with their structures: nothing else leaves a search."""
+from __future__ import annotations
+
+from dataclasses import dataclass
+from fractions import Fraction
+
+from ..case import Case, completed, read_case
+from ..errors import DeskError, Refused
+from ..network import Network, read_network
+from ..program import CaseText, NetworkText, Pinch
+from ..verdicts import Accepted, Rejected
+from .costed import Costed
+from .structure import Structure, splits
+from .texts import Duties, duties_of, network_of, structure_of
+
+
+class NotAccepted(DeskError):
+    """There is no network: the one that is given is not accepted, or the case has none."""
+
+    status = 1
+
+
+@dataclass(frozen=True)
+class Judged:
+    """A network that was accepted. Its cost is the one of the audit."""
+
+    structure: Structure
+    duties: Duties
+    network: Network
+    verdict: Accepted
+
+    @property
+    def count(self) -> int:
+        return len(self.duties)
+
+    @property
+    def cost(self) -> Fraction:
+        return self.verdict.cost
+
+    @property
+    def splits(self) -> int:
+        return splits(self.structure)
+
+
+def case_of(case: CaseText) -> Case:
+    """A case that may be a text, completed."""
+    return completed(case if isinstance(case, Case) else read_case(case))
+
+
+def held_network(network: NetworkText) -> Network:
+    """A network that may be a text."""
+    return network if isinstance(network, Network) else read_network(network)
+
+
+@dataclass
+class Judge:
+    """Asks `pinch audit` of a completed case."""
+
+    pinch: Pinch
+    case: Case
+
+    def given(self, network: Network) -> Judged:
+        """A network that somebody has; `NotAccepted` where it is not, `Refused` where it has no structure."""
+        verdict = self.pinch.audit(self.case, network)
+        if not isinstance(verdict, Accepted):
+            told = f'rejected at {verdict.place}: {verdict.reason}' if isinstance(verdict, Rejected) else 'too fine'
+            raise NotAccepted(f'the network is {told} (`pinchdesk audit` says more): only an accepted one is changed')
+        return Judged(structure_of(self.case, network), duties_of(network), network, verdict)
+
+    def of(self, costed: Costed | None) -> Judged | None:
+        """What was found, where it is accepted at the cost that was worked out; None where it is not, or its fractions
+        are too fine to be written."""
+        if costed is None:
+            return None
+        network = network_of(self.case, costed.structure, costed.duties)
+        try:
+            verdict = self.pinch.audit(self.case, network)
+        except Refused:
+            return None
+        if not isinstance(verdict, Accepted) or verdict.cost != costed.cost:
+            return None
+        return Judged(costed.structure, costed.duties, network, verdict)
