@@ -4,6 +4,7 @@ from __future__ import annotations
 import os
 from argparse import ArgumentParser, Namespace
 from collections.abc import Callable
+from dataclasses import replace
 from decimal import Decimal
 from pathlib import Path
 from typing import TYPE_CHECKING
@@ -149,7 +150,7 @@ def shown_as(traded: TradeOff, options: Namespace, notes: tuple[str, ...]) -> An
     if ending in PICTURES and not options.form:
         from .pictures import rendered, tradeoff_figure
         return Answer(rendered(tradeoff_figure(traded), ending), True, notes)
-    return Answer(answer_of(tradeoff_sheets(traded), options).content, True, notes)
+    return replace(answer_of(tradeoff_sheets(traded), options), notes=notes)
 
 
 WORDS = (
