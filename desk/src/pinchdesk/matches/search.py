@@ -5,7 +5,8 @@ together, so that exchangers may be joined across the cuts; then parts of them a
 higher cost there is one window, and the answer at the least cost is where it begins."""
 from __future__ import annotations
 
-from collections.abc import Mapping, Sequence
+from collections.abc import Callable, Iterator, Mapping, Sequence
+from contextlib import contextmanager
 from dataclasses import dataclass, replace
 from fractions import Fraction
 
@@ -102,8 +103,10 @@ class Search:
             self.best, self.effort.best = found, found.exchangers
             self.effort.told()
 
-    def take(self, answer: Answer) -> None:
-        """Writes an answer, and offers it as it is and made simpler."""
+    def take(self, answer: Answer | None) -> None:
+        """Writes an answer, where there is one, and offers it as it is and made simpler."""
+        if answer is None:
+            return
         network = written(self.case, joined(self.case, plan_of(self.case, answer.model, answer.point)))
         self.offer(network)
         less = simpler(self.case, network)
@@ -116,7 +119,8 @@ class Search:
         share = self.effort.left / (3 if only else 6) / len(ladders)
         answer = None
         for each in ladders:
-            each.run(share)
+            with ended(lambda: self.of_windows(ladders)):
+                each.run(share)
             answer = self.of_windows(ladders) or answer
         return None if answer is None else self.together(answer, self.effort.left / (1 if only else 6))
 
@@ -160,9 +164,21 @@ class Search:
             asked, used = as_one(every, answer.used)
             begun = self.solver.ask(replace(asked, slots=used, most_cost=self.most_cost), self.effort.left / 12).answer
         begins = [whole(self.case, each) for each in dearer(self.case, uses, self.most_cost - self.floor)]
-        begun = Ladder(self.solver, every, self.most_cost, begun, begins).run(self.effort.left / 3)
+        ladder = Ladder(self.solver, every, self.most_cost, begun, begins)
+        with ended(lambda: self.take(ladder.best)):
+            begun = ladder.run(self.effort.left / 3)
         self.take(begun)
         self.together(begun, self.effort.left)
+
+
+@contextmanager
+def ended(last: Callable[[], object]) -> Iterator[None]:
+    """Where the time is over inside, or the search is interrupted, what was found so far is still taken."""
+    try:
+        yield
+    except (TimeOver, KeyboardInterrupt):
+        last()
+        raise
 
 
 def dearer(case: Case, uses: Mapping[str, int], slack: Fraction) -> list[dict[str, int]]:
