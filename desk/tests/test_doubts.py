@@ -87,7 +87,8 @@ def sheet(**changes: object) -> bytes:
 
 
 @pytest.mark.parametrize('changes, said', [
-    ({'row': 3}, 'sheet Sheet row 3: the row is hidden'), ({'column': 'C'}, 'sheet Sheet row 1 column C: the column is'),
+    ({'row': 3}, 'sheet Sheet row 3: the row is hidden'),
+    ({'column': 'C'}, 'sheet Sheet row 1 column C: the column is hidden'),
     ({'struck': 'D3'}, 'sheet Sheet row 3 column D: `3000`: struck out'),
     ({'struck': 'A3'}, 'sheet Sheet row 3 column A: `B`: struck out'),
     ({'form': '0.0,'}, 'sheet Sheet row 3 column D: `3000`: shown as a thousandth'),

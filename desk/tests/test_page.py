@@ -153,16 +153,32 @@ def test_a_browser_shows_the_page_whole(width: int, steam: str, tmp_path: Path) 
     assert seen and seen[1] == '[]'
 
 
-@WITH_BROWSER
-@pytest.mark.skipif(which('pdftotext') is None, reason='nothing here reads a PDF')
-def test_on_paper_no_heading_stands_alone_and_no_line_is_cut(steam: str, pinch: Pinch, tmp_path: Path) -> None:
-    path = tmp_path / 'page.pdf'
-    path.write_bytes(as_pdf(steam.replace('<details>', '<details open>')))
+def printed_on(page: str, path: Path) -> list[list[str]]:
+    """The lines of each sheet of paper. No heading, no title of a table and no row of headings stands last on one."""
+    path.write_bytes(as_pdf(page))
     done = subprocess.run(['pdftotext', '-layout', str(path), '-'], capture_output=True, check=True)
     sheets = [[' '.join(line.split()) for line in each.splitlines() if line.strip()]
               for each in done.stdout.decode().split('\f')]
-    headings = {words_of(each) for each in re.findall(r'<(?:h[1-4]|caption|summary|th)\b.*?</', steam, re.S)}
+    headings = {words_of(each) for each in re.findall(r'<(?:h[1-4]|caption|summary|th)\b.*?</', page, re.S)}
+    headings |= {words_of(each) for each in re.findall('<thead>.*?</thead>', page, re.S)}
     assert len(sheets) > 3 and not [each[-1] for each in sheets if each and each[-1] in headings]
+    return sheets
+
+
+ON_PAPER = pytest.mark.skipif(which('pdftotext') is None, reason='nothing here reads a PDF')
+
+
+@WITH_BROWSER
+@ON_PAPER
+def test_on_paper_no_heading_stands_alone(tmp_path: Path) -> None:
+    page, _ = page_of(given('crude.csv')[0], given('crude-network.txt'))
+    assert any(each[0] == 'Exchangers' for each in printed_on(page, tmp_path / 'page.pdf') if each)
+
+
+@WITH_BROWSER
+@ON_PAPER
+def test_on_paper_no_line_is_cut(steam: str, pinch: Pinch, tmp_path: Path) -> None:
+    sheets = printed_on(steam.replace('<details>', '<details open>'), tmp_path / 'page.pdf')
     text = ''.join(''.join(''.join(each).split()) for each in sheets)
     verdict = pinch.audit(*(example(each) for each in STEAM))
     for line in (pinch.flow(example(STEAM[0])).text + verdict.text).splitlines():

@@ -94,7 +94,8 @@ def converted(table: Table, wanted: Wanted) -> Converted:
         if old != new:
             told.notes.append(f'the name `{old}` becomes {new}')
     if table.others:
-        told.notes.append(f'of the sheets the first one, {table.sheet}, is read, not {", ".join(table.others)} (--sheet)')
+        others = ', '.join(table.others)
+        told.notes.append(f'of the sheets the first one, {table.sheet}, is read, not {others} (--sheet)')
     if layout.passed:
         told.notes.append(f'passed over, above the headings: rows {", ".join(map(str, layout.passed))}')
     return Maker(told, reader, Entries(reader, told, names, wanted.scale), layout, wanted).made(lines, names)

@@ -70,8 +70,8 @@ def units_in_words(layout: Layout, lines: Sequence[Line], told: Told, taken: Ite
         for row in beside:
             found = SAID[kind].search(joined(row))
             if found:
-                cause = f'`{joined(row)[:60]}` names a unit, and the numbers have none, so that {kind.default} would be ' \
-                        'taken: write the unit with the heading'
+                cause = f'`{joined(row)[:60]}` names a unit, and the numbers have none, so that {kind.default} would ' \
+                        'be taken: write the unit with the heading'
                 told.fault(row.number, None, cause)
 
 

@@ -181,10 +181,10 @@ def with_second(table: Table, layout: Layout, row: TableRow) -> Layout:
 def with_first(table: Table, layout: Layout, row: TableRow) -> Layout:
     """The layout with the units of a row right above the headings: units alone, or as `Temperatures (°C)` over two
     columns: each holds as far as its merged cell reaches, or to the next title."""
-    units, kinds = dict(layout.units), {column: KINDS.get(heading) for heading, column in layout.columns.items()}
+    units, kinds = dict(layout.units), {layout.columns[each]: KINDS[each] for each in layout.columns if each in KINDS}
     filled = [column for column, _ in row.filled()]
     alone = {column: stripped(cell.text) for column, cell in row.filled() if cell.text not in EMPTY}
-    if all(kinds.get(column) and is_unit(text, kinds[column]) for column, text in alone.items()):
+    if all(column in kinds and is_unit(text, kinds[column]) for column, text in alone.items()):
         return replace(layout, units={**alone, **units})
     for column, cell in row.filled():
         match = BRACKETED.fullmatch(cell.text)
