@@ -120,8 +120,9 @@ def layout_of(table: Table) -> Layout:
     for at, row in enumerate(table.rows):
         if known(row) > 1:
             layout = taken(table, row)
-            below = table.rows[at + 1] if at + 1 < len(table.rows) else None
-            if below and is_second_head(layout, below):
+            for below in table.rows[at + 1:]:
+                if not is_second_head(layout, below):
+                    break
                 layout = with_second(table, layout, below)
             if at:
                 layout = with_first(table, layout, table.rows[at - 1])
@@ -160,7 +161,7 @@ def is_second_head(layout: Layout, row: TableRow) -> bool:
 
 
 def with_second(table: Table, layout: Layout, row: TableRow) -> Layout:
-    """The layout with a second row of its head: each cell is a heading with its unit, or a unit."""
+    """The layout with one more row of its head: each cell is a heading with its unit, or a unit."""
     columns, units, titles = dict(layout.columns), dict(layout.units), dict(layout.titles)
     for column, cell in row.filled():
         heading, unit = heading_of(cell.text)
