@@ -93,6 +93,7 @@ LAYOUTS = [
     'name,supply,target,CP,duty\nH,150,60,2,180\n,,,,180\n', '\ufeffname,supply,target,CP\rH,150,60,2\r',
     'stream,temperature,,CP\n,supply (K),target (K),kW/K\nH,423.15,333.15,2\n',
     'stream,temperature,,CP\n,supply,target,\nunits,(K),(K),(kW/K)\nH,423.15,333.15,2\n',
+    'stream,temperature,,CP\n,target,supply,\nH,60,150,2\n',
     'no,name,supply,target,CP\n1,H,150,60,2\n', ',Temperatures (K),,\nname,supply,target,CP\nH,423.15,333.15,2\n',
     'name,supply,target,CP\nH,150 °C,60 °C,2 kW/K\n', 'name,supply °C,target °C,CP in kW/K\nH,150,60,2\n',
     'name,supply,target,"CP, kW/K"\nH,150,60,2\n', 'name,supply,target,duty / kW\nH,150,60,180\n',

@@ -161,21 +161,22 @@ def is_second_head(layout: Layout, row: TableRow) -> bool:
 
 
 def with_second(table: Table, layout: Layout, row: TableRow) -> Layout:
-    """The layout with one more row of its head: each cell is a heading with its unit, or a unit."""
-    columns, units, titles = dict(layout.columns), dict(layout.units), dict(layout.titles)
+    """The layout with one more row of its head: each cell is a heading with its unit, or a unit. Where two rows name a
+    column the lower one is meant, as in `Temperature` over `Supply` and `Target`."""
+    read = {column: heading_of(cell.text) for column, cell in row.filled()}
+    columns = {heading: column for heading, column in layout.columns.items() if not read.get(column, (None, ''))[0]}
+    units, titles = dict(layout.units), dict(layout.titles)
     for column, cell in row.filled():
-        heading, unit = heading_of(cell.text)
-        if heading and column not in columns.values():
-            if heading in columns:
-                raise table.refusal(row.number, column, f'a second column `{cell.text}`')
+        heading, unit = read[column]
+        if heading in columns:
+            raise table.refusal(row.number, column, f'a second column `{cell.text}`')
+        if heading:
             columns[heading] = column
             titles[column] = cell.text
         elif column in columns.values() and cell.text not in EMPTY:
             unit = unit or stripped(cell.text)
-            if column in units and units[column] != unit:
-                raise table.refusal(row.number, column, f'two units, `{units[column]}` above and `{unit}` here')
-        if unit:
-            units[column] = unit
+        if unit and units.setdefault(column, unit) != unit:
+            raise table.refusal(row.number, column, f'two units, `{units[column]}` above and `{unit}` here')
     return Layout(columns, units, titles, row.number)
 
 
