@@ -78,12 +78,13 @@ def test_the_page_stands_alone_and_styles_do_not_meet(steam: str) -> None:
 def test_prices_and_costs_of_the_page_have_the_units_of_the_table(tmp_path: Path) -> None:
     table, case, page = (tmp_path / each for each in ('table.csv', 'case.csv', 'page.html'))
     table.write_text('kind;name;supply;target;CP;price\nhot;Kühlung;170;60;3;\ncold;C;80;140;10;\n'
-                     'heater;ST;180;;;120 EUR/(kW a)\ncooler;CW;15;;;5 EUR/(kW a)\n')
+                     'heater;ST;180;;;120 EUR/(kW a)\ncooler;Fluß;15;;;5 EUR/(kW a)\n')
     assert main(['case', '-d', '10', str(table), '-o', str(case)]) == 0
     assert main(['page', str(case), '-o', str(page)]) == 0
     text = words_of(page.read_text())
     targets, shown = Pinch().targets(case.read_bytes()), Shown(read_case(case.read_bytes()).basis)
     assert 'price, EUR/(kW a)' in text and 'per W' not in text and 'Kuehlung hot 170 60 3 330 5 Kühlung' in text
+    assert re.search(r'Fluss cooler .* Fluß least cost', text) and text.count('in the table') == 2
     wanted = 120 * targets.hot // 1000 + 5 * targets.cold // 1000
     assert f'Least cost of a heat flow: {wanted} EUR/a' in text and shown.price(120) == '120'
 
