@@ -166,7 +166,7 @@ ERRORS = [
     (['case', 'table.csv'], 3, 'table.csv: no contribution'),
     (['case', '-d', '10', 'bad.csv'], 3, 'pinchdesk: bad.csv: row 1: the table has a contribution, and -d'),
     (['targets', 'table.csv'], 3, 'FieldCount: a row or a statement has not its number of fields'),
-    (['targets', 'table.csv'], 3, '; `pinchdesk case` makes a case of a table'),
+    (['targets', 'table.csv'], 3, '; of a table `pinchdesk case` makes a case'),
     (['targets', FOUR, '-o', 'out.pdf'], 2, 'out.pdf: this answer is a text, .csv or .xlsx'),
     ([], 2, 'required: WORD'), (['draws'], 2, 'invalid choice'), (['targets'], 2, 'required: CASE'),
     (['targets', FOUR, FOUR], 2, 'unrecognized'), (['targets', FOUR, '-o', '.'], 2, '.: is a folder'),

@@ -15,8 +15,6 @@ from .progress import progress
 from .word import Word
 
 WORDS: tuple[Word, ...] = words.WORDS
-# What is said of a table, or of a workbook, where a case is wanted.
-NO_CASE = ('FieldCount', 'UnknownKind')
 
 
 class Parser(argparse.ArgumentParser):
@@ -75,8 +73,6 @@ def lines_of(fault: DeskError) -> list[str]:
     if not isinstance(fault, Refused):
         return [str(fault)]
     words = f': {CAUSES[fault.cause]}' if fault.cause in CAUSES and fault.text.endswith(fault.cause) else ''
-    if fault.text.startswith('case row 1 ') and fault.cause in NO_CASE:
-        words += '; `pinchdesk case` makes a case of a table'
     return [(f'{fault.file}: {line}' if fault.file else line) + words for line in fault.text.split('\n')]
 
 
