@@ -7,10 +7,10 @@ from dataclasses import dataclass, replace
 from fractions import Fraction
 
 from .basis import Basis, basis_rows
-from .case import Case, Forbid, Stream, Utility, print_case
+from .case import Case, Forbid, Stream, Utility, print_case, read_case
 from .causes import CAUSES
 from .cells import CellReader, Told, decimal_mark
-from .doubts import doubts_of, refuse_a_case, units_in_words
+from .doubts import as_case, doubts_of, units_in_words
 from .entries import Entries, Line, joined, lines_of
 from .errors import Refused, WordsError
 from .layout import Heading, Layout, known, layout_of
@@ -51,11 +51,21 @@ def case_of_table(content: bytes, name: str, wanted: Wanted) -> Converted:
     """The case of a table's file. `Refused`, by sheet, row and column, where something is not understood, or is
     ambiguous."""
     tables = read_table(content, name, wanted.sheet, wanted.separator)
-    refuse_a_case(content, tables)
+    if is_case(content) or any(is_case(each) for table in tables for each in as_case(table)):
+        raise Refused(3, '', 'a case already', 'this is a case already, in tenths of °C, 10 W/K and W: it needs no '
+                      'conversion, but commas between its fields. If it is a table in °C, give it headings')
     best = max(headings(each) for each in tables)
     if best > 1:
         tables = tuple(each for each in tables if headings(each) == best)
     return tables_converted(tables, wanted)
+
+
+def is_case(content: bytes) -> bool:
+    try:
+        read_case(content)
+    except Refused:
+        return False
+    return True
 
 
 def headings(table: Table) -> int:

@@ -9,10 +9,8 @@ import io
 import re
 from collections.abc import Iterable, Sequence
 
-from .case import read_case
 from .cells import Told
 from .entries import Line, joined
-from .errors import Refused
 from .layout import Layout, is_number
 from .quantities import Kind
 from .tables import Table, TableRow
@@ -75,26 +73,9 @@ def units_in_words(layout: Layout, lines: Sequence[Line], told: Told, taken: Ite
                 told.fault(row.number, None, cause)
 
 
-def is_case(content: bytes) -> bool:
-    try:
-        read_case(content)
-    except Refused:
-        return False
-    return True
-
-
-def refuse_a_case(content: bytes, tables: Iterable[Table]) -> None:
-    """`Refused` where a table is a case of the program: with other separators, in a workbook, or without its
-    contribution."""
-    for table in tables:
-        text = as_case(table)
-        if is_case(content) or text and (is_case(text) or is_case(text + b'contribution,,0,,,,\n')):
-            raise Refused(3, '', 'a case already', 'this is a case already, in tenths of °C, 10 W/K and W: it needs no '
-                          'conversion, but commas between its fields. If it is a table in °C, give it headings')
-
-
-def as_case(table: Table) -> bytes:
-    """The rows of a table as a case would have them; empty where they cannot be one."""
+def as_case(table: Table) -> tuple[bytes, ...]:
+    """The rows of a table as a case would have them, also where they stand between other separators, in a workbook, or
+    without a contribution; nothing where they cannot be one."""
     held = io.StringIO()
     writer = csv.writer(held, lineterminator='\n')
     for row in table.rows:
@@ -102,6 +83,7 @@ def as_case(table: Table) -> bytes:
         # Rows of a workbook have no end.
         fields += [''] * (CASE_FIELDS - len(fields)) if table.sheet else []
         if len(fields) != CASE_FIELDS:
-            return b''
+            return ()
         writer.writerow(fields)
-    return held.getvalue().encode()
+    text = held.getvalue().encode()
+    return text, text + b'contribution,,0,,,,\n'
