@@ -86,4 +86,4 @@ def as_case(table: Table) -> tuple[bytes, ...]:
             return ()
         writer.writerow(fields)
     text = held.getvalue().encode()
-    return text, text + b'contribution,,0,,,,\n'
+    return (text, text + b'contribution,,0,,,,\n') if text else ()
