@@ -2,6 +2,7 @@
 from __future__ import annotations
 
 import re
+from functools import lru_cache
 from html import unescape
 from itertools import combinations
 from typing import Any
@@ -31,6 +32,7 @@ def undrawn(figure: Figure) -> set[int]:
     return found
 
 
+@lru_cache(maxsize=4)
 def texts_of(figure: Figure) -> list[tuple[str, Bbox, Any]]:
     """All texts that are seen, with their boxes in dots, a little less than they are."""
     with styled():
