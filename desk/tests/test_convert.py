@@ -155,6 +155,8 @@ def test_utilities_have_prices_and_all_costs_come_back(pinch: Pinch) -> None:
     case = made(held).case
     assert [each.price for each in case.utilities] == [355, 200, 0]
     assert (case.basis.price_unit, case.basis.cost_unit) == ('EUR/MWh', 'EUR/h')
+    assert [each.price for each in made(held.replace(' EUR/MWh', '').replace('price', 'Price €/MWh')).case.utilities] \
+        == [355, 200, 0]
     assert made(held.replace('EUR/MWh', 'EUR/(kW a)'),
                 replace(TEN, hours=Fraction(8000))).case.basis.cost_unit == 'EUR/a'
     assert 'none of a price' in refusal(held.replace('EUR/MWh', 'EUR/t'))
@@ -278,6 +280,11 @@ def test_units_of_formats_and_of_merged_titles_are_seen() -> None:
         page.append(row)
     page.merge_cells('B1:C1')
     page['D3'].number_format = '0.000 "MW/K"'
+    held = io.BytesIO()
+    book.save(held)
+    assert streams(held.getvalue()) == [('hot', 'H', 1500, 600, 200, 0)]
+    page['A1'], page['B1'], page['D1'] = 'stream', 'Temperatures [K]', 'CP'
+    page['D2'], page['D3'].number_format = 'MW/K', '0.000'
     held = io.BytesIO()
     book.save(held)
     assert streams(held.getvalue()) == [('hot', 'H', 1500, 600, 200, 0)]

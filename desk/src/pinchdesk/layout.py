@@ -48,6 +48,8 @@ STREAM_COLUMNS = (Heading.NAME, Heading.SUPPLY, Heading.TARGET, Heading.CP, Head
 BRACKETED = re.compile(r'(.*?)[\s_]*[(\[](.*)[)\]]\s*')
 # A unit that has no letter: `CP (%)`.
 SIGN = re.compile(r'.*[(\[/,]\s*([^\w\s()\[\]/,.:;–—-]+)\s*[)\]]?\s*')
+# A sign of money belongs to the unit behind it: `Price €/MWh`.
+MONEY = re.compile('[€$£¥]')
 EMPTY = frozenset(('', '-', '–', '—', 'n/a', 'N/A', 'na', '.'))
 
 
@@ -86,7 +88,7 @@ def heading_of(text: str) -> tuple[Heading | None, str]:
     if match:
         return meaning(match[1]), match[2].strip()
     for name, unit in splits(text):
-        if meaning(name) and unit:
+        if meaning(name) and unit and not MONEY.search(name):
             return meaning(name), unit
     return None, ''
 
@@ -142,7 +144,8 @@ def taken(table: Table, row: TableRow) -> Layout:
         if heading:
             columns[heading] = column
         if unit:
-            units[column] = unit
+            end = next((end for at, begin, end in table.merged if (at, begin) == (row.number, column)), column + 1)
+            units.update(dict.fromkeys(range(column, end), unit))
     titles = {column: cell.text for column, cell in row.filled()}
     return Layout(columns, units, titles, row.number)
 
