@@ -154,10 +154,9 @@ def test_a_browser_shows_the_page_whole(width: int, steam: str, tmp_path: Path) 
     assert seen and seen[1] == '[]'
 
 
-def printed_on(page: str, path: Path) -> list[list[str]]:
+def sheets_of(pdf: Path, page: str) -> list[list[str]]:
     """The lines of each sheet of paper. No heading, no title of a table and no row of headings stands last on one."""
-    path.write_bytes(as_pdf(page))
-    done = subprocess.run(['pdftotext', '-layout', str(path), '-'], capture_output=True, check=True)
+    done = subprocess.run(['pdftotext', '-layout', str(pdf), '-'], capture_output=True, check=True)
     sheets = [[' '.join(line.split()) for line in each.splitlines() if line.strip()]
               for each in done.stdout.decode().split('\f')]
     headings = {words_of(each) for each in re.findall(r'<(?:h[1-4]|caption|summary|th)\b.*?</', page, re.S)}
@@ -166,21 +165,12 @@ def printed_on(page: str, path: Path) -> list[list[str]]:
     return sheets
 
 
-ON_PAPER = pytest.mark.skipif(which('pdftotext') is None, reason='nothing here reads a PDF')
-
-
 @WITH_BROWSER
-@ON_PAPER
-def test_on_paper_no_heading_stands_alone(tmp_path: Path) -> None:
-    page, _ = page_of(given('crude.csv')[0], given('crude-network.txt'))
-    assert any(each[0] == 'Exchangers' for each in printed_on(page, tmp_path / 'page.pdf') if each)
-
-
-@WITH_BROWSER
-@ON_PAPER
-def test_on_paper_no_line_is_cut(steam: str, pinch: Pinch, tmp_path: Path) -> None:
-    sheets = printed_on(steam.replace('<details>', '<details open>'), tmp_path / 'page.pdf')
-    text = ''.join(''.join(''.join(each).split()) for each in sheets)
+@pytest.mark.skipif(which('pdftotext') is None, reason='nothing here reads a PDF')
+def test_on_paper_no_heading_stands_alone_and_no_line_is_cut(steam: str, pinch: Pinch, tmp_path: Path) -> None:
+    path, page = tmp_path / 'page.pdf', steam.replace('<details>', '<details open>')
+    path.write_bytes(as_pdf(page))
+    text = ''.join(''.join(''.join(each).split()) for each in sheets_of(path, page))
     verdict = pinch.audit(*(example(each) for each in STEAM))
     for line in (pinch.flow(example(STEAM[0])).text + verdict.text).splitlines():
         assert ''.join(line.split()) in text
@@ -188,8 +178,11 @@ def test_on_paper_no_line_is_cut(steam: str, pinch: Pinch, tmp_path: Path) -> No
 
 @WITH_BROWSER
 def test_a_browser_prints_the_page(tmp_path: Path) -> None:
-    path = tmp_path / 'page of a case.pdf'
-    done: Done = pinchdesk('page', str(EXAMPLES / 'preheater.csv'), str(EXAMPLES / 'preheater-network.txt'), '-o',
-                           str(path))
+    path, names = tmp_path / 'page of a case.pdf', ('crude.csv', 'crude-network.txt')
+    done: Done = pinchdesk('page', *(str(EXAMPLES / each) for each in names), '-o', str(path))
     assert done.status == 0, done.err
     assert path.read_bytes().startswith(b'%PDF')
+    if which('pdftotext'):
+        case, network = given(*names)
+        # A table that has no room below a picture begins on a sheet of its own.
+        assert any(each[0] == 'Exchangers' for each in sheets_of(path, page_of(case, [network], True)[0]) if each)
