@@ -2,15 +2,21 @@
 from __future__ import annotations
 
 import re
+from functools import lru_cache
 from html import unescape
 from itertools import combinations
 from typing import Any
 
+from matplotlib.colors import to_hex
 from matplotlib.figure import Figure
+from matplotlib.lines import Line2D
+from matplotlib.patches import PathPatch
+from matplotlib.path import Path
 from matplotlib.text import Text
 from matplotlib.transforms import Bbox
 
 from pinchdesk.pictures import rendered
+from pinchdesk.pictures.grid import BARS
 from pinchdesk.pictures.style import styled
 
 
@@ -26,6 +32,7 @@ def undrawn(figure: Figure) -> set[int]:
     return found
 
 
+@lru_cache(maxsize=4)
 def texts_of(figure: Figure) -> list[tuple[str, Bbox, Any]]:
     """All texts that are seen, with their boxes in dots, a little less than they are."""
     with styled():
@@ -55,3 +62,23 @@ def svg_texts(figure: Figure) -> list[str]:
     """The texts of the picture as a file."""
     held = rendered(figure, 'svg').decode()
     return [unescape(re.sub('<[^>]*>', '', each)).strip() for each in re.findall('<text.*?</text>', held, re.S)]
+
+
+def bars_of(figure: Figure) -> list[tuple[list[Any], str]]:
+    """The bars of exchangers in a grid diagram: their points in dots, and their colours."""
+    found: list[tuple[list[Any], str]] = []
+    for each in figure.findobj(PathPatch):
+        if each.get_zorder() != BARS:
+            continue
+        path = each.get_path()
+        for point, code in zip(each.get_transform().transform(path.vertices), path.codes):
+            if code == Path.MOVETO:
+                found.append(([], to_hex(each.get_edgecolor())))
+            found[-1][0].append(point)
+    return found
+
+
+def dashed_of(figure: Figure) -> set[float]:
+    """Where the upright dashed lines of a grid diagram stand, in inches."""
+    return {float(each.get_xdata()[0]) for each in figure.findobj(Line2D)
+            if each.get_linestyle() == '--' and each.get_xdata()[0] == each.get_xdata()[1]}

@@ -92,6 +92,8 @@ LAYOUTS = [
     'Plant 7,,,\nrevision 2,,,\n\nname,supply,target,CP\nH,150,60,2\n\nSum,,,2\nall from the data sheet,,,\n',
     'name,supply,target,CP,duty\nH,150,60,2,180\n,,,,180\n', '\ufeffname,supply,target,CP\rH,150,60,2\r',
     'stream,temperature,,CP\n,supply (K),target (K),kW/K\nH,423.15,333.15,2\n',
+    'stream,temperature,,CP\n,supply,target,\nunits,(K),(K),(kW/K)\nH,423.15,333.15,2\n',
+    'stream,temperature,,CP\n,target,supply,\nH,60,150,2\n',
     'no,name,supply,target,CP\n1,H,150,60,2\n', ',Temperatures (K),,\nname,supply,target,CP\nH,423.15,333.15,2\n',
     'name,supply,target,CP\nH,150 °C,60 °C,2 kW/K\n', 'name,supply °C,target °C,CP in kW/K\nH,150,60,2\n',
     'name,supply,target,"CP, kW/K"\nH,150,60,2\n', 'name,supply,target,duty / kW\nH,150,60,180\n',
@@ -153,6 +155,8 @@ def test_utilities_have_prices_and_all_costs_come_back(pinch: Pinch) -> None:
     case = made(held).case
     assert [each.price for each in case.utilities] == [355, 200, 0]
     assert (case.basis.price_unit, case.basis.cost_unit) == ('EUR/MWh', 'EUR/h')
+    assert [each.price for each in made(held.replace(' EUR/MWh', '').replace('price', 'Price €/MWh')).case.utilities] \
+        == [355, 200, 0]
     assert made(held.replace('EUR/MWh', 'EUR/(kW a)'),
                 replace(TEN, hours=Fraction(8000))).case.basis.cost_unit == 'EUR/a'
     assert 'none of a price' in refusal(held.replace('EUR/MWh', 'EUR/t'))
@@ -276,6 +280,11 @@ def test_units_of_formats_and_of_merged_titles_are_seen() -> None:
         page.append(row)
     page.merge_cells('B1:C1')
     page['D3'].number_format = '0.000 "MW/K"'
+    held = io.BytesIO()
+    book.save(held)
+    assert streams(held.getvalue()) == [('hot', 'H', 1500, 600, 200, 0)]
+    page['A1'], page['B1'], page['D1'] = 'stream', 'Temperatures [K]', 'CP'
+    page['D2'], page['D3'].number_format = 'MW/K', '0.000'
     held = io.BytesIO()
     book.save(held)
     assert streams(held.getvalue()) == [('hot', 'H', 1500, 600, 200, 0)]

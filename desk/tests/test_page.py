@@ -78,12 +78,13 @@ def test_the_page_stands_alone_and_styles_do_not_meet(steam: str) -> None:
 def test_prices_and_costs_of_the_page_have_the_units_of_the_table(tmp_path: Path) -> None:
     table, case, page = (tmp_path / each for each in ('table.csv', 'case.csv', 'page.html'))
     table.write_text('kind;name;supply;target;CP;price\nhot;Kühlung;170;60;3;\ncold;C;80;140;10;\n'
-                     'heater;ST;180;;;120 EUR/(kW a)\ncooler;CW;15;;;5 EUR/(kW a)\n')
+                     'heater;ST;180;;;120 EUR/(kW a)\ncooler;Fluß;15;;;5 EUR/(kW a)\n')
     assert main(['case', '-d', '10', str(table), '-o', str(case)]) == 0
     assert main(['page', str(case), '-o', str(page)]) == 0
     text = words_of(page.read_text())
     targets, shown = Pinch().targets(case.read_bytes()), Shown(read_case(case.read_bytes()).basis)
     assert 'price, EUR/(kW a)' in text and 'per W' not in text and 'Kuehlung hot 170 60 3 330 5 Kühlung' in text
+    assert re.search(r'Fluss cooler .* Fluß least cost', text) and text.count('in the table') == 2
     wanted = 120 * targets.hot // 1000 + 5 * targets.cold // 1000
     assert f'Least cost of a heat flow: {wanted} EUR/a' in text and shown.price(120) == '120'
 
@@ -153,17 +154,23 @@ def test_a_browser_shows_the_page_whole(width: int, steam: str, tmp_path: Path) 
     assert seen and seen[1] == '[]'
 
 
+def sheets_of(pdf: Path, page: str) -> list[list[str]]:
+    """The lines of each sheet of paper. No heading, no title of a table and no row of headings stands last on one."""
+    done = subprocess.run(['pdftotext', '-layout', str(pdf), '-'], capture_output=True, check=True)
+    sheets = [[' '.join(line.split()) for line in each.splitlines() if line.strip()]
+              for each in done.stdout.decode().split('\f')]
+    headings = {words_of(each) for each in re.findall(r'<(?:h[1-4]|caption|summary|th)\b.*?</', page, re.S)}
+    headings |= {words_of(each) for each in re.findall('<thead>.*?</thead>', page, re.S)}
+    assert len(sheets) > 3 and not [each[-1] for each in sheets if each and each[-1] in headings]
+    return sheets
+
+
 @WITH_BROWSER
 @pytest.mark.skipif(which('pdftotext') is None, reason='nothing here reads a PDF')
 def test_on_paper_no_heading_stands_alone_and_no_line_is_cut(steam: str, pinch: Pinch, tmp_path: Path) -> None:
-    path = tmp_path / 'page.pdf'
-    path.write_bytes(as_pdf(steam.replace('<details>', '<details open>')))
-    done = subprocess.run(['pdftotext', '-layout', str(path), '-'], capture_output=True, check=True)
-    sheets = [[' '.join(line.split()) for line in each.splitlines() if line.strip()]
-              for each in done.stdout.decode().split('\f')]
-    headings = {words_of(each) for each in re.findall(r'<(?:h[1-4]|caption|summary|th)\b.*?</', steam, re.S)}
-    assert len(sheets) > 3 and not [each[-1] for each in sheets if each and each[-1] in headings]
-    text = ''.join(''.join(''.join(each).split()) for each in sheets)
+    path, page = tmp_path / 'page.pdf', steam.replace('<details>', '<details open>')
+    path.write_bytes(as_pdf(page))
+    text = ''.join(''.join(''.join(each).split()) for each in sheets_of(path, page))
     verdict = pinch.audit(*(example(each) for each in STEAM))
     for line in (pinch.flow(example(STEAM[0])).text + verdict.text).splitlines():
         assert ''.join(line.split()) in text
@@ -171,8 +178,11 @@ def test_on_paper_no_heading_stands_alone_and_no_line_is_cut(steam: str, pinch: 
 
 @WITH_BROWSER
 def test_a_browser_prints_the_page(tmp_path: Path) -> None:
-    path = tmp_path / 'page of a case.pdf'
-    done: Done = pinchdesk('page', str(EXAMPLES / 'preheater.csv'), str(EXAMPLES / 'preheater-network.txt'), '-o',
-                           str(path))
+    path, names = tmp_path / 'page of a case.pdf', ('crude.csv', 'crude-network.txt')
+    done: Done = pinchdesk('page', *(str(EXAMPLES / each) for each in names), '-o', str(path))
     assert done.status == 0, done.err
     assert path.read_bytes().startswith(b'%PDF')
+    if which('pdftotext'):
+        case, network = given(*names)
+        # A table that has no room below a picture begins on a sheet of its own.
+        assert any(each[0] == 'Exchangers' for each in sheets_of(path, page_of(case, [network], True)[0]) if each)

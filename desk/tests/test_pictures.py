@@ -7,7 +7,7 @@ from time import process_time
 
 import pytest
 from conftest import NETWORKS, example
-from looking import cut_off, overlapping, svg_texts, texts_of
+from looking import bars_of, cut_off, dashed_of, overlapping, svg_texts, texts_of
 from matplotlib.figure import Figure
 
 from pinchdesk import (Accepted, HeatFlow, Pinch, Rejected, WordsError, completed, follow, pinches_of, read_case,
@@ -134,8 +134,8 @@ def test_a_grid_diagram_has_every_number_and_nothing_on_another(name: str, pinch
 @pytest.mark.parametrize('name', NETWORKS)
 def test_no_bar_passes_through_the_label_of_another(name: str, pinch: Pinch) -> None:
     figure = grid(pinch, example(f'{name}.csv'), example(f'{name}-network.txt'))
-    axes = figure.axes[0]
-    bars = [axes.transData.transform(each.get_xydata()) for each in axes.get_lines() if each.get_zorder() == 4]
+    bars = [points for points, _ in bars_of(figure)]
+    assert len(bars) == len(read_network(example(f'{name}-network.txt')).exchangers)
     for text, box, each in texts_of(figure):
         if each.get_zorder() == 7:
             through = [bar for bar in bars if any(meets(box, one, other) for one, other in zip(bar, bar[1:]))]
@@ -169,7 +169,7 @@ def test_what_works_across_the_pinch_is_marked(pinch: Pinch) -> None:
     content, text = example('preheater.csv'), example('preheater-network.txt')
     figure = grid(pinch, content, text)
     assert any('↯ 1' in each for each in svg_texts(figure))
-    marked = [each for each in figure.axes[0].get_lines() if each.get_zorder() == 4 and each.get_color() == ACROSS]
+    marked = [colour for _, colour in bars_of(figure) if colour == ACROSS]
     assert len(marked) == sum('↯' in each for each in svg_texts(figure) if not each.startswith('across'))
 
 
@@ -184,8 +184,7 @@ def test_of_several_pinches_each_is_drawn_and_streams_begin_there(pinch: Pinch) 
     texts = ' '.join(svg_texts(figure))
     for each in targets.pinches:
         assert f'pinch {Shown().celsius(each)} °C' in texts
-    lines = {tuple(each.get_xdata()) for each in figure.axes[0].get_lines() if each.get_linestyle() == '--'}
-    assert len(lines) >= len(targets.pinches)
+    assert len(dashed_of(figure)) == len(targets.pinches)
 
 
 def chain(count: int) -> tuple[bytes, bytes]:

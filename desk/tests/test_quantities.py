@@ -26,12 +26,14 @@ KNOWN = [
     (Kind.FLOW, 'kW·K⁻¹', 2, 200), (Kind.FLOW, 'kW K^-1', 2, 200), (Kind.FLOW, 'kW/C', 2, 200),
     (Kind.FLOW, 'kcal/h/°C', 4500, 523), (Kind.FLOW, 'Btu/(h °F)', 1_250_000, 65941), (Kind.HEAT, 'kW', 2, 2000),
     (Kind.HEAT, 'MW', 2, 2_000_000), (Kind.HEAT, 'W', 2, 2), (Kind.HEAT, 'GJ/h', 9, 2_500_000),
+    (Kind.FLOW, 'KW/K', 2, 200), (Kind.HEAT, 'kw', 2, 2000), (Kind.HEAT, 'MJ/min', 6, 100_000),
     (Kind.HEAT, 'Btu/h', 225_000, 65941), (Kind.HEAT, 'kcal/h', 450, 523), (Kind.HEAT, 'MMBtu/h', 9, 2_637_640),
 ]
 UNKNOWN = [
     (Kind.TEMPERATURE, 'kW'), (Kind.TEMPERATURE, 'x'), (Kind.TEMPERATURE, '9**9**9'), (Kind.TEMPERATURE, 'K^2'),
     (Kind.TEMPERATURE, 'rad K'), (Kind.HEAT, 'kW grade'), (Kind.HEAT, 'percent kW'), (Kind.FLOW, 'kW/K/rad'),
     (Kind.FLOW, 'kW'), (Kind.FLOW, 'kJ/kg/K'), (Kind.FLOW, 'kWh/a/K'), (Kind.FLOW, 'MBtu/h/F'), (Kind.FLOW, ''),
+    (Kind.HEAT, 'mW'), (Kind.FLOW, 'mW/K'),
     (Kind.HEAT, 'kWh'), (Kind.HEAT, 'TJ/yr'), (Kind.HEAT, 'GJ/a'), (Kind.HEAT, 'MBtu/h'), (Kind.HEAT, 'EUR'),
     (Kind.HEAT, 'kW' * 30), (Kind.HEAT, '__import__("os")'), (Kind.HEAT, 'kW/K'), (Kind.DIFFERENCE, '%'),
 ]
@@ -110,6 +112,7 @@ def test_rounding_is_to_the_nearest(value: Fraction) -> None:
 PRICES = [
     ('EUR/MWh', 'EUR', 1_000_000, False), ('per kWh', '', 1000, False), ('€/(kW a)', '€', 1000, True),
     ('EUR/kW/a', 'EUR', 1000, True), ('per kW and year', '', 1000, True), ('EUR/kWa', 'EUR', 1000, True),
+    ('EUR/kwh', 'EUR', 1000, False), ('EUR/KWh', 'EUR', 1000, False), ('$/MMBtu', '$', Fraction(2_637_640, 9), False),
     ('$/GJ', '$', Fraction(2_500_000, 9), False), ('ct/kWh', 'ct', 1000, False), ('US$/MWh', 'US$', 10 ** 6, False),
 ]
 
@@ -121,7 +124,7 @@ def test_a_unit_of_prices_is_known(text: str, money: str, amount: Fraction, year
 
 
 @pytest.mark.parametrize('text', ['EUR', 'EUR/kW', 'EUR/t', 'EUR/kWh/a', 'EUR/a', 'x' * 50, '1/MWh', 'EUR/MWh2', '',
-                                  'EUR/(rad kWh)'])
+                                  'EUR/(rad kWh)', 'EUR/MBtu', 'EUR/mWh', 'EUR/h'])
 def test_what_is_no_unit_of_prices_is_refused(text: str) -> None:
     with pytest.raises(UnknownUnit):
         price_unit_of(text)

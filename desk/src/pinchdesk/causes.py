@@ -4,8 +4,9 @@ from __future__ import annotations
 from .errors import DeskError, Refused
 
 CAUSES = {
-    'FieldCount': 'a row or a statement has not its number of fields, or a field that has to be empty is not',
-    'UnknownKind': 'the first field is no kind of a row',
+    'FieldCount': 'a row or a statement has not its number of fields, or a field that has to be empty is not; of a '
+                  'table `pinchdesk case` makes a case',
+    'UnknownKind': 'the first field is no kind of a row; of a table `pinchdesk case` makes a case',
     'UnknownWord': 'the first field is no word of a statement',
     'TooMany': 'there are more of these than there may be (docs/FORMATS.md, Limits)',
     'Repeated': 'this stands above already',

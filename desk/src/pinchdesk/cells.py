@@ -80,12 +80,15 @@ def decimal_mark(table: Table, cells: Iterable[tuple[int, int, Cell]], told: str
 
 @dataclass
 class CellReader:
-    """Reads the cells of a table whose decimal mark and units are known."""
+    """Reads the cells of a table whose decimal mark and units are known. Of a kind of numbers `taken` has where there
+    was no unit, and `others` the row, the column and the unit of a number with another one than is taken then."""
 
     told: Told
     mark: str
     units: dict[int, str]
     titles: dict[int, str]
+    taken: dict[Kind, str] = field(default_factory=dict)
+    others: dict[Kind, tuple[int, int, str]] = field(default_factory=dict)
 
     def given(self, row: TableRow, column: int | None) -> bool:
         """Whether there is something in a cell; a dash is nothing."""
@@ -138,7 +141,18 @@ class CellReader:
             title = self.titles.get(column)
             where = f'the column `{title}`' if title else f'numbers of {kind.name.lower()}'
             self.told.once(f'no unit stands with {where}: {kind.default} is taken')
+            self.taken.setdefault(kind, where)
+        elif not same_unit(own or headed, kind.default, kind):
+            self.others.setdefault(kind, (row.number, column, own or headed))
         return own or headed or kind.default
+
+    def settle_units(self) -> None:
+        """Tells a fault for each kind of numbers of which some have a unit and others none, where that matters."""
+        for kind, where in self.taken.items():
+            if kind in self.others:
+                row, column, unit = self.others[kind]
+                cause = f'the unit `{unit}` stands with this number, and none with {where}: write it with all of them'
+                self.told.fault(row, column, cause)
 
     def whole(self, row: TableRow, column: int | None, kind: Kind, scale: Fraction = Fraction(1)) -> int | None:
         """A cell as a whole number of the program's unit; what is rounded is told."""

@@ -10,6 +10,7 @@ from .basis import Basis, basis_rows
 from .case import Case, Forbid, Stream, Utility, print_case, read_case
 from .causes import CAUSES
 from .cells import CellReader, Told, decimal_mark
+from .doubts import as_case, doubts_of, units_in_words
 from .entries import Entries, Line, joined, lines_of
 from .errors import Refused, WordsError
 from .layout import Heading, Layout, known, layout_of
@@ -49,11 +50,10 @@ class Converted:
 def case_of_table(content: bytes, name: str, wanted: Wanted) -> Converted:
     """The case of a table's file. `Refused`, by sheet, row and column, where something is not understood, or is
     ambiguous."""
-    if wanted.separator in (None, ',') and is_case(content):
-        cause = ('this is a case already, in tenths of °C, 10 W/K and W: it needs no conversion. If it is a table in '
-                 '°C, give it headings')
-        raise Refused(3, '', 'a case already', cause)
     tables = read_table(content, name, wanted.sheet, wanted.separator)
+    if is_case(content) or any(is_case(each) for table in tables for each in as_case(table)):
+        raise Refused(3, '', 'a case already', 'this is a case already, in tenths of °C, 10 W/K and W: it needs no '
+                      'conversion, but commas between its fields. If it is a table in °C, give it headings')
     best = max(headings(each) for each in tables)
     if best > 1:
         tables = tuple(each for each in tables if headings(each) == best)
@@ -95,6 +95,7 @@ def converted(table: Table, wanted: Wanted) -> Converted:
         raise Refused(3, '', 'empty', 'the table is empty')
     layout = layout_of(table)
     lines = list(lines_of(layout, told))
+    doubts_of(layout, lines, told, wanted.decimal is not None)
     told.settle()
     mark = decimal_mark(table, numbers_of(lines), wanted.decimal)
     reader = CellReader(told, mark, dict(layout.units), dict(layout.titles))
@@ -102,6 +103,9 @@ def converted(table: Table, wanted: Wanted) -> Converted:
     for old, new in names.items():
         if old != new:
             told.notes.append(f'the name `{old}` becomes {new}')
+    if table.others:
+        others = ', '.join(table.others)
+        told.notes.append(f'of the sheets the first one, {table.sheet}, is read, not {others} (--sheet)')
     if layout.passed:
         told.notes.append(f'passed over, above the headings: rows {", ".join(map(str, layout.passed))}')
     return Maker(told, reader, Entries(reader, told, names, wanted.scale), layout, wanted).made(lines, names)
@@ -132,6 +136,8 @@ class Maker:
         for line in lines:
             self.take(line)
         share, share_row = self.contribution()
+        self.reader.settle_units()
+        units_in_words(self.layout, lines, self.told, self.reader.taken)
         self.told.settle()
         if not self.streams:
             raise Refused(3, '', 'no stream', 'the table has no stream: is its separator another one (--separator)?')

@@ -105,7 +105,10 @@ class Entries:
         self.reader, self.told, self.names, self.scale = reader, told, names, scale
 
     def name(self, line: Line) -> str:
-        if not line.name():
+        cell = line.row.cell(line.columns[Heading.NAME])
+        if cell.fault:
+            self.told.fault(line.row.number, line.at(Heading.NAME), f'`{cell.text}`: {cell.fault}')
+        elif not line.name():
             self.told.fault(line.row.number, line.at(Heading.NAME), 'a name is missing')
         return self.names.get(line.name(), line.name())
 

@@ -149,7 +149,8 @@ def sums_sheet(followed: Followed) -> Sheet:
     rows.append((f'{len(exchangers)} exchangers', '', Decimal(shown.kilowatts(duty)), 'kW'))
     sizes = [conductance(each, shown) for each in followed.passages]
     known = [each for each in sizes if each is not None]
-    rows.append((f'{len(known)} of them', '', sum(known, Decimal(0)).quantize(Decimal('0.001')), 'kW/K'))
+    size = sum(known, Decimal(0)).quantize(Decimal('0.001'))
+    rows.append((f'duty over mean difference of {len(known)} of them', '', size, 'kW/K'))
     return Sheet('Utilities', ('', '', '', ''), tuple(rows))
 
 

@@ -48,6 +48,8 @@ STREAM_COLUMNS = (Heading.NAME, Heading.SUPPLY, Heading.TARGET, Heading.CP, Head
 BRACKETED = re.compile(r'(.*?)[\s_]*[(\[](.*)[)\]]\s*')
 # A unit that has no letter: `CP (%)`.
 SIGN = re.compile(r'.*[(\[/,]\s*([^\w\s()\[\]/,.:;–—-]+)\s*[)\]]?\s*')
+# A sign of money belongs to the unit behind it: `Price €/MWh`.
+MONEY = re.compile('[€$£¥]')
 EMPTY = frozenset(('', '-', '–', '—', 'n/a', 'N/A', 'na', '.'))
 
 
@@ -86,7 +88,7 @@ def heading_of(text: str) -> tuple[Heading | None, str]:
     if match:
         return meaning(match[1]), match[2].strip()
     for name, unit in splits(text):
-        if meaning(name) and unit:
+        if meaning(name) and unit and not MONEY.search(name):
             return meaning(name), unit
     return None, ''
 
@@ -120,8 +122,9 @@ def layout_of(table: Table) -> Layout:
     for at, row in enumerate(table.rows):
         if known(row) > 1:
             layout = taken(table, row)
-            below = table.rows[at + 1] if at + 1 < len(table.rows) else None
-            if below and is_second_head(layout, below):
+            for below in table.rows[at + 1:]:
+                if not is_second_head(layout, below):
+                    break
                 layout = with_second(table, layout, below)
             if at:
                 layout = with_first(table, layout, table.rows[at - 1])
@@ -141,7 +144,8 @@ def taken(table: Table, row: TableRow) -> Layout:
         if heading:
             columns[heading] = column
         if unit:
-            units[column] = unit
+            end = next((end for at, begin, end in table.merged if (at, begin) == (row.number, column)), column + 1)
+            units.update(dict.fromkeys(range(column, end), unit))
     titles = {column: cell.text for column, cell in row.filled()}
     return Layout(columns, units, titles, row.number)
 
@@ -160,29 +164,33 @@ def is_second_head(layout: Layout, row: TableRow) -> bool:
 
 
 def with_second(table: Table, layout: Layout, row: TableRow) -> Layout:
-    """The layout with a second row of its head: each cell is a heading with its unit, or a unit."""
-    columns, units, titles = dict(layout.columns), dict(layout.units), dict(layout.titles)
+    """The layout with one more row of its head: each cell is a heading with its unit, or a unit. Where two rows name a
+    column the lower one is meant, as in `Temperature` over `Supply` and `Target`."""
+    read = {column: heading_of(cell.text) for column, cell in row.filled()}
+    columns = {heading: column for heading, column in layout.columns.items() if not read.get(column, (None, ''))[0]}
+    units, titles = dict(layout.units), dict(layout.titles)
     for column, cell in row.filled():
-        heading, unit = heading_of(cell.text)
-        if heading and column not in columns.values():
-            if heading in columns:
-                raise table.refusal(row.number, column, f'a second column `{cell.text}`')
+        heading, unit = read[column]
+        if heading in columns:
+            raise table.refusal(row.number, column, f'a second column `{cell.text}`')
+        if heading:
             columns[heading] = column
             titles[column] = cell.text
         elif column in columns.values() and cell.text not in EMPTY:
             unit = unit or stripped(cell.text)
-            if column in units and units[column] != unit:
-                raise table.refusal(row.number, column, f'two units, `{units[column]}` above and `{unit}` here')
-        if unit:
-            units[column] = unit
+        if unit and units.setdefault(column, unit) != unit:
+            raise table.refusal(row.number, column, f'two units, `{units[column]}` above and `{unit}` here')
     return Layout(columns, units, titles, row.number)
 
 
 def with_first(table: Table, layout: Layout, row: TableRow) -> Layout:
-    """The layout with the units of a row right above the headings, as `Temperatures (°C)` over two columns: each holds
-    as far as its merged cell reaches, or to the next title."""
-    units = dict(layout.units)
+    """The layout with the units of a row right above the headings: units alone, or as `Temperatures (°C)` over two
+    columns: each holds as far as its merged cell reaches, or to the next title."""
+    units, kinds = dict(layout.units), {layout.columns[each]: KINDS[each] for each in layout.columns if each in KINDS}
     filled = [column for column, _ in row.filled()]
+    alone = {column: stripped(cell.text) for column, cell in row.filled() if cell.text not in EMPTY}
+    if all(column in kinds and is_unit(text, kinds[column]) for column, text in alone.items()):
+        return replace(layout, units={**alone, **units})
     for column, cell in row.filled():
         match = BRACKETED.fullmatch(cell.text)
         end = next((end for at, begin, end in table.merged if (at, begin) == (row.number, column)), None)

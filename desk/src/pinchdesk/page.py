@@ -7,7 +7,7 @@ from __future__ import annotations
 import base64
 from collections.abc import Sequence
 from concurrent.futures import ThreadPoolExecutor
-from dataclasses import dataclass
+from dataclasses import dataclass, replace
 from decimal import Decimal
 from fractions import Fraction
 from typing import TYPE_CHECKING, Any
@@ -123,16 +123,24 @@ def grid_of(followed: Followed, pinches: tuple[PinchPoint, ...], verdict: Verdic
 
 def case_streams(case: Case) -> Sheet:
     """The streams in engineers' units, with the names that their table had."""
-    shown, old = Shown(case.basis), {new: each for each, new in case.basis.names}
+    shown = Shown(case.basis)
     rows: list[tuple[Cell, ...]] = []
     for each in case.streams:
         size = None if each.latent else Decimal(shown.kilowatts_per_kelvin(each.cp))
-        row: list[Cell] = [each.name, each.side.value, Decimal(shown.celsius(each.supply)),
-                           Decimal(shown.celsius(each.target)), size, Decimal(shown.kilowatts(each.heat)),
-                           Decimal(shown.celsius(each.contribution)), 'latent' if each.latent else '']
-        rows.append((*row, old.get(each.name, '')) if old else tuple(row))
+        rows.append((each.name, each.side.value, Decimal(shown.celsius(each.supply)),
+                     Decimal(shown.celsius(each.target)), size, Decimal(shown.kilowatts(each.heat)),
+                     Decimal(shown.celsius(each.contribution)), 'latent' if each.latent else ''))
     headings = ('stream', 'side', 'supply °C', 'target °C', 'CP kW/K', 'load kW', 'contribution K', '')
-    return Sheet('Streams', (*headings, 'in the table') if old else headings, tuple(rows))
+    return with_names(Sheet('Streams', headings, tuple(rows)), case)
+
+
+def with_names(sheet: Sheet, case: Case) -> Sheet:
+    """A sheet of sources with the names that their table had, where one of them had another."""
+    old = {new: each for each, new in case.basis.names}
+    if not any(row[0] in old for row in sheet.rows):
+        return sheet
+    rows = tuple((*row, old.get(str(row[0]), '')) for row in sheet.rows)
+    return replace(sheet, headings=(*sheet.headings, 'in the table'), rows=rows)
 
 
 def case_utilities(case: Case, flow: HeatFlow | Cut) -> Sheet:
@@ -152,7 +160,7 @@ def case_utilities(case: Case, flow: HeatFlow | Cut) -> Sheet:
         rows.append(('least cost', '', None, None, None, None, None, None, Decimal(shown.cost(flow.cost))))
     headings = ('utility', '', 'level °C', 'least kW', 'most kW', f'price, {shown.price_unit}', 'contribution K',
                 'used kW', f'cost, {shown.cost_unit}')
-    return Sheet('Utilities, and what a heat flow of least cost uses', headings, tuple(rows))
+    return with_names(Sheet('Utilities, and what a heat flow of least cost uses', headings, tuple(rows)), case)
 
 
 def case_sheets(answered: Answered) -> list[Sheet]:

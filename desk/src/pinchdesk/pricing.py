@@ -12,7 +12,7 @@ from fractions import Fraction
 from math import gcd, lcm
 
 from .case import Basis
-from .quantities import SIGNS, YEAR, UnknownUnit, parsed, registry, rounded
+from .quantities import KILOWATT, OPEN, SIGNS, YEAR, UnknownUnit, parsed, registry, rounded
 
 MOST = 1_000_000
 MONEY = re.compile(r'[^\W\d]{0,8}|[€$£¥]|[A-Za-z]{0,3}[€$£¥]')
@@ -37,7 +37,9 @@ def price_unit_of(text: str) -> PriceUnit:
         held = held.replace(sign, plain)
     held = WATT_YEAR.sub(r'\1 a', re.sub(r'\band\b', '*', re.sub(r'(?:^|\b)per\b', '/', held)))
     money, slash, below = (each.strip() for each in held.partition('/'))
-    if not slash or not MONEY.fullmatch(money) or len(held) > 40 or not re.fullmatch(r'[A-Za-z/*() .]+', below):
+    below = re.sub(r'\b(?:KW|Kw|kw)[hH]\b', 'kWh', KILOWATT.sub('kW', below))
+    if not slash or not MONEY.fullmatch(money) or len(held) > 40 or not re.fullmatch(r'[A-Za-z/*() .]+', below) \
+            or OPEN.search(below):
         raise UnknownUnit(text)
     words = [each for each in re.split(r'[/*() .]+', below) if each]
     years = [each for each in words if YEAR.fullmatch(each)]

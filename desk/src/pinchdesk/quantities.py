@@ -56,6 +56,9 @@ LETTER = re.compile(r'(?<![A-Za-z_°])([CF])(?![A-Za-z_])')
 NAMED = re.compile(r'\b(celsius|fahrenheit)\b', re.I)
 KELVIN = re.compile(r'\bkelvins?\b', re.I)
 TIMES = re.compile(r'([1-9][0-9]{0,6})\s*([^0-9].*)')
+# `KW` can be nothing else; MBtu is a thousand of them to some and a million to others, and mW was meant to be MW.
+KILOWATT = re.compile(r'\b(?:KW|Kw|kw)(?![A-Za-z_])')
+OPEN = re.compile(r'\b(?:(?i:mbtu)|mW)')
 YEAR = re.compile(r'(?<![A-Za-z_])(a|y|yr|years?|annum|anno)(?![A-Za-z_])', re.I)
 DIMENSIONS = {Kind.TEMPERATURE: 'kelvin', Kind.DIFFERENCE: 'kelvin', Kind.FLOW: 'watt / kelvin', Kind.HEAT: 'watt'}
 # How much of the program's unit is in the SI unit above.
@@ -78,13 +81,12 @@ def normal(text: str) -> str:
     held = text.strip()
     for sign, plain in SIGNS.items():
         held = held.replace(sign, plain)
-    held = re.sub(r'\bper\b', '/', held)
+    held = KILOWATT.sub('kW', re.sub(r'\bper\b', '/', held))
     held = re.sub(r'/\s*h(?:ou)?rs?\b', '/hour', held)
     held = DEGREES.sub(lambda match: '°' + (match[1] or match[2][0]).upper(), held)
     held = NAMED.sub(lambda match: '°' + match[1][0].upper(), LETTER.sub(r'°\1', KELVIN.sub('K', held)))
     held = held.replace('°K', 'K').replace('°R', 'degR')
-    # MBtu is a thousand of them to some and a million to others.
-    if not held or len(held) > LONGEST or not ALLOWED.fullmatch(held) or re.search(r'\bmbtu', held, re.I):
+    if not held or len(held) > LONGEST or not ALLOWED.fullmatch(held) or OPEN.search(held):
         raise UnknownUnit(text)
     return held
 

@@ -33,10 +33,13 @@ class Sheet:
 
 
 def form_of(output: str | None, told: str | None) -> str:
-    """The form of an answer: the one that is told, else by the name of the file, else text."""
+    """The form of an answer: the one that is told, else by the name of the file, else text; `WordsError` where the name
+    says another one."""
     if told:
         return told
     ending = output.rpartition('.')[2].lower() if output else ''
+    if ending in ('pdf', 'html', 'htm', 'svg', 'png', 'docx', 'xls', 'ods'):
+        raise WordsError(f'{output}: this answer is a text, .csv or .xlsx; `draw` makes pictures, and `page` a page')
     return ending if ending in ('csv', 'xlsx') else 'text'
 
 

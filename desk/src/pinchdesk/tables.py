@@ -11,7 +11,7 @@ import re
 import warnings
 import zipfile
 from collections.abc import Iterable, Iterator
-from dataclasses import dataclass
+from dataclasses import dataclass, replace
 from decimal import Decimal
 from typing import Any
 
@@ -21,7 +21,9 @@ SEPARATORS = {';': '`;`', '\t': 'a tab', ',': '`,`', '|': '`|`'}
 # What a table of streams never has: it keeps a hostile workbook from filling the memory.
 MOST_ROWS, MOST_COLUMNS, MOST_UNPACKED = 20_000, 200, 2 ** 25
 HINT = re.compile(r'sep=(.)(\r\n|\r|\n)')
-QUOTED = re.compile(r'"([^"]*)"')
+# What a format writes as it is: in quotes, behind `\`, as a currency; then what it leaves room for, and conditions.
+LITERAL = re.compile(r'"([^"]*)"|\\(.)|\[\$([^\]-]*)[^\]]*\]|[_*].|\[[^\]]*\]')
+THOUSANDTH = re.compile(r'[0#?],+(?![0#?,])')
 
 
 @dataclass(frozen=True)
@@ -41,10 +43,11 @@ class Cell:
 
 @dataclass(frozen=True)
 class TableRow:
-    """A row with its number; cells behind the last one are empty."""
+    """A row with its number; cells behind the last one are empty. `hidden` where the spreadsheet does not show it."""
 
     number: int
     cells: tuple[Cell, ...]
+    hidden: bool = False
 
     def cell(self, column: int) -> Cell:
         return self.cells[column] if 0 <= column < len(self.cells) else Cell()
@@ -55,12 +58,16 @@ class TableRow:
 
 @dataclass(frozen=True)
 class Table:
-    """The rows of a table that are not empty. `sheet` is the name of the sheet, and empty of a text; `merged` has the
-    columns that a merged cell covers, by its row and its first column."""
+    """The rows of a table that are not empty. `sheet` is the name of the sheet, and empty of a text, which has a
+    `separator`; `merged` has the columns that a merged cell covers, by its row and its first column, `hidden` those
+    that are not shown, `others` the sheets that are shown beside it."""
 
     sheet: str
     rows: tuple[TableRow, ...]
     merged: tuple[tuple[int, int, int], ...] = ()
+    separator: str = ''
+    hidden: tuple[int, ...] = ()
+    others: tuple[str, ...] = ()
 
     def place(self, row: int, column: int | None = None) -> str:
         """A place in words: `sheet Streams row 4 column C`."""
@@ -147,12 +154,12 @@ def text_table(text: str, separator: str) -> Table:
     except csv.Error as fault:
         place = f'row {at + 1}'
         raise Refused(3, place, 'quotes', f'{place}: the quotes of a field do not close ({fault})') from fault
-    return Table('', tuple(rows))
+    return Table('', tuple(rows), separator=separator)
 
 
 def moved(table: Table, rows: int) -> Table:
     """The table as it stands below so many rows."""
-    return Table(table.sheet, tuple(TableRow(each.number + rows, each.cells) for each in table.rows), table.merged)
+    return replace(table, rows=tuple(replace(each, number=each.number + rows) for each in table.rows))
 
 
 def too_large() -> Refused:
@@ -178,7 +185,10 @@ def workbook_table(content: bytes, sheet: str | None) -> Table:
     if page.max_row > MOST_ROWS or page.max_column > MOST_COLUMNS:
         raise too_large()
     merged = tuple((each.min_row, each.min_col - 1, each.max_col) for each in page.merged_cells.ranges)
-    return Table(wanted, tuple(rows_of(page, formulas[wanted])), merged)
+    columns = [each for each in page.column_dimensions.values() if each.hidden and each.min and each.max]
+    hidden = tuple(column - 1 for each in columns for column in range(each.min, min(each.max, MOST_COLUMNS) + 1))
+    others = tuple(each for each in shown if each != wanted and values[each].max_row > 1) if sheet is None else ()
+    return Table(wanted, tuple(rows_of(page, formulas[wanted])), merged, hidden=hidden, others=others)
 
 
 def check_size(content: bytes) -> None:
@@ -207,12 +217,15 @@ def rows_of(page: Any, formulas: Any) -> Iterable[TableRow]:
     for values, written in zip(page.iter_rows(), formulas.iter_rows()):
         cells = tuple(cell_of(value, formula) for value, formula in zip(values, written))
         if any(not cell.empty for cell in cells):
-            yield TableRow(values[0].row, cells)
+            number = values[0].row
+            yield TableRow(number, cells, bool(page.row_dimensions[number].hidden))
 
 
 def cell_of(value: Any, written: Any) -> Cell:
     """A cell of a workbook, by its value and by what is written there."""
     held = value.value
+    if held is not None and value.font is not None and value.font.strike:
+        return Cell(str(held), fault='struck out: take it out, or show it as it is meant')
     if written.data_type == 'f' and held is None:
         return Cell(str(written.value), fault='a formula without a saved value: open and save the workbook')
     if value.data_type == 'e':
@@ -228,9 +241,17 @@ def cell_of(value: Any, written: Any) -> Cell:
 
 
 def number_cell(number: Decimal, form: str) -> Cell:
-    """A number with the unit that its format writes behind it."""
-    text = f'{number:f}'
-    if '%' in QUOTED.sub('', form):
+    """A number with the unit that its format writes beside it."""
+    text, first = f'{number:f}', sections(form)
+    plain = LITERAL.sub('', first)
+    if '%' in plain:
         return Cell(text, number, 'a percentage')
-    unit = ''.join(QUOTED.findall(form.partition(';')[0])).strip()
+    if THOUSANDTH.search(plain):
+        return Cell(text, number, f'shown as a thousandth or less of what it is, by its format {form}')
+    unit = ''.join(quoted or escaped or money for quoted, escaped, money in LITERAL.findall(first)).strip()
     return Cell(text, number, unit=unit)
+
+
+def sections(form: str) -> str:
+    """The first section of a format: that of positive numbers."""
+    return re.match(r'(?:"[^"]*"|\\.|[^;])*', form)[0]  # type: ignore[index]

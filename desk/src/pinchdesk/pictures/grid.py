@@ -3,14 +3,10 @@ right to left, a bar for each exchanger, each pinch, and what the network really
 from __future__ import annotations
 
 import textwrap
-from collections.abc import Sequence
 from dataclasses import dataclass
 from typing import Any
 
-from matplotlib.axes import Axes
-from matplotlib.collections import LineCollection
 from matplotlib.figure import Figure
-from matplotlib.lines import Line2D
 
 from ..case import Side, Stream, Utility
 from ..errors import WordsError
@@ -21,10 +17,11 @@ from ..verdicts import Accepted, PlaceKind, Rejected, Verdict
 from .gridends import End, end_of, end_texts, reading
 from .gridplan import Plan, lane_heights, plan_of, reach, width
 from .gridstreams import put_streams
-from .style import ABOVE, ACROSS, BELOW, BETWEEN, FAULT, INK, NEUTRAL, PALE, blank, styled
+from .paper import Look, Paper
+from .style import ABOVE, ACROSS, BELOW, BETWEEN, FAULT, INK, NEUTRAL, PALE, styled
 
-Piece = Sequence[tuple[float, float]]
-MOST = 60
+# How many exchangers have room; the order of their bars among what lies above and below them; the room around texts.
+MOST, BARS, PAD = 60, 4, 0.034
 LEGEND = ((ABOVE, 'above the pinch'), (BETWEEN, 'between pinches'), (BELOW, 'below the pinch'),
           (ACROSS, 'across a pinch (↯ kW that cross it)'))
 
@@ -33,7 +30,7 @@ LEGEND = ((ABOVE, 'above the pinch'), (BETWEEN, 'between pinches'), (BELOW, 'bel
 class Sheet:
     """Where things are drawn, in inches from the lower left."""
 
-    axes: Axes
+    paper: Paper
     plan: Plan
     heights: dict[str, list[float]]
     labels: float
@@ -42,14 +39,7 @@ class Sheet:
     verdict: Verdict
 
     def write(self, x: float, y: float, text: str, **style: Any) -> None:
-        given = {'fontsize': self.plan.type.size, 'ha': 'center', 'va': 'center', 'zorder': 8, **style}
-        self.axes.text(x, y, text, **given)
-
-    def strokes(self, pieces: Sequence[Piece], colour: str, cap: str) -> None:
-        """Straight lines of streams; many are drawn much faster together than one by one."""
-        if pieces:
-            held = LineCollection(pieces, colors=colour, linewidths=1.8, zorder=3, capstyle=cap)
-            self.axes.add_collection(held, autolim=False)
+        self.paper.write(x, y, text, **{'fontsize': self.plan.type.size, **style})
 
     def is_fault(self, name: str) -> bool:
         """Whether the fault of a rejected network is at this stream or utility."""
@@ -76,19 +66,15 @@ def grid_figure(followed: Followed, pinches: tuple[PinchPoint, ...], verdict: Ve
     top, bottom = 0.34 + 0.17 * len(title) + (0.5 if len(pinches) > 1 else 0.35), 0.5 + 0.14 * len(notes)
     high = deep + top + bottom
     with styled():
-        figure = blank(wide, high)
-        axes = figure.add_axes((0, 0, 1, 1))
-        axes.set(xlim=(0, wide), ylim=(0, high))
-        axes.axis('off')
         heights = {name: [high - top - each for each in lanes] for name, lanes in heights.items()}
-        sheet = Sheet(axes, plan, heights, high - top - labels, high - top - slants, finding, verdict)
+        sheet = Sheet(Paper(wide, high), plan, heights, high - top - labels, high - top - slants, finding, verdict)
         put_title(sheet, title, high)
         put_pinches(sheet, high - top, bottom)
         put_exchangers(sheet)
         put_streams(sheet)
         put_numbers(sheet, numbers, high - top)
         put_legend(sheet, notes)
-    return figure
+        return sheet.paper.done()
 
 
 def margins(plan: Plan) -> list[float]:
@@ -132,7 +118,7 @@ def put_pinches(sheet: Sheet, top: float, bottom: float) -> None:
     for at, each in enumerate(plan.pinches):
         first, last = plan.columns.pinches[at]
         if last > first or any(column == first for column in plan.columns.of.values()):
-            sheet.axes.axvspan(plan.x(first - 0.5), plan.x(last + 0.5), color='#eeeeee', zorder=0, linewidth=0)
+            sheet.paper.band(plan.x(first - 0.5), plan.x(last + 0.5), '#eeeeee')
         x = plan.pinch_x(at)
         told = f'pinch {shown.celsius(each.temperature)} °C shifted: hot {shown.celsius(each.temperature + share)}, ' \
                f'cold {shown.celsius(each.temperature - share)}'
@@ -140,7 +126,7 @@ def put_pinches(sheet: Sheet, top: float, bottom: float) -> None:
         middle = max(x, half + 0.1)
         level = next((row for row in (0, 1) if taken[row] < middle - half), 0)
         taken[level] = middle + half + 0.1
-        sheet.axes.plot([x, x], [bottom, top + 0.03], color=PALE, linestyle=(0, (6, 4)), linewidth=1, zorder=1)
+        sheet.paper.dashed(((x, bottom), (x, top + 0.03)), color=PALE, linestyle=(0, (6, 4)), linewidth=1, zorder=1)
         sheet.write(middle, top + 0.12 + 0.15 * level, told, color=PALE, fontsize=size)
 
 
@@ -176,22 +162,27 @@ def put_exchangers(sheet: Sheet) -> None:
         ink, weight = (FAULT, 2.4) if bad else (colour, 1.2)
         bend = [y, v] if x == u else [y, sheet.slants + 0.12, sheet.slants - 0.12, v]
         across = [x, u] if x == u else [x, x, u, u]
-        sheet.axes.add_artist(Line2D(across, bend, color=ink, linewidth=weight, zorder=4, solid_capstyle='butt'))
+        sheet.paper.line(tuple(zip(across, bend)), Look(ink, weight, BARS))
         for at, source in (((x, y), passage.hot.source), ((u, v), passage.cold.source)):
             heated = '#f5b7b1' if source.side is Side.HOT else '#aed6f1'
             fill = heated if isinstance(source, Utility) else 'white'
             circles.setdefault((fill, ink, weight), []).append(at)
         put_label(sheet, passage.exchanger.name, x, ink, bad)
     for (fill, ink, weight), held in circles.items():
-        sheet.axes.plot(*zip(*held), 'o', markersize=sheet.plan.type.size * 0.8, markerfacecolor=fill,
-                        markeredgecolor=ink, markeredgewidth=weight, zorder=6)
+        sheet.paper.points(held, 'o', markersize=sheet.plan.type.size * 0.8, markerfacecolor=fill,
+                           markeredgecolor=ink, markeredgewidth=weight, zorder=6)
 
 
 def put_label(sheet: Sheet, name: str, x: float, ink: str, bad: bool) -> None:
-    lines, upright = sheet.plan.labels[name], sheet.plan.type.upright
-    text = '   '.join(lines) if upright else '\n'.join(lines)
-    box = {'facecolor': 'white', 'edgecolor': FAULT if bad else 'none', 'pad': 1.2}
-    sheet.write(x, sheet.labels, text, rotation=90 if upright else 0, color=ink, bbox=box, linespacing=1.15,
+    """The name of an exchanger and its duties on its bar, which is broken there."""
+    lines, upright, size = sheet.plan.labels[name], sheet.plan.type.upright, sheet.plan.type.size
+    lines = ('   '.join(lines),) if upright else lines
+    wide, high = max(width(each, size, True) for each in lines) + PAD, len(lines) * size * 1.36 / 72 + PAD
+    box = (x, sheet.labels, high, wide) if upright else (x, sheet.labels, wide, high)
+    sheet.paper.ground(*box)
+    if bad:
+        sheet.paper.frame(*box, FAULT)
+    sheet.write(x, sheet.labels, '\n'.join(lines), rotation=90 if upright else 0, color=ink, linespacing=1.15,
                 fontweight='bold', zorder=7)
 
 
@@ -210,9 +201,10 @@ def put_numbers(sheet: Sheet, numbers: list[float], top: float) -> None:
         for x, text, side, far in ((first, end.left, 'right', -0.1), (last, end.right, 'left', 0.1)):
             wrong = end.missed and reading(each, side)
             mark = {'color': FAULT, 'fontweight': 'bold'} if wrong else {}
-            box = {'facecolor': 'white', 'edgecolor': 'none', 'pad': 0.8}
             if text:
-                sheet.write(x + far, y, text, ha=side, bbox=box, **mark)
+                wide = width(text, plan.type.size, wrong)
+                sheet.paper.ground(x + far + (wide if far > 0 else -wide) / 2, y, wide + PAD, plan.type.line)
+                sheet.write(x + far, y, text, ha=side, **mark)
 
 
 def utility_reach(sheet: Sheet, utility: Utility) -> tuple[float, float]:
@@ -232,7 +224,7 @@ def put_legend(sheet: Sheet, notes: list[str]) -> None:
     used = {colour_of(each, plan.pinches) for each in plan.followed.passages}
     for colour, text in LEGEND:
         if colour in used:
-            sheet.axes.plot([x, x + 0.25], [y, y], color=colour, linewidth=2)
+            sheet.paper.line(((x, y), (x + 0.25, y)), Look(colour, 2, 2, 'projecting'))
             sheet.write(x + 0.32, y, text, ha='left', fontsize=7.5)
             x += 0.55 + width(text, 7.5)
     for at, line in enumerate(notes):

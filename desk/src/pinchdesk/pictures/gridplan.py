@@ -188,8 +188,8 @@ def lane_heights(plan: Plan) -> tuple[dict[str, list[float]], float, float, floa
     the first row's top, all counted down from 0."""
     line, heights, down = plan.type.line, {}, 0.0
     labels, slants, tall = 0.0, 0.0, plan.type.number
-    above, below = (tall + 0.16, tall + 0.16) if plan.type.upright else (line * 2.0, line * 1.4)
-    gap = above + tall if plan.type.upright else line * 2.9
+    # What stands upright stands above its lane, be it a temperature or a share.
+    above, gap = (tall + 0.16, tall + 0.2) if plan.type.upright else (line * 2.0, line * 2.9)
     for at, each in enumerate(plan.rows):
         if each.side is Side.COLD and (at == 0 or plan.rows[at - 1].side is Side.HOT):
             deep = band(plan)
@@ -197,7 +197,7 @@ def lane_heights(plan: Plan) -> tuple[dict[str, list[float]], float, float, floa
             down += deep + (0.3 if is_slanted(plan) else 0.0)
         count = count_of(plan.lanes.get(each.name, {}))
         heights[each.name] = [down + above + gap * lane for lane in range(count)]
-        down += above + gap * (count - 1) + (below if count > 1 else line * 1.4)
+        down += above + gap * (count - 1) + line * 1.4
     return heights, labels, slants, down
 
 

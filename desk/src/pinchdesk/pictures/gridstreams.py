@@ -10,10 +10,13 @@ from ..states import Branch
 from .courses import Node
 from .gridplan import percent, reach
 from .lanes import drawn_branches, node_at, share_of
+from .paper import Look
 from .style import COLD, FAULT, HOT
 
 if TYPE_CHECKING:
     from .grid import Sheet
+
+STREAM = 1.8
 
 
 def put_streams(sheet: Sheet) -> None:
@@ -28,7 +31,8 @@ def put_streams(sheet: Sheet) -> None:
 def put_utility(sheet: Sheet, row: Utility) -> None:
     from .grid import utility_reach
     y, colour = sheet.heights[row.name][0], FAULT if sheet.is_fault(row.name) else HOT if row.side is Side.HOT else COLD
-    sheet.axes.plot(utility_reach(sheet, row), [y, y], color=colour, linewidth=1.4, linestyle='--', zorder=3)
+    first, last = utility_reach(sheet, row)
+    sheet.paper.dashed(((first, y), (last, y)), color=colour, linewidth=1.4, linestyle='--', zorder=3)
 
 
 def put_stream(sheet: Sheet, stream: Stream) -> None:
@@ -38,7 +42,6 @@ def put_stream(sheet: Sheet, stream: Stream) -> None:
     first, last = reach(plan, stream)
     begin, finish = (first, last) if stream.side is Side.HOT else (last, first)
     ended = {each.branch for each in plan.followed.network.statements if isinstance(each, End)}
-    pieces = []
     for name in drawn_branches(plan.course, lanes):
         branch, y = plan.followed.branches[name], sheet.heights[stream.name][lanes[name]]
         made, used = node_at(plan.course, name)
@@ -47,12 +50,11 @@ def put_stream(sheet: Sheet, stream: Stream) -> None:
             u = column(sheet, used)
         else:
             u = finish if name in ended else x + (0.6 if stream.side is Side.HOT else -0.6) * plan.type.pitch
-        pieces.append(((x, y), (u, y)))
+        sheet.paper.line(((x, y), (u, y)), Look(colour, STREAM, 3, 'round'))
         if name in ended:
             tip = '>' if stream.side is Side.HOT else '<'
-            sheet.axes.plot([u], [y], marker=tip, markersize=6, color=colour, zorder=5)
+            sheet.paper.points([(u, y)], tip, markersize=6, color=colour, zorder=5)
         put_state(sheet, branch, made, x, y, name in ended)
-    sheet.strokes(pieces, colour, 'round')
     put_joints(sheet, stream, lanes, colour)
 
 
@@ -69,7 +71,8 @@ def put_state(sheet: Sheet, branch: Branch, made: Node | None, x: float, y: floa
         return
     if made.key[0] == 'split':
         text = percent(share_of(plan.followed, branch.name), 2 - plan.type.places)
-        sheet.write(x + way * plan.type.pitch / 2, y - far, text, fontsize=plan.type.size - 1, color='#555555', **style)
+        far = far if plan.type.upright else -far
+        sheet.write(x + way * plan.type.pitch / 2, y + far, text, fontsize=plan.type.size - 1, color='#555555', **style)
     elif not ended and not branch.stream.latent:
         text = '?' if branch.temperature is None else plan.shown.celsius(branch.temperature, 2 - plan.type.places)
         sheet.write(x + way * plan.type.pitch / 2, y + far, text, fontsize=plan.type.size - 0.5, color='#444444',
@@ -78,7 +81,7 @@ def put_state(sheet: Sheet, branch: Branch, made: Node | None, x: float, y: floa
 
 def put_joints(sheet: Sheet, stream: Stream, lanes: Mapping[str, int], colour: str) -> None:
     """The upright line at each split and mix, from the first to the last of its lanes."""
-    course, pieces = sheet.plan.course, []
+    course = sheet.plan.course
     drawn = drawn_branches(course, lanes)
     for node in course.nodes.values():
         if node.exchanger or node.stream.name != stream.name:
@@ -86,5 +89,4 @@ def put_joints(sheet: Sheet, stream: Stream, lanes: Mapping[str, int], colour: s
         held = [lanes[name] for name in drawn if node in (course.made.get(name), course.used.get(name))]
         x, heights = column(sheet, node), [sheet.heights[stream.name][each] for each in held]
         if heights:
-            pieces.append(((x, min(heights)), (x, max(heights))))
-    sheet.strokes(pieces, colour, 'projecting')
+            sheet.paper.line(((x, min(heights)), (x, max(heights))), Look(colour, STREAM, 3, 'projecting'))
