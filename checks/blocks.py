@@ -6,6 +6,7 @@ import subprocess
 import tempfile
 
 from common import ROOT, example, run
+from patience import written
 
 DOCUMENTS = ('README.md', 'docs/USER_GUIDE.md', 'docs/HOW_TO_ENTER.md', 'docs/NETWORK_BY_HAND.md')
 # These have their sentences compared by `docs` itself.
@@ -42,21 +43,22 @@ class Blocks:
         if 'desk/' in block and not self.has_desk:
             return self.left.append('%s: the desk has not its packages: %s' % (name, block.split('\n')[0]))
         environment = dict(os.environ, PINCH=self.program, PATH=os.path.join(folder, 'bin') + ':' + os.environ['PATH'])
-        done = subprocess.run(['sh', '-e', '-c', block], cwd=folder, env=environment, stdin=subprocess.DEVNULL,
-                              stdout=subprocess.PIPE, stderr=subprocess.STDOUT, timeout=600)
-        written = done.stdout.decode().split('\n')
+        with subprocess.Popen(['sh', '-e', '-c', block], cwd=folder, env=environment, stdin=subprocess.DEVNULL,
+                              stdout=subprocess.PIPE, stderr=subprocess.STDOUT) as done:
+            output, _, late = written(done)
+        lines = output.decode().split('\n')
         said = [each.strip() for line in re.findall(r'#(.*)', block) for each in line.split(',')]
-        missing = [each for each in said if LINE.match(each) and each not in written]
+        missing = [each for each in said if LINE.match(each) and each not in lines]
         below = re.match(r'\s*It prints\s*```\n(.*?)```', held.split(block)[1][3:], re.S)
-        right = done.returncode == 0 and not missing and (not below or done.stdout.decode() == below.group(1))
-        self.report.count(right, '%s: %s' % (name, block), (done.returncode, done.stdout), 'status 0 and %s' % missing)
+        right = done.returncode == 0 and not missing and (not below or output.decode() == below.group(1))
+        self.report.count(right, '%s: %s' % (name, block), (late or done.returncode, output), 'status 0 and %s' % missing)
 
     def sentences(self, name, held, folder):
         for words, said in re.findall(r'`pinch ([^`]+)` prints ((?:`[^`]+`(?:, and |, | and )?)+)', held):
-            status, written = run(self.program, words.split(), folder)
+            got = run(self.program, words.split(), folder)
             lines = re.findall(r'`([^`]+)`', said)
-            right = status == 0 and all(each in written.decode().split('\n') for each in lines)
-            self.report.count(right, '%s: pinch %s' % (name, words), (status, written), lines)
+            right = got[0] == 0 and all(each in got[1].decode().split('\n') for each in lines)
+            self.report.count(right, '%s: pinch %s' % (name, words), got, lines)
 
     def spreadsheets(self):
         """The table of what a spreadsheet does: each row as a file, and its answer; then networks from an editor."""
