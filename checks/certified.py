@@ -4,7 +4,7 @@ from __future__ import annotations
 
 from common import lay_out, run, text
 from flows import cost_of
-from reading import Case, Source
+from reading.case import Case, Source
 
 
 def row_of(source: Source) -> str:
@@ -18,15 +18,13 @@ def row_of(source: Source) -> str:
                                      load, share)
 
 
-def told(source: Source) -> tuple:
+def told(source: Source) -> tuple[object, ...]:
     return source.name, source.supply, source.least, source.most, source.price, source.share
 
 
 def given(case: Case) -> list[Source]:
     """The utilities but for those that completion adds by itself. It may add one outside the temperatures of a file."""
-    plain = Case()
-    plain.share, plain.streams = case.share, case.streams
-    added = {told(each) for each in plain.completed().utilities}
+    added = {told(each) for each in Case(case.share, case.streams).completed().utilities}
     return [each for each in case.utilities if told(each) not in added
             or sum(other.hot is each.hot for other in case.utilities) > 1]
 
