@@ -1,5 +1,5 @@
-"""The blocks of commands in the documents, each run whole by a shell in a folder of its own, and what the documents say of them; sentences with
-an answer in documents that `docs` does not read; the table of what a spreadsheet does."""
+"""The blocks of commands in the documents, each run whole by a shell in a folder of its own, and what the documents say
+of them; sentences with an answer in documents that `docs` does not read; the table of what a spreadsheet does."""
 import os
 import re
 import subprocess
@@ -9,6 +9,8 @@ from common import ROOT, example, run
 from patience import written
 
 DOCUMENTS = ('README.md', 'docs/USER_GUIDE.md', 'docs/HOW_TO_ENTER.md', 'docs/NETWORK_BY_HAND.md')
+# Where the table of what a spreadsheet does stands.
+TABLE_OF_ROWS = 'docs/HOW_TO_ENTER.md'
 # These have their sentences compared by `docs` itself.
 COMPARED = ('README.md', 'docs/USER_GUIDE.md')
 LINE = re.compile(r'((hot|cold|pinch|cost|excess) -?[0-9/]+|accepted)\Z')
@@ -21,21 +23,29 @@ DESK = '/usr/bin/python3'
 class Blocks:
     def __init__(self, program, report):
         self.program, self.report, self.left = program, report, []
-        self.has_desk = subprocess.run([DESK, '-c', 'import openpyxl, pint, matplotlib, jinja2'], stderr=subprocess.DEVNULL).returncode == 0
+        asked = [DESK, '-c', 'import openpyxl, pint, matplotlib, jinja2']
+        self.has_desk = subprocess.run(asked, stderr=subprocess.DEVNULL).returncode == 0
 
-    def check(self):
+    def check(self, documents):
         for name in DOCUMENTS:
-            with open(os.path.join(ROOT, name), encoding='utf-8') as handle, tempfile.TemporaryDirectory(prefix='a folder ') as folder:
-                held = handle.read()
-                for each in ('examples', 'desk'):
-                    os.symlink(os.path.join(ROOT, each), os.path.join(folder, each))
-                os.mkdir(os.path.join(folder, 'bin'))
-                os.symlink(self.program, os.path.join(folder, 'bin', 'pinch'))
-                for block in CODE.findall(held):
-                    self.block(name, held, block, folder)
-                if name not in COMPARED:
-                    self.sentences(name, held, folder)
-        self.spreadsheets()
+            if name in documents:
+                with self.report.reading(name), tempfile.TemporaryDirectory(prefix='a folder ') as folder:
+                    self.document(name, folder)
+        if TABLE_OF_ROWS in documents:
+            with self.report.reading(TABLE_OF_ROWS):
+                self.spreadsheets()
+
+    def document(self, name, folder):
+        with open(os.path.join(ROOT, name), encoding='utf-8') as handle:
+            held = handle.read()
+        for each in ('examples', 'desk'):
+            os.symlink(os.path.join(ROOT, each), os.path.join(folder, each))
+        os.mkdir(os.path.join(folder, 'bin'))
+        os.symlink(self.program, os.path.join(folder, 'bin', 'pinch'))
+        for block in CODE.findall(held):
+            self.block(name, held, block, folder)
+        if name not in COMPARED:
+            self.sentences(name, held, folder)
 
     def block(self, name, held, block, folder):
         if OUTSIDE.search(block):
@@ -51,7 +61,8 @@ class Blocks:
         missing = [each for each in said if LINE.match(each) and each not in lines]
         below = re.match(r'\s*It prints\s*```\n(.*?)```', held.split(block)[1][3:], re.S)
         right = done.returncode == 0 and not missing and (not below or output.decode() == below.group(1))
-        self.report.count(right, '%s: %s' % (name, block), (late or done.returncode, output), 'status 0 and %s' % missing)
+        self.report.count(right, '%s: %s' % (name, block), (late or done.returncode, output),
+                          'status 0 and %s' % missing)
 
     def sentences(self, name, held, folder):
         for words, said in re.findall(r'`pinch ([^`]+)` prints ((?:`[^`]+`(?:, and |, | and )?)+)', held):
@@ -62,8 +73,10 @@ class Blocks:
 
     def spreadsheets(self):
         """The table of what a spreadsheet does: each row as a file, and its answer; then networks from an editor."""
-        with open(os.path.join(ROOT, 'docs', 'HOW_TO_ENTER.md'), encoding='utf-8') as handle, tempfile.TemporaryDirectory() as folder:
-            for answer, rows in re.findall(r'^\| `(case row \d \w+)` \| (.*?) \|', handle.read(), re.M):
+        with open(os.path.join(ROOT, TABLE_OF_ROWS), encoding='utf-8') as handle:
+            held = handle.read()
+        with tempfile.TemporaryDirectory() as folder:
+            for answer, rows in re.findall(r'^\| `(case row \d \w+)` \| (.*?) \|', held, re.M):
                 self.write(folder, 'a file.csv', ''.join(row + '\n' for row in re.findall(r'`([^`]+)`', rows)))
                 got = run(self.program, ['targets', 'a file.csv'], folder)
                 self.report.count(got == (3, (answer + '\n').encode()), 'HOW_TO_ENTER: %s' % rows, got, answer)

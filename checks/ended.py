@@ -1,5 +1,5 @@
 """Runs checks, each to its end, and reads the line with which each check ends. A check and the programs that it runs
-are a group of processes with a folder of their own for temporary files, and nothing of either is left behind its end."""
+are a group of processes with a folder of their own for temporary files; nothing of either is left behind its end."""
 from __future__ import annotations
 import os
 import re

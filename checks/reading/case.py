@@ -160,8 +160,8 @@ class Reader:
     def end(self, at: int) -> Case:
         """What was read, where the row behind the last would have this number."""
         case = self.case
-        for missing, why in ((case.share is None, 'NoContribution'), ('main' in self.kinds and not case.mains, 'NoMain'),
-                             (not case.streams, 'NoStream')):
+        for missing, why in ((case.share is None, 'NoContribution'),
+                             ('main' in self.kinds and not case.mains, 'NoMain'), (not case.streams, 'NoStream')):
             if missing:
                 raise Refused(at, why)
         return case.shared_out()
