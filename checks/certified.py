@@ -9,7 +9,7 @@ from reading.case import Case, Source
 
 def row_of(source: Source) -> str:
     """A source as a row of a case, with its contribution."""
-    name, share = source.name.decode(), source.share
+    name, share = source.name.decode(), source.contribution()
     if not source.stream:
         kind = 'heater' if source.hot else 'cooler'
         return '%s,%s,%d,%d,%d,%d,%d' % (kind, name, source.supply, source.least, source.most, source.price, share)
@@ -31,7 +31,7 @@ def given(case: Case) -> list[Source]:
 
 def rows_of(case: Case) -> bytes:
     forbidden = ['forbid,%s,%s,,,,' % (one.decode(), other.decode()) for one, other in case.forbidden]
-    return text('contribution,,%d,,,,' % case.share, *map(row_of, case.streams + given(case)), *forbidden)
+    return text('contribution,,%d,,,,' % case.contribution(), *map(row_of, case.streams + given(case)), *forbidden)
 
 
 class Certified:

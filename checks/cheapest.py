@@ -152,7 +152,7 @@ def least_boiler(site: Case) -> int | None:
         for at, (top, bottom) in enumerate(zip(places, places[1:])):
             if low <= bottom and top <= high:
                 heat = each.cp * (top - bottom) * (1 if each.hot else -1)
-                net.spare[each.plant * steps + at] += heat
+                net.spare[(each.plant or 0) * steps + at] += heat
                 net.spare[outside] -= heat
     boiler = max(level for _, level in site.mains) - share
     for plant in range(plants):

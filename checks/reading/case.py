@@ -106,7 +106,8 @@ class Case:
         """How many of a kind of row are there."""
         if kind in ('hot', 'cold'):
             return sum(each.hot is (kind == 'hot') for each in self.streams)
-        return len({'forbid': self.forbidden, 'plant': self.plants, 'main': self.mains}.get(kind, self.utilities))
+        counts = {'forbid': len(self.forbidden), 'plant': len(self.plants), 'main': len(self.mains)}
+        return counts.get(kind, len(self.utilities))
 
 
 def is_standard(case: Case) -> bool:

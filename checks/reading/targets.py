@@ -30,7 +30,7 @@ def targets_of(case: Case) -> tuple[int, int, list[int], tuple[int, bool]]:
     from itself."""
     ends = case.ends()
     deficits = [(deficit(case.streams, end), deficit_from(case.streams, end)) for end in ends]
-    hot = max(0, max(map(max, deficits)))
+    hot = max(0, *(owed for both in deficits for owed in both))
     cold = hot - deficit(case.streams, -FAR)
     pinches = [end for end, both in zip(ends, deficits) if hot in both and ends[-1] < end < ends[0]]
     return hot, cold, pinches, next((end, both[0] != hot) for end, both in zip(ends, deficits) if hot in both)
