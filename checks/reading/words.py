@@ -88,7 +88,7 @@ def taken(role: str, data: bytes, read: Callable[[bytes], Read]) -> Read:
         raise Decided(exactly(status, '%s %s %d %s\n' % (role, unit, fault.at, fault.why))) from fault
 
 
-def of_two_files(command: str, case: Case, data: bytes) -> Wanted:
+def wanted_of_two(command: str, case: Case, data: bytes) -> Wanted:
     """What is wanted of a command over a case and another file."""
     if command == 'audit':
         statements = taken('network', data, lambda held: network_of(held, case.completed()))
@@ -101,7 +101,7 @@ def of_two_files(command: str, case: Case, data: bytes) -> Wanted:
     return Wanted((0,), ('%s %s ' % (told[0], told[1].decode()),))
 
 
-def of_case(command: str, case: Case) -> Wanted:
+def wanted_of_case(command: str, case: Case) -> Wanted:
     """What is wanted of a command over a case alone."""
     if command == 'targets':
         return exactly(0, targets_text(case))
@@ -129,7 +129,7 @@ def wanted_of(command: str, files: list[bytes]) -> Wanted:
             return Wanted((0, 1), (profiles + 'boiler ', profiles + 'infeasible\ncut '))
         case = taken('case', files[0], case_of)
         if command in ('audit', 'certify', 'prices'):
-            return of_two_files(command, case, files[1])
-        return of_case(command, case)
+            return wanted_of_two(command, case, files[1])
+        return wanted_of_case(command, case)
     except Decided as refusal:
         return refusal.wanted
