@@ -6,7 +6,8 @@ from typing import NamedTuple
 from common import text
 from flows import lines_of
 from parts import of_case
-from reading import Case, Source, targets_of
+from reading.case import Case, Source
+from reading.targets import targets_of
 
 MODULUS, FACTOR = 2147483647, 16807
 

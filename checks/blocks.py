@@ -1,13 +1,16 @@
-"""The blocks of commands in the documents, each run whole by a shell in a folder of its own, and what the documents say of them; sentences with
-an answer in documents that `docs` does not read; the table of what a spreadsheet does."""
+"""The blocks of commands in the documents, each run whole by a shell in a folder of its own, and what the documents say
+of them; sentences with an answer in documents that `docs` does not read; the table of what a spreadsheet does."""
 import os
 import re
 import subprocess
 import tempfile
 
 from common import ROOT, example, run
+from patience import written
 
 DOCUMENTS = ('README.md', 'docs/USER_GUIDE.md', 'docs/HOW_TO_ENTER.md', 'docs/NETWORK_BY_HAND.md')
+# Where the table of what a spreadsheet does stands.
+TABLE_OF_ROWS = 'docs/HOW_TO_ENTER.md'
 # These have their sentences compared by `docs` itself.
 COMPARED = ('README.md', 'docs/USER_GUIDE.md')
 LINE = re.compile(r'((hot|cold|pinch|cost|excess) -?[0-9/]+|accepted)\Z')
@@ -20,21 +23,29 @@ DESK = '/usr/bin/python3'
 class Blocks:
     def __init__(self, program, report):
         self.program, self.report, self.left = program, report, []
-        self.has_desk = subprocess.run([DESK, '-c', 'import openpyxl, pint, matplotlib, jinja2'], stderr=subprocess.DEVNULL).returncode == 0
+        asked = [DESK, '-c', 'import openpyxl, pint, matplotlib, jinja2']
+        self.has_desk = subprocess.run(asked, stderr=subprocess.DEVNULL).returncode == 0
 
-    def check(self):
+    def check(self, documents):
         for name in DOCUMENTS:
-            with open(os.path.join(ROOT, name), encoding='utf-8') as handle, tempfile.TemporaryDirectory(prefix='a folder ') as folder:
-                held = handle.read()
-                for each in ('examples', 'desk'):
-                    os.symlink(os.path.join(ROOT, each), os.path.join(folder, each))
-                os.mkdir(os.path.join(folder, 'bin'))
-                os.symlink(self.program, os.path.join(folder, 'bin', 'pinch'))
-                for block in CODE.findall(held):
-                    self.block(name, held, block, folder)
-                if name not in COMPARED:
-                    self.sentences(name, held, folder)
-        self.spreadsheets()
+            if name in documents:
+                with self.report.reading(name), tempfile.TemporaryDirectory(prefix='a folder ') as folder:
+                    self.document(name, folder)
+        if TABLE_OF_ROWS in documents:
+            with self.report.reading(TABLE_OF_ROWS):
+                self.spreadsheets()
+
+    def document(self, name, folder):
+        with open(os.path.join(ROOT, name), encoding='utf-8') as handle:
+            held = handle.read()
+        for each in ('examples', 'desk'):
+            os.symlink(os.path.join(ROOT, each), os.path.join(folder, each))
+        os.mkdir(os.path.join(folder, 'bin'))
+        os.symlink(self.program, os.path.join(folder, 'bin', 'pinch'))
+        for block in CODE.findall(held):
+            self.block(name, held, block, folder)
+        if name not in COMPARED:
+            self.sentences(name, held, folder)
 
     def block(self, name, held, block, folder):
         if OUTSIDE.search(block):
@@ -42,26 +53,30 @@ class Blocks:
         if 'desk/' in block and not self.has_desk:
             return self.left.append('%s: the desk has not its packages: %s' % (name, block.split('\n')[0]))
         environment = dict(os.environ, PINCH=self.program, PATH=os.path.join(folder, 'bin') + ':' + os.environ['PATH'])
-        done = subprocess.run(['sh', '-e', '-c', block], cwd=folder, env=environment, stdin=subprocess.DEVNULL,
-                              stdout=subprocess.PIPE, stderr=subprocess.STDOUT, timeout=600)
-        written = done.stdout.decode().split('\n')
+        with subprocess.Popen(['sh', '-e', '-c', block], cwd=folder, env=environment, stdin=subprocess.DEVNULL,
+                              stdout=subprocess.PIPE, stderr=subprocess.STDOUT) as done:
+            output, _, late = written(done)
+        lines = output.decode().split('\n')
         said = [each.strip() for line in re.findall(r'#(.*)', block) for each in line.split(',')]
-        missing = [each for each in said if LINE.match(each) and each not in written]
+        missing = [each for each in said if LINE.match(each) and each not in lines]
         below = re.match(r'\s*It prints\s*```\n(.*?)```', held.split(block)[1][3:], re.S)
-        right = done.returncode == 0 and not missing and (not below or done.stdout.decode() == below.group(1))
-        self.report.count(right, '%s: %s' % (name, block), (done.returncode, done.stdout), 'status 0 and %s' % missing)
+        right = done.returncode == 0 and not missing and (not below or output.decode() == below.group(1))
+        self.report.count(right, '%s: %s' % (name, block), (late or done.returncode, output),
+                          'status 0 and %s' % missing)
 
     def sentences(self, name, held, folder):
         for words, said in re.findall(r'`pinch ([^`]+)` prints ((?:`[^`]+`(?:, and |, | and )?)+)', held):
-            status, written = run(self.program, words.split(), folder)
+            got = run(self.program, words.split(), folder)
             lines = re.findall(r'`([^`]+)`', said)
-            right = status == 0 and all(each in written.decode().split('\n') for each in lines)
-            self.report.count(right, '%s: pinch %s' % (name, words), (status, written), lines)
+            right = got[0] == 0 and all(each in got[1].decode().split('\n') for each in lines)
+            self.report.count(right, '%s: pinch %s' % (name, words), got, lines)
 
     def spreadsheets(self):
         """The table of what a spreadsheet does: each row as a file, and its answer; then networks from an editor."""
-        with open(os.path.join(ROOT, 'docs', 'HOW_TO_ENTER.md'), encoding='utf-8') as handle, tempfile.TemporaryDirectory() as folder:
-            for answer, rows in re.findall(r'^\| `(case row \d \w+)` \| (.*?) \|', handle.read(), re.M):
+        with open(os.path.join(ROOT, TABLE_OF_ROWS), encoding='utf-8') as handle:
+            held = handle.read()
+        with tempfile.TemporaryDirectory() as folder:
+            for answer, rows in re.findall(r'^\| `(case row \d \w+)` \| (.*?) \|', held, re.M):
                 self.write(folder, 'a file.csv', ''.join(row + '\n' for row in re.findall(r'`([^`]+)`', rows)))
                 got = run(self.program, ['targets', 'a file.csv'], folder)
                 self.report.count(got == (3, (answer + '\n').encode()), 'HOW_TO_ENTER: %s' % rows, got, answer)

@@ -4,12 +4,12 @@ from __future__ import annotations
 
 from common import lay_out, run, text
 from flows import cost_of
-from reading import Case, Source
+from reading.case import Case, Source
 
 
 def row_of(source: Source) -> str:
     """A source as a row of a case, with its contribution."""
-    name, share = source.name.decode(), source.share
+    name, share = source.name.decode(), source.contribution()
     if not source.stream:
         kind = 'heater' if source.hot else 'cooler'
         return '%s,%s,%d,%d,%d,%d,%d' % (kind, name, source.supply, source.least, source.most, source.price, share)
@@ -18,22 +18,20 @@ def row_of(source: Source) -> str:
                                      load, share)
 
 
-def told(source: Source) -> tuple:
+def told(source: Source) -> tuple[object, ...]:
     return source.name, source.supply, source.least, source.most, source.price, source.share
 
 
 def given(case: Case) -> list[Source]:
     """The utilities but for those that completion adds by itself. It may add one outside the temperatures of a file."""
-    plain = Case()
-    plain.share, plain.streams = case.share, case.streams
-    added = {told(each) for each in plain.completed().utilities}
+    added = {told(each) for each in Case(case.share, case.streams).completed().utilities}
     return [each for each in case.utilities if told(each) not in added
             or sum(other.hot is each.hot for other in case.utilities) > 1]
 
 
 def rows_of(case: Case) -> bytes:
     forbidden = ['forbid,%s,%s,,,,' % (one.decode(), other.decode()) for one, other in case.forbidden]
-    return text('contribution,,%d,,,,' % case.share, *map(row_of, case.streams + given(case)), *forbidden)
+    return text('contribution,,%d,,,,' % case.contribution(), *map(row_of, case.streams + given(case)), *forbidden)
 
 
 class Certified:

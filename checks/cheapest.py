@@ -6,12 +6,10 @@ The net of a case has a node for each part and one for all that is outside. That
 goes down from interval to interval of each plant, and through a main from plant to plant."""
 from __future__ import annotations
 import heapq
-from typing import TYPE_CHECKING
 
-from parts import ENDLESS, Problem, of_case, places_of
-
-if TYPE_CHECKING:
-    from reading import Case
+from parts import ENDLESS, Problem, of_case
+from reading.case import Case
+from reading.targets import profile_places
 
 
 class Net:
@@ -145,8 +143,8 @@ def least_cost(case: Case) -> int | None:
 
 def least_boiler(site: Case) -> int | None:
     """What BOILER has to give at least, or None where no heat flow exists."""
-    places, plants = places_of(site), len(site.plants)
-    steps, share = len(places) - 1, site.share
+    places, plants = profile_places(site), len(site.plants)
+    steps, share = len(places) - 1, site.contribution()
     mains, outside = plants * steps, plants * steps + len(site.mains)
     net = Net(outside + 1)
     for each in site.streams:
@@ -154,7 +152,7 @@ def least_boiler(site: Case) -> int | None:
         for at, (top, bottom) in enumerate(zip(places, places[1:])):
             if low <= bottom and top <= high:
                 heat = each.cp * (top - bottom) * (1 if each.hot else -1)
-                net.spare[each.plant * steps + at] += heat
+                net.spare[(each.plant or 0) * steps + at] += heat
                 net.spare[outside] -= heat
     boiler = max(level for _, level in site.mains) - share
     for plant in range(plants):

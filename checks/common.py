@@ -7,6 +7,9 @@ import subprocess
 import sys
 import time
 import traceback
+from typing import Any
+
+from patience import MOST, written
 
 HERE = os.path.dirname(os.path.abspath(__file__))
 ROOT = os.path.dirname(HERE)
@@ -151,15 +154,12 @@ def lay_out(folder: str, files: dict[str, bytes]) -> None:
             handle.write(content)
 
 
-def run(program: str, words: list[str] | list[bytes], folder: str, timeout: int = 600) -> Answer:
+def run(program: str, words: list[str] | list[bytes], folder: str, most: float = MOST, **how: Any) -> Answer:
     """A run in the folder. It writes nothing to standard error: what stands there goes to the status."""
-    try:
-        done = subprocess.run([program, *words], cwd=folder, env=ENVIRONMENT, stdin=subprocess.DEVNULL,
-                              stdout=subprocess.PIPE,
-                              stderr=subprocess.PIPE, timeout=timeout)
-    except subprocess.TimeoutExpired:
-        return 'none within %d s' % timeout, b''
-    return status_with(done.returncode, done.stderr), done.stdout
+    with subprocess.Popen([program, *words], cwd=folder, env=ENVIRONMENT, stdin=subprocess.DEVNULL,
+                          stdout=subprocess.PIPE, stderr=subprocess.PIPE, **how) as process:
+        output, error, late = written(process, most)
+    return 'none: ' + late if late else status_with(process.returncode, error), output
 
 
 def status_with(status: int, error: bytes) -> int | str:

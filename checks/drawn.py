@@ -4,7 +4,7 @@ from __future__ import annotations
 import random
 
 from common import text
-from reading import CASE_MOST, TRILLION
+from reading.case import CASE_MOST, TRILLION
 
 # How far apart the prices of utilities lie.
 SPREADS: tuple[tuple[int, ...], ...] = (3,), (30,), (1000,), (45000,), (45000, 20), (10 ** 6, 200)
@@ -36,7 +36,7 @@ class Rows:
         self.rows += ['forbid,%s,%s,,,,' % pair for pair in self.draw.sample(pairs, min(len(pairs), most))]
 
 
-def case_of(draw: random.Random) -> bytes:
+def random_case(draw: random.Random) -> bytes:
     """A case whose streams often share their ends, so that utilities and levels stand at them."""
     ends = [draw.randrange(50, 4000, 50) for _ in range(draw.choice((3, 4, 6, 9)))]
     rows = Rows(draw, draw.choice((0, 25, 50, 100)))
@@ -65,7 +65,7 @@ def draw_stream(rows: Rows, number: int, ends: list[int]) -> None:
         rows.stream(name, hot, (high, low) if hot else (low, high), draw.choice((1, 20, draw.randrange(1, 1000))), '')
 
 
-def priced_case_of(draw: random.Random) -> bytes:
+def random_priced_case(draw: random.Random) -> bytes:
     """A case of many utilities that can take each other's place, none of them for all the heat: the least cost over the
     price of one turns often. Their prices lie far apart, near each other, or both."""
     ends = sorted(draw.sample(range(50, 4000, 50), draw.choice((3, 4, 6))))

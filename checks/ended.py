@@ -1,5 +1,5 @@
 """Runs checks, each to its end, and reads the line with which each check ends. A check and the programs that it runs
-are a group of processes with a folder of their own for temporary files, and nothing of either is left behind its end."""
+are a group of processes with a folder of their own for temporary files; nothing of either is left behind its end."""
 from __future__ import annotations
 import os
 import re
@@ -10,6 +10,7 @@ import threading
 from typing import IO, NamedTuple
 
 from common import HERE
+from patience import waited
 
 END = re.compile(r'(\d+) runs, (\d+) wrong\Z')
 
@@ -29,7 +30,7 @@ class Checks:
         self.lock, self.running, self.stopped = threading.Lock(), set[int](), False
 
     def ended(self, check: str, words: list[str], longest: float, told: dict[str, str]) -> Ended:
-        """The end of a check that may take so many seconds, and is told this by its environment."""
+        """The end of a check that may use so many seconds of the processor, and is told this by its environment."""
         with tempfile.TemporaryDirectory(prefix='checks-', ignore_cleanup_errors=True) as folder:
             environment = dict(os.environ, TMPDIR=folder, **told)
             with tempfile.TemporaryFile() as output, tempfile.TemporaryFile() as error:
@@ -43,23 +44,19 @@ class Checks:
         end = END.search(printed.rstrip('\n'))
         is_whole = end and not complaints and int(end.group(1)) > 0 and (status == 0) == (end.group(2) == '0')
         if not end or not is_whole or late:
-            return Ended(None, None, '%s%sstatus %d%s' % (printed, complaints, status, late))
+            return Ended(None, None, '%s%sstatus %d %s' % (printed, complaints, status, late))
         return Ended(int(end.group(1)), int(end.group(2)), printed)
 
     def run(self, words: list[str], longest: float, environment: dict[str, str], output: IO[bytes],
             error: IO[bytes]) -> tuple[int, str]:
-        """The status of a group of processes, and whether it took too long. All of the group end with its first."""
+        """The status of a group of processes, and why it took too long. All of the group end with its first."""
         with self.lock:
             if self.stopped:
                 raise OSError('stopped')
             process = subprocess.Popen(words, stdin=subprocess.DEVNULL, stdout=output, stderr=error, env=environment,
                                        process_group=0)
             self.running.add(process.pid)
-        late = ''
-        try:
-            process.wait(timeout=longest)
-        except subprocess.TimeoutExpired:
-            late = ', it took more than %d s' % longest
+        late = waited(process, longest)
         with self.lock:
             self.running.remove(process.pid)
             kill(process.pid)

@@ -2,7 +2,9 @@
 from __future__ import annotations
 
 from common import text
-from reading import CASE_MOST, LIMIT, SITE_MOST, STATEMENTS
+from reading.case import CASE_MOST, SITE_MOST
+from reading.network import STATEMENTS
+from reading.rows import LIMIT
 
 
 def splits(count: int) -> list[str]:

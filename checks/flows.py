@@ -5,7 +5,8 @@ from __future__ import annotations
 from itertools import groupby
 
 from parts import Part, Problem, of_case, of_site
-from reading import Case, profile_text
+from reading.case import Case
+from reading.targets import profile_text
 
 Lines = list[list[str]]
 

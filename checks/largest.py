@@ -3,7 +3,7 @@ contribution of its own. On the shifted scale all ends of streams and all levels
 all lower ones, so that there are many parts."""
 import random
 
-from reading import CASE_MOST, SHARE, TRILLION
+from reading.case import CASE_MOST, SHARE, TRILLION
 
 STREAMS, UTILITIES, FORBIDS = CASE_MOST['hot'], CASE_MOST['utility'], CASE_MOST['forbid']
 # The shifted temperatures lie here, in tenths of °C, so that each actual one is in its range.

@@ -89,18 +89,24 @@ main()
 
 
 class Lie(NamedTuple):
-    """Its name, its lines in place of what the program answered, and of which commands it is told, or None of all; and
-    whether each check has to notice it."""
+    """Its name, its lines in place of what the program answered, and of which commands it is told, or None of all;
+    whether each check has to notice it, or which ones have to beside one over random inputs."""
     name: str
     lines: str
     of: tuple[str, ...] | None = None
     for_all: bool = False
+    by: tuple[str, ...] = ()
 
     def body(self) -> str:
         return 'if words[:1] and words[0] in %r:\n        %s' % (self.of, self.lines) if self.of else self.lines
 
 
 TRUTH = Lie('the truth, with reads made by a child', 'pass')
+# Which checks have to notice another digit in the middle of what a command prints.
+BY = {'prices': ('random-prices', 'large-files'), 'sweep': ('random-latent', 'random-floors'),
+      'site': ('random-sites',), 'vertical': ('random-vertical',), 'sample': ('random-vertical',),
+      'design': ('random-latent', 'random-reports', 'random-floors', 'same-designs'),
+      'flow': ('random-latent', 'random-reports', 'random-floors'), 'certify': ('random-reports',)}
 LIES = [
     Lie('another digit in the middle', 'text = digit(text)'),
     Lie('the last line lost', "text = text[:text[:-1].rfind(b'\\n') + 1]"),
@@ -109,7 +115,10 @@ LIES = [
     Lie('text on standard error too', "os.write(2, b'a word\\n')", for_all=True),
     Lie('a segfault, behind the text', 'status = -11', for_all=True),
     Lie('a segfault, no text', "status, text = -11, b''", for_all=True),
-] + [Lie('a digit of ' + command, 'text = digit(text)', (command,)) for command in COMMANDS] + [
+] + [Lie('a digit of ' + command, 'text = digit(text)', (command,), by=BY.get(command, ()))
+     for command in COMMANDS] + [
+    Lie('status 8 of design, no text', "status, text = 8, b''", ('design',),
+        by=('random-latent', 'random-reports', 'random-floors', 'same-designs')),
     Lie('boiler one more', "text = more(text, b'boiler')", ('site',)),
     Lie('a move of site changed', "text = more(text, b'move')", ('site',)),
     Lie('all moves of site dropped', "text = b''.join(line for line in text.splitlines(True) if line[:5] != b'move ')",
@@ -126,7 +135,10 @@ LIES = [
     Lie('the last segment of prices changed', "text = more(text, b'span')", ('prices',)),
     Lie('a segment of prices one price too long', 'text = met(text, 1)', ('prices',)),
     Lie('a segment of prices one price too short', 'text = met(text, -1)', ('prices',)),
-    Lie('another price by several workers', "text = digit(text) if words[-1] != '1' else text", ('prices',)),
+    Lie('another price by several workers', "text = digit(text) if words[-1] != '1' else text", ('prices',),
+        by=('random-prices',)),
+    Lie('another row by several workers', "text = digit(text) if words[-1] != '1' else text", ('sweep',),
+        by=('random-latent', 'random-floors')),
 ]
 
 

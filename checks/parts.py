@@ -3,10 +3,9 @@ cheapest.py and for flows.py, which takes printed heat flows apart."""
 from __future__ import annotations
 from collections.abc import Callable
 from dataclasses import dataclass
-from typing import TYPE_CHECKING
 
-if TYPE_CHECKING:
-    from reading import Case, Source
+from reading.case import Case, Source
+from reading.targets import profile_places
 
 ENDLESS = 10 ** 30
 
@@ -67,24 +66,17 @@ def of_case(case: Case) -> Problem:
     return Problem(parts_of(places, sources, True), parts_of(places, sources, False), reaches, case.utilities)
 
 
-def places_of(site: Case) -> list[int]:
-    """The grid of a site: the stream ends, and where each main takes and gives heat."""
-    taking_and_giving = {level + shift for _, level in site.mains for shift in (site.share, -site.share)}
-    return sorted(set(site.ends()) | taking_and_giving, reverse=True)
-
-
 def of_site(site: Case) -> Problem:
     """The parts of a site with BOILER and COOLING. Between two plants a main has to lie between."""
-    from reading import Source
-    places, levels = places_of(site), [level for _, level in site.mains]
-    boiler, cooling = max(levels) - site.share, places[-1]
+    places, levels, share = profile_places(site), [level for _, level in site.mains], site.contribution()
+    boiler, cooling = max(levels) - share, places[-1]
     utilities = [Source(b'BOILER', True, False, boiler, boiler, most=ENDLESS, price=1, share=0),
                  Source(b'COOLING', False, False, cooling, cooling, most=ENDLESS, share=0)]
 
     def reaches(one: Part, other: Part) -> bool:
         if None in (one.source.plant, other.source.plant) or one.source.plant == other.source.plant:
             return one.reaches(other)
-        return any(level + site.share <= one.low and other.high <= level - site.share for level in levels)
+        return any(level + share <= one.low and other.high <= level - share for level in levels)
 
     hot, cold = [parts_of(places, site.streams + utilities, side) for side in (True, False)]
     return Problem(hot, cold, reaches, utilities)

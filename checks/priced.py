@@ -3,16 +3,14 @@ from elsewhere."""
 from __future__ import annotations
 from collections.abc import Callable
 import random
-from typing import Any
 
-from reading import Case
+from reading.case import Case
+from reading.study import Item, Scenario, Span
 
 # Spans of no more prices are cut into segments price by price.
 SHORT = 60
 # First and last price, base and slope.
 Segment = tuple[int, int, int, int]
-# A scenario with its name and the prices of all utilities, or a span with its utility, first and last price.
-Item = tuple[Any, ...]
 
 
 class Costs:
@@ -77,9 +75,8 @@ def fault_of_long(draw: random.Random, cost: Callable[[int], int], first: int, l
     return None if at == last + 1 else 'the end of the span'
 
 
-def fault_of_span(draw: random.Random, costs: Costs, item: tuple[bytes, int, int], lines: list[str]) -> str | None:
-    utility, first, last = item
-    words = 'span %s ' % utility.decode()
+def fault_of_span(draw: random.Random, costs: Costs, span: Span, lines: list[str]) -> str | None:
+    first, last, words = span.first, span.last, 'span %s ' % span.utility.decode()
     if costs.cost(costs.prices) is None:
         return None if lines == [words + 'infeasible'] else 'that there is no heat flow'
     if not all(line.startswith(words) for line in lines):
@@ -88,9 +85,16 @@ def fault_of_span(draw: random.Random, costs: Costs, item: tuple[bytes, int, int
     segments: list[Segment] = [(begin, end, base, slope) for begin, end, base, slope in fields]
     if lines != ['%s%d %d %d %d' % (words, *segment) for segment in segments]:
         return 'the numbers'
+    cost = costs.along(span.utility)
     if last - first < SHORT:
-        return None if segments == segments_of(costs.along(utility), first, last) else 'the segments'
-    return fault_of_long(draw, costs.along(utility), first, last, segments)
+        return None if segments == segments_of(cost, first, last) else 'the segments'
+    return fault_of_long(draw, cost, first, last, segments)
+
+
+def fault_of_scenario(costs: Costs, scenario: Scenario, lines: list[str]) -> str | None:
+    cost = costs.cost(tuple(scenario.prices))
+    told = 'scenario %s %s' % (scenario.name.decode(), 'infeasible' if cost is None else cost)
+    return None if lines == [told] else 'the cost, which is %s' % cost
 
 
 def lines_of_span(last: int, lines: list[str]) -> int:
@@ -105,8 +109,8 @@ def lines_of_span(last: int, lines: list[str]) -> int:
 def lines_by_item(items: list[Item], written: str) -> list[list[str]]:
     """The lines of each item of a study, and those behind the last one."""
     lines, found = written.split('\n')[:-1], []
-    for sort, _, *rest in items:
-        there = 1 if sort == 'scenario' else lines_of_span(rest[1], lines)
+    for item in items:
+        there = 1 if isinstance(item, Scenario) else lines_of_span(item.last, lines)
         found.append(lines[:there])
         lines = lines[there:]
     return found + [lines]
@@ -117,13 +121,9 @@ def study_fault(draw: random.Random, costs: Costs, items: list[Item], written: s
     if not written.endswith('\n'):
         return 'the end of the text'
     lines = lines_by_item(items, written)
-    for number, ((sort, name, *rest), told) in enumerate(zip(items, lines), 1):
-        if sort == 'scenario':
-            cost = costs.cost(tuple(rest[0]))
-            right = told == ['scenario %s %s' % (name.decode(), 'infeasible' if cost is None else cost)]
-            fault = None if right else 'the cost, which is %s' % cost
-        else:
-            fault = fault_of_span(draw, costs, (name, rest[0], rest[1]), told)
+    for number, (item, told) in enumerate(zip(items, lines), 1):
+        fault = (fault_of_scenario(costs, item, told) if isinstance(item, Scenario)
+                 else fault_of_span(draw, costs, item, told))
         if fault:
-            return 'item %d, %s %s: %s' % (number, sort, name.decode(), fault)
+            return 'item %d, %s: %s' % (number, item, fault)
     return 'more lines' if lines[-1] else None

@@ -12,6 +12,7 @@ import struct
 import tempfile
 
 from common import ENVIRONMENT, status_with
+from patience import LOOK, Patience
 
 TRACEME, PEEK, POKE, CONT, GETREGS, SETREGS, SYSCALL, SETOPTIONS = 0, 1, 4, 7, 12, 13, 24, 0x4200
 SYSCALL_STOPS, FOLLOW_THREADS, END_WITH_TRACER = 0x01, 0x08, 0x100000
@@ -110,14 +111,16 @@ def started(program, words, folder, output, error):
     return process
 
 
-def too_long(*_):
-    raise TimeoutError
-
-
-def follow(process, go_on, stopped, seconds=120):
+def follow(process, go_on, stopped):
     """Lets the process run to its end; `stopped` is told of each stop that is one of ours. Gives the exit status."""
-    signal.signal(signal.SIGALRM, too_long)
-    signal.alarm(seconds)
+    patience = Patience(process)
+
+    def look(*_):
+        if patience.over():
+            raise TimeoutError
+
+    signal.signal(signal.SIGALRM, look)
+    signal.setitimer(signal.ITIMER_REAL, LOOK, LOOK)
     try:
         return followed(process, go_on, stopped)
     except TimeoutError:
@@ -125,7 +128,7 @@ def follow(process, go_on, stopped, seconds=120):
         os.waitpid(process, 0)
         return -signal.SIGKILL
     finally:
-        signal.alarm(0)
+        signal.setitimer(signal.ITIMER_REAL, 0)
 
 
 def followed(process, go_on, stopped):
