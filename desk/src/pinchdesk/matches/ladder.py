@@ -9,12 +9,12 @@ from collections.abc import Sequence
 from dataclasses import replace
 from fractions import Fraction
 
-from .asking import Answer, Solver
+from .asking import Answer, Solver, answer_with
 from .onewindow import as_one
 from .pairs import Pair
 from .pairsets import PairSets
 from .slots import Asked, slots_of
-from .upright import point_of, upright
+from .upright import upright
 from .windows import Window
 
 # The most stages of a window at first; how many places are many; how many sets of few pairs, and how
@@ -88,8 +88,7 @@ class Ladder:
                 return
             asked, used = as_one(self.window, begun.slots or frozenset())
             if self.best is None or len(used) < self.best.count:
-                held = point_of(replace(asked, slots=used, most_cost=self.most_cost))
-                self.best = self.best if held is None else Answer(*held)
+                self.best = answer_with(replace(asked, slots=used, most_cost=self.most_cost)) or self.best
 
     def asked(self, stages: int) -> Asked:
         return Asked((self.window,), (stages,), None, self.most_cost)
