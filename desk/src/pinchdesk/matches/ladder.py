@@ -80,12 +80,20 @@ class Ladder:
                 return
             few = self.sets.other(max(1.0, self.left / 8))
 
+    def begin(self) -> None:
+        """An answer by the composite curves, where there is one."""
+        for _ in range(STARTS):
+            if self.best is None:
+                self.upright(1)
+
     def upright(self, starts: int) -> None:
         """Answers by the composite curves, the best of so many."""
         for _ in range(starts):
-            begun = upright(self.asked(0), self.chance.choice(self.begins), self.chance)
-            if begun is None or self.solver.effort.left <= 0:
+            if self.solver.effort.left <= 0:
                 return
+            begun = upright(self.asked(0), self.chance.choice(self.begins), self.chance)
+            if begun is None:
+                continue
             asked, used = as_one(self.window, begun.slots or frozenset())
             if self.best is None or len(used) < self.best.count:
                 self.best = answer_with(replace(asked, slots=used, most_cost=self.most_cost)) or self.best

@@ -78,7 +78,7 @@ class Search:
         every = whole(self.case, None)
         ladders = [Ladder(self.solver, each) for each in windows(self.case, uses)]
         for each in ladders:
-            each.upright(1)
+            each.begin()
         self.of_windows(ladders)
         sets = PairSets(self.solver, every, self.most_cost)
         sets.first(self.effort.seconds / 10)
