@@ -89,7 +89,7 @@ class Ladder:
     def upright(self, starts: int) -> None:
         """Answers by the composite curves, the best of so many."""
         for _ in range(starts):
-            if self.solver.effort.left <= 0:
+            if self.best is not None and self.solver.effort.left <= 0:
                 return
             begun = upright(self.asked(0), self.chance.choice(self.begins), self.chance)
             if begun is None:
