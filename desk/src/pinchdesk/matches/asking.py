@@ -1,15 +1,20 @@
 """Models asked of the solver, in slices of the time that a search has."""
 from __future__ import annotations
 
-from dataclasses import dataclass
+from collections.abc import Sequence
+from dataclasses import dataclass, replace
 from fractions import Fraction
 
 from .apart import Apart
 from .effort import Effort, rounded_up
 from .linear import OutOfTime, exact
 from .model import Model
+from .roomy import roomy
 from .slots import Asked, Slot
 from .stages import model_of
+
+# A denominator above this makes sizes of branches that are too fine for `pinch audit`.
+LONG = 10 ** 9
 
 
 @dataclass(frozen=True)
@@ -63,6 +68,25 @@ class Solver:
             return Outcome(None, rounded_up(fault.bound), False)
         if solved is None:
             return none
-        point = exact(model.program(), solved.values)
+        point = point_at(model, solved.values)
         answer = None if point is None else Answer(model, point)
         return Outcome(answer, rounded_up(solved.bound), solved.optimal and answer is not None)
+
+
+def point_at(model: Model, values: Sequence[float]) -> tuple[Fraction, ...] | None:
+    """An exact point with the exchangers of these values: a vertex, or one with room where the vertex has long
+    fractions."""
+    program = replace(model.program(), aim=())
+    point = exact(program, values)
+    if point is None or max((each.denominator for each in point), default=1) > LONG:
+        grains = {at: 1 / model.unit for at in model.duties.values()}
+        return roomy(program, values, grains) or point
+    return point
+
+
+def answer_with(asked: Asked) -> Answer | None:
+    """An answer in which each slot that is asked for has its exchanger, and none is joined."""
+    model = model_of(asked)
+    used = set(model.uses.values())
+    point = point_at(model, [1.0 if at in used else 0.0 for at in range(len(model.lows))])
+    return None if point is None else Answer(model, point)

@@ -9,12 +9,12 @@ from collections.abc import Sequence
 from dataclasses import replace
 from fractions import Fraction
 
-from .asking import Answer, Solver
+from .asking import Answer, Solver, answer_with
 from .onewindow import as_one
 from .pairs import Pair
 from .pairsets import PairSets
 from .slots import Asked, slots_of
-from .upright import point_of, upright
+from .upright import upright
 from .windows import Window
 
 # The most stages of a window at first; how many places are many; how many sets of few pairs, and how
@@ -80,16 +80,23 @@ class Ladder:
                 return
             few = self.sets.other(max(1.0, self.left / 8))
 
+    def begin(self) -> None:
+        """An answer by the composite curves, where there is one."""
+        for _ in range(STARTS):
+            if self.best is None:
+                self.upright(1)
+
     def upright(self, starts: int) -> None:
         """Answers by the composite curves, the best of so many."""
         for _ in range(starts):
-            begun = upright(self.asked(0), self.chance.choice(self.begins), self.chance)
-            if begun is None or self.solver.effort.left <= 0:
+            if self.best is not None and self.solver.effort.left <= 0:
                 return
+            begun = upright(self.asked(0), self.chance.choice(self.begins), self.chance)
+            if begun is None:
+                continue
             asked, used = as_one(self.window, begun.slots or frozenset())
             if self.best is None or len(used) < self.best.count:
-                held = point_of(replace(asked, slots=used, most_cost=self.most_cost))
-                self.best = self.best if held is None else Answer(*held)
+                self.best = answer_with(replace(asked, slots=used, most_cost=self.most_cost)) or self.best
 
     def asked(self, stages: int) -> Asked:
         return Asked((self.window,), (stages,), None, self.most_cost)

@@ -166,8 +166,10 @@ def vertex_of(program: Program) -> list[float] | None:
     return [float(each) for each in found.x] if found.status == 0 else None
 
 
-def solved_at(program: Program, vertex: Sequence[float]) -> tuple[Fraction, ...] | None:
-    """What is tight at a vertex, solved: first what has to be equal, then what is tight as far as it is independent."""
+def solved_at(program: Program, vertex: Sequence[float], grains: Mapping[int, Fraction] | None = None,
+              ) -> tuple[Fraction, ...] | None:
+    """What is tight at a point, solved: first what has to be equal, then what is tight as far as it is independent.
+    What is free takes the nearest multiple of its grain, where it has one, or a simple fraction."""
     held = Elimination(len(vertex))
     try:
         for at, (low, high) in enumerate(zip(program.lows, program.highs)):
@@ -180,6 +182,8 @@ def solved_at(program: Program, vertex: Sequence[float]) -> tuple[Fraction, ...]
         return None
     for terms, value in (*tight_bounds(program, vertex), *tight_rows(program, vertex)):
         held.add_if_free(terms, value)
+    for at, grain in (grains or {}).items():
+        held.add_if_free(((at, Fraction(1)),), round(Fraction(vertex[at]) / grain) * grain)
     for at, near in enumerate(vertex):
         held.add_if_free(((at, Fraction(1)),), Fraction(near).limit_denominator(SIMPLE))
     return held.point()

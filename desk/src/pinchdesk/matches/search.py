@@ -11,10 +11,11 @@ from dataclasses import dataclass, replace
 from fractions import Fraction
 
 from ..case import Case, Side, shifted
+from ..errors import Refused
 from ..network import Network
 from ..program import Pinch
 from ..verdicts import Accepted
-from .asking import Answer, Solver
+from .asking import Answer, Solver, answer_with
 from .effort import Effort, TimeOver
 from .joined import joined
 from .ladder import Ladder
@@ -24,7 +25,6 @@ from .parts import Parts
 from .plan import plan_of
 from .simpler import simpler
 from .slots import Asked, slots_of
-from .upright import point_of
 from .windows import Window, whole, windows
 from .written import written
 
@@ -78,7 +78,7 @@ class Search:
         every = whole(self.case, None)
         ladders = [Ladder(self.solver, each) for each in windows(self.case, uses)]
         for each in ladders:
-            each.upright(1)
+            each.begin()
         self.of_windows(ladders)
         sets = PairSets(self.solver, every, self.most_cost)
         sets.first(self.effort.seconds / 10)
@@ -94,8 +94,12 @@ class Search:
         return self.best is not None and self.best.exchangers <= self.effort.bound
 
     def offer(self, network: Network) -> None:
-        """Takes a network where it is accepted, costs no more than it may, and is better than the best one."""
-        verdict = self.pinch.audit(self.case, network)
+        """Takes a network where it is accepted, costs no more than it may, and is better than the best one. One whose
+        fractions have too many digits is refused, and not taken."""
+        try:
+            verdict = self.pinch.audit(self.case, network)
+        except Refused:
+            return
         if not isinstance(verdict, Accepted) or verdict.cost > self.most_cost:
             return
         found = Found(network, verdict)
@@ -131,10 +135,7 @@ class Search:
             return None
         asked = Asked(tuple(each.window for each in ladders), tuple(each.asked.stages[0] for each in answers))
         used = frozenset(replace(slot, window=at) for at, each in enumerate(answers) for slot in each.used)
-        held = point_of(replace(asked, slots=used))
-        if held is None:
-            return None
-        answer = Answer(*held)
+        answer = answer_with(replace(asked, slots=used))
         self.take(answer)
         return answer
 

@@ -10,7 +10,7 @@ from collections.abc import Iterator, Mapping, Sequence
 from dataclasses import replace
 from fractions import Fraction
 
-from .linear import Program, exact, solve
+from .linear import Program, solve
 from .model import ONE, Model
 from .pairs import Pair
 from .slots import Asked, End, Slot, may_meet
@@ -122,11 +122,3 @@ def all_used(model: Model, aim: tuple[tuple[int, Fraction], ...]) -> Program:
     for at in model.uses.values():
         lows[at] = ONE
     return replace(program, lows=tuple(lows), wholes=frozenset(), aim=aim)
-
-
-def point_of(asked: Asked) -> tuple[Model, tuple[Fraction, ...]] | None:
-    """The model of what is asked for, and an exact point of it in which each slot has its exchanger."""
-    model = model_of(asked)
-    used = set(model.uses.values())
-    point = exact(replace(model.program(), aim=()), [1.0 if at in used else 0.0 for at in range(len(model.lows))])
-    return None if point is None else (model, point)
