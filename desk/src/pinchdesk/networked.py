@@ -40,7 +40,7 @@ def network(options: Namespace) -> Answer:
     content = read_bytes(options.case)
     start = None if options.start is None else read_bytes(options.start)
     with about(case=options.case, network=options.start or 'network'):
-        found = find_network(content, most, above, float(seconds), start, tell)
+        found = find_network(content, most, above, seconds, start, tell)
     return Answer(found.text)
 
 

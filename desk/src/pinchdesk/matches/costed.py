@@ -9,7 +9,6 @@ from fractions import Fraction
 from ..case import Case
 from .balances import Model
 from .linear import OutOfTime, Program, exact, solve
-from .silent import silent
 from .structure import Structure, reduced
 from .texts import Duties
 
@@ -30,8 +29,7 @@ def cheapest(case: Case, structure: Structure) -> Costed | None:
     """The least cost of a structure, without the exchangers that it leaves without a duty; None where it cannot do
     what the case wants."""
     model = Model(case, structure)
-    with silent():
-        point = exact(model.cheapest(), ())
+    point = exact(model.cheapest(), ())
     if point is None:
         return None
     duties = {name: point[at] * model.unit for name, at in model.at.items() if point[at]}
@@ -41,8 +39,7 @@ def cheapest(case: Case, structure: Structure) -> Costed | None:
 
 def least_cost(case: Case, structure: Structure) -> float:
     """The least cost of a structure in floats, for a comparison of many; infinite where there is none."""
-    with silent():
-        found = solve(Model(case, structure).cheapest())
+    found = solve(Model(case, structure).cheapest())
     return found.aim if found else math.inf
 
 
@@ -66,8 +63,7 @@ def cheapest_of(case: Case, structure: Structure, most: int, seconds: float, bel
 def settled(case: Case, structure: Structure, program: Program, seconds: float) -> Costed | None:
     """What a program with a choice of exchangers chooses, and then its least cost."""
     try:
-        with silent():
-            found = solve(program, max(seconds, 0.05))
+        found = solve(program, max(seconds, 0.05))
     except OutOfTime:
         return None
     if found is None:

@@ -54,13 +54,13 @@ class FewExchangers:
 
 
 def find_network(case: CaseText, most_cost: Fraction | int | None = None, above: Fraction | int | None = None,
-                 seconds: float = SECONDS, start: NetworkText | None = None,
+                 seconds: Fraction | float = SECONDS, start: NetworkText | None = None,
                  tell: Callable[[str], None] = nobody, pinch: Pinch | None = None) -> FewExchangers:
     """A network with as few exchangers as were found in the time, at the least cost; or at most at this cost (price
     times W), or so many percent above the least. `start` is a network to be bettered. `NoNetwork` where there is none.
     An interruption from the keyboard ends the search, and the best so far is given."""
     pinch = pinch or Pinch()
-    effort = Effort(seconds, tell)
+    effort = Effort(float(seconds), tell)
     flow = pinch.flow(case)
     if isinstance(flow, Cut):
         raise NoNetwork('there is no heat flow, so there is no network (`pinchdesk flow` says why)')

@@ -16,6 +16,7 @@ from scipy.optimize import Bounds, LinearConstraint, linprog, milp
 from scipy.sparse import csr_matrix, vstack
 
 from .elimination import Elimination, Inconsistent
+from .silent import silent
 
 TIGHT = 1e-6
 # What a free variable takes is the simplest fraction up to this denominator, so that texts stay short.
@@ -76,8 +77,9 @@ def solve(program: Program, seconds: float | None = None, gap: float = 1e-6) -> 
         return Solved((), 0.0, 0.0, True) if allows(program, ()) else None
     integrality = numpy.array([1 if at in program.wholes else 0 for at in range(len(program.lows))])
     options: dict[str, float] = {'mip_rel_gap': gap} | ({} if seconds is None else {'time_limit': seconds})
-    found = milp(aim_of(program), integrality=integrality, bounds=Bounds(*bounds_of(program)),
-                 constraints=constraints_of(program), options=options)
+    with silent():
+        found = milp(aim_of(program), integrality=integrality, bounds=Bounds(*bounds_of(program)),
+                     constraints=constraints_of(program), options=options)
     if found.x is not None:
         values = tuple(float(each) for each in found.x)
         bound = found.mip_dual_bound
@@ -160,9 +162,10 @@ def vertex_of(program: Program) -> list[float] | None:
     upper, lower = numpy.isfinite(high) & ~equal, numpy.isfinite(low) & ~equal
     bounds = numpy.column_stack(bounds_of(program))
     above = vstack([matrix[upper], -matrix[lower]], format='csr')
-    found = linprog(aim_of(program), A_ub=above, b_ub=numpy.concatenate([high[upper], -low[lower]]),
-                    A_eq=matrix[equal], b_eq=low[equal], bounds=bounds, method='highs-ds',
-                    options={'primal_feasibility_tolerance': 1e-9})
+    with silent():
+        found = linprog(aim_of(program), A_ub=above, b_ub=numpy.concatenate([high[upper], -low[lower]]),
+                        A_eq=matrix[equal], b_eq=low[equal], bounds=bounds, method='highs-ds',
+                        options={'primal_feasibility_tolerance': 1e-9})
     return [float(each) for each in found.x] if found.status == 0 else None
 
 
