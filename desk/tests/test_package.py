@@ -69,9 +69,9 @@ def test_a_sign_of_life_is_for_terminals_alone(capsys: pytest.CaptureFixture[str
 
 
 def test_the_program_is_started_in_one_place_and_no_shell_is() -> None:
-    """The browser that makes a PDF is the only other program."""
+    """The browser that makes a PDF is the only other program; the solver has a process of this Python."""
     sources = {each.name: each.read_text() for each in (DESK / 'src').rglob('*.py')}
-    assert {name for name, text in sources.items() if 'subprocess' in text} == {'program.py', 'browser.py'}
+    assert {name for name, text in sources.items() if 'subprocess' in text} == {'program.py', 'browser.py', 'apart.py'}
     assert not [name for name, text in sources.items() if re.search(r'shell=|os\.(system|popen|exec|spawn)', text)]
 
 
