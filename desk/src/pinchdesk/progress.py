@@ -40,5 +40,5 @@ def show(what: str, ended: threading.Event) -> None:
         return
     while not ended.wait(0.5):
         far = f', {FAR[0]}' if FAR[0] else ''
-        print(f'\r\033[K{what}: {time.monotonic() - begun:.0f} s{far} ', end='', file=sys.stderr, flush=True)
+        print(f'\r{what}: {time.monotonic() - begun:.0f} s{far} \033[K', end='', file=sys.stderr, flush=True)
     print('\r\033[K', end='', file=sys.stderr, flush=True)
