@@ -30,6 +30,8 @@ from .written import written
 
 # With so many places for exchangers a model is looked at part by part.
 LARGE = 120
+# What of the time is kept for a search around the best network, where the models take all of it.
+LAST = 0.3
 
 
 @dataclass(frozen=True)
@@ -67,12 +69,21 @@ class Search:
         """Searches until the best is known to be so, or the time is over."""
         for each in first:
             self.offer(each)
+        seconds = self.effort.seconds
+        self.effort.seconds *= 1 - LAST
         try:
             self.search(uses)
         except TimeOver:
-            pass
+            self.effort.seconds = seconds
+            self.better()
         finally:
+            self.effort.seconds = seconds
             self.solver.apart.end()
+
+    def better(self) -> None:
+        """What of the time is left: other pairs, places and splits around the best network."""
+        if self.best is not None and not self.enough() and self.effort.left > 0:
+            self.offer(simpler(self.case, self.best.network, self.pinch, self.effort.left, self.most_cost))
 
     def search(self, uses: Mapping[str, int]) -> None:
         every = whole(self.case, None)
