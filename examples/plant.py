@@ -3,7 +3,6 @@
 
 # %% The desk: as it is installed, or as it stands in this checkout.
 import sys
-from decimal import Decimal
 from pathlib import Path
 
 HERE = Path(__file__).resolve().parent if '__file__' in globals() else Path.cwd() / 'examples'
@@ -51,13 +50,14 @@ sweep = pinch.sweep(text, 0, 100, 10)
 show(*pinchdesk.sweep_sheets(case, sweep))
 (FOLDER / 'sweep.svg').write_bytes(rendered(sweep_figure(case, sweep), 'svg'))
 
-# %% A network. `design` makes one that reaches the target with certainty, and with more exchangers than one would buy.
+# %% Networks. `design` makes one that reaches the target with certainty, and with more exchangers than one would buy;
+# `find_network` searches for one with few.
 found = pinch.design(text)
 assert isinstance(found, pinchdesk.Design)
-designed = found.text
 by_hand = (HERE / 'four-stream-network.txt').read_text()
-networks = {'designed': designed, 'by hand': by_hand}
-(FOLDER / 'designed.txt').write_text(designed)
+networks = {'designed': found.text, 'found': pinchdesk.find_network(text, seconds=10).text, 'by hand': by_hand}
+for name in ('designed', 'found'):
+    (FOLDER / f'{name}.txt').write_text(networks[name])
 
 # %% Whoever made it: the audit says whether it holds, what it costs, and how far it is above the floor.
 for name, network in networks.items():
@@ -73,15 +73,12 @@ show(pinchdesk.exchangers_sheet(followed, pinches, verdict), pinchdesk.streams_s
      pinchdesk.sums_sheet(followed))
 (FOLDER / 'grid.svg').write_bytes(rendered(grid_figure(followed, pinches, verdict), 'svg'))
 
-# %% Exchangers against cost: each network of the trade-off with what the audit said of it.
-rows = []
-for name, network in networks.items():
-    verdict = pinch.audit(text, network)
-    count = Decimal(len(pinchdesk.read_network(network).exchangers))
-    shown = pinchdesk.Shown(case.basis)
-    rows.append((name, count, Decimal(shown.cost(verdict.cost)), Decimal(shown.cost(verdict.cost - verdict.floor))))
-show(pinchdesk.Sheet('Exchangers against cost', ('network', 'exchangers', f'cost {shown.cost_unit}', 'above the floor'),
-                     tuple(rows)))
+# %% Exchangers against cost: what each exchanger less costs, and the paths that pay for it.
+from pinchdesk.pictures import tradeoff_figure  # noqa: E402
+
+traded = pinchdesk.tradeoff(text, networks['found'], seconds=3)
+show(*pinchdesk.tradeoff_sheets(traded))
+(FOLDER / 'tradeoff.svg').write_bytes(rendered(tradeoff_figure(traded), 'svg'))
 
 # %% What if a stream were otherwise? Cases by their names, all at once, by the processors here (or by a cluster:
 # `scheduler='tcp://host:8786'`).

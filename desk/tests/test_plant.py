@@ -22,10 +22,11 @@ def test_the_plant_runs_whole_and_writes_into_its_folder_alone(tmp_path: Path) -
     before = sorted(os.listdir(EXAMPLES))
     done = run(str(folder), cwd=elsewhere)
     assert (done.status, done.err) == (0, '')
-    for line in ('hot utility   20  kW', 'by hand: 6 exchangers', '10 K hotter  good                 0',
-                 '> 5 K hotter   rejected'):
+    for line in ('hot utility   20  kW', 'by hand: 6 exchangers', 'Exchangers against cost',
+                 '10 K hotter  good                 0', '> 5 K hotter   rejected'):
         assert line in done.out
-    files = ['case.csv', 'curves.svg', 'designed.txt', 'grid.svg', 'page.html', 'sweep.svg']
+    files = ['case.csv', 'curves.svg', 'designed.txt', 'found.txt', 'grid.svg', 'page.html', 'sweep.svg',
+             'tradeoff.svg']
     assert sorted(os.listdir(folder)) == files and all((folder / each).stat().st_size for each in files)
     assert (os.listdir(elsewhere), sorted(os.listdir(EXAMPLES))) == ([], before)
 
