@@ -124,7 +124,7 @@ class Search:
             return
         network = written(self.case, joined(self.case, plan_of(self.case, answer.model, answer.point)))
         self.offer(network)
-        less = simpler(self.case, network)
+        less = simpler(self.case, network, self.pinch, most_cost=self.most_cost)
         if less != network:
             self.offer(less)
 
