@@ -53,24 +53,29 @@ record Fits (given : Given) : Type 0 where
 -- ---- one entry more
 
 -- a source keeps its index and side
-side_front : {X : Type 0} (side_of_item : X → Side) (xs ys : List X) (i : ℕ) (of : Side) → option_map side_of_item (slice_get xs i) ≡ Some of
+side_front : {X : Type 0} (side_of_item : X → Side) (xs ys : List X) (i : ℕ) (of : Side)
+    → option_map side_of_item (slice_get xs i) ≡ Some of
     → option_map side_of_item (slice_get (xs ++ ys) i) ≡ Some of
 side_front side_of_item [] ys i of on = cc on
 side_front side_of_item (x ∷ xs) ys zero of on = on
 side_front side_of_item (x ∷ xs) ys (suc i) of on = side_front side_of_item xs ys i of on
 
-side_stays : (given : Given) (e : Entry) (s : Source) (of : Side) → side_in given s ≡ Some of → side_in (with_entry given e) s ≡ Some of
+side_stays : (given : Given) (e : Entry) (s : Source) (of : Side) → side_in given s ≡ Some of
+    → side_in (with_entry given e) s ≡ Some of
 side_stays given entry.Nothing s of on = on
 side_stays given (entry.Contribution n) (source.Stream i) of on = on
 side_stays given (entry.Contribution n) (source.Utility i) of on = on
-side_stays given (entry.Stream name stream) (source.Stream i) of on = side_front (λ (e : List ℕ × StreamData). e.1.side) given.streams _ i of on
+side_stays given (entry.Stream name stream) (source.Stream i) of on =
+    side_front (λ (e : List ℕ × StreamData). e.1.side) given.streams _ i of on
 side_stays given (entry.Stream name stream) (source.Utility i) of on = on
 side_stays given (entry.Utility name utility) (source.Stream i) of on = on
-side_stays given (entry.Utility name utility) (source.Utility i) of on = side_front (λ (e : List ℕ × UtilityData). e.1.side) given.utilities _ i of on
+side_stays given (entry.Utility name utility) (source.Utility i) of on =
+    side_front (λ (e : List ℕ × UtilityData). e.1.side) given.utilities _ i of on
 side_stays given (entry.Forbid forbid) (source.Stream i) of on = on
 side_stays given (entry.Forbid forbid) (source.Utility i) of on = on
 
-forbids_stay : (given : Given) (e : Entry) → ForbidsFit given given.forbids → ForbidsFit (with_entry given e) given.forbids
+forbids_stay : (given : Given) (e : Entry) → ForbidsFit given given.forbids
+    → ForbidsFit (with_entry given e) given.forbids
 forbids_stay given e fits = record {
   each = All-weaker (ForbidFits given) (ForbidFits (with_entry given e))
       (λ f fit. record { hot = side_stays given e f.hot side.Hot fit.hot; cold = side_stays given e f.cold side.Cold fit.cold }) given.forbids fits.each;
@@ -84,24 +89,29 @@ unfolding contribution_checks
 contribution_kept given row fits (_, (_, (_, (range, _)))) =
     record { contribution = passed-within _ _ _ range; sources = fits.sources; forbids = forbids_stay given (entry.Contribution (number row 2)) fits.forbids }
 
-own_range : (row : Row) (contribution : ℤ) → is_own_contribution (optional_number row 6) ≡ true → IsContribution contribution
+own_range : (row : Row) (contribution : ℤ) → is_own_contribution (optional_number row 6) ≡ true
+    → IsContribution contribution
     → IsContribution (unwrap_or (optional_number row 6) contribution)
-own_range row contribution own range = range_of (optional_number row 6) contribution ((Decides-is_own_contribution (optional_number row 6)).0 own) range
+own_range row contribution own range =
+    range_of (optional_number row 6) contribution ((Decides-is_own_contribution (optional_number row 6)).0 own) range
 
 -- a stream that gives this load, where its numbers pass the checks
-heat_of : (s : List ℕ × StreamData) (contribution : ℤ) → is_flow_rate_beside s.1.load s.1.cp ≡ true → is_own_load s.1.load ≡ true → Passes (heat_checks s.1)
+heat_of : (s : List ℕ × StreamData) (contribution : ℤ) → is_flow_rate_beside s.1.load s.1.cp ≡ true
+    → is_own_load s.1.load ≡ true → Passes (heat_checks s.1)
     → IsSensible (stream_of contribution s) ⊎ IsLatent (stream_of contribution s)
 unfolding is_own_load heat_checks
 heat_of s contribution = by s.1.load refl
   where
     by : (load : Option ℤ) → s.1.load ≡ load → is_flow_rate_beside load s.1.cp ≡ true → is_own_load load ≡ true
-        → Passes (if is_some load then latent_checks s.1 else sensible_checks s.1) → IsSensible (stream_of contribution s) ⊎ IsLatent (stream_of contribution s)
+        → Passes (if is_some load then latent_checks s.1 else sensible_checks s.1)
+        → IsSensible (stream_of contribution s) ⊎ IsLatent (stream_of contribution s)
     by None is cp range (differs, (way, _)) = inl (passed-sensible (stream_of contribution s) cp (rw is refl) way)
     by (Some load) is cp range (latent, _) =
         let (level, none) = (Decides-and _ _ (Decides-int_eq s.1.supply s.1.target) (Decides-int_eq s.1.cp (pos 0))).0 latent in
         inr (passed-latent (stream_of contribution s) level none (rw is range))
 
-stream_fits : (of : Side) (row : Row) → is_name (field row 1) ≡ true → not (is_reserved (field row 1)) ≡ true → Passes (stream_number_checks of row)
+stream_fits : (of : Side) (row : Row) → is_name (field row 1) ≡ true → not (is_reserved (field row 1)) ≡ true
+    → Passes (stream_number_checks of row)
     → StreamFits (field row 1, stream_data of row)
 unfolding stream_number_checks
 stream_fits of row name unreserved (_, (_, (_, (_, (_, (supply, (target, (cp, (load, (own, heat)))))))))) = record {
@@ -123,8 +133,11 @@ stream_kept : (given : Given) (row : Row) (of : Side) → Fits given → Passes 
     → Fits (with_entry given (entry.Stream (field row 1) (stream_data of row)))
 unfolding stream_checks
 stream_kept given row of fits (few, (name, (unreserved, (free, numbers)))) =
-    let s : List ℕ × StreamData = (field row 1, stream_data of row) in let streams = keys_of given.streams in
-    let utilities = keys_of given.utilities in let new = new_name given s.0 free in let before = All-front (λ (o : List ℕ). o ≢ s.0) streams utilities new in
+    let s : List ℕ × StreamData = (field row 1, stream_data of row) in
+    let streams = keys_of given.streams in
+    let utilities = keys_of given.utilities in
+    let new = new_name given s.0 free in
+    let before = All-front (λ (o : List ℕ). o ≢ s.0) streams utilities new in
     let behind = All-weaker (λ (o : List ℕ). o ≢ s.0) (λ (o : List ℕ). s.0 ≢ o) (λ o differs same. differs (sym same)) utilities
     (All-back (λ (o : List ℕ). o ≢ s.0) streams utilities new) in
     let place =
@@ -135,25 +148,29 @@ stream_kept given row of fits (few, (name, (unreserved, (free, numbers)))) =
         streams = All-push StreamFits given.streams s fits.sources.streams (stream_fits of row name unreserved numbers);
         utilities = fits.sources.utilities;
         few = few_with_stream given.streams given.utilities s fits.sources.few place;
-        names = rw (keys_push given.streams s) (AllPairs-insert (λ (a b : List ℕ). a ≢ b) streams utilities s.0 fits.sources.names before behind);
+        names =
+            rw (keys_push given.streams s) (AllPairs-insert (λ (a b : List ℕ). a ≢ b) streams utilities s.0 fits.sources.names before behind);
       };
       forbids = forbids_stay given (entry.Stream s.0 s.1) fits.forbids;
     }
 
-utility_fits : (of : Side) (row : Row) → is_name (field row 1) ≡ true → not (is_reserved_from of (field row 1)) ≡ true → Passes (utility_number_checks row)
+utility_fits : (of : Side) (row : Row) → is_name (field row 1) ≡ true
+    → not (is_reserved_from of (field row 1)) ≡ true → Passes (utility_number_checks row)
     → UtilityFits (field row 1, utility_data of row)
 unfolding utility_number_checks
-utility_fits of row name unreserved (_, (_, (_, (_, (_, (level, (least, (most, (price, (own, (order, _))))))))))) = record {
-  valid = λ contribution range. record {
-    name = passed-name (field row 1) name;
-    level = passed-within _ _ _ level;
-    least = passed-within _ _ _ least;
-    most = record { from = (Decides-int_le (number row 3) (number row 4)).0 order; upto = (passed-within _ _ _ most).upto };
-    price = passed-within _ _ _ price;
-    contribution = own_range row contribution own range;
-  };
-  name = (Decides-is_reserved_from of (field row 1)).0 unreserved;
-}
+utility_fits of row name unreserved (_, (_, (_, (_, (_, (level, (least, (most, (price, (own, (order, _))))))))))) =
+    record {
+      valid = λ contribution range. record {
+        name = passed-name (field row 1) name;
+        level = passed-within _ _ _ level;
+        least = passed-within _ _ _ least;
+        most =
+            record { from = (Decides-int_le (number row 3) (number row 4)).0 order; upto = (passed-within _ _ _ most).upto };
+        price = passed-within _ _ _ price;
+        contribution = own_range row contribution own range;
+      };
+      name = (Decides-is_reserved_from of (field row 1)).0 unreserved;
+    }
 
 utility_kept : (given : Given) (row : Row) (of : Side) → Fits given → Passes (utility_checks of given row)
     → Fits (with_entry given (entry.Utility (field row 1) (utility_data of row)))
@@ -165,10 +182,12 @@ utility_kept given row of fits (few, (name, (unreserved, (free, numbers)))) =
       contribution = fits.contribution;
       sources = record {
         streams = fits.sources.streams;
-        utilities = All-push UtilityFits given.utilities u fits.sources.utilities (utility_fits of row name unreserved numbers);
+        utilities =
+            All-push UtilityFits given.utilities u fits.sources.utilities (utility_fits of row name unreserved numbers);
         few = record {
           streams_on = fits.sources.few.streams_on;
-          few_utilities = omega (arith, passed-room (length given.utilities) MOST_UTILITIES few, length-append given.utilities (u ∷ []));
+          few_utilities =
+              omega (arith, passed-room (length given.utilities) MOST_UTILITIES few, length-append given.utilities (u ∷ []));
         };
         names = rw (keys_push given.utilities u, ← append_assoc) names;
       };
@@ -179,10 +198,14 @@ forbid_kept : (given : Given) (row : Row) → Fits given → Passes (forbid_chec
     → Fits (with_entry given (entry.Forbid (record { hot = source_at given (field row 1); cold = source_at given (field row 2) })))
 unfolding forbid_checks
 forbid_kept given row fits (_, (few, (_, (_, (hot, (cold, (new, _))))))) =
-    let h = source_at given (field row 1) in let c = source_at given (field row 2) in let f : Forbid = record { hot = h; cold = c } in
+    let h = source_at given (field row 1) in
+    let c = source_at given (field row 2) in
+    let f : Forbid = record { hot = h; cold = c } in
     let fit : ForbidFits (with_entry given (entry.Forbid f)) f = record {
-      hot = side_stays given (entry.Forbid f) h side.Hot (sym (side_of-case given h) ∙ source_on side.Hot given (field row 1) hot);
-      cold = side_stays given (entry.Forbid f) c side.Cold (sym (side_of-case given c) ∙ source_on side.Cold given (field row 2) cold);
+      hot =
+          side_stays given (entry.Forbid f) h side.Hot (sym (side_of-case given h) ∙ source_on side.Hot given (field row 1) hot);
+      cold =
+          side_stays given (entry.Forbid f) c side.Cold (sym (side_of-case given c) ∙ source_on side.Cold given (field row 2) cold);
     } in
     let forbids = forbids_stay given (entry.Forbid f) fits.forbids in
     record {
@@ -191,13 +214,15 @@ forbid_kept given row fits (_, (few, (_, (_, (hot, (cold, (new, _))))))) =
       forbids = record {
         each = All-push (ForbidFits (with_entry given (entry.Forbid f))) given.forbids f forbids.each fit;
         few = omega (arith, passed-room (length given.forbids) MOST_FORBIDS few, length-append given.forbids (f ∷ []));
-        distinct = all_pairs_push (λ (f g : Forbid). f ≢ g) given.forbids f forbids.distinct ((Decides-is_forbidden given.forbids h c).0 new);
+        distinct =
+            all_pairs_push (λ (f g : Forbid). f ≢ g) given.forbids f forbids.distinct ((Decides-is_forbidden given.forbids h c).0 new);
       };
     }
 
 -- ---- one row more
 
-row_kept : (given : Given) (row : Row) (k : Option Kind) → Fits given → Passes (kind_checks k given row) → Fits (with_entry given (entry_by k given row))
+row_kept : (given : Given) (row : Row) (k : Option Kind) → Fits given → Passes (kind_checks k given row)
+    → Fits (with_entry given (entry_by k given row))
 unfolding kind_checks
 row_kept given row None fits passes = fits
 row_kept given row (Some kind.PassedOver) fits passes = fits
@@ -219,14 +244,16 @@ nothing_fits = record {
     few = record { streams_on = λ of. omega arith; few_utilities = omega arith };
     names = λ i j d before inside. absurd (omega (arith, inside));
   };
-  forbids = record { each = All-nil (ForbidFits nothing); few = omega arith; distinct = λ i j d before inside. absurd (omega (arith, inside)) };
+  forbids =
+      record { each = All-nil (ForbidFits nothing); few = omega arith; distinct = λ i j d before inside. absurd (omega (arith, inside)) };
 }
 
 -- ---- the case
 
 case_valid : (given : Given) → Fits given → 0 < length given.streams → IsValid (case_of given)
 case_valid given fits some =
-    let contribution = unwrap_or given.contribution (pos 0) in let sources = fits.sources in
+    let contribution = unwrap_or given.contribution (pos 0) in
+    let sources = fits.sources in
     let range = range_of given.contribution (pos 0) fits.contribution no_contribution in
     record {
       contribution = range;
@@ -261,6 +288,7 @@ pub case-is_valid : (rows : List Row) (case : Case) → IsCase rows case → IsV
 case-is_valid rows case is = let given = given_by grammar rows in
     rw is.value_is (case_valid given (given_has grammar Fits nothing_fits each_row_keeps rows is.sound) (some_stream (length rows) given is.complete))
 
-pub outcome_is_valid : (rows : List Row) (result : Result Case (RowFault CaseWhy)) → IsOutcome rows result → IfOk result IsValid
+pub outcome_is_valid : (rows : List Row) (result : Result Case (RowFault CaseWhy)) → IsOutcome rows result
+    → IfOk result IsValid
 outcome_is_valid rows (Ok case) is = case-is_valid rows case is
 outcome_is_valid rows (Err fault) is = tt

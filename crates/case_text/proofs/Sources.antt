@@ -28,7 +28,8 @@ names_of-case given = let contribution = unwrap_or given.contribution (pos 0) in
     λ i. stream_names contribution given.streams i ++ utility_names contribution given.utilities i
 
 pub source_named-case : (given : Given) (name : List ℕ)
-    → source_named (case_of given) name ≡ first_source (position (bytes_eq name) (keys_of given.streams)) (position (bytes_eq name) (keys_of given.utilities))
+    → source_named (case_of given) name
+    ≡ first_source (position (bytes_eq name) (keys_of given.streams)) (position (bytes_eq name) (keys_of given.utilities))
 unfolding source_named
 source_named-case given name =
     let contribution = unwrap_or given.contribution (pos 0) in
@@ -39,17 +40,22 @@ source_named-case given name =
     λ i. first_source (streams i) (utilities i)
 
 pub is_taken-case : (given : Given) (name : List ℕ)
-    → is_taken (case_of given) name ≡ (is_some (lookup (bytes_eq name) given.streams) || is_some (lookup (bytes_eq name) given.utilities))
+    → is_taken (case_of given) name
+    ≡ (is_some (lookup (bytes_eq name) given.streams) || is_some (lookup (bytes_eq name) given.utilities))
 unfolding is_taken
 is_taken-case given name =
-    let streams = sym (is_some-lookup (bytes_eq name) given.streams) in let utilities = sym (is_some-lookup (bytes_eq name) given.utilities) in
-    ap (list_any (bytes_eq name)) (names_of-case given) ∙ list_any-append (bytes_eq name) (keys_of given.streams) (keys_of given.utilities)
+    let streams = sym (is_some-lookup (bytes_eq name) given.streams) in
+    let utilities = sym (is_some-lookup (bytes_eq name) given.utilities) in
+    ap (list_any (bytes_eq name)) (names_of-case given)
+    ∙ list_any-append (bytes_eq name) (keys_of given.streams) (keys_of given.utilities)
     ∙ (λ i. streams i || utilities i)
 
 -- a name that is not taken is that of no stream and of no utility
 pub free_name : (given : Given) (name : List ℕ) → is_taken (case_of given) name ≡ false
     → (lookup (bytes_eq name) given.streams ≡ None) × (lookup (bytes_eq name) given.utilities ≡ None)
-free_name given name free = let each = or_parts _ _ (sym (is_taken-case given name) ∙ free) in (none_there _ each.0, none_there _ each.1)
+free_name given name free =
+    let each = or_parts _ _ (sym (is_taken-case given name) ∙ free) in
+    (none_there _ each.0, none_there _ each.1)
 
 -- ---- sides
 
@@ -59,17 +65,24 @@ side_in given (source.Stream i) = option_map (λ s. s.1.side) (slice_get given.s
 side_in given (source.Utility i) = option_map (λ u. u.1.side) (slice_get given.utilities i)
 
 pub side_of-case : (given : Given) (s : Source) → side_of (case_of given) s ≡ side_in given s
-side_of-case given (source.Stream i) = let make = stream_of (unwrap_or given.contribution (pos 0)) in ap (option_map (λ (s : Stream). s.side))
-    (slice_get-map make given.streams i) ∙ option_map-option_map (λ (s : Stream). s.side) make (slice_get given.streams i)
-side_of-case given (source.Utility i) = let make = utility_of (unwrap_or given.contribution (pos 0)) in ap (option_map (λ (u : Utility). u.side))
-    (slice_get-map make given.utilities i) ∙ option_map-option_map (λ (u : Utility). u.side) make (slice_get given.utilities i)
+side_of-case given (source.Stream i) =
+    let make = stream_of (unwrap_or given.contribution (pos 0)) in
+    ap (option_map (λ (s : Stream). s.side))
+    (slice_get-map make given.streams i)
+    ∙ option_map-option_map (λ (s : Stream). s.side) make (slice_get given.streams i)
+side_of-case given (source.Utility i) =
+    let make = utility_of (unwrap_or given.contribution (pos 0)) in
+    ap (option_map (λ (u : Utility). u.side))
+    (slice_get-map make given.utilities i)
+    ∙ option_map-option_map (λ (u : Utility). u.side) make (slice_get given.utilities i)
 
 -- ---- how many streams a side has
 
 abbrev pub count_of : Side → Streams → ℕ
 count_of of ss = count_by (λ s. same_side s.1.side of) ss
 
-pub count_on-case : (of : Side) (contribution : ℤ) (ss : Streams) → count_on of (map (stream_of contribution) ss) ≡ count_of of ss
+pub count_on-case : (of : Side) (contribution : ℤ) (ss : Streams)
+    → count_on of (map (stream_of contribution) ss) ≡ count_of of ss
 count_on-case of contribution ss = count_by-map (λ (s : Stream). same_side s.side of) (stream_of contribution) ss
 
 pub few_streams : (ss : Streams) (us : Utilities) → HasFewSources ss us → length ss ≤ ALL_STREAMS
@@ -85,7 +98,8 @@ few_streams ss us few =
       few.streams_on side.Cold,
     )
 
-pub few_with_stream : (ss : Streams) (us : Utilities) (s : List ℕ × StreamData) → HasFewSources ss us → count_of s.1.side ss < MOST_STREAMS
+pub few_with_stream : (ss : Streams) (us : Utilities) (s : List ℕ × StreamData) → HasFewSources ss us
+    → count_of s.1.side ss < MOST_STREAMS
     → HasFewSources (ss ++ s ∷ []) us
 few_with_stream ss us s few room = record {
   streams_on = λ of. rw (sum_by_push (λ (t : List ℕ × StreamData). cond (same_side t.1.side of) 1 0) ss s)

@@ -8,9 +8,11 @@ use Rattle.stream_case.specs.declared.source.Side.TheVariants as side
 -- ---- names
 
 -- a name that no source has
-pub Decides-is_taken : (c : Case) (name : List ℕ) → Decides (not (is_taken c name)) (All (λ other. other ≢ name) (names_of c))
+pub Decides-is_taken : (c : Case) (name : List ℕ)
+    → Decides (not (is_taken c name)) (All (λ other. other ≢ name) (names_of c))
 unfolding is_taken
-Decides-is_taken c name = Decides-none (bytes_eq name) (λ other. other ≡ name) (λ other. Decides-like _ sym sym (bytes_decides name other)) (names_of c)
+Decides-is_taken c name =
+    Decides-none (bytes_eq name) (λ other. other ≡ name) (λ other. Decides-like _ sym sym (bytes_decides name other)) (names_of c)
 
 pub Decides-is_reserved : (name : List ℕ) → Decides (not (is_reserved name)) (IsUnreserved name)
 unfolding is_reserved
@@ -20,7 +22,8 @@ Decides-is_reserved name = Decides-neither name (codes "HOT") (codes "COLD")
 abbrev pub IsRightNameOf : Side → List ℕ → Type 0
 IsRightNameOf of name = (name ≡ codes "HOT" → of ≡ side.Hot) × (name ≡ codes "COLD" → of ≡ side.Cold)
 
-pub Decides-is_reserved_from : (of : Side) (name : List ℕ) → Decides (not (is_reserved_from of name)) (IsRightNameOf of name)
+pub Decides-is_reserved_from : (of : Side) (name : List ℕ)
+    → Decides (not (is_reserved_from of name)) (IsRightNameOf of name)
 unfolding is_reserved_from
 Decides-is_reserved_from side.Hot name =
     Decides-like _ (λ other. (λ e. refl, λ e. absurd (other e))) (λ (hot, cold) e. cc (cold e)) (Decides-not _ (bytes_decides name (codes "COLD")))
@@ -39,18 +42,22 @@ source_on of given name is = by (source_named (case_of given) name) refl
     on_side None e = cc e
     on_side (Some other) e = ap Some (sym (same_side-true of other e))
 
-    by : (o : Option Source) → source_named (case_of given) name ≡ o → side_of (case_of given) (source_at given name) ≡ Some of
+    by : (o : Option Source) → source_named (case_of given) name ≡ o
+        → side_of (case_of given) (source_at given name) ≡ Some of
     by None named = cc (rw named at is)
     by (Some s) named = rw named (on_side (side_of (case_of given) s) (rw named at is))
 
-pub is_source-named : (of : Side) (c : Case) (name : List ℕ) (s : Source) → source_named c name ≡ Some s → side_of c s ≡ Some of → is_source of c name ≡ true
+pub is_source-named : (of : Side) (c : Case) (name : List ℕ) (s : Source) → source_named c name ≡ Some s
+    → side_of c s ≡ Some of → is_source of c name ≡ true
 unfolding is_source
 is_source-named of c name s named on = rw (named, on) (own_side of)
 
 -- ---- forbidden matches
 
-same_forbid : (f : Forbid) (hot cold : Source) → Decides (same_source f.hot hot && same_source f.cold cold) (f ≡ record { hot = hot; cold = cold })
-same_forbid f hot cold = Decides-like _ (λ (h, c). λ i. record { hot = h i; cold = c i }) (λ e. (ap (λ g. g.hot) e, ap (λ g. g.cold) e))
+same_forbid : (f : Forbid) (hot cold : Source)
+    → Decides (same_source f.hot hot && same_source f.cold cold) (f ≡ record { hot = hot; cold = cold })
+same_forbid f hot cold =
+    Decides-like _ (λ (h, c). λ i. record { hot = h i; cold = c i }) (λ e. (ap (λ g. g.hot) e, ap (λ g. g.cold) e))
     (Decides-and _ _ (Decides-same_source f.hot hot) (Decides-same_source f.cold cold))
   where
     Decides-same_source : (a b : Source) → Decides (same_source a b) (a ≡ b)

@@ -8,7 +8,8 @@ use Rattle.certify.specs.declared.report.Report.TheVariants as report
 
 -- behind the two checks of names come those of the transfers
 pub flow_first : (c : Case) (hot cold : List Part) (cost : ℤ) (uses : List Used) (moves : List Moved) (gives takes : List Priced) (transfers : List Transfer)
-    (y z : List ℤ) (checked : Checked) → transfers ≡ transfers_of c hot cold moves → y ≡ prices_of gives → z ≡ prices_of takes
+    (y z : List ℤ) (checked : Checked) → transfers ≡ transfers_of c hot cold moves → y ≡ prices_of gives
+    → z ≡ prices_of takes
     → ArePricesOf c hot gives × ArePricesOf c cold takes → All (λ m. IsTrue (is_some (transfer_of c hot cold m))) moves
     → IsFirstOf transfer_causes (HoldsOfTransfers c hot cold cost uses transfers y z) checked
     → IsFirstOf flow_causes (HoldsOfFlow c hot cold cost uses moves gives takes) checked
@@ -26,7 +27,8 @@ flow_first c hot cold cost uses moves gives takes transfers y z checked is_said 
     by (No why) rest = inr (parts, inr (known, rest))
 
 -- the cost of a flow that passes is the least one, and with a cut there is no flow
-pub answer_proves : (c : Case) (hot cold : List Part) (r : Report) (checked : Checked) → AreCaseParts c hot cold → IsAnswerOver c hot cold r checked
+pub answer_proves : (c : Case) (hot cold : List Part) (r : Report) (checked : Checked)
+    → AreCaseParts c hot cold → IsAnswerOver c hot cold r checked
     → Proves c r checked
 answer_proves c hot cold (report.Flow cost uses moves gives takes) Yes parts (named, (known, (flow, (is_cost, (used, (support, (value, end))))))) =
     HoldsOfParts-some c (λ h k. IsLeastCost (reach_between c h k) h k cost) hot cold parts (record {
@@ -43,7 +45,8 @@ answer_proves c hot cold (report.Flow cost uses moves gives takes) (No why) part
 answer_proves c hot cold (report.Cut kind need offer parts) (No why) case_parts is = tt
 
 -- the answer over the parts of the case is the answer of the case
-pub answered : {E : Type 0} (c : Case) (hot cold : List Part) (r : Report) (result : Result Checked E) → AreCaseParts c hot cold
+pub answered : {E : Type 0} (c : Case) (hot cold : List Part) (r : Report) (result : Result Checked E)
+    → AreCaseParts c hot cold
     → IfOk result (IsAnswerOver c hot cold r) → IfOk result (IsAnswer c r) × IfOk result (Proves c r)
 answered c hot cold r (Ok checked) parts is =
     (HoldsOfParts-some c (λ h k. IsAnswerOver c h k r checked) hot cold parts is, answer_proves c hot cold r checked parts is)

@@ -20,7 +20,9 @@ passes_behind (check ∷ group) others h = passes_behind group others h.1
 
 -- the price of a statement that is not at fault
 price_within : (s : Statement) → Passes (priced_checks s) → IsPartPrice (number (field s 4))
-price_within s h = let both = and_parts _ _ (passes_behind (span_checks s 1) _ h).1.0 in record { from = int_le-true _ _ both.0; upto = int_le-true _ _ both.1 }
+price_within s h =
+    let both = and_parts _ _ (passes_behind (span_checks s 1) _ h).1.0 in
+    record { from = int_le-true _ _ both.0; upto = int_le-true _ _ both.1 }
 
 -- what a statement that is not at fault adds
 abbrev IsPriced : Entry → Type 0
@@ -34,12 +36,15 @@ entry_priced kind.Give s h = price_within s h
 entry_priced kind.Take s h = price_within s h
 entry_priced other s h = tt
 
-cut_longer : (side : CutKind) (need offer : ℤ) (parts : List Span) (e : Entry) → HasPartPrices (lengthened (report.Cut side need offer parts) e)
+cut_longer : (side : CutKind) (need offer : ℤ) (parts : List Span) (e : Entry)
+    → HasPartPrices (lengthened (report.Cut side need offer parts) e)
 cut_longer = grind arith
 
 longer : (r : Report) (e : Entry) → HasPartPrices r → IsPriced e → HasPartPrices (lengthened r e)
-longer (report.Flow cost uses moves gives takes) (entry.Give g) has priced = (All-push (λ x. IsPartPrice x.price) gives g has.0 priced, has.1)
-longer (report.Flow cost uses moves gives takes) (entry.Take t) has priced = (has.0, All-push (λ x. IsPartPrice x.price) takes t has.1 priced)
+longer (report.Flow cost uses moves gives takes) (entry.Give g) has priced =
+    (All-push (λ x. IsPartPrice x.price) gives g has.0 priced, has.1)
+longer (report.Flow cost uses moves gives takes) (entry.Take t) has priced =
+    (has.0, All-push (λ x. IsPartPrice x.price) takes t has.1 priced)
 longer (report.Flow cost uses moves gives takes) other has priced = has
 longer (report.Cut side need offer parts) e has priced = cut_longer side need offer parts e
 
@@ -68,4 +73,5 @@ priced draft.Infeasible r has is = rw is (All-nil _, All-nil _)
 priced (draft.Whole w) r has is = rw is has
 
 pub report_prices : (statements : List Statement) (r : Report) → IsReport statements r → HasPartPrices r
-report_prices statements r is = priced (given_by grammar statements) r (given_has grammar HasPrices tt kept statements is.sound) is.value_is
+report_prices statements r is =
+    priced (given_by grammar statements) r (given_has grammar HasPrices tt kept statements is.sound) is.value_is

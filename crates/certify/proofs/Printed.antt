@@ -15,9 +15,12 @@ use Rattle.heat_flow.specs.declared.cut.CutKind.TheVariants as cut
 
 -- ---- the statements, one after the other
 
-passes_of : (given : Draft) (s : Statement) (k : Kind) → kind_of s ≡ Some k → Passes (kind_checks (Some k) given s) → first_failing (checks given s) ≡ None
+passes_of : (given : Draft) (s : Statement) (k : Kind) → kind_of s ≡ Some k
+    → Passes (kind_checks (Some k) given s) → first_failing (checks given s) ≡ None
 unfolding checks
-passes_of given s k is passes = let known : is_some (kind_of s) ≡ true = ap is_some is in rw (known, is) (none_fails (kind_checks (Some k) given s) passes)
+passes_of given s k is passes =
+    let known : is_some (kind_of s) ≡ true = ap is_some is in
+    rw (known, is) (none_fails (kind_checks (Some k) given s) passes)
 
 -- the printed name and numbers of a part
 record IsReadSpan (s : Span) : Type 0 where
@@ -26,9 +29,11 @@ record IsReadSpan (s : Span) : Type 0 where
   low : IsNumber MOST_LEVEL s.low
 
 read_span : (s : Span) → IsSpan s → IsReadSpan s
-read_span s is = record { name = name-passes s.name is.name; high = level_number s.high is.high; low = level_number s.low is.low }
+read_span s is =
+    record { name = name-passes s.name is.name; high = level_number s.high is.high; low = level_number s.low is.low }
 
-cost_follows : (cost : ℤ) → IsWithin MOST_COST cost → Follows grammar draft.Nothing (cost_statement cost) (draft.Whole (report.Flow cost [] [] [] []))
+cost_follows : (cost : ℤ) → IsWithin MOST_COST cost
+    → Follows grammar draft.Nothing (cost_statement cost) (draft.Whole (report.Flow cost [] [] [] []))
 unfolding entry_in field_checks
 cost_follows cost is =
     let n = cost_number cost is in record {
@@ -41,16 +46,23 @@ use_follows : (cost : ℤ) (before : List Used) (u : Used) → IsUse u
 unfolding entry_in field_checks
 use_follows cost before u is =
     let n = amount_number u.heat is.heat in record {
-      passes = passes_of _ (use_statement u) kind.Use refl (refl, (refl, (name-passes u.name is.name, (n.some, (n.within, tt)))));
-      next_is = λ i. draft.Whole (report.Flow cost (before ++ record { name = u.name; heat = sym n.value i } ∷ []) [] [] []);
+      passes =
+          passes_of _ (use_statement u) kind.Use refl (refl, (refl, (name-passes u.name is.name, (n.some, (n.within, tt)))));
+      next_is =
+          λ i. draft.Whole (report.Flow cost (before ++ record { name = u.name; heat = sym n.value i } ∷ []) [] [] []);
     }
 
 move_follows : (cost : ℤ) (uses : List Used) (before : List Moved) (m : Moved) → IsMove m
     → Follows grammar (draft.Whole (report.Flow cost uses before [] [])) (move_statement m) (draft.Whole (report.Flow cost uses (before ++ m ∷ []) [] []))
 unfolding entry_in field_checks span_checks span_at
 move_follows cost uses before m is =
-    let n = amount_number m.heat is.heat in let h = read_span m.hot is.hot in let k = read_span m.cold is.cold in
-    let a = h.high in let b = h.low in let d = k.high in let e = k.low in
+    let n = amount_number m.heat is.heat in
+    let h = read_span m.hot is.hot in
+    let k = read_span m.cold is.cold in
+    let a = h.high in
+    let b = h.low in
+    let d = k.high in
+    let e = k.low in
     record {
       passes = passes_of _ (move_statement m) kind.Move refl
           (refl, (refl, (h.name, (a.some, (a.within, (b.some, (b.within, (k.name, (d.some, (d.within, (e.some, (e.within, (n.some, (n.within, tt))))))))))))));
@@ -66,7 +78,9 @@ give_follows : (cost : ℤ) (uses : List Used) (moves : List Moved) (before : Li
     (draft.Whole (report.Flow cost uses moves (before ++ g ∷ []) []))
 unfolding entry_in field_checks span_checks span_at
 give_follows cost uses moves before g is =
-    let n = amount_number g.price is.price in let p = read_span g.part is.part in record {
+    let n = amount_number g.price is.price in
+    let p = read_span g.part is.part in
+    record {
       passes = passes_of _ (priced_statement (codes "give") g) kind.Give refl
           (refl, (refl, (p.name, (p.high.some, (p.high.within, (p.low.some, (p.low.within, (n.some, (n.within, tt)))))))));
       next_is = λ i. draft.Whole (report.Flow cost uses moves (before ++ record {
@@ -80,7 +94,9 @@ take_follows : (cost : ℤ) (uses : List Used) (moves : List Moved) (gives befor
     (draft.Whole (report.Flow cost uses moves gives (before ++ g ∷ [])))
 unfolding entry_in field_checks span_checks span_at
 take_follows cost uses moves gives before g is =
-    let n = amount_number g.price is.price in let p = read_span g.part is.part in record {
+    let n = amount_number g.price is.price in
+    let p = read_span g.part is.part in
+    record {
       passes = passes_of _ (priced_statement (codes "take") g) kind.Take refl
           (refl, (refl, (p.name, (p.high.some, (p.high.within, (p.low.some, (p.low.within, (n.some, (n.within, tt)))))))));
       next_is = λ i. draft.Whole (report.Flow cost uses moves gives (before ++ record {
@@ -91,7 +107,8 @@ take_follows cost uses moves gives before g is =
 
 infeasible_follows : Follows grammar draft.Nothing (codes "infeasible" ∷ []) draft.Infeasible
 unfolding entry_in field_checks
-infeasible_follows = record { passes = passes_of draft.Nothing (codes "infeasible" ∷ []) kind.Infeasible refl (refl, (refl, tt)); next_is = refl }
+infeasible_follows =
+    record { passes = passes_of draft.Nothing (codes "infeasible" ∷ []) kind.Infeasible refl (refl, (refl, tt)); next_is = refl }
 
 kind_known : (kind : CutKind) → cut_kind (kind_word kind) ≡ kind
 unfolding cut_kind
@@ -106,7 +123,9 @@ cut_follows : (kind : CutKind) (need offer : ℤ) → IsWithin MOST_AMOUNT need 
     → Follows grammar draft.Infeasible (cut_statement kind need offer) (draft.Whole (report.Cut kind need offer []))
 unfolding entry_in field_checks
 cut_follows of need offer need_within offer_within =
-    let n = amount_number need need_within in let o = amount_number offer offer_within in record {
+    let n = amount_number need need_within in
+    let o = amount_number offer offer_within in
+    record {
       passes = passes_of draft.Infeasible (cut_statement of need offer) kind.Cut refl
           (refl, (refl, (kind_passes of, (n.some, (n.within, (o.some, (o.within, tt)))))));
       next_is = λ i. draft.Whole (report.Cut (sym (kind_known of) i) (sym n.value i) (sym o.value i) []);
@@ -117,15 +136,19 @@ part_follows : (kind : CutKind) (need offer : ℤ) (before : List Span) (s : Spa
 unfolding entry_in field_checks span_checks span_at
 part_follows of need offer before s is =
     let p = read_span s is in record {
-      passes = passes_of _ (part_statement s) kind.Part refl (refl, (refl, (p.name, (p.high.some, (p.high.within, (p.low.some, (p.low.within, tt)))))));
-      next_is = λ i. draft.Whole (report.Cut of need offer (before ++ record { name = s.name; high = sym p.high.value i; low = sym p.low.value i } ∷ []));
+      passes =
+          passes_of _ (part_statement s) kind.Part refl (refl, (refl, (p.name, (p.high.some, (p.high.within, (p.low.some, (p.low.within, tt)))))));
+      next_is =
+          λ i. draft.Whole (report.Cut of need offer (before ++ record { name = s.name; high = sym p.high.value i; low = sym p.low.value i } ∷ []));
     }
 
 -- ---- all of them
 
 -- an element of a list, between those before it and those after it
-of_all : {X : Type 0} (P : X → Type 0) (xs before : List X) (x : X) (after : List X) → All P xs → xs ≡ before ++ x ∷ after → P x
-of_all P xs before x after all is = All-slice_get P (before ++ x ∷ after) (length before) x (subst (All P) is all) (slice_get-seam before x after)
+of_all : {X : Type 0} (P : X → Type 0) (xs before : List X) (x : X) (after : List X) → All P xs
+    → xs ≡ before ++ x ∷ after → P x
+of_all P xs before x after all is =
+    All-slice_get P (before ++ x ∷ after) (length before) x (subst (All P) is all) (slice_get-seam before x after)
 
 given_in : (r : Report) → IsReadable r → Give grammar (statements_in r) (draft.Whole r)
 given_in (report.Flow cost uses moves gives takes) is =
@@ -153,15 +176,19 @@ given_in (report.Cut of need offer parts) is =
 -- ---- their fields are plain
 
 use_plain : (u : Used) → IsUse u → IsPlainStatement (use_statement u)
-use_plain u is = plain_statement _ _ (word_plain (codes "use") (omega arith) refl) refl (name_plain u.name is.name, ((amount_number u.heat is.heat).plain, tt))
+use_plain u is =
+    plain_statement _ _ (word_plain (codes "use") (omega arith) refl) refl (name_plain u.name is.name, ((amount_number u.heat is.heat).plain, tt))
 
 move_plain : (m : Moved) → IsMove m → IsPlainStatement (move_statement m)
 move_plain m is =
-    let n = amount_number m.heat is.heat in let h = read_span m.hot is.hot in let k = read_span m.cold is.cold in
+    let n = amount_number m.heat is.heat in
+    let h = read_span m.hot is.hot in
+    let k = read_span m.cold is.cold in
     plain_statement _ _ (word_plain (codes "move") (omega arith) refl) refl
     (name_plain m.hot.name is.hot.name, (h.high.plain, (h.low.plain, (name_plain m.cold.name is.cold.name, (k.high.plain, (k.low.plain, (n.plain, tt)))))))
 
-priced_plain : (word : List ℕ) → IsPlainField word → (get_or word 0 0 == 35) ≡ false → (g : Priced) → IsPrice g → IsPlainStatement (priced_statement word g)
+priced_plain : (word : List ℕ) → IsPlainField word → (get_or word 0 0 == 35) ≡ false → (g : Priced)
+    → IsPrice g → IsPlainStatement (priced_statement word g)
 priced_plain word first counts g is = let p = read_span g.part is.part in
     plain_statement _ _ first counts (name_plain g.part.name is.part.name, (p.high.plain, (p.low.plain, ((amount_number g.price is.price).plain, tt))))
 
@@ -173,12 +200,14 @@ kind_plain : (kind : CutKind) → IsPlainField (kind_word kind)
 kind_plain cut.Demand = word_plain (codes "demand") (omega arith) refl
 kind_plain cut.Supply = word_plain (codes "supply") (omega arith) refl
 
-cut_plain : (kind : CutKind) (need offer : ℤ) → IsWithin MOST_AMOUNT need → IsWithin MOST_AMOUNT offer → IsPlainStatement (cut_statement kind need offer)
+cut_plain : (kind : CutKind) (need offer : ℤ) → IsWithin MOST_AMOUNT need → IsWithin MOST_AMOUNT offer
+    → IsPlainStatement (cut_statement kind need offer)
 cut_plain kind need offer is_need is_offer = plain_statement _ _ (word_plain (codes "cut") (omega arith) refl) refl
     (kind_plain kind, ((amount_number need is_need).plain, ((amount_number offer is_offer).plain, tt)))
 
 -- statements that are made of a list behind others
-with_more : {X : Type 0} (item_of : X → Statement) (P : X → Type 0) (base : List Statement) (xs : List X) → ((x : X) → P x → IsPlainStatement (item_of x))
+with_more : {X : Type 0} (item_of : X → Statement) (P : X → Type 0) (base : List Statement) (xs : List X)
+    → ((x : X) → P x → IsPlainStatement (item_of x))
     → All P xs → All IsPlainStatement base → All IsPlainStatement (base ++ map item_of xs)
 with_more item_of P base xs plain all before = All-append IsPlainStatement base (map item_of xs) before
     (All-map IsPlainStatement item_of xs (All-weaker P (λ x. IsPlainStatement (item_of x)) plain xs all))
@@ -197,7 +226,8 @@ plain (report.Flow cost uses moves gives takes) is =
     (priced_plain (codes "take") (word_plain (codes "take") (omega arith) refl) refl) is.4 with_gives
 plain (report.Cut of need offer parts) is =
     let word : Statement = codes "infeasible" ∷ [] in
-    let first : IsPlainStatement word = plain_statement (codes "infeasible") [] (word_plain (codes "infeasible") (omega arith) refl) refl tt in
+    let first : IsPlainStatement word
+    = plain_statement (codes "infeasible") [] (word_plain (codes "infeasible") (omega arith) refl) refl tt in
     with_more part_statement IsSpan (word ∷ cut_statement of need offer ∷ []) parts part_plain is.2
     (All-cons IsPlainStatement word (cut_statement of need offer ∷ []) first
     (All-cons IsPlainStatement (cut_statement of need offer) [] (cut_plain of need offer is.0 is.1) (All-nil IsPlainStatement)))
@@ -206,7 +236,9 @@ plain (report.Cut of need offer parts) is =
 
 value_of_statements : (r : Report) → IsReadable r → IsReport (statements_in r) r
 value_of_statements r is =
-    let give = given_in r is in record { sound = give.sound; complete = rw (sym give.given_is) refl; value_is = rw (sym give.given_is) refl }
+    let give = given_in r is in
+    record { sound = give.sound; complete = rw (sym give.given_is) refl; value_is = rw (sym give.given_is) refl }
 
 pub printed-again : PrintedReportsAreReadAgain
-printed-again r is = subst (λ (ss : List Statement). IsReport ss r) (sym (statements-back (statements_in r) (plain r is))) (value_of_statements r is)
+printed-again r is =
+    subst (λ (ss : List Statement). IsReport ss r) (sym (statements-back (statements_in r) (plain r is))) (value_of_statements r is)

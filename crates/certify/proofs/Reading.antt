@@ -6,7 +6,8 @@ use Rattle.certify.specs.declared.fault.ReportFault.TheVariants as fault
 use Rattle.certify.specs.declared.fault.ReportWhy.TheVariants as why
 
 -- want of memory is no outcome
-pub no_outcome : (statements : List Statement) (r : Result Report ReportFault) → IsErrAnd r (λ f. f ≡ fault.OutOfMemory) → IsOutcome statements r
+pub no_outcome : (statements : List Statement) (r : Result Report ReportFault)
+    → IsErrAnd r (λ f. f ≡ fault.OutOfMemory) → IsOutcome statements r
 no_outcome statements (Ok report) h = absurd h
 no_outcome statements (Err f) h = subst (λ (g : ReportFault). IsOutcome statements (Err g)) (sym h) tt
 
@@ -18,7 +19,8 @@ whole-end number given r is = rw is refl
 pub whole-value : (given : Draft) (r : Report) → given ≡ draft.Whole r → r ≡ report_in given
 whole-value given r is = rw is refl
 
-pub early-end : (number : ℕ) (given : Draft) → ((r : Report) → given ≡ draft.Whole r → ⊥) → end_fault number given ≡ Some (number + 1, why.Ended)
+pub early-end : (number : ℕ) (given : Draft) → ((r : Report) → given ≡ draft.Whole r → ⊥)
+    → end_fault number given ≡ Some (number + 1, why.Ended)
 early-end number draft.Nothing none = refl
 early-end number draft.Infeasible none = refl
 early-end number (draft.Whole r) none = absurd (none r refl)

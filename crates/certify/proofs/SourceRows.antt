@@ -12,7 +12,8 @@ push c rows row source only is have hot of room =
     let here : source_index c hot ≡ length rows = omega (arith, past, room, length-append rows (row ∷ [])) in
     rw (here, get_or-append_seam rows row [] []) (rw (only hot of here) is)) (cases_lt (source_index c hot) (length rows))
 
-pub push_stream : (c : Case) (rows : List (List Bool)) (row : List Bool) (i : ℕ) → i < length c.streams → length rows ≡ i
+pub push_stream : (c : Case) (rows : List (List Bool)) (row : List Bool) (i : ℕ) → i < length c.streams
+    → length rows ≡ i
     → ArePermissions c c.forbids (of_stream i) row → HavePermits c rows → HavePermits c (rows ++ row ∷ [])
 push_stream c rows row i within count is = push c rows row (of_stream i) only is
   where
@@ -26,4 +27,6 @@ push_utility c rows row i count is = push c rows row (of_utility i) only is
   where
     only : (hot : Source) → IsSourceOf c hot → source_index c hot ≡ length rows → hot ≡ of_utility i
     only (of_stream j) of here = absurd (omega (arith, here, count, of))
-    only (of_utility j) of here = let same : j ≡ i = omega (arith, here, count) in ap of_utility same
+    only (of_utility j) of here =
+        let same : j ≡ i = omega (arith, here, count) in
+        ap of_utility same

@@ -13,7 +13,8 @@ stands ranks rank = list_any (λ r. eqb r rank) ranks
 
 -- a slice that is written whole
 pub overwritten : (xs ys : List Bool) (n : ℕ) → length xs ≡ n → length ys ≡ n → take n (ys ++ drop (length ys) xs) ≡ ys
-overwritten xs ys n own count = take-append-le n ys (drop (length ys) xs) (omega (arith, count)) ∙ take_all n ys (omega (arith, count))
+overwritten xs ys n own count =
+    take-append-le n ys (drop (length ys) xs) (omega (arith, count)) ∙ take_all n ys (omega (arith, count))
 
 -- the ranks that stand in the list are marked beside those that were
 abbrev pub IsMarked : List Bool → List ℕ → List Bool → Type 0
@@ -22,7 +23,9 @@ IsMarked before ranks used = (k : ℕ) → k < length used → get_or used k fal
 pub marked-more : (before used : List Bool) (ranks : List ℕ) (i : ℕ) → i < length ranks → get_or ranks i 0 < length used
     → IsMarked before (take i ranks) used → IsMarked before (take (i + 1) ranks) (set used (get_or ranks i 0) true)
 marked-more before used ranks i within rank_in so_far k k_in =
-    let rank = get_or ranks i 0 in let was = get_or before k false in let early = stands (take i ranks) k in
+    let rank = get_or ranks i 0 in
+    let was = get_or before k false in
+    let early = stands (take i ranks) k in
     let more : stands (take (i + 1) ranks) k ≡ (early || (eqb rank k || false))
     = ap (λ rs. stands rs k) (take_more ranks i 0 within) ∙ list_any-append (λ r. eqb r k) (take i ranks) (rank ∷ []) in
     ⊎_elim
@@ -45,12 +48,17 @@ module _ (ranks : List ℕ) where
       ∙ ap (λ m. m + cond (stands ranks n) 1 0) (itself n)
 
   used-later : (n k : ℕ) → used_among ranks n ≤ used_among ranks (n + k)
-  used-later n zero = let same : n + zero ≡ n = omega arith in omega (arith, ap (used_among ranks) same)
+  used-later n zero =
+      let same : n + zero ≡ n = omega arith in
+      omega (arith, ap (used_among ranks) same)
   used-later n (suc k) =
-      let next : n + k + 1 ≡ n + suc k = omega arith in omega (arith, used-later n k, used-more (n + k), ap (used_among ranks) next)
+      let next : n + k + 1 ≡ n + suc k = omega arith in
+      omega (arith, used-later n k, used-more (n + k), ap (used_among ranks) next)
 
   pub used-le : (m n : ℕ) → m ≤ n → used_among ranks m ≤ used_among ranks n
-  used-le m n le = let same : m + (n - m) ≡ n = omega (arith, le) in omega (arith, used-later m (n - m), ap (used_among ranks) same)
+  used-le m n le =
+      let same : m + (n - m) ≡ n = omega (arith, le) in
+      omega (arith, used-later m (n - m), ap (used_among ranks) same)
 
   pub used-within : (n : ℕ) → used_among ranks n ≤ n
   unfolding used_among
@@ -64,7 +72,8 @@ module _ (ranks : List ℕ) where
       omega (arith, used-more m, here, used-le (m + 1) n (omega (arith, less)))
 
 Contains-mapped : {X Y : Type 0} (f : X → Y) (xs : List X) (x : X) → Contains xs x → Contains (map f xs) (f x)
-Contains-mapped f xs x (k, within, is) = (k, omega (arith, within, length-map xs f), get_or-map f xs k x (f x) within ∙ ap f is)
+Contains-mapped f xs x (k, within, is) =
+    (k, omega (arith, within, length-map xs f), get_or-map f xs k x (f x) within ∙ ap f is)
 
 module _ (places : List ℤ) (hot cold : List Part) where
   abbrev rank : Part → ℕ
@@ -87,9 +96,11 @@ module _ (places : List ℤ) (hot cold : List Part) where
 
   -- ---- how many nodes a chain has
 
-  pub depth-within : (p : Part) → Contains (hot ++ cold) p → rank p < rank_count places → depth p < chain_length places hot cold
+  pub depth-within : (p : Part) → Contains (hot ++ cold) p → rank p < rank_count places
+      → depth p < chain_length places hot cold
   depth-within p there within =
-      let less = used-less (ranks_used places hot cold) (rank p) (rank_count places) (used-rank p there) within in omega (arith, less)
+      let less = used-less (ranks_used places hot cold) (rank p) (rank_count places) (used-rank p there) within in
+      omega (arith, less)
 
   pub chain_length-some : 0 < chain_length places hot cold
   chain_length-some = omega arith
@@ -115,24 +126,30 @@ module _ (places : List ℤ) (hot cold : List Part) where
       All-map (λ n. n < chain_length places hot cold) depth parts
       (λ k d within. let p = get_or parts k d in depth-within p (among p (Contains-get_or parts k d within)) (high k d within))
 
-  pub ranks_high : (n : ℕ) (parts : List Part) (ranks : List ℕ) → n ≡ rank_count places → ranks ≡ map rank parts → All IsHigh parts
+  pub ranks_high : (n : ℕ) (parts : List Part) (ranks : List ℕ) → n ≡ rank_count places
+      → ranks ≡ map rank parts → All IsHigh parts
       → All (λ r. r < n) ranks
   ranks_high n parts ranks count is high =
       subst (All (λ r. r < n)) (sym is) (All-map (λ r. r < n) rank parts (λ k d within. omega (arith, count, high k d within)))
 
-  pub ranks_within : (parts : List Part) (ranks above : List ℕ) → ranks ≡ map rank parts → length above ≡ rank_count places + 1 → All IsHigh parts
+  pub ranks_within : (parts : List Part) (ranks above : List ℕ) → ranks ≡ map rank parts
+      → length above ≡ rank_count places + 1 → All IsHigh parts
       → All (λ r. r < length above) ranks
   ranks_within parts ranks above is count high =
       subst (All (λ r. r < length above)) (sym is)
       (All-map (λ r. r < length above) rank parts (λ k d within. omega (arith, count, high k d within)))
 
-  pub AreDepths-read : (above hot_ranks cold_ranks : List ℕ) (d : Depths) → hot_ranks ≡ map rank hot → cold_ranks ≡ map rank cold
-      → above ≡ map (used_among (hot_ranks ++ cold_ranks)) (range_with_len 0 (rank_count places + 1)) → All IsHigh hot → All IsHigh cold
+  pub AreDepths-read : (above hot_ranks cold_ranks : List ℕ) (d : Depths) → hot_ranks ≡ map rank hot
+      → cold_ranks ≡ map rank cold
+      → above ≡ map (used_among (hot_ranks ++ cold_ranks)) (range_with_len 0 (rank_count places + 1))
+      → All IsHigh hot → All IsHigh cold
       → d.hot.items ≡ map (λ r. get_or above r 0) hot_ranks → d.cold.items ≡ map (λ r. get_or above r 0) cold_ranks
       → d.nodes ≡ max (get_or above (rank_count places) 0) 1 → AreDepths places hot cold d
   AreDepths-read above hot_ranks cold_ranks d hot_is cold_is above_is high_hot high_cold from_hot from_cold nodes =
-      let n = rank_count places + 1 in let f = used_among (ranks_used places hot cold) in
-      let used : hot_ranks ++ cold_ranks ≡ ranks_used places hot cold = ap₂ ◌++◌ hot_is cold_is ∙ sym (map-append rank hot cold) in
+      let n = rank_count places + 1 in
+      let f = used_among (ranks_used places hot cold) in
+      let used : hot_ranks ++ cold_ranks ≡ ranks_used places hot cold
+      = ap₂ ◌++◌ hot_is cold_is ∙ sym (map-append rank hot cold) in
       let table = above_is ∙ ap (λ ranks. map (used_among ranks) (range_with_len 0 n)) used in
       let lower : (p : Part) → IsHigh p → rank p < n = λ p high. omega (arith, high) in
       let hots = from_hot ∙ ap₂ (λ xs ranks. map (λ r. get_or xs r 0) ranks) table hot_is

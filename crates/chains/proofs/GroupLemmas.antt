@@ -14,12 +14,14 @@ use Rattle.stream_case.specs.declared.source.Source.TheVariants.{Stream as of_st
 
 module _ {X : Type 0} where
   -- one value more
-  pub once-push : (P Q : X → Type 0) (xs : List X) (x : X) → ListsOnce P xs → (P x → ⊥) → Q x → ((y : X) → P y → Q y) → ((y : X) → Q y → P y ⊎ (y ≡ x))
+  pub once-push : (P Q : X → Type 0) (xs : List X) (x : X) → ListsOnce P xs → (P x → ⊥) → Q x
+      → ((y : X) → P y → Q y) → ((y : X) → Q y → P y ⊎ (y ≡ x))
       → ListsOnce Q (xs ++ x ∷ [])
   once-push P Q xs x h new own there back = record {
     ordered = all_pairs_push (λ a b. a ≢ b) xs x h.ordered (λ k d within e. new (subst P e (h.each k d within)));
     each = All-push Q xs x (All-weaker P Q there xs h.each) own;
-    every = λ y q. ⊎_elim (λ p. Contains-append_left xs (x ∷ []) y (h.every y p)) (λ e. subst (Contains (xs ++ x ∷ [])) (sym e) (Contains-push xs x))
+    every =
+        λ y q. ⊎_elim (λ p. Contains-append_left xs (x ∷ []) y (h.every y p)) (λ e. subst (Contains (xs ++ x ∷ [])) (sym e) (Contains-push xs x))
         (back y q);
   }
 
@@ -84,19 +86,25 @@ module _ {X : Type 0} (side_in : X → Side) (source : ℕ → Source) (side : S
           (subst (λ b. Contains (cons_if b (source i) []) (source i)) (sym test) (0, omega arith, refl))
 
   -- one item more, as a loop pushes it
-  pub item_pushed : (xs : List X) (i : ℕ) (x : X) (before after now : List Source) (test : Bool) → i < length xs → x ≡ get_or xs i x
+  pub item_pushed : (xs : List X) (i : ℕ) (x : X) (before after now : List Source) (test : Bool)
+      → i < length xs → x ≡ get_or xs i x
       → after ≡ before ++ from 0 (take i xs) → (test ≡ true → side_in x ≡ side) → (side_in x ≡ side → test ≡ true)
-      → ((test ≡ true) × (now ≡ after ++ source i ∷ [])) ⊎ ((test ≡ false) × (now ≡ after)) → now ≡ before ++ from 0 (take (i + 1) xs)
-  item_pushed xs i x before after now test within is so_far there own pushed = enumerated-step xs i x before after now within is of_item so_far (by pushed)
+      → ((test ≡ true) × (now ≡ after ++ source i ∷ [])) ⊎ ((test ≡ false) × (now ≡ after))
+      → now ≡ before ++ from 0 (take (i + 1) xs)
+  item_pushed xs i x before after now test within is so_far there own pushed =
+      enumerated-step xs i x before after now within is of_item so_far (by pushed)
     where
-      by : ((test ≡ true) × (now ≡ after ++ source i ∷ [])) ⊎ ((test ≡ false) × (now ≡ after)) → now ≡ after ++ of_item (i, x)
-      by (inl (on_it, more)) = more ∙ ap (λ b. after ++ cons_if b (source i) []) (sym (ap (λ a. same_side a side) (there on_it) ∙ own_side side))
+      by : ((test ≡ true) × (now ≡ after ++ source i ∷ [])) ⊎ ((test ≡ false) × (now ≡ after))
+          → now ≡ after ++ of_item (i, x)
+      by (inl (on_it, more)) =
+          more ∙ ap (λ b. after ++ cons_if b (source i) []) (sym (ap (λ a. same_side a side) (there on_it) ∙ own_side side))
       by (inr (off_it, kept)) = kept ∙ sym (append-nil after) ∙ ap (λ b. after ++ cons_if b (source i) [])
           (sym (false_from_ne_true (on x) (λ e. false≢true (sym off_it ∙ own (same_side-true (side_in x) side e)))))
 
   few_on : (n : ℕ) (xs : List X) → length (from n xs) ≤ count_by on xs
   few_on n [] = omega arith
-  few_on n (x ∷ xs) = omega (arith, count_by-cons on x xs, length-append (of_item (n, x)) (from (n + 1) xs), few_on (n + 1) xs, one_or_none (on x) (source n))
+  few_on n (x ∷ xs) =
+      omega (arith, count_by-cons on x xs, length-append (of_item (n, x)) (from (n + 1) xs), few_on (n + 1) xs, one_or_none (on x) (source n))
     where
       one_or_none : (b : Bool) (s : Source) → length (cons_if b s []) ≡ cond b 1 0
       one_or_none true s = refl
@@ -134,22 +142,27 @@ module _ (streams : List Stream) (utilities : List Utility) (side : Side) where
 
   pub AreSources-on : AreSources streams utilities side (streams_on side streams ++ utilities_on side utilities)
   AreSources-on =
-      let firsts = streams_on side streams in let others = utilities_on side utilities in
+      let firsts = streams_on side streams in
+      let others = utilities_on side utilities in
       let of_streams = each_is (λ (s : Stream). s.side) of_stream side streams in
       let of_utilities = each_is (λ (u : Utility). u.side) of_utility side utilities in
-      let IsFirst = IsAt (λ (s : Stream). s.side) of_stream side streams in let IsOther = IsAt (λ (u : Utility). u.side) of_utility side utilities in
+      let IsFirst = IsAt (λ (s : Stream). s.side) of_stream side streams in
+      let IsOther = IsAt (λ (u : Utility). u.side) of_utility side utilities in
       let differ = λ (s : Source) (h : IsFirst s). All-weaker IsOther (Differ s) (λ u k e. (cc (e, h.1, k.1))) others of_utilities in
       record {
         listed = record {
-          ordered = AllPairs-append Differ firsts others (once (λ (s : Stream). s.side) of_stream side (λ i j e. (cc)) 0 streams)
+          ordered =
+              AllPairs-append Differ firsts others (once (λ (s : Stream). s.side) of_stream side (λ i j e. (cc)) 0 streams)
               (once (λ (u : Utility). u.side) of_utility side (λ i j e. (cc)) 0 utilities)
               (All-weaker IsFirst (λ a. All (Differ a) others) differ firsts of_streams);
-          each = All-append IsOn firsts others (All-weaker IsFirst IsOn (λ s h. subst IsOn (sym h.1) h.2) firsts of_streams)
+          each =
+              All-append IsOn firsts others (All-weaker IsFirst IsOn (λ s h. subst IsOn (sym h.1) h.2) firsts of_streams)
               (All-weaker IsOther IsOn (λ u h. subst IsOn (sym h.1) h.2) others of_utilities);
           every = every_on;
         };
         few =
-            let all = count_by-le-length (λ (u : Utility). same_side u.side side) utilities in let both = length-append firsts others in
+            let all = count_by-le-length (λ (u : Utility). same_side u.side side) utilities in
+            let both = length-append firsts others in
             omega (arith, few_on (λ (s : Stream). s.side) of_stream side 0 streams, few_on (λ (u : Utility). u.side) of_utility side 0 utilities, all, both);
       }
 
@@ -180,7 +193,8 @@ pub record HoldsGroups (c : Case) (early : List Source) (first nodes : ℕ) (gro
 
 module _ (c : Case) (early : List Source) (first nodes : ℕ) (groups : List Group) (h : HoldsGroups c early first nodes groups) (source : Source) where
   more_early : (g : Group) → IsGroupFrom c early g → IsGroupFrom c (early ++ source ∷ []) g
-  more_early g k = record { first = k.first; is_early = Contains-append_left early (source ∷ []) k.first k.is_early; sources = k.sources }
+  more_early g k =
+      record { first = k.first; is_early = Contains-append_left early (source ∷ []) k.first k.is_early; sources = k.sources }
 
   -- a source that stands in a group
   pub groups-pass : StandsInOne groups source → HoldsGroups c (early ++ source ∷ []) first nodes groups
@@ -195,43 +209,52 @@ module _ (c : Case) (early : List Source) (first nodes : ℕ) (groups : List Gro
   module _ (g : Group) (hot : side_of c source ≡ Some Hot) (sources : ListsOnce (IsLike c source) g.sources)
       (node : g.first_node ≡ first + length groups * nodes) (new : StandsInOne groups source → ⊥) where
     still : (s : Source) → StandsInOne groups s → StandsInOne (groups ++ g ∷ []) s
-    still s (k, f, within, is, found) = let (j, j_in, there) = Contains-append_left groups (g ∷ []) f (k, within, is) in (j, f, j_in, there, found)
+    still s (k, f, within, is, found) =
+        let (j, j_in, there) = Contains-append_left groups (g ∷ []) f (k, within, is) in
+        (j, f, j_in, there, found)
 
     apart_from : (f : Group) → Contains groups f → AreApart c f g
     apart_from f in_groups p q in_f in_g same =
         let from = All-contains (IsGroupFrom c early) groups f h.each in_groups in
         let of_p = (All-contains (IsLike c from.first) f.sources p from.sources.each in_f).alike in
         let of_q = (All-contains (IsLike c source) g.sources q sources.each in_g).alike in
-        let to_source : HaveSamePartners c from.first source = λ cold side. of_p cold side ∙ same cold side ∙ sym (of_q cold side) in
+        let to_source : HaveSamePartners c from.first source
+        = λ cold side. of_p cold side ∙ same cold side ∙ sym (of_q cold side) in
         let in_that = from.sources.every source (record { side = hot; alike = to_source }) in
         let (k, within, there) = in_groups in new (k, f, within, there, in_that)
 
     -- one that begins a group
     pub groups-push : HoldsGroups c (early ++ source ∷ []) first nodes (groups ++ g ∷ [])
-    groups-push = let own = sources.every source (record { side = hot; alike = λ cold at. refl }) in record {
-      each = All-push (IsGroupFrom c (early ++ source ∷ [])) groups g
-          (All-weaker (IsGroupFrom c early) (IsGroupFrom c (early ++ source ∷ [])) more_early groups h.each)
-          (record { first = source; is_early = Contains-push early source; sources = sources });
-      every = All-push (StandsInOne (groups ++ g ∷ [])) early source
-          (All-weaker (StandsInOne groups) (StandsInOne (groups ++ g ∷ [])) still early h.every) (Any-push (λ f. Contains f.sources source) groups g own);
-      apart = all_pairs_push (AreApart c) groups g h.apart
-          (λ k d within. apart_from (get_or groups k d) (k, within, get_or_default groups k (get_or groups k d) d within));
-      in_line = λ i f at. ⊎_elim (λ here. h.in_line i f here) (λ last. ap (λ f. f.first_node) last.1 ∙ node ∙ ap (λ n. first + n * nodes) (sym last.0))
-          (slice_get_push groups g i f at);
-      few = omega (arith, h.few, length_push early source, length_push groups g);
-    }
+    groups-push =
+        let own = sources.every source (record { side = hot; alike = λ cold at. refl }) in
+        record {
+          each = All-push (IsGroupFrom c (early ++ source ∷ [])) groups g
+              (All-weaker (IsGroupFrom c early) (IsGroupFrom c (early ++ source ∷ [])) more_early groups h.each)
+              (record { first = source; is_early = Contains-push early source; sources = sources });
+          every = All-push (StandsInOne (groups ++ g ∷ [])) early source
+              (All-weaker (StandsInOne groups) (StandsInOne (groups ++ g ∷ [])) still early h.every) (Any-push (λ f. Contains f.sources source) groups g own);
+          apart = all_pairs_push (AreApart c) groups g h.apart
+              (λ k d within. apart_from (get_or groups k d) (k, within, get_or_default groups k (get_or groups k d) d within));
+          in_line =
+              λ i f at. ⊎_elim (λ here. h.in_line i f here) (λ last. ap (λ f. f.first_node) last.1 ∙ node ∙ ap (λ n. first + n * nodes) (sym last.0))
+              (slice_get_push groups g i f at);
+          few = omega (arith, h.few, length_push early source, length_push groups g);
+        }
 
 -- ---- steps of the loop
 
 module _ (c : Case) (hot : List Source) (first nodes : ℕ) (i : ℕ) (within : i < length hot) (source : Source) (is : source ≡ get_or hot i source)
     (groups : List Group) (h : HoldsGroups c (take i hot) first nodes groups) where
-  pub groups-old : (now : List Group) → now ≡ groups → StandsInOne groups source → HoldsGroups c (take (i + 1) hot) first nodes now
+  pub groups-old : (now : List Group) → now ≡ groups → StandsInOne groups source
+      → HoldsGroups c (take (i + 1) hot) first nodes now
   groups-old now same stands =
       subst₂ (λ early gs. HoldsGroups c early first nodes gs) (sym (taken-more hot i source within is)) (sym same)
       (groups-pass c (take i hot) first nodes groups h source stands)
 
-  pub groups-new : (now : List Group) (g : Group) → now ≡ groups ++ g ∷ [] → side_of c source ≡ Some Hot → ListsOnce (IsLike c source) g.sources
-      → g.first_node ≡ first + length groups * nodes → (StandsInOne groups source → ⊥) → HoldsGroups c (take (i + 1) hot) first nodes now
+  pub groups-new : (now : List Group) (g : Group) → now ≡ groups ++ g ∷ [] → side_of c source ≡ Some Hot
+      → ListsOnce (IsLike c source) g.sources
+      → g.first_node ≡ first + length groups * nodes → (StandsInOne groups source → ⊥)
+      → HoldsGroups c (take (i + 1) hot) first nodes now
   groups-new now g pushed side sources node new =
       subst₂ (λ early gs. HoldsGroups c early first nodes gs) (sym (taken-more hot i source within is)) (sym pushed)
       (groups-push c (take i hot) first nodes groups h source g side sources node new)
@@ -250,22 +273,27 @@ module _ (c : Case) (hot : List Source) (lists : ListsOnce (λ source. side_of c
 
   pub AreGroups-holds : AreGroups c groups
   AreGroups-holds = record {
-    hot = λ i source (g, at, found). let from = from_of i g at in (All-contains (IsLike c from.first) g.sources source from.sources.each found).side;
-    some = λ source side. let (k, g, within, is, found) = All-contains (StandsInOne groups) hot source h.every (lists.every source side) in
+    hot = λ i source (g, at, found). let from = from_of i g at in
+        (All-contains (IsLike c from.first) g.sources source from.sources.each found).side;
+    some =
+        λ source side. let (k, g, within, is, found) = All-contains (StandsInOne groups) hot source h.every (lists.every source side) in
         (k, (g, slice_get_read groups (length groups) k g refl within (sym is), found));
     filled = All-weaker (IsGroupFrom c hot) (λ g. 0 < length g.sources) some_source groups h.each;
-    once = All-weaker (IsGroupFrom c hot) (λ g. AllPairs (λ p q. p ≢ q) g.sources) (λ g from. from.sources.ordered) groups h.each;
+    once =
+        All-weaker (IsGroupFrom c hot) (λ g. AllPairs (λ p q. p ≢ q) g.sources) (λ g from. from.sources.ordered) groups h.each;
     alike = λ i j p q in_i in_j. (together i j p q in_i in_j, apart i j p q in_i in_j);
   }
     where
       some_source : (g : Group) → IsGroupFrom c hot g → 0 < length g.sources
       some_source g from =
           let side = All-contains (λ s. side_of c s ≡ Some Hot) hot from.first lists.each from.is_early in
-          let (k, within, is) = from.sources.every from.first (record { side = side; alike = λ cold at. refl }) in omega (arith, within)
+          let (k, within, is) = from.sources.every from.first (record { side = side; alike = λ cold at. refl }) in
+          omega (arith, within)
 
       together : (i j : ℕ) (p q : Source) → StandsIn groups i p → StandsIn groups j q → i ≡ j → HaveSamePartners c p q
       together i j p q (f, f_at, in_f) (g, g_at, in_g) e =
-          let from = from_of i f f_at in let one : f ≡ g = same_Some f g (sym f_at ∙ ap (slice_get groups) e ∙ g_at) in
+          let from = from_of i f f_at in
+          let one : f ≡ g = same_Some f g (sym f_at ∙ ap (slice_get groups) e ∙ g_at) in
           let of_p = (All-contains (IsLike c from.first) f.sources p from.sources.each in_f).alike in
           let of_q = (All-contains (IsLike c from.first) f.sources q from.sources.each (subst (λ k. Contains k.sources q) (sym one) in_g)).alike in
           λ cold side. sym (of_p cold side) ∙ of_q cold side
@@ -278,18 +306,22 @@ module _ (c : Case) (hot : List Source) (lists : ListsOnce (λ source. side_of c
 -- ---- sizes
 
 -- the hot sources of a completed case are few
-pub few_groups : (c : Case) (hot items : List Source) (first nodes i : ℕ) (groups : List Group) → IsComplete c → AreSources c.streams c.utilities Hot hot
+pub few_groups : (c : Case) (hot items : List Source) (first nodes i : ℕ) (groups : List Group)
+    → IsComplete c → AreSources c.streams c.utilities Hot hot
     → items ≡ hot → HoldsGroups c (take i items) first nodes groups → length groups ≤ MOST_STREAMS + ALL_UTILITIES
 few_groups c hot items first nodes i groups complete sources is h =
     omega (arith, sources.few, h.few, (AreStreams-IsComplete c complete).few Hot, length-utilities c complete, length-take i items, ap length is)
 
 -- so their chains have few nodes
-pub few_chain_nodes : (groups nodes : ℕ) → groups ≤ MOST_STREAMS + ALL_UTILITIES → nodes ≤ 2 * MOST_PLACES → 2 * MOST_PARTS + groups * nodes < MOST_INNER_NODES
-few_chain_nodes groups nodes few_groups few_nodes = omega (arith, mul-le groups nodes (MOST_STREAMS + ALL_UTILITIES) (2 * MOST_PLACES) few_groups few_nodes)
+pub few_chain_nodes : (groups nodes : ℕ) → groups ≤ MOST_STREAMS + ALL_UTILITIES → nodes ≤ 2 * MOST_PLACES
+    → 2 * MOST_PARTS + groups * nodes < MOST_INNER_NODES
+few_chain_nodes groups nodes few_groups few_nodes =
+    omega (arith, mul-le groups nodes (MOST_STREAMS + ALL_UTILITIES) (2 * MOST_PLACES) few_groups few_nodes)
 
 -- ---- a list of hot sources that are like one
 
-pub likes-all : (c : Case) (hot : List Source) (first : Source) (i : ℕ) (kept : List Source) → ListsOnce (λ source. side_of c source ≡ Some Hot) hot
+pub likes-all : (c : Case) (hot : List Source) (first : Source) (i : ℕ) (kept : List Source)
+    → ListsOnce (λ source. side_of c source ≡ Some Hot) hot
     → length hot ≤ i → KeptSoFar (HaveSamePartners c first) hot i kept → ListsOnce (IsLike c first) kept
 likes-all c hot first i kept lists past h =
     Lists-same (λ a b. a ≢ b) (λ s. Contains (take i hot) s × HaveSamePartners c first s) (IsLike c first) kept

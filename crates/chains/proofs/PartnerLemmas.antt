@@ -23,22 +23,28 @@ module _ (c : Case) where
   source_on side source on = IsSourceOf-side c source (ap is_some on)
 
   pub source_at-index : (source : Source) → IsSourceOf c source → source_at c (source_index c source) ≡ source
-  source_at-index (of_stream i) there = ap (λ b. if b then of_stream i else of_utility (i - length c.streams)) ((Decides-ltb i (length c.streams)).1 there)
+  source_at-index (of_stream i) there =
+      ap (λ b. if b then of_stream i else of_utility (i - length c.streams)) ((Decides-ltb i (length c.streams)).1 there)
   source_at-index (of_utility i) there =
-      let n = length c.streams in let back : (n + i) - n ≡ i = omega arith in
-      ap (λ b. if b then of_stream (n + i) else of_utility ((n + i) - n)) (false_from_ne_true (ltb (n + i) n) (λ e. absurd (omega (arith, (Decides-ltb (n + i) n).0 e))))
+      let n = length c.streams in
+      let back : (n + i) - n ≡ i = omega arith in
+      ap (λ b. if b then of_stream (n + i) else of_utility ((n + i) - n))
+      (false_from_ne_true (ltb (n + i) n) (λ e. absurd (omega (arith, (Decides-ltb (n + i) n).0 e))))
       ∙ ap of_utility back
 
-  source_index-within : (source : Source) → IsSourceOf c source → source_index c source < length c.streams + length c.utilities
+  source_index-within : (source : Source) → IsSourceOf c source
+      → source_index c source < length c.streams + length c.utilities
   source_index-within (of_stream i) there = omega (arith, there)
   source_index-within (of_utility i) there = omega (arith, there)
 
   -- what stands at a source in a list of the first nodes of all sources
   pub first_nodes-at : (groups : List Group) (nodes : List (Option ℕ))
       → nodes ≡ map (λ index. first_node_of groups (source_at c index)) (range_with_len 0 (length c.streams + length c.utilities))
-      → (source : Source) → IsSourceOf c source → get_or nodes (source_index c source) None ≡ first_node_of groups source
+      → (source : Source) → IsSourceOf c source
+      → get_or nodes (source_index c source) None ≡ first_node_of groups source
   first_nodes-at groups nodes are source there =
-      let index = source_index c source in let node = λ (i : ℕ). first_node_of groups (source_at c i) in
+      let index = source_index c source in
+      let node = λ (i : ℕ). first_node_of groups (source_at c i) in
       ap (λ xs. get_or xs index None) are
       ∙ get_or-map-range_with_len node 0 (length c.streams + length c.utilities) index index None (source_index-within source there) (omega arith)
       ∙ ap (first_node_of groups) (source_at-index source there)
@@ -48,7 +54,8 @@ module _ (c : Case) where
   module _ (p q : Source) (xs ys : List Bool) (of_p : ArePermissions c c.forbids p xs) (of_q : ArePermissions c c.forbids q ys) where
     pub HaveSamePartners-same : xs ≡ ys → HaveSamePartners c p q
     HaveSamePartners-same same cold side =
-        let there = source_on Cold cold side in let at = λ (allowed : List Bool). get_or allowed (source_index c cold) false in
+        let there = source_on Cold cold side in
+        let at = λ (allowed : List Bool). get_or allowed (source_index c cold) false in
         not-same (is_forbidden c.forbids p cold) (is_forbidden c.forbids q cold) (sym (of_p.each cold there) ∙ ap at same ∙ of_q.each cold there)
 
     module _ (complete : IsComplete c) where
@@ -60,12 +67,15 @@ module _ (c : Case) where
           let same = same_source-true f.cold source (and_parts (same_source f.hot hot) (same_source f.cold source) both).1 in
           other (subst (λ s. side_of c s ≡ Some Cold) same valid.1))
 
-      alike_at : HaveSamePartners c p q → (source : Source) → is_forbidden c.forbids p source ≡ is_forbidden c.forbids q source
+      alike_at : HaveSamePartners c p q → (source : Source)
+          → is_forbidden c.forbids p source ≡ is_forbidden c.forbids q source
       alike_at alike source = by (side_of c source) refl
         where
-          by : (o : Option Side) → side_of c source ≡ o → is_forbidden c.forbids p source ≡ is_forbidden c.forbids q source
+          by : (o : Option Side) → side_of c source ≡ o
+              → is_forbidden c.forbids p source ≡ is_forbidden c.forbids q source
           by (Some Cold) on = alike source on
-          by (Some Hot) on = no_match p source (λ cold. (cc (on, cold))) ∙ sym (no_match q source (λ cold. (cc (on, cold))))
+          by (Some Hot) on =
+              no_match p source (λ cold. (cc (on, cold))) ∙ sym (no_match q source (λ cold. (cc (on, cold))))
           by None on = no_match p source (λ cold. (cc (on, cold))) ∙ sym (no_match q source (λ cold. (cc (on, cold))))
 
       pub same-HaveSamePartners : HaveSamePartners c p q → xs ≡ ys
@@ -74,7 +84,8 @@ module _ (c : Case) where
           let in_ys : k < length ys = omega (arith, within, of_p.count, of_q.count) in
           get_or_default xs k d false within ∙ at k within ∙ get_or_default ys k false d in_ys)
         where
-          each : (source : Source) → IsSourceOf c source → get_or xs (source_index c source) false ≡ get_or ys (source_index c source) false
+          each : (source : Source) → IsSourceOf c source
+              → get_or xs (source_index c source) false ≡ get_or ys (source_index c source) false
           each source there = of_p.each source there ∙ ap not (alike_at alike source) ∙ sym (of_q.each source there)
 
           at : (k : ℕ) → k < length xs → get_or xs k false ≡ get_or ys k false
@@ -87,7 +98,8 @@ module _ (c : Case) where
 
   -- ---- the sources of a group
 
-  pub IsGroup-AreGroups : (groups : List Group) → AreGroups c groups → (i : ℕ) (g : Group) → i < length groups → slice_get groups i ≡ Some g → IsGroup c g
+  pub IsGroup-AreGroups : (groups : List Group) → AreGroups c groups → (i : ℕ) (g : Group)
+      → i < length groups → slice_get groups i ≡ Some g → IsGroup c g
   IsGroup-AreGroups groups are i g within at = record {
     filled = subst (λ h. 0 < length h.sources) (get_or_from_slice_get groups i g g at) (are.filled i g within);
     alike = λ p q in_p in_q. (are.alike i i p q (g, at, in_p) (g, at, in_q)).0 refl;
@@ -103,7 +115,8 @@ module _ (c : Case) where
           sym (false_from_ne_true (is_permitted c g cold) (λ free. false≢true (sym (permitted-each c g cold hot free found) ∙ refused)))
       by false free = sym (permitted-all c g cold (λ other there. group.alike other hot there found cold side ∙ free))
 
-  pub ArePermitted-first : (g : Group) → IsGroup c g → (first : Source) → Contains g.sources first → (allowed : List Bool)
+  pub ArePermitted-first : (g : Group) → IsGroup c g → (first : Source) → Contains g.sources first
+      → (allowed : List Bool)
       → ArePermissions c c.forbids first allowed → ArePermitted c g allowed
   ArePermitted-first g group first found allowed h = record {
     count = h.count;

@@ -9,15 +9,18 @@ use Rattle.std.specs.List.Sorted.{IsPartitionedBy}
 other_place : (p t : ℤ) → (p ≡ t → ⊥) → int_eq p t ≡ false
 other_place p t other = false_from_ne_true (int_eq p t) (λ e. other ((Decides-int_eq p t).0 e))
 
-pub first_place : (places : List ℤ) (t : ℤ) (k : ℕ) → k < length places → ((j : ℕ) (d : ℤ) → j < k → get_or places j d ≡ t → ⊥)
+pub first_place : (places : List ℤ) (t : ℤ) (k : ℕ) → k < length places
+    → ((j : ℕ) (d : ℤ) → j < k → get_or places j d ≡ t → ⊥)
     → ((d : ℤ) → get_or places k d ≡ t) → place_index places t ≡ k
 first_place [] t k within before is = absurd (omega (arith, within))
-first_place (p ∷ ps) t zero within before is = ap (λ b. cond b 0 (suc (place_index ps t))) ((Decides-int_eq p t).1 (is p))
+first_place (p ∷ ps) t zero within before is =
+    ap (λ b. cond b 0 (suc (place_index ps t))) ((Decides-int_eq p t).1 (is p))
 first_place (p ∷ ps) t (suc k) within before is =
     ap (λ b. cond b 0 (suc (place_index ps t))) (other_place p t (before 0 p (omega arith)))
     ∙ ap suc (first_place ps t k (omega (arith, within)) (λ j d less. before (suc j) d (omega (arith, less))) is)
 
-pub no_place : (places : List ℤ) (t : ℤ) → ((j : ℕ) (d : ℤ) → j < length places → get_or places j d ≡ t → ⊥) → place_index places t ≡ length places
+pub no_place : (places : List ℤ) (t : ℤ) → ((j : ℕ) (d : ℤ) → j < length places → get_or places j d ≡ t → ⊥)
+    → place_index places t ≡ length places
 no_place [] t none = refl
 no_place (p ∷ ps) t none =
     ap (λ b. cond b 0 (suc (place_index ps t))) (other_place p t (none 0 p (omega arith)))
@@ -28,7 +31,9 @@ no_place (p ∷ ps) t none =
 module _ (places : List ℤ) (falls : AllPairs (λ a b. b <ℤ a) places) (t : ℤ) where
   pub IsParted-falls : IsPartitionedBy (λ place. int_lt t place) places
   IsParted-falls i j d upto within above =
-      ⊎_elim (λ less. let fall = falls i j d less within in let high = int_lt-true t (get_or places j d) above in int_lt-from t (get_or places i d) (omega (arith, ints)))
+      ⊎_elim (λ less. let fall = falls i j d less within in
+      let high = int_lt-true t (get_or places j d) above in
+      int_lt-from t (get_or places i d) (omega (arith, ints)))
       (λ past. let same : j ≡ i = omega (arith, upto, past) in subst (λ n. int_lt t (get_or places n d) ≡ true) same above)
       (cases_lt i j)
 
@@ -36,10 +41,13 @@ module _ (places : List ℤ) (falls : AllPairs (λ a b. b <ℤ a) places) (t : �
   module _ (k : ℕ) (early : (j : ℕ) (d : ℤ) → j < k → int_lt t (get_or places j d) ≡ true)
       (late : (j : ℕ) (d : ℤ) → k ≤ j → j < length places → int_lt t (get_or places j d) ≡ false) where
     other_before : (j : ℕ) (d : ℤ) → j < k → get_or places j d ≡ t → ⊥
-    other_before j d less is = let high = int_lt-true t (get_or places j d) (early j d less) in omega (arith, ints)
+    other_before j d less is =
+        let high = int_lt-true t (get_or places j d) (early j d less) in
+        omega (arith, ints)
 
     pub place_index-there : k < length places → get_or places k t ≡ t → place_index places t ≡ k
-    place_index-there within is = first_place places t k within other_before (λ d. get_or_default places k d t within ∙ is)
+    place_index-there within is =
+        first_place places t k within other_before (λ d. get_or_default places k d t within ∙ is)
 
     pub place_index-none : (k < length places → get_or places k t ≡ t → ⊥) → place_index places t ≡ length places
     place_index-none other =
@@ -51,7 +59,8 @@ module _ (places : List ℤ) (falls : AllPairs (λ a b. b <ℤ a) places) (t : �
         let above = int_lt-from t (get_or places k d) (omega (arith, ints)) in
         false≢true (sym (late k d (omega arith) (omega (arith, behind, within))) ∙ above))
         (λ not_behind.
-        let same : j ≡ k = omega (arith, upto, not_behind) in let at_k = subst (λ n. get_or places n d ≡ t) same is in
+        let same : j ≡ k = omega (arith, upto, not_behind) in
+        let at_k = subst (λ n. get_or places n d ≡ t) same is in
         let k_in : k < length places = omega (arith, same, within) in
         other k_in (get_or_default places k t d k_in ∙ at_k))
         (cases_lt k j))

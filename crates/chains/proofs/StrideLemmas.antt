@@ -27,7 +27,8 @@ module _ (nodes : ℕ) where
   within-none room = refl
 
   -- what holds of all strides holds of those that fit
-  All-within : (P : ℕ → Type 0) (room : ℕ) (strides : List ℕ) → All P strides → All P (strides_within nodes room strides)
+  All-within : (P : ℕ → Type 0) (room : ℕ) (strides : List ℕ) → All P strides
+      → All P (strides_within nodes room strides)
   All-within P room [] all = subst (All P) (sym (within-none room)) (All-nil P)
   All-within P room (stride ∷ strides) all =
       let later = All-tail P stride strides all in
@@ -59,7 +60,9 @@ module _ (first nodes : ℕ) where
   links_within room strides = flat_map (stride_links first nodes) (strides_within nodes room strides)
 
   few-within : (room : ℕ) (strides : List ℕ) → length (links_within room strides) ≤ room
-  few-within room [] = let none = ap (λ ss. length (flat_map (stride_links first nodes) ss)) (within-none nodes room) in omega (arith, none)
+  few-within room [] =
+      let none = ap (λ ss. length (flat_map (stride_links first nodes) ss)) (within-none nodes room) in
+      omega (arith, none)
   few-within room (stride ∷ strides) =
       ⊎_elim
       (λ late.
@@ -78,14 +81,16 @@ module _ (first nodes : ℕ) where
   few_onward room = few-within room STRIDES
 
   -- from each node a link leads to the next one
-  pub next_onward : (room r : ℕ) → (nodes - 1) ≤ room → (r + 1) < nodes → Contains (onward first nodes room) (open_link (first + r) (first + (r + 1)))
+  pub next_onward : (room r : ℕ) → (nodes - 1) ≤ room → (r + 1) < nodes
+      → Contains (onward first nodes room) (open_link (first + r) (first + (r + 1)))
   unfolding onward
   next_onward room r le within =
       let next = open_link (first + r) (first + (r + 1)) in
       let same : stride_link first 1 r ≡ next = ap₂ open_link (omega arith) (omega arith) in
       let early : r < count nodes 1 = omega (arith, within) in
       let stands = get_or-map-range_with_len (stride_link first 1) 0 (count nodes 1) r r next early (omega arith) in
-      let among : r < length (stride_links first nodes 1) = omega (arith, early, length-map-range_with_len (stride_link first 1) 0 (count nodes 1)) in
+      let among : r < length (stride_links first nodes 1)
+      = omega (arith, early, length-map-range_with_len (stride_link first 1) 0 (count nodes 1)) in
       let fits = within-fits nodes room 1 (drop 1 STRIDES) (omega (arith, le)) in
       let there = subst (λ ss. Contains ss 1) (sym fits) (0, omega arith, refl) in
       Contains-flat_map (stride_links first nodes) (strides_within nodes room STRIDES) 1 next there (r, among, stands ∙ same)
@@ -95,7 +100,9 @@ module _ (first nodes : ℕ) where
   module _ (strides : List ℕ) (i stride room : ℕ) (within : i < length strides) (is : stride ≡ get_or strides i 0) (before whole after : List Link)
       (so_far : before ++ links_within room (drop i strides) ≡ whole) where
     here : links_within room (drop i strides) ≡ links_within room (stride ∷ drop (i + 1) strides)
-    here = at_drop_more (links_within room) strides i 0 within ∙ ap (λ n. links_within room (n ∷ drop (i + 1) strides)) (sym is)
+    here =
+        at_drop_more (links_within room) strides i 0 within
+        ∙ ap (λ n. links_within room (n ∷ drop (i + 1) strides)) (sym is)
 
     pub stride-fits : count nodes stride ≤ room → after ≡ before ++ stride_links first nodes stride
         → after ++ links_within (room - count nodes stride) (drop (i + 1) strides) ≡ whole
@@ -104,12 +111,15 @@ module _ (first nodes : ℕ) where
         let rest = links_within (room - count nodes stride) (drop (i + 1) strides) in
         let next : links_within room (drop i strides) ≡ own ++ rest
         = here ∙ ap (flat_map (stride_links first nodes)) (within-fits nodes room stride (drop (i + 1) strides) fits) in
-        ap (λ links. links ++ rest) pushed ∙ append_assoc before own rest ∙ ap (λ links. before ++ links) (sym next) ∙ so_far
+        ap (λ links. links ++ rest) pushed ∙ append_assoc before own rest
+        ∙ ap (λ links. before ++ links) (sym next) ∙ so_far
 
-    pub stride-misses : room < count nodes stride → after ≡ before → after ++ links_within room (drop (i + 1) strides) ≡ whole
+    pub stride-misses : room < count nodes stride → after ≡ before
+        → after ++ links_within room (drop (i + 1) strides) ≡ whole
     stride-misses late kept =
         let next = here ∙ ap (flat_map (stride_links first nodes)) (within-misses nodes room stride (drop (i + 1) strides) late) in
-        ap (λ links. links ++ links_within room (drop (i + 1) strides)) kept ∙ ap (λ links. before ++ links) (sym next) ∙ so_far
+        ap (λ links. links ++ links_within room (drop (i + 1) strides)) kept
+        ∙ ap (λ links. before ++ links) (sym next) ∙ so_far
 
   pub links_within-none : (room : ℕ) → links_within room [] ≡ []
   links_within-none room = ap (flat_map (stride_links first nodes)) (within-none nodes room)

@@ -25,14 +25,17 @@ reached from place level = if counts_above from place level then pos 1 else pos 
 abbrev pub above : Bool → ℤ → Part → ℤ
 above from place p = if stands_above from place p then pos 1 else pos 0
 
-pub is_reached : (from : Bool) (place level : ℤ) → counts_above from place level ≡ true → reached from place level ≡ pos 1
+pub is_reached : (from : Bool) (place level : ℤ) → counts_above from place level ≡ true
+    → reached from place level ≡ pos 1
 is_reached from place level e = ap (λ b. if b then pos 1 else pos 0) e
 
-pub is_missed : (from : Bool) (place level : ℤ) → counts_above from place level ≡ false → reached from place level ≡ pos 0
+pub is_missed : (from : Bool) (place level : ℤ) → counts_above from place level ≡ false
+    → reached from place level ≡ pos 0
 is_missed from place level e = ap (λ b. if b then pos 1 else pos 0) e
 
 -- a part at one level stands above a place where the level does
-pub stands-level : (from : Bool) (place level : ℤ) (p : Part) → p.high ≡ level → p.low ≡ level → stands_above from place p ≡ counts_above from place level
+pub stands-level : (from : Bool) (place level : ℤ) (p : Part) → p.high ≡ level → p.low ≡ level
+    → stands_above from place p ≡ counts_above from place level
 stands-level false place level p high low = ap (int_lt place) high
 stands-level true place level p high low = ap (int_le place) low
 
@@ -53,31 +56,41 @@ chosen : (b : Bool) (x : ℤ) → (if b then x else pos 0) ≡ (if b then pos 1 
 chosen true x = omega (arith, ints)
 chosen false x = sym (zero_times (pos 0) x refl)
 
-pub from_stream : (from : Bool) (place each : ℤ) (p : Part) → is_stream p.source ≡ true → part_over from place each p ≡ above from place p *ℤ p.least
+pub from_stream : (from : Bool) (place each : ℤ) (p : Part) → is_stream p.source ≡ true
+    → part_over from place each p ≡ above from place p *ℤ p.least
 from_stream from place each p e =
-    ap (λ b. if b then (if stands_above from place p then p.least else pos 0) else each) e ∙ chosen (stands_above from place p) p.least
+    ap (λ b. if b then (if stands_above from place p then p.least else pos 0) else each) e
+    ∙ chosen (stands_above from place p) p.least
 
-pub from_utility : (from : Bool) (place each : ℤ) (p : Part) → is_stream p.source ≡ false → part_over from place each p ≡ each
-from_utility from place each p e = ap (λ b. if b then (if stands_above from place p then p.least else pos 0) else each) e
+pub from_utility : (from : Bool) (place each : ℤ) (p : Part) → is_stream p.source ≡ false
+    → part_over from place each p ≡ each
+from_utility from place each p e =
+    ap (λ b. if b then (if stands_above from place p then p.least else pos 0) else each) e
 
 -- a share of 0 or 1
-share : (b : Bool) (x : ℤ) → pos 0 ≤ℤ x → (pos 0 ≤ℤ ((if b then pos 1 else pos 0) *ℤ x)) × (((if b then pos 1 else pos 0) *ℤ x) ≤ℤ x)
+share : (b : Bool) (x : ℤ) → pos 0 ≤ℤ x
+    → (pos 0 ≤ℤ ((if b then pos 1 else pos 0) *ℤ x)) × (((if b then pos 1 else pos 0) *ℤ x) ≤ℤ x)
 share true x h = let is = one_times (pos 1) x refl in (omega (arith, ints), omega (arith, ints))
 share false x h = let is = zero_times (pos 0) x refl in (omega (arith, ints), omega (arith, ints))
 
 -- the price of the part at an index, where each part has its own
-pub price_at-map : (f : Part → ℤ) (parts : List Part) (a : ℕ) (p : Part) → slice_get parts a ≡ Some p → price_at (map f parts) a ≡ f p
-price_at-map f parts a p at = get_or-map f parts a p (pos 0) (slice_get_within parts a p at) ∙ ap f (get_or_from_slice_get parts a p p at)
+pub price_at-map : (f : Part → ℤ) (parts : List Part) (a : ℕ) (p : Part) → slice_get parts a ≡ Some p
+    → price_at (map f parts) a ≡ f p
+price_at-map f parts a p at =
+    get_or-map f parts a p (pos 0) (slice_get_within parts a p at) ∙ ap f (get_or_from_slice_get parts a p p at)
 
 -- ---- parts that reach
 
-passes_down : (p q : Part) → passes_heat p q ≡ true → p.low ≤ℤ p.high → q.low ≤ℤ q.high → (q.high ≤ℤ p.high) × (q.low ≤ℤ p.low)
+passes_down : (p q : Part) → passes_heat p q ≡ true → p.low ≤ℤ p.high → q.low ≤ℤ q.high
+    → (q.high ≤ℤ p.high) × (q.low ≤ℤ p.low)
 passes_down p q h order other = ⊎_elim (λ e. (omega (arith, ints), omega (arith, ints))) (λ e.
-    let same = and_parts (int_eq p.high q.high) (int_eq p.low q.low) e in let high = (Decides-int_eq p.high q.high).0 same.0 in
+    let same = and_parts (int_eq p.high q.high) (int_eq p.low q.low) e in
+    let high = (Decides-int_eq p.high q.high).0 same.0 in
     let low = (Decides-int_eq p.low q.low).0 same.1 in
     (omega (arith, ints), omega (arith, ints))) (or_cases (int_le q.high p.low) (int_eq p.high q.high && int_eq p.low q.low) h)
 
-pub stands_falls : (from : Bool) (place : ℤ) (p q : Part) → q.high ≤ℤ p.high → q.low ≤ℤ p.low → stands_above from place q ≡ true
+pub stands_falls : (from : Bool) (place : ℤ) (p q : Part) → q.high ≤ℤ p.high → q.low ≤ℤ p.low
+    → stands_above from place q ≡ true
     → stands_above from place p ≡ true
 stands_falls false place p q high low e = int_lt-from place p.high (omega (arith, ints))
 stands_falls true place p q high low e = int_le-from place p.low (omega (arith, ints))
@@ -88,8 +101,10 @@ either_falls true false h = absurd (false≢true (h refl))
 either_falls false true h = omega (arith, ints)
 either_falls false false h = omega (arith, ints)
 
-pub above_falls : (from : Bool) (place : ℤ) (p q : Part) → q.high ≤ℤ p.high → q.low ≤ℤ p.low → above from place q ≤ℤ above from place p
-above_falls from place p q high low = either_falls (stands_above from place q) (stands_above from place p) (stands_falls from place p q high low)
+pub above_falls : (from : Bool) (place : ℤ) (p q : Part) → q.high ≤ℤ p.high → q.low ≤ℤ p.low
+    → above from place q ≤ℤ above from place p
+above_falls from place p q high low =
+    either_falls (stands_above from place q) (stands_above from place p) (stands_falls from place p q high low)
 
 module _ {c : Case} {hot cold : List Part} (s : AreStandardParts c hot cold) where
   -- prices that do not rise downward support each heat flow
@@ -114,12 +129,15 @@ module _ {c : Case} {hot cold : List Part} (s : AreStandardParts c hot cold) whe
   side_cost-standard : (side : Side) (ts : List Transfer) (heat : ℤ) → UtilityHeat side (parts_of side hot cold) ts heat
       → side_cost side (parts_of side hot cold) ts ≡ unit_price side *ℤ heat
   side_cost-standard side ts heat utility =
-      let place = end_of c Cold in let each = unit_price side *ℤ heat in
+      let place = end_of c Cold in
+      let each = unit_price side *ℤ heat in
       let whole = sum_above side (λ a p. p.price *ℤ heat_at side ts a +ℤ part_over true place (pos 0) p) true place each (s.ends Cold) (λ a p at h. ⊎_elim (λ k.
-      let free = zero_times p.price (heat_at side ts a) k.price in let none = from_stream true place (pos 0) p k.source_is in
+      let free = zero_times p.price (heat_at side ts a) k.price in
+      let none = from_stream true place (pos 0) p k.source_is in
       let other = from_stream true place each p k.source_is in
       omega (arith, ints)) (λ k.
-      let priced = ap₂ ◌*ℤ◌ k.price (utility a p at (ap not k.source_is)) in let none = from_utility true place (pos 0) p k.source_is in
+      let priced = ap₂ ◌*ℤ◌ k.price (utility a p at (ap not k.source_is)) in
+      let none = from_utility true place (pos 0) p k.source_is in
       let other = from_utility true place each p k.source_is in
       omega (arith, ints))
       h.kind) in
@@ -128,16 +146,20 @@ module _ {c : Case} {hot cold : List Part} (s : AreStandardParts c hot cold) whe
       let above_place = (s.sides side).sum true place (pos 0) (s.ends Cold) in omega (arith, ints)
 
   -- a heat flow costs what the hot utility gives
-  pub cost-hot_utility : (ts : List Transfer) (given taken : ℤ) → UtilityHeat Hot hot ts given → UtilityHeat Cold cold ts taken → cost_of hot cold ts ≡ given
+  pub cost-hot_utility : (ts : List Transfer) (given taken : ℤ) → UtilityHeat Hot hot ts given
+      → UtilityHeat Cold cold ts taken → cost_of hot cold ts ≡ given
   cost-hot_utility ts given taken h k =
-      let hots = side_cost-standard Hot ts given h in let colds = side_cost-standard Cold ts taken k ∙ zero_times (pos 0) taken refl in omega (arith, ints)
+      let hots = side_cost-standard Hot ts given h in
+      let colds = side_cost-standard Cold ts taken k ∙ zero_times (pos 0) taken refl in
+      omega (arith, ints)
 
   -- the utility has one heat
   abbrev pub heat : Side → List Transfer → ℤ
   heat side ts = heat_at side ts (s.sides side).utility
 
   pub utility_heat : (side : Side) (ts : List Transfer) → UtilityHeat side (parts_of side hot cold) ts (heat side ts)
-  utility_heat side ts a p at utility = ap (heat_at side ts) ((s.sides side).only a p at (not-true (is_stream p.source) utility))
+  utility_heat side ts a p at utility =
+      ap (heat_at side ts) ((s.sides side).only a p at (not-true (is_stream p.source) utility))
 
   module _ (ts : List Transfer) (flow : IsFlowOf c hot cold ts) where
     on_side : (side : Side) → HaveParts side (parts_of side hot cold) ts × KeepsRanges side (parts_of side hot cold) ts
@@ -145,21 +167,26 @@ module _ {c : Case} {hot cold : List Part} (s : AreStandardParts c hot cold) whe
     on_side Cold = (flow.cold_indexes, flow.cold_ranges)
 
     -- the heats of the parts of a side above a place
-    heats_above : (side : Side) (w : ℕ → Part → ℤ) (from : Bool) (place each : ℤ) → Contains s.grid place → UtilityHeat side (parts_of side hot cold) ts each
+    heats_above : (side : Side) (w : ℕ → Part → ℤ) (from : Bool) (place each : ℤ) → Contains s.grid place
+        → UtilityHeat side (parts_of side hot cold) ts each
         → ((a : ℕ) (p : Part) → slice_get (parts_of side hot cold) a ≡ Some p → w a p ≡ above from place p)
         → int_sum_from (λ a p. w a p *ℤ heat_at side ts a) 0 (parts_of side hot cold)
         ≡ reached from place (end_of c side) *ℤ each +ℤ sum_side side (heat_over from place) c.streams
     heats_above side w from place each on utility weight =
         sum_above side (λ a p. w a p *ℤ heat_at side ts a) from place (reached from place (end_of c side) *ℤ each) on
         (λ a p at h. ap (λ z. z *ℤ heat_at side ts a) (weight a p at) ∙ ⊎_elim (λ k.
-        let range = (on_side side).1 a p at in let fixed = k.fixed in
-        ap (λ z. above from place p *ℤ z) (omega (arith, ints)) ∙ sym (from_stream from place (reached from place (end_of c side) *ℤ each) p k.source_is)) (λ k.
+        let range = (on_side side).1 a p at in
+        let fixed = k.fixed in
+        ap (λ z. above from place p *ℤ z) (omega (arith, ints))
+        ∙ sym (from_stream from place (reached from place (end_of c side) *ℤ each) p k.source_is)) (λ k.
         let level = ap (λ b. if b then pos 1 else pos 0) (stands-level from place (end_of c side) p k.high k.low) in
-        ap₂ ◌*ℤ◌ level (utility a p at (ap not k.source_is)) ∙ sym (from_utility from place (reached from place (end_of c side) *ℤ each) p k.source_is))
+        ap₂ ◌*ℤ◌ level (utility a p at (ap not k.source_is))
+        ∙ sym (from_utility from place (reached from place (end_of c side) *ℤ each) p k.source_is))
         h.kind)
 
     -- the same, transfer by transfer
-    pub worth_above : (side : Side) (from : Bool) (place each : ℤ) → Contains s.grid place → UtilityHeat side (parts_of side hot cold) ts each
+    pub worth_above : (side : Side) (from : Bool) (place each : ℤ) → Contains s.grid place
+        → UtilityHeat side (parts_of side hot cold) ts each
         → side_worth side (map (above from place) (parts_of side hot cold)) ts
         ≡ reached from place (end_of c side) *ℤ each +ℤ sum_side side (heat_over from place) c.streams
     worth_above side from place each on utility =
@@ -169,11 +196,14 @@ module _ {c : Case} {hot cold : List Part} (s : AreStandardParts c hot cold) whe
 
     pub taken-le : (from : Bool) (place : ℤ)
         → All (λ t. (price_at (map (above from place) cold) t.cold *ℤ t.heat) ≤ℤ (price_at (map (above from place) hot) t.hot *ℤ t.heat)) ts
-    taken-le from place = worth-le (reach_between c hot cold) (map (above from place) hot) (map (above from place) cold) ts
+    taken-le from place =
+        worth-le (reach_between c hot cold) (map (above from place) hot) (map (above from place) cold) ts
         (supports_down (above from place) (above_falls from place)) flow.positive flow.joined
 
     -- all heat of a side: that of its streams and of its utility
-    whole_heat : (side : Side) → int_sum_by (λ t. pos 1 *ℤ t.heat) ts ≡ heat side ts +ℤ sum_side side (heat_over true (end_of c Cold)) c.streams
+    whole_heat : (side : Side)
+        → int_sum_by (λ t. pos 1 *ℤ t.heat) ts
+        ≡ heat side ts +ℤ sum_side side (heat_over true (end_of c Cold)) c.streams
     whole_heat side =
         let bottom = end_of c Cold in
         let all = one_times (reached true bottom (end_of c side)) (heat side ts)
@@ -184,16 +214,19 @@ module _ {c : Case} {hot cold : List Part} (s : AreStandardParts c hot cold) whe
         ∙ ap (λ z. z +ℤ sum_side side (heat_over true bottom) c.streams) all
 
     utility-not_negative : (side : Side) → pos 0 ≤ℤ heat side ts
-    utility-not_negative side = int_sum_by-not_negative (λ t. if part_index side t == (s.sides side).utility then t.heat else pos 0) ts
+    utility-not_negative side =
+        int_sum_by-not_negative (λ t. if part_index side t == (s.sides side).utility then t.heat else pos 0) ts
         (heats_at-not_negative side ts (s.sides side).utility flow.positive)
 
     -- above a place where a deficit is the hot target the cold parts need that much more than the hot streams give
     hot-at_least : hot_target c.streams ≤ℤ heat Hot ts
     hot-at_least =
-        let (place, tight) = some_tight c.streams s.valid in let on = s.stream_end place tight.end in
+        let (place, tight) = some_tight c.streams s.valid in
+        let on = s.stream_end place tight.end in
         ⊎_elim (at_tight false place on) (at_tight true place on) tight.tight
       where
-        at_tight : (from : Bool) (place : ℤ) → Contains s.grid place → IsTightOver from c.streams place → hot_target c.streams ≤ℤ heat Hot ts
+        at_tight : (from : Bool) (place : ℤ) → Contains s.grid place → IsTightOver from c.streams place
+            → hot_target c.streams ≤ℤ heat Hot ts
         at_tight from place on tight =
             let hots = worth_above Hot from place (heat Hot ts) on (utility_heat Hot ts) in
             let colds = worth_above Cold from place (heat Cold ts) on (utility_heat Cold ts) in
@@ -207,11 +240,21 @@ module _ {c : Case} {hot cold : List Part} (s : AreStandardParts c hot cold) whe
     -- the utilities give and take at least the targets
     at_least : (side : Side) → target_of side c.streams ≤ℤ heat side ts
     at_least Hot = hot-at_least
-    at_least Cold = let least = hot-at_least in let hots = whole_heat Hot in let colds = whole_heat Cold in let targets = s.lowest in omega (arith, ints)
+    at_least Cold =
+        let least = hot-at_least in
+        let hots = whole_heat Hot in
+        let colds = whole_heat Cold in
+        let targets = s.lowest in
+        omega (arith, ints)
 
     pub cost-at_least : hot_target c.streams ≤ℤ cost_of hot cold ts
-    cost-at_least = let least = hot-at_least in let cost = cost-hot_utility ts (heat Hot ts) (heat Cold ts) (utility_heat Hot ts) (utility_heat Cold ts) in
+    cost-at_least =
+        let least = hot-at_least in
+        let cost = cost-hot_utility ts (heat Hot ts) (heat Cold ts) (utility_heat Hot ts) (utility_heat Cold ts) in
         omega (arith, ints)
 
   pub needs_heat : (side : Side) → NeedsHeat c hot cold side (target_of side c.streams)
-  needs_heat side ts flow a p at utility = let least = at_least ts flow side in let one = utility_heat side ts a p at utility in omega (arith, ints)
+  needs_heat side ts flow a p at utility =
+      let least = at_least ts flow side in
+      let one = utility_heat side ts a p at utility in
+      omega (arith, ints)

@@ -15,7 +15,8 @@ use Rattle.std.proofs.Common.{Bool, List, ap, ap₂, arith, false, get_or, inl, 
 abbrev priced : Bool → Bool → ℤ → Part → ℤ
 priced none low place p = if none then pos 0 else above low place p
 
-priced_falls : (none low : Bool) (place : ℤ) (p q : Part) → q.high ≤ℤ p.high → q.low ≤ℤ p.low → priced none low place q ≤ℤ priced none low place p
+priced_falls : (none low : Bool) (place : ℤ) (p q : Part) → q.high ≤ℤ p.high → q.low ≤ℤ p.low
+    → priced none low place q ≤ℤ priced none low place p
 priced_falls true low place p q high less = omega (arith, ints)
 priced_falls false low place p q high less = above_falls low place p q high less
 
@@ -27,7 +28,8 @@ priced_range none low place p = either none (stands_above low place p)
     either false true = omega (arith, ints)
     either false false = omega (arith, ints)
 
-pub prices_within : (target : ℤ) (low : Bool) (place : ℤ) (parts : List Part) → All IsPartPrice (map (corner_price target low place) parts)
+pub prices_within : (target : ℤ) (low : Bool) (place : ℤ) (parts : List Part)
+    → All IsPartPrice (map (corner_price target low place) parts)
 prices_within target low place parts =
     All-map IsPartPrice (corner_price target low place) parts (λ k d within. let range = priced_range (int_eq target (pos 0)) low place (get_or parts k d) in
     record { from = omega (arith, ints, range.from); upto = omega (arith, ints, range.upto) })
@@ -38,9 +40,13 @@ fixed_product : (x low high : ℤ) → low ≡ high → least_product x low high
 fixed_product x low high e = ap (λ h. int_min (x *ℤ low) (x *ℤ h)) (sym e) ∙ omega (arith, ints, clamps)
 
 free_product : (x low high : ℤ) → pos 0 ≤ℤ x → low ≡ pos 0 → pos 0 ≤ℤ high → least_product x low high ≡ pos 0
-free_product x low high h e k = let none = ap (λ z. x *ℤ z) e ∙ *ℤ-zero x in let more = product_not_negative x high h k in omega (arith, ints, clamps)
+free_product x low high h e k =
+    let none = ap (λ z. x *ℤ z) e ∙ *ℤ-zero x in
+    let more = product_not_negative x high h k in
+    omega (arith, ints, clamps)
 
-free_excess : (side : Side) (price y : ℤ) → price ≡ unit_price side → IsBetween (pos 0) (pos 1) y → pos 0 ≤ℤ excess_price side price y
+free_excess : (side : Side) (price y : ℤ) → price ≡ unit_price side → IsBetween (pos 0) (pos 1) y
+    → pos 0 ≤ℤ excess_price side price y
 free_excess Hot price y e h = omega (arith, ints, h.upto)
 free_excess Cold price y e h = omega (arith, ints, h.from)
 
@@ -52,11 +58,13 @@ no_excess Cold = refl
 abbrev priced_heat : Bool → Bool → ℤ → Part → ℤ
 priced_heat none low place p = if none then pos 0 else part_over low place (pos 0) p
 
-priced-stream : (none low : Bool) (place : ℤ) (p : Part) → is_stream p.source ≡ true → priced none low place p *ℤ p.least ≡ priced_heat none low place p
+priced-stream : (none low : Bool) (place : ℤ) (p : Part) → is_stream p.source ≡ true
+    → priced none low place p *ℤ p.least ≡ priced_heat none low place p
 priced-stream true low place p e = zero_times (pos 0) p.least refl
 priced-stream false low place p e = sym (from_stream low place (pos 0) p e)
 
-priced-utility : (none low : Bool) (place : ℤ) (p : Part) → is_stream p.source ≡ false → priced_heat none low place p ≡ pos 0
+priced-utility : (none low : Bool) (place : ℤ) (p : Part) → is_stream p.source ≡ false
+    → priced_heat none low place p ≡ pos 0
 priced-utility true low place p e = refl
 priced-utility false low place p e = from_utility low place (pos 0) p e
 
@@ -64,19 +72,22 @@ module _ {c : Case} {hot cold : List Part} (s : AreStandardParts c hot cold) (lo
   module _ (side : Side) (none : Bool) where
     -- a stream is worth that, and a utility nothing
     worth : (p : Part) → IsStandardPart c s.grid side p
-        → least_product (excess_price side p.price (priced none low place p)) p.least p.most ≡ excess_price side (pos 0) (priced_heat none low place p)
+        → least_product (excess_price side p.price (priced none low place p)) p.least p.most
+        ≡ excess_price side (pos 0) (priced_heat none low place p)
     worth p h =
         let excess = excess_price side p.price (priced none low place p) in
         ⊎_elim (λ k. fixed_product excess p.least p.most k.fixed ∙ excess_price-*ℤ side p.price (priced none low place p) p.least
         ∙ ap₂ (excess_price side) (zero_times p.price p.least k.price) (priced-stream none low place p k.source_is)) (λ k.
         free_product excess p.least p.most (free_excess side p.price (priced none low place p) k.price (priced_range none low place p)) k.least
-        (omega (arith, ints, k.most)) ∙ sym (ap (excess_price side (pos 0)) (priced-utility none low place p k.source_is) ∙ no_excess side))
+        (omega (arith, ints, k.most))
+        ∙ sym (ap (excess_price side (pos 0)) (priced-utility none low place p k.source_is) ∙ no_excess side))
         h.kind
 
     side_value-priced : side_value side (parts_of side hot cold) (map (priced none low place) (parts_of side hot cold))
         ≡ excess_price side (pos 0) (int_sum_by (priced_heat none low place) (parts_of side hot cold))
     side_value-priced =
-        let f = priced none low place in let parts = parts_of side hot cold in
+        let f = priced none low place in
+        let parts = parts_of side hot cold in
         int_sum_from-same_each (λ a p. least_product (excess_price side p.price (price_at (map f parts) a)) p.least p.most)
         (λ a p. excess_price side (pos 0) (priced_heat none low place p)) parts
         (λ a p at. ap (λ y. least_product (excess_price side p.price y) p.least p.most) (price_at-map f parts a p at) ∙ worth p ((s.sides side).each a p at))
@@ -85,17 +96,25 @@ module _ {c : Case} {hot cold : List Part} (s : AreStandardParts c hot cold) (lo
 
   pub corner-supports : IsSupporting (reach_between c hot cold) (map (corner_price (hot_target c.streams) low place) hot)
       (map (corner_price (hot_target c.streams) low place) cold)
-  corner-supports = supports_down s (corner_price (hot_target c.streams) low place) (priced_falls (int_eq (hot_target c.streams) (pos 0)) low place)
+  corner-supports =
+      supports_down s (corner_price (hot_target c.streams) low place) (priced_falls (int_eq (hot_target c.streams) (pos 0)) low place)
 
-  value-priced : (none : Bool) → int_eq (hot_target c.streams) (pos 0) ≡ none → Contains (stream_ends c.streams) place → IsTightOver low c.streams place
+  value-priced : (none : Bool) → int_eq (hot_target c.streams) (pos 0) ≡ none
+      → Contains (stream_ends c.streams) place → IsTightOver low c.streams place
       → value_of hot cold (map (priced none low place) hot) (map (priced none low place) cold) ≡ hot_target c.streams
   value-priced true e end tight =
       let zero = (Decides-int_eq (hot_target c.streams) (pos 0)).0 e in
-      let hots = side_value-priced Hot true ∙ ap (excess_price Hot (pos 0)) (int_sum_by-zero (λ p. pos 0) hot (λ k d within. refl)) in
-      let colds = side_value-priced Cold true ∙ ap (excess_price Cold (pos 0)) (int_sum_by-zero (λ p. pos 0) cold (λ k d within. refl)) in omega (arith, ints)
+      let hots = side_value-priced Hot true
+      ∙ ap (excess_price Hot (pos 0)) (int_sum_by-zero (λ p. pos 0) hot (λ k d within. refl)) in
+      let colds = side_value-priced Cold true
+      ∙ ap (excess_price Cold (pos 0)) (int_sum_by-zero (λ p. pos 0) cold (λ k d within. refl)) in
+      omega (arith, ints)
   value-priced false e end tight =
-      let on = s.stream_end place end in let hots = side_value-priced Hot false ∙ ap (excess_price Hot (pos 0)) ((s.sides Hot).sum low place (pos 0) on) in
-      let colds = side_value-priced Cold false ∙ ap (excess_price Cold (pos 0)) ((s.sides Cold).sum low place (pos 0) on) in omega (arith, ints)
+      let on = s.stream_end place end in
+      let hots = side_value-priced Hot false ∙ ap (excess_price Hot (pos 0)) ((s.sides Hot).sum low place (pos 0) on) in
+      let colds = side_value-priced Cold false
+      ∙ ap (excess_price Cold (pos 0)) ((s.sides Cold).sum low place (pos 0) on) in
+      omega (arith, ints)
 
   pub corner-value : Contains (stream_ends c.streams) place → IsTightOver low c.streams place
       → value_of hot cold (map (corner_price (hot_target c.streams) low place) hot) (map (corner_price (hot_target c.streams) low place) cold)
@@ -105,15 +124,19 @@ module _ {c : Case} {hot cold : List Part} (s : AreStandardParts c hot cold) (lo
 -- ---- the deficit that the prices go by
 
 -- a stream that has no level at a place has the same heat above it and from it on
-same_heat : (place : ℤ) (s : Stream) → IsValidStream s → is_level_at place s ≡ false → heat_over true place s ≡ heat_over false place s
-same_heat place s h e = ap (λ load. sensible_above place s +ℤ load) (by_parts (and_cases (int_lt (pos 0) s.load) (int_eq (high_end s) place) e))
+same_heat : (place : ℤ) (s : Stream) → IsValidStream s → is_level_at place s ≡ false
+    → heat_over true place s ≡ heat_over false place s
+same_heat place s h e =
+    ap (λ load. sensible_above place s +ℤ load) (by_parts (and_cases (int_lt (pos 0) s.load) (int_eq (high_end s) place) e))
   where
-    by_parts : (int_lt (pos 0) s.load ≡ false) ⊎ (int_eq (high_end s) place ≡ false) → load_over true place s ≡ load_over false place s
+    by_parts : (int_lt (pos 0) s.load ≡ false) ⊎ (int_eq (high_end s) place ≡ false)
+        → load_over true place s ≡ load_over false place s
     by_parts (inl none) =
         let load = load-between s h.heat in
         let zero : s.load ≡ pos 0 =
         by_lt_z (pos 0) s.load (λ more. absurd (false≢true (sym none ∙ int_lt-from (pos 0) s.load more))) (λ most. omega (arith, ints, load)) in
-        if_zero (counts_above true place (high_end s)) s.load zero ∙ sym (if_zero (counts_above false place (high_end s)) s.load zero)
+        if_zero (counts_above true place (high_end s)) s.load zero
+        ∙ sym (if_zero (counts_above false place (high_end s)) s.load zero)
     by_parts (inr other) =
         let differ : high_end s ≢ place = λ same. false≢true (sym other ∙ (Decides-int_eq (high_end s) place).1 same) in
         let same : counts_above true place (high_end s) ≡ counts_above false place (high_end s) =
@@ -130,9 +153,11 @@ same_deficit place streams valid none =
     (sum_side-same Hot (heat_over true place) (heat_over false place) streams same)
 
 -- the deficit over the reference place, as its prices count, is the hot target
-pub tight_counted : (streams : List Stream) (place : ℤ) (from : Bool) → All IsValidStream streams → IsReferencePlace streams place
+pub tight_counted : (streams : List Stream) (place : ℤ) (from : Bool) → All IsValidStream streams
+    → IsReferencePlace streams place
     → from ≡ true ↔ CountsFromItself streams place → IsTightOver (counts_low streams from place) streams place
-tight_counted streams place true valid reference counts = ⊎_elim (λ e. absurd (counts.0 refl e)) (λ e. e) reference.at.tight
+tight_counted streams place true valid reference counts =
+    ⊎_elim (λ e. absurd (counts.0 refl e)) (λ e. e) reference.at.tight
 tight_counted streams place false valid reference counts = by_level (has_level streams place) refl
   where
     above_is : deficit_above streams place ≡ hot_target streams
@@ -140,6 +165,8 @@ tight_counted streams place false valid reference counts = by_level (has_level s
         (λ e. absurd (false≢true (counts.1 (λ same. false≢true (sym e ∙ (Decides-int_eq (deficit_above streams place) (hot_target streams)).1 same)))))
         (cases_Bool (int_eq (deficit_above streams place) (hot_target streams)))
 
-    by_level : (b : Bool) → has_level streams place ≡ b → IsTightOver (false || not (has_level streams place)) streams place
+    by_level : (b : Bool) → has_level streams place ≡ b
+        → IsTightOver (false || not (has_level streams place)) streams place
     by_level true e = subst (λ (x : Bool). IsTightOver (not x) streams place) (sym e) above_is
-    by_level false e = subst (λ (x : Bool). IsTightOver (not x) streams place) (sym e) (same_deficit place streams valid e ∙ above_is)
+    by_level false e =
+        subst (λ (x : Bool). IsTightOver (not x) streams place) (sym e) (same_deficit place streams valid e ∙ above_is)

@@ -17,17 +17,22 @@ int_sum_by-take : {X : Type 0} (f : X → ℤ) (n m : ℕ) (xs : List X)
     → int_sum_by f (take n xs) ≡ int_sum_from (λ k x. if nat_lt k (m + n) then f x else pos 0) m xs
 int_sum_by-take f zero m [] = refl
 int_sum_by-take f (suc n) m [] = refl
-int_sum_by-take f zero m (x ∷ xs) = sym (int_sum_from-zero (λ k y. if nat_lt k (m + zero) then f y else pos 0) m (x ∷ xs)
+int_sum_by-take f zero m (x ∷ xs) =
+    sym (int_sum_from-zero (λ k y. if nat_lt k (m + zero) then f y else pos 0) m (x ∷ xs)
     (λ k y le. ap (λ b. if b then f y else pos 0) (le-ltb k (m + zero) (omega arith))))
-int_sum_by-take f (suc n) m (x ∷ xs) = ap₂ ◌+ℤ◌ (sym (ap (λ b. if b then f x else pos 0) (lt-ltb m (m + suc n) (omega arith)))) (int_sum_by-take f n (suc m) xs
+int_sum_by-take f (suc n) m (x ∷ xs) =
+    ap₂ ◌+ℤ◌ (sym (ap (λ b. if b then f x else pos 0) (lt-ltb m (m + suc n) (omega arith)))) (int_sum_by-take f n (suc m) xs
     ∙ ap (λ e. int_sum_from (λ k y. if nat_lt k e then f y else pos 0) (suc m) xs) {x = suc m + n} {y = m + suc n} (omega arith))
 
 -- what the parts before an index have
 abbrev pub heat_before : ℤ → ℕ → ℕ → Part → ℤ
 heat_before target n k p = if nat_lt k n then part_heat target p else pos 0
 
-begin_of-heats : (target : ℤ) (parts : List Part) (n : ℕ) → begin_of (heats_of target parts) n ≡ int_sum_from (heat_before target n) 0 parts
-begin_of-heats target parts n = ap (int_sum_by (λ x. x)) (take-map (part_heat target) n parts) ∙ int_sum_by-map (λ x. x) (part_heat target) (take n parts)
+begin_of-heats : (target : ℤ) (parts : List Part) (n : ℕ)
+    → begin_of (heats_of target parts) n ≡ int_sum_from (heat_before target n) 0 parts
+begin_of-heats target parts n =
+    ap (int_sum_by (λ x. x)) (take-map (part_heat target) n parts)
+    ∙ int_sum_by-map (λ x. x) (part_heat target) (take n parts)
     ∙ int_sum_by-take (part_heat target) n 0 parts ∙ ap (λ e. int_sum_from (heat_before target e) 0 parts) (zero-add n)
 
 -- ---- parts that do not reach
@@ -60,7 +65,8 @@ part_over-le from place target p h k = either (is_stream p.source) (stands_above
 
 module _ {c : Case} {hot cold : List Part} (s : AreStandardParts c hot cold) (from : Bool) (place : ℤ) (on : Contains s.grid place) where
   -- the hot heat above a place stands before a hot part that does not stand above it
-  hot_before : (i : ℕ) (p : Part) → slice_get hot i ≡ Some p → stands_above from place p ≡ false → counts_above from place (end_of c Hot) ≡ true
+  hot_before : (i : ℕ) (p : Part) → slice_get hot i ≡ Some p → stands_above from place p ≡ false
+      → counts_above from place (end_of c Hot) ≡ true
       → (hot_target c.streams +ℤ sum_side Hot (heat_over from place) c.streams) ≤ℤ begin_of (heats_of (hot_target c.streams) hot) i
   hot_before i p at missed top =
       let target = hot_target c.streams in
@@ -70,18 +76,22 @@ module _ {c : Case} {hot cold : List Part} (s : AreStandardParts c hot cold) (fr
       let heat = (part_over-le from place target q part.bounded.least.from (hot_target-between c.streams s.valid.are_streams).from).1 in
       let here = ap (λ b. if b then part_heat target q else pos 0) (lt-ltb k i early) in
       omega (arith, ints)) (λ late.
-      let falls = (s.sides Hot).falls i k p q at other late in let past = ap (λ b. if b then part_heat target q else pos 0) (le-ltb k i late) in
-      let not_above : stands_above from place q ≡ true → ⊥ = λ e. false≢true (sym missed ∙ stands_falls from place p q falls.0 falls.1 e) in
+      let falls = (s.sides Hot).falls i k p q at other late in
+      let past = ap (λ b. if b then part_heat target q else pos 0) (le-ltb k i late) in
+      let not_above : stands_above from place q ≡ true → ⊥
+      = λ e. false≢true (sym missed ∙ stands_falls from place p q falls.0 falls.1 e) in
       let none : part_over from place target q ≡ pos 0 = ⊎_elim (λ h. from_stream from place target q h.source_is
       ∙ zero_times (above from place q) q.least (ap (λ b. if b then pos 1 else pos 0) (false_from_ne_true (stands_above from place q) not_above)))
       (λ h. absurd (not_above (stands-level from place (end_of c Hot) q h.high h.low ∙ top)))
       part.kind in
       omega (arith, ints)) (cases_lt k i)) in
-      let plain = int_sum_from-by (part_over from place target) 0 hot in let sum = (s.sides Hot).sum from place target on in
+      let plain = int_sum_from-by (part_over from place target) 0 hot in
+      let sum = (s.sides Hot).sum from place target on in
       let begin = begin_of-heats target hot i in omega (arith, ints)
 
   -- the cold heat up to a part that stands above a place lies above the place
-  cold_upto : (j : ℕ) (q : Part) → slice_get cold j ≡ Some q → stands_above from place q ≡ true → counts_above from place (end_of c Cold) ≡ false
+  cold_upto : (j : ℕ) (q : Part) → slice_get cold j ≡ Some q → stands_above from place q ≡ true
+      → counts_above from place (end_of c Cold) ≡ false
       → begin_of (heats_of (cold_target c.streams) cold) (suc j) ≤ℤ sum_side Cold (heat_over from place) c.streams
   cold_upto j q at stands bottom =
       let target = cold_target c.streams in
@@ -93,38 +103,52 @@ module _ {c : Case} {hot cold : List Part} (s : AreStandardParts c hot cold) (fr
       let higher = stands_falls from place r q falls.0 falls.1 stands in
       ⊎_elim (λ h.
       let whole = heat_of_stream target r h.source_is in
-      let all = from_stream from place (pos 0) r h.source_is ∙ one_times (above from place r) r.least (ap (λ b. if b then pos 1 else pos 0) higher) in
+      let all = from_stream from place (pos 0) r h.source_is
+      ∙ one_times (above from place r) r.least (ap (λ b. if b then pos 1 else pos 0) higher) in
       omega (arith, ints)) (λ h. absurd (false≢true (sym bottom ∙ sym (stands-level from place (end_of c Cold) r h.high h.low) ∙ higher)))
       part.kind) (λ late.
       let heat = (part_over-le from place (pos 0) r part.bounded.least.from (omega (arith, ints))).0 in
       let past = ap (λ b. if b then part_heat target r else pos 0) (le-ltb k (suc j) late) in
       omega (arith, ints)) (cases_lt k (suc j))) in
-      let plain = int_sum_from-by (part_over from place (pos 0)) 0 cold in let sum = (s.sides Cold).sum from place (pos 0) on in
+      let plain = int_sum_from-by (part_over from place (pos 0)) 0 cold in
+      let sum = (s.sides Cold).sum from place (pos 0) on in
       let begin = begin_of-heats target cold (suc j) in omega (arith, ints)
 
   -- so the spans of two parts with a place between them do not overlap
-  no_overlap : (i j : ℕ) (p q : Part) → slice_get hot i ≡ Some p → slice_get cold j ≡ Some q → stands_above from place p ≡ false
-      → stands_above from place q ≡ true → counts_above from place (end_of c Hot) ≡ true → counts_above from place (end_of c Cold) ≡ false
+  no_overlap : (i j : ℕ) (p q : Part) → slice_get hot i ≡ Some p → slice_get cold j ≡ Some q
+      → stands_above from place p ≡ false
+      → stands_above from place q ≡ true → counts_above from place (end_of c Hot) ≡ true
+      → counts_above from place (end_of c Cold) ≡ false
       → pos 0 <ℤ overlap (heats_of (hot_target c.streams) hot) (heats_of (cold_target c.streams) cold) i j → ⊥
-  no_overlap i j p q at other missed stands top bottom positive = let begin = hot_before i p at missed top in let end = cold_upto j q other stands bottom in
-      let bound = deficit_over-bound from c.streams place (s.grid_end place on) in omega (arith, ints, clamps)
+  no_overlap i j p q at other missed stands top bottom positive =
+      let begin = hot_before i p at missed top in
+      let end = cold_upto j q other stands bottom in
+      let bound = deficit_over-bound from c.streams place (s.grid_end place on) in
+      omega (arith, ints, clamps)
 
 module _ {c : Case} {hot cold : List Part} (s : AreStandardParts c hot cold) where
   -- of two parts that do not reach the hot one lies below the low of a cold one on an interval
   lower : (p q : Part) → StandsOn s.grid p → IsInterval s.grid q.high q.low → passes_heat p q ≡ false → p.high ≤ℤ q.low
-  lower p q (inl level) k missed = let (below, differ) = apart p q missed in let same = level.0 in
-      let at_most = interval_below s.grid q.high q.low p.high s.grid_falls k level.1 (omega (arith, ints)) in omega (arith, ints)
+  lower p q (inl level) k missed =
+      let (below, differ) = apart p q missed in
+      let same = level.0 in
+      let at_most = interval_below s.grid q.high q.low p.high s.grid_falls k level.1 (omega (arith, ints)) in
+      omega (arith, ints)
   lower p q (inr h) k missed =
-      let (below, differ) = apart p q missed in let mine = interval_ends s.grid p.high p.low h in let other = interval_ends s.grid q.high q.low k in
+      let (below, differ) = apart p q missed in
+      let mine = interval_ends s.grid p.high p.low h in
+      let other = interval_ends s.grid q.high q.low k in
       let at_most = interval_below s.grid q.high q.low p.low s.grid_falls k mine.1 below in
       by_lt_z p.low q.low (λ less. interval_above s.grid p.high p.low q.low s.grid_falls h other.1 less) (λ most.
       let step = interval_falls s.grid p.high p.low s.grid_falls h in
       let up = interval_above s.grid q.high q.low p.high s.grid_falls k mine.0 (omega (arith, ints)) in
-      let down = interval_above s.grid p.high p.low q.high s.grid_falls h other.0 below in absurd (differ (omega (arith, ints)) (omega (arith, ints))))
+      let down = interval_above s.grid p.high p.low q.high s.grid_falls h other.0 below in
+      absurd (differ (omega (arith, ints)) (omega (arith, ints))))
 
   -- two parts whose spans overlap reach
   pub overlap-passes : (i j : ℕ) (p q : Part) → slice_get hot i ≡ Some p → slice_get cold j ≡ Some q
-      → pos 0 <ℤ overlap (heats_of (hot_target c.streams) hot) (heats_of (cold_target c.streams) cold) i j → passes_heat p q ≡ true
+      → pos 0 <ℤ overlap (heats_of (hot_target c.streams) hot) (heats_of (cold_target c.streams) cold) i j
+      → passes_heat p q ≡ true
   overlap-passes i j p q at other positive =
       ⊎_elim (λ e. e) (λ missed. absurd (never missed ((s.sides Hot).each i p at) ((s.sides Cold).each j q other))) (cases_Bool (passes_heat p q))
     where
@@ -139,12 +163,16 @@ module _ {c : Case} {hot cold : List Part} (s : AreStandardParts c hot cold) whe
 
           split : StandsOn s.grid q → ⊥
           split (inl level) =
-              let same = level.0 in let from = x.from in let upto = y.upto in
+              let same = level.0 in
+              let from = x.from in
+              let upto = y.upto in
               no_overlap s true q.low on i j p q at other (int_le-false q.low p.low (omega (arith, ints, below)))
               (int_le-from q.low q.low (omega (arith, ints)))
               (from_place q.low (end_of c Hot) (omega (arith, ints))) (counts_lower true q.low (end_of c Cold) (omega (arith, ints, below))) positive
           split (inr interval) =
-              let falls = interval_falls s.grid q.high q.low s.grid_falls interval in let under = lower p q x.ends interval missed in let from = y.from in
+              let falls = interval_falls s.grid q.high q.low s.grid_falls interval in
+              let under = lower p q x.ends interval missed in
+              let from = y.from in
               let upto = y.upto in
               no_overlap s false q.low on i j p q at other (int_lt-false q.low p.high under) (int_lt-from q.low q.high falls)
               (counts_higher false q.low (end_of c Hot) (omega (arith, ints))) (int_lt-false q.low (end_of c Cold) from) positive

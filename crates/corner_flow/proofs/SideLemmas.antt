@@ -50,8 +50,10 @@ pub record IsStandardPart (c : Case) (grid : List ℤ) (side : Side) (p : Part) 
 -- what the proofs use of the parts of a side
 pub record IsStandardSide (c : Case) (grid : List ℤ) (side : Side) (parts : List Part) : Type 0 where
   pub each : (a : ℕ) (p : Part) → slice_get parts a ≡ Some p → IsStandardPart c grid side p
-  pub falls : (a b : ℕ) (p q : Part) → slice_get parts a ≡ Some p → slice_get parts b ≡ Some q → a ≤ b → (q.high ≤ℤ p.high) × (q.low ≤ℤ p.low)
-  pub sum : (from : Bool) (at each : ℤ) → Contains grid at → int_sum_by (part_over from at each) parts ≡ each +ℤ sum_side side (heat_over from at) c.streams
+  pub falls : (a b : ℕ) (p q : Part) → slice_get parts a ≡ Some p → slice_get parts b ≡ Some q → a ≤ b
+      → (q.high ≤ℤ p.high) × (q.low ≤ℤ p.low)
+  pub sum : (from : Bool) (at each : ℤ) → Contains grid at
+      → int_sum_by (part_over from at each) parts ≡ each +ℤ sum_side side (heat_over from at) c.streams
   pub utility : ℕ
   pub only : (a : ℕ) (p : Part) → slice_get parts a ≡ Some p → is_stream p.source ≡ false → a ≡ utility
 
@@ -70,14 +72,16 @@ pub record AreStandardParts (c : Case) (hot cold : List Part) : Type 0 where
 
 -- ---- they are so
 
-IsUtilityHere-standard : (c : Case) (side : Side) (i : ℕ) → IsUtilityHere c side (utility_part i (standard_utility side c))
+IsUtilityHere-standard : (c : Case) (side : Side) (i : ℕ)
+    → IsUtilityHere c side (utility_part i (standard_utility side c))
 IsUtilityHere-standard c Hot i =
     record { source_is = refl; high = shifted_level-standard Hot c; low = shifted_level-standard Hot c; least = refl; most = refl; price = refl }
 IsUtilityHere-standard c Cold i =
     record { source_is = refl; high = shifted_level-standard Cold c; low = shifted_level-standard Cold c; least = refl; most = refl; price = refl }
 
 -- a place that is below the high of a part is at most its low
-pub low_reached : (grid : List ℤ) (p : Part) (x : ℤ) → AllPairs (λ a b. b <ℤ a) grid → StandsOn grid p → Contains grid x → x <ℤ p.high → x ≤ℤ p.low
+pub low_reached : (grid : List ℤ) (p : Part) (x : ℤ) → AllPairs (λ a b. b <ℤ a) grid → StandsOn grid p
+    → Contains grid x → x <ℤ p.high → x ≤ℤ p.low
 low_reached grid p x falls (inl level) at less = let same = level.0 in omega (arith, ints)
 low_reached grid p x falls (inr interval) at less = interval_below grid p.high p.low x falls interval at less
 
@@ -86,10 +90,12 @@ pub ends_on : (grid : List ℤ) (p : Part) → StandsOn grid p → Contains grid
 ends_on grid p (inl level) = (level.1, subst (Contains grid) level.0 level.1)
 ends_on grid p (inr interval) = interval_ends grid p.high p.low interval
 
-in_order_of : (grid : List ℤ) (p q : Part) → AllPairs (λ a b. b <ℤ a) grid → StandsOn grid p → StandsOn grid q → q.low ≤ℤ q.high → comes_before p q
+in_order_of : (grid : List ℤ) (p q : Part) → AllPairs (λ a b. b <ℤ a) grid → StandsOn grid p
+    → StandsOn grid q → q.low ≤ℤ q.high → comes_before p q
     → (q.high ≤ℤ p.high) × (q.low ≤ℤ p.low)
 in_order_of grid p q falls on other order (inl h) =
-    let low = low_reached grid p q.high falls on (ends_on grid q other).0 h in (omega (arith, ints), omega (arith, ints))
+    let low = low_reached grid p q.high falls on (ends_on grid q other).0 h in
+    (omega (arith, ints), omega (arith, ints))
 in_order_of grid p q falls on other order (inr (inl h)) = (omega (arith, ints, h.0), omega (arith, ints, h.1))
 in_order_of grid p q falls on other order (inr (inr h)) = (omega (arith, ints, h.0), omega (arith, ints, h.1))
 
@@ -108,7 +114,8 @@ module _ (c : Case) (grid : List ℤ) (complete : IsComplete c) (standard : IsSt
   on_side a p at = subst OnSide (get_or_from_slice_get parts a p p at) (are.each a p (slice_get_within parts a p at))
 
   in_order : (a b : ℕ) (p q : Part) → slice_get parts a ≡ Some p → slice_get parts b ≡ Some q → a < b → comes_before p q
-  in_order a b p q at other less = subst₂ comes_before (get_or_from_slice_get parts a p q at) (get_or_from_slice_get parts b q q other)
+  in_order a b p q at other less =
+      subst₂ comes_before (get_or_from_slice_get parts a p q at) (get_or_from_slice_get parts b q q other)
       (are.ordered a b q less (slice_get_within parts b q other))
 
   -- the part of the utility of the side
@@ -120,10 +127,12 @@ module _ (c : Case) (grid : List ℤ) (complete : IsComplete c) (standard : IsSt
   own-is p (inl (i, s, h)) e = absurd (both_ways (is_stream p.source) e (ap (λ q. is_stream q.source) h.is))
   own-is p (inr (i, u, h)) e =
       let (j, at) = some_utility c standard side in
-      let is : u ≡ standard_utility side c = own_utility c standard i u h.utility ∙ ap (λ s. standard_utility s c) h.side_is in
+      let is : u ≡ standard_utility side c
+      = own_utility c standard i u h.utility ∙ ap (λ s. standard_utility s c) h.side_is in
       h.is ∙ ap₂ utility_part (one_utility c standard i j u (standard_utility side c) h.utility at (ap (λ v. v.side) is)) is
 
-  not_after : (p q : Part) → OnSide p → OnSide q → is_stream p.source ≡ false → is_stream q.source ≡ false → comes_before p q → ⊥
+  not_after : (p q : Part) → OnSide p → OnSide q → is_stream p.source ≡ false → is_stream q.source ≡ false
+      → comes_before p q → ⊥
   unfolding own
   not_after p q h k e f before = never (subst₂ comes_before (own-is p h e) (own-is q k f) before)
     where
@@ -136,7 +145,8 @@ module _ (c : Case) (grid : List ℤ) (complete : IsComplete c) (standard : IsSt
   unfolding own
   kind p (inl (i, s, h)) = inl
       (record { source_is = ap (λ q. is_stream q.source) h.is; fixed = ap (λ q. q.least) h.is ∙ sym (ap (λ q. q.most) h.is); price = ap (λ q. q.price) h.is })
-  kind p (inr (i, u, h)) = inr (subst (IsUtilityHere c side) (sym (own-is p (inr (i, u, h)) (ap (λ q. is_stream q.source) h.is)))
+  kind p (inr (i, u, h)) =
+      inr (subst (IsUtilityHere c side) (sym (own-is p (inr (i, u, h)) (ap (λ q. is_stream q.source) h.is)))
       (IsUtilityHere-standard c side (some_utility c standard side).0))
 
   -- a part of a stream is on an interval, or at its level, and one of a utility at its own
@@ -148,16 +158,22 @@ module _ (c : Case) (grid : List ℤ) (complete : IsComplete c) (standard : IsSt
       of_piece (inr (latent, same)) =
           let held = All-slice_get (λ (x : Stream). Contains grid (high_end x) × Contains grid (low_end x)) c.streams i s
           (holds_ends c.streams c.utilities grid holds) h.stream in
-          let level = level-latent s latent in let is : high_end s ≡ p.high = omega (arith, ints, h.from, h.upto) in inl (same, subst (Contains grid) is held.0)
+          let level = level-latent s latent in
+          let is : high_end s ≡ p.high = omega (arith, ints, h.from, h.upto) in
+          inl (same, subst (Contains grid) is held.0)
   on_places p (inr h) = at_level (kind p (inr h))
     where
       at_level : IsStreamHere p ⊎ IsUtilityHere c side p → StandsOn grid p
-      at_level (inl stream) = absurd (both_ways (is_stream p.source) (ap (λ q. is_stream q.source) h.2.is) stream.source_is)
-      at_level (inr utility) = inl (utility.high ∙ sym utility.low, subst (Contains grid) (sym utility.high) (end_on_grid c grid valid standard on_grid side))
+      at_level (inl stream) =
+          absurd (both_ways (is_stream p.source) (ap (λ q. is_stream q.source) h.2.is) stream.source_is)
+      at_level (inr utility) =
+          inl (utility.high ∙ sym utility.low, subst (Contains grid) (sym utility.high) (end_on_grid c grid valid standard on_grid side))
 
   order : (p : Part) → StandsOn grid p → p.low ≤ℤ p.high
   order p (inl level) = let same = level.0 in omega (arith, ints)
-  order p (inr interval) = let falls = interval_falls grid p.high p.low on_grid.ordered interval in omega (arith, ints)
+  order p (inr interval) =
+      let falls = interval_falls grid p.high p.low on_grid.ordered interval in
+      omega (arith, ints)
 
   -- the utility of the side is one of the parts
   own-at : (a : ℕ) × (slice_get parts a ≡ Some own)
@@ -174,9 +190,11 @@ module _ (c : Case) (grid : List ℤ) (complete : IsComplete c) (standard : IsSt
       let (b, other) = own-at in
       record {
         each = λ a p at.
-            let here = on_side a p at in let ends = ends_on grid p (on_places p here) in
+            let here = on_side a p at in
+            let ends = ends_on grid p (on_places p here) in
             record {
-              bounded = IsBounded-part c.streams c.utilities side grid valid.are_streams.each (IsPlaced-IsComplete c complete) holds p here;
+              bounded =
+                  IsBounded-part c.streams c.utilities side grid valid.are_streams.each (IsPlaced-IsComplete c complete) holds p here;
               from = grid_within c grid valid standard on_grid Cold p.low ends.1;
               falls = order p (on_places p here);
               upto = grid_within c grid valid standard on_grid Hot p.high ends.0;
@@ -184,9 +202,12 @@ module _ (c : Case) (grid : List ℤ) (complete : IsComplete c) (standard : IsSt
               kind = kind p here;
             };
         falls = λ a d p q at last le.
-            let here = on_places p (on_side a p at) in let there = on_places q (on_side d q last) in
+            let here = on_places p (on_side a p at) in
+            let there = on_places q (on_side d q last) in
             ⊎_elim (λ e.
-            let same = same_Some p q (sym at ∙ ap (slice_get parts) e ∙ last) in let high = ap (λ r. r.high) same in let low = ap (λ r. r.low) same in
+            let same = same_Some p q (sym at ∙ ap (slice_get parts) e ∙ last) in
+            let high = ap (λ r. r.high) same in
+            let low = ap (λ r. r.low) same in
             (omega (arith, ints), omega (arith, ints)))
             (λ differ. in_order_of grid p q on_grid.ordered here there (order q there) (in_order a d p q at last (omega (arith, differ)))) (cases_eq a d);
         sum = λ from at each found.
@@ -199,7 +220,8 @@ module _ (c : Case) (grid : List ℤ) (complete : IsComplete c) (standard : IsSt
             (λ more. absurd (not_after own p (on_side b own other) (on_side a p at) refl e (in_order b a own p other at more)))) (cases_order a b);
       }
 
-pub AreStandardParts-parts : {c : Case} {hot cold : List Part} → IsComplete c → IsStandard c → AreCaseParts c hot cold → AreStandardParts c hot cold
+pub AreStandardParts-parts : {c : Case} {hot cold : List Part} → IsComplete c → IsStandard c
+    → AreCaseParts c hot cold → AreStandardParts c hot cold
 AreStandardParts-parts {c} {hot} {cold} complete standard parts =
     let valid = HasValidStreams-IsComplete c complete in
     record {

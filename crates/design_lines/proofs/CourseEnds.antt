@@ -19,7 +19,8 @@ no_end-declared (e ∷ exchangers) = no_end-declared exchangers
 abbrev streams_of : Network → List Line → List ℕ
 streams_of network lines = map (stream_at network.branches) (flat_map ends lines)
 
-course_ends : (network : Network) (stream : ℕ) (course : Course) (lines : List Line) (next : ℕ) → stream_at network.branches stream ≡ stream
+course_ends : (network : Network) (stream : ℕ) (course : Course) (lines : List Line) (next : ℕ)
+    → stream_at network.branches stream ≡ stream
     → AreOfStream network stream next (course_branches course)
     → streams_of network (course_lines next stream course ++ lines) ≡ stream ∷ streams_of network lines
 course_ends network stream course lines next own others =
@@ -37,7 +38,8 @@ course_ends network stream course lines next own others =
     (0 + (sum_by (λ shares. sum_by (λ (s : Share). 0) shares) course + 0)) course lines (λ k d within. tt)
     (λ k d within j e inside. tt) (omega arith) (omega arith) (λ n low high. own) (omega arith) (λ b of_b. ap (λ k. k ∷ streams_of network lines) of_b)
 
-courses_end : (case : Case) (network : Network) (courses : List (List LedStage)) (next stream : ℕ) → AreLedFrom case network next stream courses
+courses_end : (case : Case) (network : Network) (courses : List (List LedStage)) (next stream : ℕ)
+    → AreLedFrom case network next stream courses
     → streams_of network (courses_lines next stream (courses_along courses)) ≡ range_with_len stream (length courses)
 courses_end case network [] next stream led = refl
 courses_end case network (course ∷ courses) next stream led =
@@ -47,13 +49,15 @@ courses_end case network (course ∷ courses) next stream led =
     ∙ ap (λ ks. stream ∷ ks) (courses_end case network courses last (stream + 1) led.3)
 
 -- the lines of a network are declarations and the courses of all its streams
-pub each_ended : (case : Case) (network : Network) (declared : List Line) (courses : List (List LedStage)) (next : ℕ) → flat_map ends declared ≡ []
+pub each_ended : (case : Case) (network : Network) (declared : List Line) (courses : List (List LedStage)) (next : ℕ)
+    → flat_map ends declared ≡ []
     → network.lines ≡ declared ++ courses_lines next 0 (courses_along courses) → AreLedFrom case network next 0 courses
     → (stream : ℕ) → stream < length courses → Contains (ended_streams network) stream
 unfolding ended_streams ended_by
 each_ended case network declared courses next none lines_are led stream within =
     let all : ended_streams network ≡ range_with_len 0 (length courses) =
-    ap (streams_of network) lines_are ∙ ap (map (stream_at network.branches)) (no_end-first declared (courses_lines next 0 (courses_along courses)) none)
+    ap (streams_of network) lines_are
+    ∙ ap (map (stream_at network.branches)) (no_end-first declared (courses_lines next 0 (courses_along courses)) none)
     ∙ courses_end case network courses next 0 led in
     let long = ap length all ∙ length-range_with_len 0 (length courses) in
     let number : 0 + stream ≡ stream = omega arith in

@@ -22,14 +22,18 @@ value_of size t = record { cp = size; t = t }
 
 -- ---- the branches of the shares
 
-pub length-split_values : (before : Rational) (shares : List Share) → length (split_values before shares) ≡ 2 * (length shares - 1)
+pub length-split_values : (before : Rational) (shares : List Share)
+    → length (split_values before shares) ≡ 2 * (length shares - 1)
 length-split_values before [] = omega arith
 length-split_values before (s ∷ []) = omega arith
-length-split_values before (s ∷ t ∷ shares) = let rest = length-split_values before (t ∷ shares) in omega (arith, rest)
+length-split_values before (s ∷ t ∷ shares) =
+    let rest = length-split_values before (t ∷ shares) in
+    omega (arith, rest)
 
 -- ---- behind the mixes
 
-pub mixes_end : (after size : Rational) (shares : List Share) (values : Valuation) (first end : ℕ) → Carries values first (value_of size after)
+pub mixes_end : (after size : Rational) (shares : List Share) (values : Valuation) (first end : ℕ)
+    → Carries values first (value_of size after)
     → (length shares ≡ 0 → end ≡ first) → (0 < length shares → end + 1 ≡ length values + length shares)
     → Carries (values ++ mix_values after size shares) end (value_of (plus size (size_of shares)) after)
 mixes_end after size [] values first end carries none some =
@@ -52,7 +56,8 @@ module _ (case : Case) (network : Network) (R : ℕ → ℕ → Rational → Rat
   pub side_is : (branch : ℕ) → stream_at network.branches branch ≡ stream → branch_side case network branch ≡ s.side
   unfolding branch_side
   side_is branch of_stream =
-      ap (λ k. unwrap_or (side_of case (source.Stream k)) side.Hot) of_stream ∙ ap (λ o. unwrap_or (option_map (λ (a : Stream). a.side) o) side.Hot) here
+      ap (λ k. unwrap_or (side_of case (source.Stream k)) side.Hot) of_stream
+      ∙ ap (λ o. unwrap_or (option_map (λ (a : Stream). a.side) o) side.Hot) here
 
   -- before a stage: the branch of the stream carries all of it, in the state in which the stage begins, and the shares run as `R` asks
   pub record IsBefore (values : Valuation) (next from : ℕ) (stage : LedStage) : Type 0 where
@@ -67,7 +72,8 @@ module _ (case : Case) (network : Network) (R : ℕ → ℕ → Rational → Rat
   pub record IsStageMade (values : Valuation) (next from : ℕ) (stage : LedStage) : Type 0 where
     pub made : MakeAndRun case network R values (stage_lines next from stage.shares) (stage_values stage.before stage.after stage.shares)
     pub ends : Carries (values ++ stage_values stage.before stage.after stage.shares) (stage_end next stage.shares) (value_of (full_size s) stage.after)
-    pub next_is : stage_end next stage.shares + 1 ≡ length (values ++ stage_values stage.before stage.after stage.shares)
+    pub next_is : stage_end next stage.shares + 1
+        ≡ length (values ++ stage_values stage.before stage.after stage.shares)
 
   made_stage : (before after : Rational) (shares : List Share) (values : Valuation) (next from : ℕ)
       → IsBefore values next from (record { before = before; after = after; shares = shares })
@@ -87,7 +93,8 @@ module _ (case : Case) (network : Network) (R : ℕ → ℕ → Rational → Rat
       let of_stream = branches_hold (λ b. stream_at network.branches b ≡ stream) next from all is.own is.others in
       let whole_size = subst (λ a. Carries values from (value_of a before)) (sym led.sizes) is.carries in
       let split_makes = splits_make case network R before all values next from is.start whole_size led.positive in
-      let behind_is : behind ≡ length (values ++ divided) = omega (arith, is.start, length-append values divided, length-split_values before all) in
+      let behind_is : behind ≡ length (values ++ divided)
+      = omega (arith, is.start, length-append values divided, length-split_values before all) in
       let pass_makes = passes_make case network R stream s.side before after behind branches all (values ++ divided) behind_is split_makes.1 of_stream side_is
       led.positive led.duties is.runs in
       let from_there = pass_makes.1 in
@@ -98,31 +105,40 @@ module _ (case : Case) (network : Network) (R : ℕ → ℕ → Rational → Rat
       let end = stage_end next all in
       let last = mixes_end after first.cp shares ((values ++ divided) ++ passed) behind end from_there.0 (λ none. omega (arith, none))
       (λ some. omega (arith, mixed_from, some)) in
-      let joined : ((values ++ divided) ++ passed) ++ mixed ≡ values ++ (divided ++ (passed ++ mixed)) = append_assoc (values ++ divided) passed mixed
+      let joined : ((values ++ divided) ++ passed) ++ mixed ≡ values ++ (divided ++ (passed ++ mixed))
+      = append_assoc (values ++ divided) passed mixed
       ∙ append_assoc values divided (passed ++ mixed) in
       record {
-        made = run_append case network R values (splits next from all) (ps ++ ms) divided (passed ++ mixed) split_makes.0
+        made =
+            run_append case network R values (splits next from all) (ps ++ ms) divided (passed ++ mixed) split_makes.0
             (run_append case network R (values ++ divided) ps ms passed mixed pass_makes.0 mix_makes);
         ends = subst (λ vs. Carries vs end (value_of (full_size s) after)) joined
             (subst (λ a. Carries (((values ++ divided) ++ passed) ++ mixed) end (value_of a after)) led.sizes last);
-        next_is = omega (arith, mixed_from, length-append ((values ++ divided) ++ passed) mixed, length-mix_values after first.cp shares) ∙ ap length joined;
+        next_is =
+            omega (arith, mixed_from, length-append ((values ++ divided) ++ passed) mixed, length-mix_values after first.cp shares)
+            ∙ ap length joined;
       }
     where
       length-mix_values : (t size : Rational) (ss : List Share) → length (mix_values t size ss) ≡ length ss
       length-mix_values t size [] = refl
-      length-mix_values t size (a ∷ ss) = let rest = length-mix_values t (plus size a.cp) ss in omega (arith, rest)
+      length-mix_values t size (a ∷ ss) =
+          let rest = length-mix_values t (plus size a.cp) ss in
+          omega (arith, rest)
 
-  pub stage_made : (stage : LedStage) (values : Valuation) (next from : ℕ) → IsBefore values next from stage → IsStageMade values next from stage
+  pub stage_made : (stage : LedStage) (values : Valuation) (next from : ℕ) → IsBefore values next from stage
+      → IsStageMade values next from stage
   stage_made stage values next from is = made_stage stage.before stage.after stage.shares values next from is
 
 -- The values that a course makes, and those that all courses make.
 
 module _ (case : Case) (network : Network) (R : ℕ → ℕ → Rational → Rational → Type 0) (stream : ℕ) (s : Stream)
     (here : slice_get case.streams stream ≡ Some s) where
-  full_end : (values : Valuation) (branch : ℕ) (t : Rational) → stream_at network.branches branch ≡ stream → Carries values branch (value_of (full_size s) t)
+  full_end : (values : Valuation) (branch : ℕ) (t : Rational) → stream_at network.branches branch ≡ stream
+      → Carries values branch (value_of (full_size s) t)
       → t ≡ last_state s → IsFullEnd case network values branch
   full_end values branch t of_stream carries ends other at =
-      carries.is ∙ ap (value_of (full_size s)) ends ∙ ap last_value (same_Some s other (sym here ∙ ap (slice_get case.streams) (sym of_stream) ∙ at))
+      carries.is ∙ ap (value_of (full_size s)) ends
+      ∙ ap last_value (same_Some s other (sym here ∙ ap (slice_get case.streams) (sym of_stream) ∙ at))
 
   -- before the stages of a course that are left: the stream is in the state t, and they run as `R` asks
   record IsOnCourse (values : Valuation) (next from : ℕ) (t : Rational) (stages : List LedStage) : Type 0 where
@@ -140,10 +156,12 @@ module _ (case : Case) (network : Network) (R : ℕ → ℕ → Rational → Rat
     made : MakeAndRun case network R values (course_lines next from (shares_along stages)) (course_values stages)
     next_is : next + course_branches (shares_along stages) ≡ length (values ++ course_values stages)
 
-  course_made : (stages : List LedStage) (values : Valuation) (next from : ℕ) (t : Rational) → IsOnCourse values next from t stages
+  course_made : (stages : List LedStage) (values : Valuation) (next from : ℕ) (t : Rational)
+      → IsOnCourse values next from t stages
       → IsCourseMade values next from stages
   course_made [] values next from t is = record {
-    made = run_line case network R values (line.End from) [] [] [] refl (full_end values from t is.own is.carries is.ends) (λ final more at. tt)
+    made =
+        run_line case network R values (line.End from) [] [] [] refl (full_end values from t is.own is.carries is.ends) (λ final more at. tt)
         (run_none case network R (values ++ []));
     next_is = omega (arith, is.start) ∙ ap length (sym (append-nil values));
   }
@@ -173,7 +191,8 @@ module _ (case : Case) (network : Network) (R : ℕ → ℕ → Rational → Rat
         runs = All-tail (StageRuns case network R stream) stage stages is.runs;
       }) in
       record {
-        made = run_append case network R values (stage_lines next from stage.shares) later_lines made (course_values stages) one.made rest.made;
+        made =
+            run_append case network R values (stage_lines next from stage.shares) later_lines made (course_values stages) one.made rest.made;
         next_is = omega (arith, rest.next_is) ∙ ap length (append_assoc values made (course_values stages));
       }
 
@@ -184,14 +203,18 @@ pub record HaveOwn (case : Case) (values : Valuation) : Type 0 where
   pub each : (stream : ℕ) (s : Stream) → slice_get case.streams stream ≡ Some s → Carries values stream (first_value s)
 
 own_more : (case : Case) (values more : Valuation) → HaveOwn case values → HaveOwn case (values ++ more)
-own_more case values more own = record { each = λ stream s here. carries_more values more stream (first_value s) (own.each stream s here) }
+own_more case values more own =
+    record { each = λ stream s here. carries_more values more stream (first_value s) (own.each stream s here) }
 
 module _ (case : Case) (network : Network) (R : ℕ → ℕ → Rational → Rational → Type 0) where
   -- the shares of the course at each index run as `R` asks of the stream with that number
   abbrev pub EachRuns : ℕ → List (List LedStage) → Type 0
-  EachRuns stream courses = (k : ℕ) (course : List LedStage) → slice_get courses k ≡ Some course → All (StageRuns case network R (stream + k)) course
+  EachRuns stream courses =
+      (k : ℕ) (course : List LedStage) → slice_get courses k ≡ Some course
+      → All (StageRuns case network R (stream + k)) course
 
-  pub made_courses : (courses : List (List LedStage)) (values : Valuation) (next stream : ℕ) → next ≡ length values → HaveOwn case values
+  pub made_courses : (courses : List (List LedStage)) (values : Valuation) (next stream : ℕ)
+      → next ≡ length values → HaveOwn case values
       → AreLedFrom case network next stream courses → EachRuns stream courses
       → MakeAndRun case network R values (courses_lines next stream (courses_along courses)) (courses_values courses)
   made_courses [] values next stream start own led runs = run_none case network R values
@@ -214,7 +237,8 @@ module _ (case : Case) (network : Network) (R : ℕ → ℕ → Rational → Rat
       subst (λ n. All (StageRuns case network R n) other) (omega arith) (runs (suc k) other there)) in
       run_append case network R values (course_lines next stream (shares_along course)) later_lines made (courses_values courses) one.made rest
 
-pub courses_made : (case : Case) (network : Network) (courses : List (List LedStage)) (values : Valuation) (next stream : ℕ) → next ≡ length values
+pub courses_made : (case : Case) (network : Network) (courses : List (List LedStage)) (values : Valuation) (next stream : ℕ)
+    → next ≡ length values
     → HaveOwn case values → AreLedFrom case network next stream courses
     → Make case network values (courses_lines next stream (courses_along courses)) (courses_values courses)
 courses_made case network courses values next stream start own led =

@@ -7,7 +7,8 @@ use Rattle.networks.specs.declared.network.Line.TheVariants as line
 
 -- ---- the lines of courses declare nothing
 
-courses_none : (next stream : ℕ) (courses : List Course) → filter_map exchanger_of (courses_lines next stream courses) ≡ []
+courses_none : (next stream : ℕ) (courses : List Course)
+    → filter_map exchanger_of (courses_lines next stream courses) ≡ []
 courses_none next stream courses =
     let none : Simple (λ n lines. filter_map exchanger_of lines ≡ []) (λ shares. Unit {0}) = record {
       split = λ n from cp lines more. more;
@@ -24,7 +25,8 @@ declared_all : (exchangers : List Exchanger) → filter_map exchanger_of (map de
 declared_all [] = refl
 declared_all (e ∷ exchangers) = ap (λ (es : List Exchanger). e ∷ es) (declared_all exchangers)
 
-pub exchangers_of-drawn : (case : Case) (exchangers : List Exchanger) (courses : List Course) → exchangers_of (drawn case exchangers courses).lines ≡ exchangers
+pub exchangers_of-drawn : (case : Case) (exchangers : List Exchanger) (courses : List Course)
+    → exchangers_of (drawn case exchangers courses).lines ≡ exchangers
 unfolding exchangers_of
 exchangers_of-drawn case exchangers courses =
     let declared = map declared_line exchangers in
@@ -33,8 +35,10 @@ exchangers_of-drawn case exchangers courses =
     ∙ append-nil (filter_map exchanger_of declared) ∙ declared_all exchangers
 
 -- a line behind declarations: what was declared before it is what stood before them, and they
-declared_then : (branches : List Branch) (before exchangers : List Exchanger) (lines : List Line) → filter_map exchanger_of lines ≡ []
-    → All (PassesDeclared branches (before ++ exchangers)) lines → (index : ℕ) (l : Line) → slice_get (map declared_line exchangers ++ lines) index ≡ Some l
+declared_then : (branches : List Branch) (before exchangers : List Exchanger) (lines : List Line)
+    → filter_map exchanger_of lines ≡ []
+    → All (PassesDeclared branches (before ++ exchangers)) lines → (index : ℕ) (l : Line)
+    → slice_get (map declared_line exchangers ++ lines) index ≡ Some l
     → PassesDeclared branches (before ++ filter_map exchanger_of (take index (map declared_line exchangers ++ lines))) l
 declared_then branches before [] lines none each index l at =
     let nothing : filter_map exchanger_of (take index lines) ≡ [] = none_before lines index none in

@@ -28,7 +28,8 @@ few-stage next from shares =
     let mixed = few-mixes (n - 1) (behind + n) behind (behind + 1) in
     omega (arith, length-append (splits next from shares) (ps ++ ms), length-append ps ms, few-splits next from shares, few-passes behind divided shares, mixed)
 
-few-course : (next from : ℕ) (course : Course) → length (course_lines next from course) ≤ 3 * sum_by (λ ss. length ss) course + 1
+few-course : (next from : ℕ) (course : Course)
+    → length (course_lines next from course) ≤ 3 * sum_by (λ ss. length ss) course + 1
 few-course next from [] = omega arith
 few-course next from (shares ∷ stages) =
     let last = stage_end next shares in

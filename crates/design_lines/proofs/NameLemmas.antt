@@ -12,15 +12,18 @@ digit_name_byte c digit = grind (arith, nat_tests)
 digits_name_bytes : (ds : List ℕ) → AllDigits 10 ds → All (λ x. IsTrue (is_name_byte x)) ds
 digits_name_bytes [] digits = All-nil (λ x. IsTrue (is_name_byte x))
 digits_name_bytes (d ∷ ds) digits =
-    let parts = tells_digits.parts d ds digits in All-cons (λ x. IsTrue (is_name_byte x)) _ _ (digit_name_byte d parts.0) (digits_name_bytes ds parts.1)
+    let parts = tells_digits.parts d ds digits in
+    All-cons (λ x. IsTrue (is_name_byte x)) _ _ (digit_name_byte d parts.0) (digits_name_bytes ds parts.1)
 
 digits_name : (ds : List ℕ) → AllDigits 10 ds → 0 < length ds → length ds ≤ 16 → IsName ds
 digits_name [] digits some short = absurd (omega (arith, some))
 digits_name (d ∷ ds) digits some short =
-    let parts = tells_digits.parts d ds digits in (digit_alphanumeric d parts.0, digits_name_bytes ds parts.1, omega (arith, short))
+    let parts = tells_digits.parts d ds digits in
+    (digit_alphanumeric d parts.0, digits_name_bytes ds parts.1, omega (arith, short))
 
 short_decimal : (number : ℕ) → number < 2 ^ 33 → length (decimal (number + 1)) ≤ 10
-short_decimal number small = length-decimal-le 10 (number + 1) (omega arith) (omega (arith, small)) (omega (arith, small))
+short_decimal number small =
+    length-decimal-le 10 (number + 1) (omega arith) (omega (arith, small)) (omega (arith, small))
 
 pub IsName-exchanger_name : (number : ℕ) → number < 2 ^ 33 → IsName (exchanger_name number)
 IsName-exchanger_name number small =
@@ -34,4 +37,5 @@ IsDottedName-branch_name number small =
 
 -- a number by its decimal digits
 pub number_of_decimal : (m n : ℕ) → m < 2 ^ 33 → n < 2 ^ 33 → decimal (m + 1) ≡ decimal (n + 1) → m ≡ n
-number_of_decimal m n small_m small_n same = omega (arith, decimal_injective (m + 1) (n + 1) (omega (arith, small_m)) (omega (arith, small_n)) same)
+number_of_decimal m n small_m small_n same =
+    omega (arith, decimal_injective (m + 1) (n + 1) (omega (arith, small_m)) (omega (arith, small_n)) same)

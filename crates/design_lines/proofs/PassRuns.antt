@@ -9,7 +9,8 @@ pub use Rattle.design_lines.proofs.ValueSteps.{RunsAs, StageRuns}
 
 pub courses_run : (case : Case) (network : Network) (R : ℕ → ℕ → Rational → Rational → Type 0) (courses : List (List LedStage)) (values more final : Valuation)
     (next stream : ℕ) → next ≡ length values → HaveOwn case values
-    → AreLedFrom case network next stream courses → EachRuns case network R stream courses → final ≡ values ++ (courses_values courses ++ more)
+    → AreLedFrom case network next stream courses → EachRuns case network R stream courses
+    → final ≡ values ++ (courses_values courses ++ more)
     → All (RunsAs case network R final) (courses_lines next stream (courses_along courses))
 courses_run case network R courses values more final next stream start own led runs =
     (made_courses case network R courses values next stream start own led runs).runs final more

@@ -17,11 +17,14 @@ pub record IsSensibleCase (case : Case) : Type 0 where
   pub complete : IsComplete case
   pub sensible : AreSensible case.streams
 
-pub AreSensibleStreams-both : (streams : List Stream) → AreStreams streams → AreSensible streams → AreSensibleStreams streams
-AreSensibleStreams-both streams are sensible = record { are = are; each = λ k d within. record { valid = are.each k d within; sensible = sensible k d within } }
+pub AreSensibleStreams-both : (streams : List Stream) → AreStreams streams → AreSensible streams
+    → AreSensibleStreams streams
+AreSensibleStreams-both streams are sensible =
+    record { are = are; each = λ k d within. record { valid = are.each k d within; sensible = sensible k d within } }
 
 pub IsSensibleCase-both : (case : Case) → IsComplete case → AreSensible case.streams → IsSensibleCase case
 IsSensibleCase-both case complete sensible = record { complete = complete; sensible = sensible }
 
 pub AreSensibleStreams-case : (case : Case) → IsSensibleCase case → AreSensibleStreams case.streams
-AreSensibleStreams-case case is = AreSensibleStreams-both case.streams (AreStreams-IsComplete case is.complete) is.sensible
+AreSensibleStreams-case case is =
+    AreSensibleStreams-both case.streams (AreStreams-IsComplete case is.complete) is.sensible

@@ -13,14 +13,16 @@ pub record IsOver (d : ℕ) (a : Rational) : Type 0 where
   pub is : a ≡ ratio num d
 
 over-plus : (d : ℕ) (a b : Rational) → IsOver d a → IsOver d b → IsOver d (plus a b)
-over-plus d a b one two = record { num = one.num +ℤ two.num; is = ap₂ plus one.is two.is ∙ plus-ratio_same_den one.num two.num d }
+over-plus d a b one two =
+    record { num = one.num +ℤ two.num; is = ap₂ plus one.is two.is ∙ plus-ratio_same_den one.num two.num d }
 
 abbrev pub AreOver : ℕ → List Share → Type 0
 AreOver d shares = All (λ s. IsOver d s.cp) shares
 
 over-size : (d : ℕ) (shares : List Share) → AreOver d shares → IsOver d (size_of shares)
 over-size d [] over = record { num = pos 0; is = sym (ratio-zero d) }
-over-size d (s ∷ shares) over = over-plus d s.cp (size_of shares) (All-head (λ (a : Share). IsOver d a.cp) s shares over)
+over-size d (s ∷ shares) over =
+    over-plus d s.cp (size_of shares) (All-head (λ (a : Share). IsOver d a.cp) s shares over)
     (over-size d shares (All-tail (λ (a : Share). IsOver d a.cp) s shares over))
 
 -- a branch that a stage makes
@@ -44,21 +46,25 @@ module _ (d : ℕ) (full before after : Rational) where
     rest_least : IsAtMost rational_zero (size_of shares)
     rest_most : IsAtMost (size_of shares) full
 
-  is_first : (s : Share) (shares : List Share) → AreOver d (s ∷ shares) → ArePositive (s ∷ shares) → IsAtMost (size_of (s ∷ shares)) full → IsFirst s shares
+  is_first : (s : Share) (shares : List Share) → AreOver d (s ∷ shares) → ArePositive (s ∷ shares)
+      → IsAtMost (size_of (s ∷ shares)) full → IsFirst s shares
   is_first s shares over positive most =
       let least = at_most_from_below rational_zero s.cp (first_positive s shares positive) in
       let later = size_not_negative shares (others_positive s shares positive) in
       record {
         first_over = All-head (λ (a : Share). IsOver d a.cp) s shares over;
         first_least = least;
-        first_most = at_most_trans s.cp (plus s.cp (size_of shares)) full (at_most-plus_right s.cp (size_of shares) later) most;
+        first_most =
+            at_most_trans s.cp (plus s.cp (size_of shares)) full (at_most-plus_right s.cp (size_of shares) later) most;
         rest_over = All-tail (λ (a : Share). IsOver d a.cp) s shares over;
         rest_positive = others_positive s shares positive;
         rest_least = later;
-        rest_most = at_most_trans (size_of shares) (plus s.cp (size_of shares)) full (at_most-plus_left s.cp (size_of shares) least) most;
+        rest_most =
+            at_most_trans (size_of shares) (plus s.cp (size_of shares)) full (at_most-plus_left s.cp (size_of shares) least) most;
       }
 
-  splits_sized : (shares : List Share) → AreOver d shares → ArePositive shares → IsAtMost (size_of shares) full → AreBranches (split_values before shares)
+  splits_sized : (shares : List Share) → AreOver d shares → ArePositive shares
+      → IsAtMost (size_of shares) full → AreBranches (split_values before shares)
   splits_sized [] over positive most = All-nil (IsStageBranch d full before after)
   splits_sized (s ∷ []) over positive most = All-nil (IsStageBranch d full before after)
   splits_sized (s ∷ t ∷ shares) over positive most =
@@ -70,14 +76,16 @@ module _ (d : ℕ) (full before after : Rational) where
       (record { over = over-size d rest is.rest_over; least = is.rest_least; most = is.rest_most; state = inl refl })
       (splits_sized (t ∷ shares) is.rest_over is.rest_positive is.rest_most))
 
-  passes_sized : (shares : List Share) → AreOver d shares → ArePositive shares → IsAtMost (size_of shares) full → AreBranches (pass_values after shares)
+  passes_sized : (shares : List Share) → AreOver d shares → ArePositive shares
+      → IsAtMost (size_of shares) full → AreBranches (pass_values after shares)
   passes_sized [] over positive most = All-nil (IsStageBranch d full before after)
   passes_sized (s ∷ shares) over positive most =
       let is = is_first s shares over positive most in
       All-cons (IsStageBranch d full before after) _ _ (record { over = is.first_over; least = is.first_least; most = is.first_most; state = inr refl })
       (passes_sized shares is.rest_over is.rest_positive is.rest_most)
 
-  mixes_sized : (size : Rational) (shares : List Share) → IsOver d size → IsAtMost rational_zero size → AreOver d shares → ArePositive shares
+  mixes_sized : (size : Rational) (shares : List Share) → IsOver d size → IsAtMost rational_zero size
+      → AreOver d shares → ArePositive shares
       → IsAtMost (plus size (size_of shares)) full → AreBranches (mix_values after size shares)
   mixes_sized size [] size_over least over positive most = All-nil (IsStageBranch d full before after)
   mixes_sized size (s ∷ shares) size_over least over positive most =
@@ -91,13 +99,17 @@ module _ (d : ℕ) (full before after : Rational) where
       All-cons (IsStageBranch d full before after) _ _ (record { over = both_over; least = both_least; most = both_most; state = inr refl })
       (mixes_sized both shares both_over both_least (All-tail (λ (a : Share). IsOver d a.cp) s shares over) (others_positive s shares positive) all_most)
 
-  joins_sized : (shares : List Share) → AreOver d shares → ArePositive shares → IsAtMost (size_of shares) full → AreBranches (joined_values after shares)
+  joins_sized : (shares : List Share) → AreOver d shares → ArePositive shares
+      → IsAtMost (size_of shares) full → AreBranches (joined_values after shares)
   joins_sized [] over positive most = All-nil (IsStageBranch d full before after)
-  joins_sized (s ∷ shares) over positive most = let is = is_first s shares over positive most in mixes_sized s.cp shares is.first_over is.first_least
+  joins_sized (s ∷ shares) over positive most =
+      let is = is_first s shares over positive most in
+      mixes_sized s.cp shares is.first_over is.first_least
       is.rest_over is.rest_positive most
 
   -- the branches of a stage that is led
-  pub stage_sized : (shares : List Share) → AreOver d shares → ArePositive shares → size_of shares ≡ full → AreBranches (stage_values before after shares)
+  pub stage_sized : (shares : List Share) → AreOver d shares → ArePositive shares → size_of shares ≡ full
+      → AreBranches (stage_values before after shares)
   stage_sized shares over positive sizes =
       let most = at_most_from_same (size_of shares) full sizes in
       All-append (IsStageBranch d full before after) _ _ (splits_sized shares over positive most)
@@ -115,7 +127,8 @@ module _ (P : BranchValue → Type 0) where
 
   pub course_holds : (stages : List LedStage) → All StageHolds stages → CourseHolds stages
   course_holds [] each = All-nil P
-  course_holds (stage ∷ stages) each = All-append P _ _ (All-head StageHolds stage stages each) (course_holds stages (All-tail StageHolds stage stages each))
+  course_holds (stage ∷ stages) each =
+      All-append P _ _ (All-head StageHolds stage stages each) (course_holds stages (All-tail StageHolds stage stages each))
 
   pub courses_hold : (courses : List (List LedStage)) → All CourseHolds courses → All P (courses_values courses)
   courses_hold [] each = All-nil P

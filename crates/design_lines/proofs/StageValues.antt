@@ -21,7 +21,8 @@ use Rattle.design_lines.specs.declared.stage.Share.{Share}
 abbrev pub split_values : Rational → List Share → List BranchValue
 split_values before [] = []
 split_values before (s ∷ []) = []
-split_values before (s ∷ t ∷ shares) = record { cp = s.cp; t = before } ∷ record { cp = size_of (t ∷ shares); t = before } ∷ split_values before (t ∷ shares)
+split_values before (s ∷ t ∷ shares) =
+    record { cp = s.cp; t = before } ∷ record { cp = size_of (t ∷ shares); t = before } ∷ split_values before (t ∷ shares)
 
 -- the passes make each share, in the state behind its exchanger
 abbrev pub pass_values : Rational → List Share → List BranchValue
@@ -30,7 +31,8 @@ pass_values after shares = map (λ s. record { cp = s.cp; t = after }) shares
 -- the mixes join a branch of some size with each share in turn
 abbrev pub mix_values : Rational → Rational → List Share → List BranchValue
 mix_values after size [] = []
-mix_values after size (s ∷ shares) = record { cp = plus size s.cp; t = after } ∷ mix_values after (plus size s.cp) shares
+mix_values after size (s ∷ shares) =
+    record { cp = plus size s.cp; t = after } ∷ mix_values after (plus size s.cp) shares
 
 -- the first share with all others
 abbrev pub joined_values : Rational → List Share → List BranchValue
@@ -38,7 +40,8 @@ joined_values after [] = []
 joined_values after (s ∷ shares) = mix_values after s.cp shares
 
 abbrev pub stage_values : Rational → Rational → List Share → List BranchValue
-stage_values before after shares = split_values before shares ++ (pass_values after shares ++ joined_values after shares)
+stage_values before after shares =
+    split_values before shares ++ (pass_values after shares ++ joined_values after shares)
 
 -- the shares have sizes that are the full size together, and the duty of each one's exchanger brings it from the one state to the other
 pub record IsLedStage (network : Network) (of : Side) (full : Rational) (stage : LedStage) : Type 0 where
@@ -73,7 +76,8 @@ courses_values (course ∷ courses) = course_values course ++ courses_values cou
 
 -- these branches are a stream's
 abbrev pub AreOfStream : Network → ℕ → ℕ → ℕ → Type 0
-AreOfStream network stream first count = (branch : ℕ) → first ≤ branch → branch < first + count → stream_at network.branches branch ≡ stream
+AreOfStream network stream first count =
+    (branch : ℕ) → first ≤ branch → branch < first + count → stream_at network.branches branch ≡ stream
 
 -- the streams from number `stream` on are led, each by the branches of its course, which are numbered from `next` on
 abbrev pub AreLedFrom : Case → Network → ℕ → ℕ → List (List LedStage) → Type 0
@@ -97,11 +101,13 @@ CanFollow case network values (line.End branch) = IsFullEnd case network values 
 -- the values after lines, each of which adds what it makes
 abbrev pub values_after : Case → Network → Valuation → List Line → Valuation
 values_after case network values [] = values
-values_after case network values (l ∷ lines) = values_after case network (values ++ made_values case network values l) lines
+values_after case network values (l ∷ lines) =
+    values_after case network (values ++ made_values case network values l) lines
 
 abbrev pub AllCanFollow : Case → Network → Valuation → List Line → Type 0
 AllCanFollow case network values [] = Unit {0}
-AllCanFollow case network values (l ∷ lines) = CanFollow case network values l × AllCanFollow case network (values ++ made_values case network values l) lines
+AllCanFollow case network values (l ∷ lines) =
+    CanFollow case network values l × AllCanFollow case network (values ++ made_values case network values l) lines
 
 -- the lines make these values, one behind the other
 pub record Make (case : Case) (network : Network) (values : Valuation) (lines : List Line) (made : List BranchValue) : Type 0 where

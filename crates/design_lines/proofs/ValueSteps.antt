@@ -17,7 +17,8 @@ pub record Carries (values : Valuation) (branch : ℕ) (v : BranchValue) : Type 
   pub within : branch < length values
   pub is : value_at values branch ≡ v
 
-pub carries_more : (values more : Valuation) (branch : ℕ) (v : BranchValue) → Carries values branch v → Carries (values ++ more) branch v
+pub carries_more : (values more : Valuation) (branch : ℕ) (v : BranchValue) → Carries values branch v
+    → Carries (values ++ more) branch v
 carries_more values more branch v carries =
     let same = get_or_append_left values more no_value branch carries.within in
     record { within = omega (arith, carries.within, length-append values more); is = same ∙ carries.is }
@@ -37,9 +38,11 @@ abbrev pub CarryShares : Valuation → Rational → List ℕ → List Share → 
 CarryShares values t [] [] = Unit {0}
 CarryShares values t [] (s ∷ shares) = ⊥
 CarryShares values t (branch ∷ branches) [] = ⊥
-CarryShares values t (branch ∷ branches) (s ∷ shares) = Carries values branch (share_value t s) × CarryShares values t branches shares
+CarryShares values t (branch ∷ branches) (s ∷ shares) =
+    Carries values branch (share_value t s) × CarryShares values t branches shares
 
-pub carry_more : (values more : Valuation) (t : Rational) (branches : List ℕ) (shares : List Share) → CarryShares values t branches shares
+pub carry_more : (values more : Valuation) (t : Rational) (branches : List ℕ) (shares : List Share)
+    → CarryShares values t branches shares
     → CarryShares (values ++ more) t branches shares
 carry_more values more t [] [] carry = tt
 carry_more values more t [] (s ∷ shares) carry = absurd carry
@@ -68,7 +71,8 @@ size_not_negative (s ∷ shares) positive =
     not_negative-plus s.cp (size_of shares) (at_most_from_below rational_zero s.cp (first_positive s shares positive))
     (size_not_negative shares (others_positive s shares positive))
 
-size_positive : (s : Share) (shares : List Share) → ArePositive (s ∷ shares) → IsBelow rational_zero (size_of (s ∷ shares))
+size_positive : (s : Share) (shares : List Share) → ArePositive (s ∷ shares)
+    → IsBelow rational_zero (size_of (s ∷ shares))
 size_positive s shares positive = positive-plus s.cp (size_of shares) (first_positive s shares positive)
     (size_not_negative shares (others_positive s shares positive))
 
@@ -85,28 +89,39 @@ module _ (case : Case) (network : Network) where
   pub make_none : (values : Valuation) → Make case network values [] []
   make_none values = record { made_is = sym (append-nil values); follow = tt }
 
-  pub make_line : (values : Valuation) (l : Line) (lines : List Line) (one rest : List BranchValue) → made_values case network values l ≡ one
-      → CanFollow case network values l → Make case network (values ++ one) lines rest → Make case network values (l ∷ lines) (one ++ rest)
+  pub make_line : (values : Valuation) (l : Line) (lines : List Line) (one rest : List BranchValue)
+      → made_values case network values l ≡ one
+      → CanFollow case network values l → Make case network (values ++ one) lines rest
+      → Make case network values (l ∷ lines) (one ++ rest)
   make_line values l lines one rest makes can make = record {
-    made_is = ap (λ vs. values_after case network (values ++ vs) lines) makes ∙ make.made_is ∙ append_assoc values one rest;
+    made_is =
+        ap (λ vs. values_after case network (values ++ vs) lines) makes ∙ make.made_is ∙ append_assoc values one rest;
     follow = (can, subst (λ vs. AllCanFollow case network (values ++ vs) lines) (sym makes) make.follow);
   }
 
   values_after-append : (values : Valuation) (lines more : List Line)
-      → values_after case network values (lines ++ more) ≡ values_after case network (values_after case network values lines) more
+      → values_after case network values (lines ++ more)
+      ≡ values_after case network (values_after case network values lines) more
   values_after-append values [] more = refl
-  values_after-append values (l ∷ lines) more = values_after-append (values ++ made_values case network values l) lines more
+  values_after-append values (l ∷ lines) more =
+      values_after-append (values ++ made_values case network values l) lines more
 
   AllCanFollow-append : (values : Valuation) (lines more : List Line) → AllCanFollow case network values lines
-      → AllCanFollow case network (values_after case network values lines) more → AllCanFollow case network values (lines ++ more)
+      → AllCanFollow case network (values_after case network values lines) more
+      → AllCanFollow case network values (lines ++ more)
   AllCanFollow-append values [] more one two = two
-  AllCanFollow-append values (l ∷ lines) more one two = (one.0, AllCanFollow-append (values ++ made_values case network values l) lines more one.1 two)
+  AllCanFollow-append values (l ∷ lines) more one two =
+      (one.0, AllCanFollow-append (values ++ made_values case network values l) lines more one.1 two)
 
-  pub make_append : (values : Valuation) (lines more : List Line) (one two : List BranchValue) → Make case network values lines one
+  pub make_append : (values : Valuation) (lines more : List Line) (one two : List BranchValue)
+      → Make case network values lines one
       → Make case network (values ++ one) more two → Make case network values (lines ++ more) (one ++ two)
   make_append values lines more one two first second = record {
-    made_is = values_after-append values lines more ∙ ap (λ vs. values_after case network vs more) first.made_is ∙ second.made_is ∙ append_assoc values one two;
-    follow = AllCanFollow-append values lines more first.follow (subst (λ vs. AllCanFollow case network vs more) (sym first.made_is) second.follow);
+    made_is =
+        values_after-append values lines more ∙ ap (λ vs. values_after case network vs more) first.made_is
+        ∙ second.made_is ∙ append_assoc values one two;
+    follow =
+        AllCanFollow-append values lines more first.follow (subst (λ vs. AllCanFollow case network vs more) (sym first.made_is) second.follow);
   }
 
 -- ---- the states between which passes run
@@ -116,7 +131,8 @@ module _ (case : Case) (network : Network) (R : ℕ → ℕ → Rational → Rat
   abbrev pub RunsAs : Valuation → Line → Type 0
   RunsAs values (line.Exchanger name hot cold duty) = Unit {0}
   RunsAs values (line.Split from first size second) = Unit {0}
-  RunsAs values (line.Pass from exchanger to) = R (stream_at network.branches from) exchanger (value_at values from).t (value_at values to).t
+  RunsAs values (line.Pass from exchanger to) =
+      R (stream_at network.branches from) exchanger (value_at values from).t (value_at values to).t
   RunsAs values (line.Mix first second to) = Unit {0}
   RunsAs values (line.End branch) = Unit {0}
 
@@ -132,7 +148,8 @@ module _ (case : Case) (network : Network) (R : ℕ → ℕ → Rational → Rat
   pub run_none : (values : Valuation) → MakeAndRun values [] []
   run_none values = record { makes = make_none case network values; runs = λ final more is. All-nil (RunsAs final) }
 
-  pub run_line : (values : Valuation) (l : Line) (lines : List Line) (one rest : List BranchValue) → made_values case network values l ≡ one
+  pub run_line : (values : Valuation) (l : Line) (lines : List Line) (one rest : List BranchValue)
+      → made_values case network values l ≡ one
       → CanFollow case network values l → ((final more : Valuation) → final ≡ values ++ (one ++ more) → RunsAs final l)
       → MakeAndRun (values ++ one) lines rest → MakeAndRun values (l ∷ lines) (one ++ rest)
   run_line values l lines one rest makes can run later = record {
@@ -142,7 +159,8 @@ module _ (case : Case) (network : Network) (R : ℕ → ℕ → Rational → Rat
         All-cons (RunsAs final) l lines (run final (rest ++ more) moved) (later.runs final more (moved ∙ sym (append_assoc values one (rest ++ more))));
   }
 
-  pub run_append : (values : Valuation) (lines others : List Line) (one two : List BranchValue) → MakeAndRun values lines one
+  pub run_append : (values : Valuation) (lines others : List Line) (one two : List BranchValue)
+      → MakeAndRun values lines one
       → MakeAndRun (values ++ one) others two → MakeAndRun values (lines ++ others) (one ++ two)
   run_append values lines others one two first second = record {
     makes = make_append case network values lines others one two first.makes second.makes;
@@ -155,7 +173,8 @@ module _ (case : Case) (network : Network) (R : ℕ → ℕ → Rational → Rat
   -- ---- splits
 
   -- splits, behind which each branch carries its share
-  pub splits_make : (before : Rational) (shares : List Share) (values : Valuation) (next from : ℕ) → next ≡ length values
+  pub splits_make : (before : Rational) (shares : List Share) (values : Valuation) (next from : ℕ)
+      → next ≡ length values
       → Carries values from (record { cp = size_of shares; t = before }) → ArePositive shares
       → MakeAndRun values (splits next from shares) (split_values before shares)
       × CarryShares (values ++ split_values before shares) before (share_branches next (rest_branch next from shares) shares) shares
@@ -184,13 +203,18 @@ module _ (case : Case) (network : Network) (R : ℕ → ℕ → Rational → Rat
   -- ---- passes
 
   pub passes_make : (stream : ℕ) (of : Side) (before after : Rational) (to : ℕ) (branches : List ℕ) (shares : List Share) (values : Valuation)
-      → to ≡ length values → CarryShares values before branches shares → All (λ b. stream_at network.branches b ≡ stream) branches
+      → to ≡ length values → CarryShares values before branches shares
+      → All (λ b. stream_at network.branches b ≡ stream) branches
       → ((b : ℕ) → stream_at network.branches b ≡ stream → branch_side case network b ≡ of) → ArePositive shares
-      → All (λ s. times s.cp (change of before after) ≡ duty_at network s.exchanger) shares → All (λ a. R stream a.exchanger before after) shares
+      → All (λ s. times s.cp (change of before after) ≡ duty_at network s.exchanger) shares
+      → All (λ a. R stream a.exchanger before after) shares
       → MakeAndRun values (passes to branches shares) (pass_values after shares) × CarryFrom (values ++ pass_values after shares) after to shares
-  passes_make stream of before after to [] [] values start carry own side_is positive duties runs = (run_none values, tt)
-  passes_make stream of before after to [] (s ∷ shares) values start carry own side_is positive duties runs = absurd carry
-  passes_make stream of before after to (branch ∷ branches) [] values start carry own side_is positive duties runs = absurd carry
+  passes_make stream of before after to [] [] values start carry own side_is positive duties runs =
+      (run_none values, tt)
+  passes_make stream of before after to [] (s ∷ shares) values start carry own side_is positive duties runs =
+      absurd carry
+  passes_make stream of before after to (branch ∷ branches) [] values start carry own side_is positive duties runs =
+      absurd carry
   passes_make stream of before after to (branch ∷ branches) (s ∷ shares) values start carry own side_is positive duties runs =
       let D : Share → Type 0 = λ a. times a.cp (change of before after) ≡ duty_at network a.exchanger in
       let S : ℕ → Type 0 = λ b. stream_at network.branches b ≡ stream in
@@ -198,9 +222,11 @@ module _ (case : Case) (network : Network) (R : ℕ → ℕ → Rational → Rat
       let behind = share_value after s in
       let duty = duty_at network s.exchanger in
       let here = All-head S branch branches own in
-      let pass : IsPass of duty (share_value before s) behind = record { size = refl; heat = All-head D s shares duties } in
+      let pass : IsPass of duty (share_value before s) behind
+      = record { size = refl; heat = All-head D s shares duties } in
       let one : passed_value (branch_side case network branch) (value_at values branch) duty ≡ behind =
-      ap (λ side. passed_value side (value_at values branch) duty) (side_is branch here) ∙ ap (λ v. passed_value of v duty) carry.0.is
+      ap (λ side. passed_value side (value_at values branch) duty) (side_is branch here)
+      ∙ ap (λ v. passed_value of v duty) carry.0.is
       ∙ sym (pass_determined of (share_value before s) behind duty (first_positive s shares positive) pass) in
       let later = passes_make stream of before after (to + 1) branches shares (values ++ behind ∷ []) (omega (arith, start, length-append values (behind ∷ [])))
       (carry_more values (behind ∷ []) before branches shares carry.1) (All-tail S branch branches own) side_is (others_positive s shares positive)
@@ -219,12 +245,16 @@ module _ (case : Case) (network : Network) (R : ℕ → ℕ → Rational → Rat
 
   -- ---- mixes
 
-  pub mixes_make : (after : Rational) (n to first second : ℕ) (size : Rational) (shares : List Share) (values : Valuation) → n ≡ length shares
-      → to ≡ length values → Carries values first (record { cp = size; t = after }) → CarryFrom values after second shares → IsBelow rational_zero size
+  pub mixes_make : (after : Rational) (n to first second : ℕ) (size : Rational) (shares : List Share) (values : Valuation)
+      → n ≡ length shares
+      → to ≡ length values → Carries values first (record { cp = size; t = after })
+      → CarryFrom values after second shares → IsBelow rational_zero size
       → ArePositive shares → MakeAndRun values (mixes n to first second) (mix_values after size shares)
   mixes_make after zero to first second size [] values many start one others above positive = run_none values
-  mixes_make after zero to first second size (s ∷ shares) values many start one others above positive = absurd (omega (arith, many))
-  mixes_make after (suc n) to first second size [] values many start one others above positive = absurd (omega (arith, many))
+  mixes_make after zero to first second size (s ∷ shares) values many start one others above positive =
+      absurd (omega (arith, many))
+  mixes_make after (suc n) to first second size [] values many start one others above positive =
+      absurd (omega (arith, many))
   mixes_make after (suc n) to first second size (s ∷ shares) values many start one others above positive =
       let branch : BranchValue = record { cp = size; t = after } in
       let both : BranchValue = record { cp = plus size s.cp; t = after } in

@@ -8,7 +8,8 @@ use Rattle.networks.specs.declared.network.Line.TheVariants as line
 
 -- ---- the branches of shares
 
-pub length-share_branches : (next rest : ℕ) (shares : List Share) → length (share_branches next rest shares) ≡ length shares
+pub length-share_branches : (next rest : ℕ) (shares : List Share)
+    → length (share_branches next rest shares) ≡ length shares
 length-share_branches next rest [] = refl
 length-share_branches next rest (s ∷ []) = refl
 length-share_branches next rest (s ∷ t ∷ shares) = ap suc (length-share_branches (next + 2) rest (t ∷ shares))
@@ -41,11 +42,14 @@ module _ (B : ℕ → ℕ → Type 0) where
 -- `S n w lines` is said of lines before which n branches are made; w is the weight, by `u`, of the branches that are open there, with that of the shares that
 -- are still to pass, by `v`. `B n b` is said of a branch b there, `F` of a share, and `E` of a stage
 pub record Keeps (S : ℕ → ℕ → List Line → Type 0) (B : ℕ → ℕ → Type 0) (F : Share → Type 0) (u : ℕ → ℕ) (v : Share → ℕ) (E : List Share → Type 0) : Type 0 where
-  pub split : (n from w all more : ℕ) (s : Share) (lines : List Line) → F s → B n from → B (n + 2) n → B (n + 2) (n + 1) → all ≡ u from + w
+  pub split : (n from w all more : ℕ) (s : Share) (lines : List Line) → F s → B n from → B (n + 2) n
+      → B (n + 2) (n + 1) → all ≡ u from + w
       → more ≡ u n + u (n + 1) + w → S (n + 2) more lines → S n all (line.Split from n s.cp (n + 1) ∷ lines)
-  pub pass : (n from w all more : ℕ) (s : Share) (lines : List Line) → F s → B n from → B (n + 1) n → all ≡ u from + v s + w → more ≡ u n + w
+  pub pass : (n from w all more : ℕ) (s : Share) (lines : List Line) → F s → B n from → B (n + 1) n
+      → all ≡ u from + v s + w → more ≡ u n + w
       → S (n + 1) more lines → S n all (line.Pass from s.exchanger n ∷ lines)
-  pub mix : (n first second w all more : ℕ) (lines : List Line) → B n first → B n second → B (n + 1) n → all ≡ u first + u second + w → more ≡ u n + w
+  pub mix : (n first second w all more : ℕ) (lines : List Line) → B n first → B n second → B (n + 1) n
+      → all ≡ u first + u second + w → more ≡ u n + w
       → S (n + 1) more lines → S n all (line.Mix first second n ∷ lines)
   pub none : E [] → (n w all : ℕ) (lines : List Line) → S (n + 1) w lines → S n all lines
 
@@ -55,12 +59,14 @@ module _ (S : ℕ → ℕ → List Line → Type 0) (B : ℕ → ℕ → Type 0)
   moved n m w all lines after number weight = subst (λ k. S k all lines) number (subst (λ k. S n k lines) weight after)
 
   module _ (start last : ℕ) (new : StayNew B last start) where
-    walk_splits : (next from w all : ℕ) (shares : List Share) (lines : List Line) → 0 < length shares → All F shares → start ≤ next
+    walk_splits : (next from w all : ℕ) (shares : List Share) (lines : List Line) → 0 < length shares
+        → All F shares → start ≤ next
         → behind_splits next shares ≤ last → Stays B last next from → all ≡ u from + w
         → S (behind_splits next shares) (sum_by u (share_branches next (rest_branch next from shares) shares) + w) lines
         → S next all (splits next from shares ++ lines)
     walk_splits next from w all [] lines some each low high stays sum after = absurd (omega (arith, some))
-    walk_splits next from w all (s ∷ []) lines some each low high stays sum after = moved (behind_splits next (s ∷ [])) next _ all lines after (omega arith)
+    walk_splits next from w all (s ∷ []) lines some each low high stays sum after =
+        moved (behind_splits next (s ∷ [])) next _ all lines after (omega arith)
         (omega (arith, sum, sum_by-cons u from []))
     walk_splits next from w all (s ∷ t ∷ shares) lines some each low high stays sum after =
         let rest = t ∷ shares in
@@ -75,13 +81,19 @@ module _ (S : ℕ → ℕ → List Line → Type 0) (B : ℕ → ℕ → Type 0)
         (stays next (omega arith) (omega (arith, high)))
         (new next low (next + 2) (omega arith) (omega (arith, high))) (two (next + 2) (omega arith) (omega (arith, high))) sum (omega arith) later
 
-    walk_passes : (least to w all : ℕ) (branches : List ℕ) (shares : List Share) (lines : List Line) → All F shares → length branches ≡ length shares
-        → start ≤ to → least ≤ to → to + length shares ≤ last → All (Stays B last least) branches → all ≡ sum_by u branches + (sum_by v shares + w)
-        → S (to + length shares) (sum_by u (range_with_len to (length shares)) + w) lines → S to all (passes to branches shares ++ lines)
-    walk_passes least to w all [] [] lines each many low some high stays sum after = moved (to + 0) to (0 + w) all lines after (omega arith)
+    walk_passes : (least to w all : ℕ) (branches : List ℕ) (shares : List Share) (lines : List Line)
+        → All F shares → length branches ≡ length shares
+        → start ≤ to → least ≤ to → to + length shares ≤ last → All (Stays B last least) branches
+        → all ≡ sum_by u branches + (sum_by v shares + w)
+        → S (to + length shares) (sum_by u (range_with_len to (length shares)) + w) lines
+        → S to all (passes to branches shares ++ lines)
+    walk_passes least to w all [] [] lines each many low some high stays sum after =
+        moved (to + 0) to (0 + w) all lines after (omega arith)
         (omega (arith, sum))
-    walk_passes least to w all [] (s ∷ shares) lines each many low some high stays sum after = absurd (omega (arith, many))
-    walk_passes least to w all (b ∷ branches) [] lines each many low some high stays sum after = absurd (omega (arith, many))
+    walk_passes least to w all [] (s ∷ shares) lines each many low some high stays sum after =
+        absurd (omega (arith, many))
+    walk_passes least to w all (b ∷ branches) [] lines each many low some high stays sum after =
+        absurd (omega (arith, many))
     walk_passes least to w all (b ∷ branches) (s ∷ shares) lines each many low some high stays sum after =
         let n = length shares in
         let more = sum_by u branches + (sum_by v shares + (u to + w)) in
@@ -93,11 +105,14 @@ module _ (S : ℕ → ℕ → List Line → Type 0) (B : ℕ → ℕ → Type 0)
         (All-head (Stays B last least) b branches stays to some (omega (arith, high)))
         (new to low (to + 1) (omega arith) (omega (arith, high))) (omega (arith, sum, sum_by-cons u b branches, sum_by-cons v s shares)) (omega arith) later
 
-    walk_mixes : (n to first second stop w all : ℕ) (lines : List Line) → start ≤ first → first < to → start ≤ second → second + n ≤ to → to + n ≤ last
+    walk_mixes : (n to first second stop w all : ℕ) (lines : List Line) → start ≤ first → first < to
+        → start ≤ second → second + n ≤ to → to + n ≤ last
         → (n ≡ 0 → stop ≡ first) → (0 < n → stop + 1 ≡ to + n)
-        → all ≡ u first + (sum_by u (range_with_len second n) + w) → S (to + n) (u stop + w) lines → S to all (mixes n to first second ++ lines)
+        → all ≡ u first + (sum_by u (range_with_len second n) + w) → S (to + n) (u stop + w) lines
+        → S to all (mixes n to first second ++ lines)
     walk_mixes zero to first second stop w all lines low before beside within high none some sum after =
-        let same = ap u (none refl) in moved (to + 0) to (u stop + w) all lines after (omega arith) (omega (arith, sum, same))
+        let same = ap u (none refl) in
+        moved (to + 0) to (u stop + w) all lines after (omega arith) (omega (arith, sum, same))
     walk_mixes (suc n) to first second stop w all lines low before beside within high none some sum after =
         let others = sum_by u (range_with_len (second + 1) n) + w in
         let is : stop + 1 ≡ to + suc n = some (omega arith) in
@@ -109,11 +124,14 @@ module _ (S : ℕ → ℕ → List Line → Type 0) (B : ℕ → ℕ → Type 0)
         (new to (omega (arith, low, before)) (to + 1) (omega arith) (omega (arith, high)))
         (omega (arith, sum, sum_by-cons u second (range_with_len (second + 1) n))) refl later
 
-    walk_stage : (next from w all : ℕ) (shares : List Share) (lines : List Line) → E shares → All F shares → start ≤ next → next + stage_branches shares ≤ last
-        → Stays B last next from → all ≡ u from + (sum_by v shares + w) → S (next + stage_branches shares) (u (stage_end next shares) + w) lines
+    walk_stage : (next from w all : ℕ) (shares : List Share) (lines : List Line) → E shares → All F shares
+        → start ≤ next → next + stage_branches shares ≤ last
+        → Stays B last next from → all ≡ u from + (sum_by v shares + w)
+        → S (next + stage_branches shares) (u (stage_end next shares) + w) lines
         → S next all (stage_lines next from shares ++ lines)
     unfolding stage_lines
-    walk_stage next from w all [] lines may each low high stays sum after = keeps.none may next (u (stage_end next []) + w) all lines after
+    walk_stage next from w all [] lines may each low high stays sum after =
+        keeps.none may next (u (stage_end next []) + w) all lines after
     walk_stage next from w all (first ∷ later) lines may each low high stays sum after =
         let shares = first ∷ later in
         let some : 0 < length shares = omega arith in
@@ -128,7 +146,8 @@ module _ (S : ℕ → ℕ → List Line → Type 0) (B : ℕ → ℕ → Type 0)
         let stop = stage_end next shares in
         let joined = u behind + (sum_by u (range_with_len (behind + 1) more) + w) in
         let count : suc more ≡ n = omega (arith, some) in
-        let all_made = sym (sum_by-cons u behind (range_with_len (behind + 1) more)) ∙ ap (λ k. sum_by u (range_with_len behind k)) count in
+        let all_made = sym (sum_by-cons u behind (range_with_len (behind + 1) more))
+        ∙ ap (λ k. sum_by u (range_with_len behind k)) count in
         let mixed = walk_mixes more (behind + n) behind (behind + 1) stop w joined lines (omega (arith, low)) (omega (arith, some)) (omega (arith, low))
         (omega (arith, some)) (omega (arith, high, end)) (λ none. omega (arith, none)) (λ others. omega (arith, some)) refl
         (moved (next + stage_branches shares) (behind + n + more) (u stop + w) (u stop + w) lines after end refl) in
@@ -143,8 +162,10 @@ module _ (S : ℕ → ℕ → List Line → Type 0) (B : ℕ → ℕ → Type 0)
         (omega (arith, high, end)) stays sum passed)
 
     -- the stages of a course, and its end
-    pub walk_course : (next from w all : ℕ) (course : Course) (lines : List Line) → All E course → All (λ shares. All F shares) course → start ≤ next
-        → next + course_branches course ≤ last → Stays B last next from → all ≡ u from + (sum_by (λ shares. sum_by v shares) course + w)
+    pub walk_course : (next from w all : ℕ) (course : Course) (lines : List Line) → All E course
+        → All (λ shares. All F shares) course → start ≤ next
+        → next + course_branches course ≤ last → Stays B last next from
+        → all ≡ u from + (sum_by (λ shares. sum_by v shares) course + w)
         → ((b : ℕ) → B (next + course_branches course) b → S (next + course_branches course) (u b + w) (line.End b ∷ lines))
         → S next all (course_lines next from course ++ lines)
     walk_course next from w all [] lines may each low high stays sum end =
@@ -171,9 +192,11 @@ module _ (B : ℕ → ℕ → ℕ → Type 0) where
   abbrev pub Follow : ℕ → ℕ → List Course → Type 0
   Follow next stream [] = Unit {0}
   Follow next stream (course ∷ courses) =
-      let last = next + course_branches course in Stays (B stream) last next stream × StayNew (B stream) last next × Follow last (stream + 1) courses
+      let last = next + course_branches course in
+      Stays (B stream) last next stream × StayNew (B stream) last next × Follow last (stream + 1) courses
 
-  pub follow_always : ((stream n b : ℕ) → B stream n b) → (next stream : ℕ) (courses : List Course) → Follow next stream courses
+  pub follow_always : ((stream n b : ℕ) → B stream n b) → (next stream : ℕ) (courses : List Course)
+      → Follow next stream courses
   follow_always always next stream [] = tt
   follow_always always next stream (course ∷ courses) =
       (λ n low high. always stream n stream, λ k low n more high. always stream n k, follow_always always (next + course_branches course) (stream + 1) courses)
@@ -183,18 +206,25 @@ module _ (S : ℕ → ℕ → List Line → Type 0) (B : ℕ → ℕ → ℕ →
   -- the weight of courses
   abbrev pub weight : ℕ → List Course → ℕ
   weight stream [] = 0
-  weight stream (course ∷ courses) = u stream + (sum_by (λ shares. sum_by (v stream) shares) course + weight (stream + 1) courses)
+  weight stream (course ∷ courses) =
+      u stream + (sum_by (λ shares. sum_by (v stream) shares) course + weight (stream + 1) courses)
 
   abbrev pub EachShare : ℕ → List Course → Type 0
-  EachShare stream courses = (i : ℕ) (course : Course) → slice_get courses i ≡ Some course → All (λ shares. All (F (stream + i)) shares) course
+  EachShare stream courses =
+      (i : ℕ) (course : Course) → slice_get courses i ≡ Some course → All (λ shares. All (F (stream + i)) shares) course
 
   pub record KeepAll : Type 0 where
     pub keeps : (stream : ℕ) → Keeps S (B stream) (F stream) u (v stream) E
-    pub end : (stream n from w all : ℕ) (lines : List Line) → B stream n from → all ≡ u from + w → S n w lines → S n all (line.End from ∷ lines)
+    pub end : (stream n from w all : ℕ) (lines : List Line) → B stream n from → all ≡ u from + w
+        → S n w lines → S n all (line.End from ∷ lines)
 
-  pub walk_courses : KeepAll → (next stream : ℕ) (courses : List Course) → All (λ course. All E course) courses → EachShare stream courses
-      → Follow B next stream courses → S (next + all_branches courses) 0 [] → S next (weight stream courses) (courses_lines next stream courses)
-  walk_courses keep next stream [] may each follow after = let none : next + 0 ≡ next = omega arith in subst (λ n. S n 0 []) none after
+  pub walk_courses : KeepAll → (next stream : ℕ) (courses : List Course)
+      → All (λ course. All E course) courses → EachShare stream courses
+      → Follow B next stream courses → S (next + all_branches courses) 0 []
+      → S next (weight stream courses) (courses_lines next stream courses)
+  walk_courses keep next stream [] may each follow after =
+      let none : next + 0 ≡ next = omega arith in
+      subst (λ n. S n 0 []) none after
   walk_courses keep next stream (course ∷ courses) may each follow after =
       let last = next + course_branches course in
       let later = courses_lines last (stream + 1) courses in
@@ -212,20 +242,24 @@ module _ (S : ℕ → ℕ → List Line → Type 0) (B : ℕ → ℕ → ℕ →
 -- the simple case: `S` is kept, whatever the branches and the shares
 module _ (S : ℕ → List Line → Type 0) (E : List Share → Type 0) where
   pub record Simple : Type 0 where
-    pub split : (n from : ℕ) (cp : Rational) (lines : List Line) → S (n + 2) lines → S n (line.Split from n cp (n + 1) ∷ lines)
+    pub split : (n from : ℕ) (cp : Rational) (lines : List Line) → S (n + 2) lines
+        → S n (line.Split from n cp (n + 1) ∷ lines)
     pub pass : (n from exchanger : ℕ) (lines : List Line) → S (n + 1) lines → S n (line.Pass from exchanger n ∷ lines)
     pub mix : (n first second : ℕ) (lines : List Line) → S (n + 1) lines → S n (line.Mix first second n ∷ lines)
     pub end : (n from : ℕ) (lines : List Line) → S n lines → S n (line.End from ∷ lines)
     pub none : E [] → (n : ℕ) (lines : List Line) → S (n + 1) lines → S n lines
 
-  pub walk_simply : Simple → (next stream : ℕ) (courses : List Course) → All (λ course. All E course) courses → S (next + all_branches courses) []
+  pub walk_simply : Simple → (next stream : ℕ) (courses : List Course) → All (λ course. All E course) courses
+      → S (next + all_branches courses) []
       → S next (courses_lines next stream courses)
   walk_simply keep next stream courses may after =
       walk_courses (λ n w lines. S n lines) (λ k n b. Unit {0}) (λ k s. Unit {0}) (λ b. 0) (λ k s. 0) E (record {
         keeps = λ k. record {
-          split = λ n from w all left s lines share of_from of_first of_second sum sums more. keep.split n from s.cp lines more;
+          split =
+              λ n from w all left s lines share of_from of_first of_second sum sums more. keep.split n from s.cp lines more;
           pass = λ n from w all left s lines share of_from of_to sum sums more. keep.pass n from s.exchanger lines more;
-          mix = λ n first second w all left lines of_first of_second of_to sum sums more. keep.mix n first second lines more;
+          mix =
+              λ n first second w all left lines of_first of_second of_to sum sums more. keep.mix n first second lines more;
           none = λ is n w all lines more. keep.none is n lines more;
         };
         end = λ k n from w all lines of_from sum more. keep.end n from lines more;

@@ -24,7 +24,8 @@ own_start case = record {
 pub declared_make : (case : Case) (network : Network) (values : Valuation) (exchangers : List Exchanger)
     → Make case network values (map declared_line exchangers) []
 declared_make case network values [] = make_none case network values
-declared_make case network values (e ∷ exchangers) = make_line case network values (declared_line e) (map declared_line exchangers) [] [] refl tt
+declared_make case network values (e ∷ exchangers) =
+    make_line case network values (declared_line e) (map declared_line exchangers) [] [] refl tt
     (declared_make case network (values ++ []) exchangers)
 
 module _ (case : Case) (network : Network) (shape : HasShape case network) where
@@ -37,10 +38,13 @@ module _ (case : Case) (network : Network) (shape : HasShape case network) where
   stays [] values branch early = refl
   stays (l ∷ lines) values branch early =
       let made = made_values case network values l in
-      stays lines (values ++ made) branch (omega (arith, early, length-append values made)) ∙ get_or_append_left values made no_value branch early
+      stays lines (values ++ made) branch (omega (arith, early, length-append values made))
+      ∙ get_or_append_left values made no_value branch early
 
-  end_stays : (l : Line) (values final : Valuation) → ((branch : ℕ) → branch < length values → value_at final branch ≡ value_at values branch)
-      → All (λ b. b < length values) (uses l) → CanFollow case network values l → All (IsFullEnd case network final) (ends l)
+  end_stays : (l : Line) (values final : Valuation)
+      → ((branch : ℕ) → branch < length values → value_at final branch ≡ value_at values branch)
+      → All (λ b. b < length values) (uses l) → CanFollow case network values l
+      → All (IsFullEnd case network final) (ends l)
   end_stays (line.Exchanger name hot cold duty) values final same used can = All-nil (IsFullEnd case network final)
   end_stays (line.Split from first size second) values final same used can = All-nil (IsFullEnd case network final)
   end_stays (line.Pass from exchanger to) values final same used can = All-nil (IsFullEnd case network final)
@@ -52,7 +56,8 @@ module _ (case : Case) (network : Network) (shape : HasShape case network) where
     valuation : IsWholeValuation case network (values_after case network values lines)
     full : All (IsFullEnd case network (values_after case network values lines)) (flat_map ends lines)
 
-  valued : (lines before : List Line) (values : Valuation) → network.lines ≡ before ++ lines → IsValuation case network (length before) values
+  valued : (lines before : List Line) (values : Valuation) → network.lines ≡ before ++ lines
+      → IsValuation case network (length before) values
       → AllCanFollow case network values lines → AreValued values lines
   valued [] before values parts is follow = record {
     valuation = subst (λ n. IsValuation case network n values) (ap length (sym (parts ∙ append-nil before))) is;
@@ -61,7 +66,8 @@ module _ (case : Case) (network : Network) (shape : HasShape case network) where
   valued (l ∷ lines) before values parts is follow =
       let n = length before in
       let within : n < length network.lines = omega (arith, (ap length parts ∙ length-append before (l ∷ lines))) in
-      let at : get_or network.lines n l ≡ l = ap (λ ls. get_or ls n l) parts ∙ ap (λ k. get_or (before ++ l ∷ lines) k l) (omega arith)
+      let at : get_or network.lines n l ≡ l
+      = ap (λ ls. get_or ls n l) parts ∙ ap (λ k. get_or (before ++ l ∷ lines) k l) (omega arith)
       ∙ get_or-append-add before (l ∷ lines) 0 l in
       let here = slice_get-get_or network.lines n l within ∙ ap (λ (a : Line). Some a) at in
       let made = made_values case network values l in
@@ -81,7 +87,8 @@ module _ (case : Case) (network : Network) (shape : HasShape case network) where
     pub valuation : IsWholeValuation case network (map first_value case.streams ++ made)
     pub full : All (IsFullEnd case network (map first_value case.streams ++ made)) (ended_by network.lines)
 
-  pub values_made : (made : List BranchValue) → IsComplete case → Make case network (map first_value case.streams) network.lines made → AreValues made
+  pub values_made : (made : List BranchValue) → IsComplete case
+      → Make case network (map first_value case.streams) network.lines made → AreValues made
   unfolding ended_by
   values_made made complete make =
       let all = valued network.lines [] (map first_value case.streams) refl (valuation_start case network complete) make.follow in

@@ -9,7 +9,8 @@ pub then_others : {Cause : Type 0} → (group others : List (Check Cause))
 then_others [] others = refl
 then_others (check ∷ group) others = by check.0 refl (then_others group others)
   where
-    by : (b : Bool) → check.0 ≡ b → first_failing (group ++ others) ≡ option_or (first_failing group) (first_failing others)
+    by : (b : Bool) → check.0 ≡ b
+        → first_failing (group ++ others) ≡ option_or (first_failing group) (first_failing others)
         → first_failing ((check ∷ group) ++ others) ≡ option_or (first_failing (check ∷ group)) (first_failing others)
     by true holds rest = rw holds rest
     by false fails rest = rw fails refl

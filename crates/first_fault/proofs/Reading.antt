@@ -15,7 +15,8 @@ pub record Reads {Item Given Value Cause : Type 0} (grammar : Grammar Item Given
 module _ {Item Given Value Cause : Type 0} {grammar : Grammar Item Given Value Cause} {items left : List Item} {given : Given} {number : ℕ}
     (reads : Reads grammar items left given number) where
   -- the next item is not at fault
-  pub one_more : {item : Item} {rest : List Item} {next : Given} → left ≡ item ∷ rest → first_failing (grammar.checks given item) ≡ None
+  pub one_more : {item : Item} {rest : List Item} {next : Given} → left ≡ item ∷ rest
+      → first_failing (grammar.checks given item) ≡ None
       → next ≡ grammar.next given item → Reads grammar items rest next (number + 1)
   one_more {item = item} {rest = rest} {next = next} at passes next_is = record {
     done = reads.done ++ item ∷ [];
@@ -25,7 +26,8 @@ module _ {Item Given Value Cause : Type 0} {grammar : Grammar Item Given Value C
   }
 
   -- the next item is
-  pub fault_here : {item : Item} {rest : List Item} {cause : Cause} → left ≡ item ∷ rest → first_failing (grammar.checks given item) ≡ Some cause
+  pub fault_here : {item : Item} {rest : List Item} {cause : Cause} → left ≡ item ∷ rest
+      → first_failing (grammar.checks given item) ≡ Some cause
       → IsFault grammar items (number + 1) cause
   fault_here {item = item} {rest = rest} at fault =
       let all = reads.items_are ∙ ap (λ l. reads.done ++ l) at in
@@ -34,20 +36,26 @@ module _ {Item Given Value Cause : Type 0} {grammar : Grammar Item Given Value C
         ap (λ n. n + 1) reads.number_is,
         rw all (record {
           before = λ k within. fault_at-front grammar reads.done (item ∷ rest) k within ∙ reads.give.sound k within;
-          cause_is = fault_at-seam grammar reads.done item rest ∙ ap (λ g. first_failing (grammar.checks g item)) (sym reads.give.given_is) ∙ fault;
+          cause_is =
+              fault_at-seam grammar reads.done item rest
+              ∙ ap (λ g. first_failing (grammar.checks g item)) (sym reads.give.given_is) ∙ fault;
         }),
       )
 
   -- no item is left
   all_read : left ≡ [] → Give grammar items given × (number ≡ length items)
-  all_read none = let all = reads.items_are ∙ ap (λ l. reads.done ++ l) none ∙ append-nil reads.done in rw all (reads.give, reads.number_is)
+  all_read none =
+      let all = reads.items_are ∙ ap (λ l. reads.done ++ l) none ∙ append-nil reads.done in
+      rw all (reads.give, reads.number_is)
 
-  pub end_here : {at : ℕ} {cause : Cause} → left ≡ [] → grammar.end_fault number given ≡ Some (at, cause) → IsFault grammar items at cause
+  pub end_here : {at : ℕ} {cause : Cause} → left ≡ [] → grammar.end_fault number given ≡ Some (at, cause)
+      → IsFault grammar items at cause
   end_here none fault =
       let (give, is) = all_read none in
       inr (record { sound = give.sound; fault_is = (λ i. grammar.end_fault (sym is i) (sym give.given_is i)) ∙ fault })
 
-  pub value_here : {value : Value} → left ≡ [] → grammar.end_fault number given ≡ None → value ≡ grammar.value given → IsValue grammar items value
+  pub value_here : {value : Value} → left ≡ [] → grammar.end_fault number given ≡ None
+      → value ≡ grammar.value given → IsValue grammar items value
   value_here none complete is_value =
       let (give, is) = all_read none in
       record {
@@ -57,6 +65,8 @@ module _ {Item Given Value Cause : Type 0} {grammar : Grammar Item Given Value C
       }
 
 -- before the first item
-pub none_read : {Item Given Value Cause : Type 0} {grammar : Grammar Item Given Value Cause} (items : List Item) {given : Given} → given ≡ grammar.start
+pub none_read : {Item Given Value Cause : Type 0} {grammar : Grammar Item Given Value Cause} (items : List Item) {given : Given}
+    → given ≡ grammar.start
     → Reads grammar items items given 0
-none_read {grammar = grammar} items {given = given} is = record { done = []; items_are = refl; number_is = refl; give = nothing_gives grammar given is }
+none_read {grammar = grammar} items {given = given} is =
+    record { done = []; items_are = refl; number_is = refl; give = nothing_gives grammar given is }

@@ -11,14 +11,16 @@ surplus_below links flow n v = sum_below n (λ k. when ((link_at links k).from =
     -ℤ sum_below n (λ k. when ((link_at links k).to == v) (flow_on flow k))
 
 -- an amount more at node i
-pub added : (surpluses : List ℤ) (i v : ℕ) (x : ℤ) → i < length surpluses → surplus_at (set surpluses i (surplus_at surpluses i +ℤ x)) v
+pub added : (surpluses : List ℤ) (i v : ℕ) (x : ℤ) → i < length surpluses
+    → surplus_at (set surpluses i (surplus_at surpluses i +ℤ x)) v
     ≡ surplus_at surpluses v +ℤ when (i == v) x
 added surpluses i v x within =
     set_cases surpluses i (surplus_at surpluses i +ℤ x) (pos 0) within (λ u z. z ≡ surplus_at surpluses u +ℤ when (i == u) x) (rw (eq-eqb i i refl) refl)
     (λ u ne. rw (ne_eqb i u (λ e. ne (sym e))) (omega (arith, ints))) v
 
 -- a sum of numbers within a bound
-pub sum_within : (n m : ℕ) (f : ℕ → ℤ) → ((k : ℕ) → k < n → unsigned_abs (f k) ≤ m) → unsigned_abs (sum_below n f) ≤ n * m
+pub sum_within : (n m : ℕ) (f : ℕ → ℤ) → ((k : ℕ) → k < n → unsigned_abs (f k) ≤ m)
+    → unsigned_abs (sum_below n f) ≤ n * m
 sum_within zero m f h = omega arith
 sum_within (suc n) m f h =
     let before = sum_within n m f (λ k l. h k (omega arith)) in
@@ -32,7 +34,8 @@ surplus_below-more links flow n v = rw add-one (omega (arith, ints))
 
 -- two amounts at the ends of a link
 pub carried : (surpluses : List ℤ) (from to v : ℕ) (x : ℤ) → from < length surpluses → to < length surpluses
-    → let once = set surpluses from (surplus_at surpluses from +ℤ x) in surplus_at (set once to (surplus_at once to +ℤ (pos 0 -ℤ x))) v
+    → let once = set surpluses from (surplus_at surpluses from +ℤ x) in
+    surplus_at (set once to (surplus_at once to +ℤ (pos 0 -ℤ x))) v
     ≡ surplus_at surpluses v +ℤ (when (from == v) x -ℤ when (to == v) x)
 carried surpluses from to v x from_in to_in =
     let once = set surpluses from (surplus_at surpluses from +ℤ x) in
@@ -65,7 +68,8 @@ module _ (net : Net) (flow : List ℤ) (limits : IsWithinLimits net) (rooms : Is
       let into = sum_within n (unsigned_abs MOST_ROOM) (λ k. when ((link_at net.links k).to == v) (flow_on flow k))
       (λ k l. part k ((link_at net.links k).to == v) (omega arith)) in
       let few = limits.few_links in
-      let times : n * unsigned_abs MOST_ROOM ≤ most_flow = mul-le n (unsigned_abs MOST_ROOM) MOST_LINKS (unsigned_abs MOST_ROOM) (omega arith) (omega arith) in
+      let times : n * unsigned_abs MOST_ROOM ≤ most_flow
+      = mul-le n (unsigned_abs MOST_ROOM) MOST_LINKS (unsigned_abs MOST_ROOM) (omega arith) (omega arith) in
       omega (arith, sizes, out, into, times)
     where
       part : (k : ℕ) (b : Bool) → k < length net.links → unsigned_abs (when b (flow_on flow k)) ≤ unsigned_abs MOST_ROOM
@@ -73,7 +77,8 @@ module _ (net : Net) (flow : List ℤ) (limits : IsWithinLimits net) (rooms : Is
       part k false below = omega arith
 
   -- what the flow on a link costs, and on the first links
-  pub link_cost_small : (k : ℕ) → k < length net.links → unsigned_abs ((link_at net.links k).cost *ℤ flow_on flow k) ≤ MOST_COST * unsigned_abs MOST_ROOM
+  pub link_cost_small : (k : ℕ) → k < length net.links
+      → unsigned_abs ((link_at net.links k).cost *ℤ flow_on flow k) ≤ MOST_COST * unsigned_abs MOST_ROOM
   link_cost_small k below =
       let carried = flow_small k below in
       let size = unsigned_abs-mul (link_at net.links k).cost (flow_on flow k) in
@@ -81,7 +86,8 @@ module _ (net : Net) (flow : List ℤ) (limits : IsWithinLimits net) (rooms : Is
       (limits.links k below).cost (omega (arith, sizes, carried)) in
       omega (arith, size, times)
 
-  pub cost_small : (n : ℕ) → n ≤ length net.links → unsigned_abs (sum_below n (λ k. (link_at net.links k).cost *ℤ flow_on flow k))
+  pub cost_small : (n : ℕ) → n ≤ length net.links
+      → unsigned_abs (sum_below n (λ k. (link_at net.links k).cost *ℤ flow_on flow k))
       ≤ MOST_LINKS * (MOST_COST * unsigned_abs MOST_ROOM)
   cost_small n upto =
       let sum = sum_within n (MOST_COST * unsigned_abs MOST_ROOM) (λ k. (link_at net.links k).cost *ℤ flow_on flow k)
@@ -120,7 +126,8 @@ module _ (net : Net) (flow surpluses : List ℤ) (limits : IsWithinLimits net) (
 -- what is due at a node is its surplus in a routing
 pub due_is : (p : Problem) → p.source ≢ p.sink → (v : ℕ) → due p v ≡ surplus_of_routing p.source p.sink p.amount v
 due_is p apart v = elim (cases_eq v p.source) [
-  | inl e ↦ rw (eq-eqb v p.source e, eq-eqb p.source v (sym e), ne_eqb p.sink v (λ d. apart (sym (d ∙ e)))) (omega (arith, ints))
+  | inl e ↦
+      rw (eq-eqb v p.source e, eq-eqb p.source v (sym e), ne_eqb p.sink v (λ d. apart (sym (d ∙ e)))) (omega (arith, ints))
   | inr ne ↦
       rw (ne_eqb v p.source ne, ne_eqb p.source v (λ e. ne (sym e)))
       (elim (cases_eq v p.sink) [

@@ -13,7 +13,8 @@ when b x = if b then x else pos 0
 -- a factor of the node, times what the links at the node carry, is the factor of each link's node, times
 -- what the link carries
 module _ (n m : ℕ) (node : ℕ → ℕ) (within : (k : ℕ) → k < m → node k < n) (c : ℕ → ℤ) (x : ℕ → ℤ) where
-  regrouped : sum_below n (λ v. c v *ℤ sum_below m (λ k. when (node k == v) (x k))) ≡ sum_below m (λ k. c (node k) *ℤ x k)
+  regrouped : sum_below n (λ v. c v *ℤ sum_below m (λ k. when (node k == v) (x k)))
+      ≡ sum_below m (λ k. c (node k) *ℤ x k)
   regrouped =
       sum_below-same n _ _ (λ v l. sym (sum_below-scale m (c v) (λ k. when (node k == v) (x k))))
       ∙ (sum_below-exchange n m (λ v k. c v *ℤ when (node k == v) (x k)) ∙ sum_below-same m _ _ (λ k l.
@@ -39,9 +40,11 @@ fall links flow c k = (c (link_at links k).from -ℤ c (link_at links k).to) *�
 module _ (net : Net) (limits : IsWithinLimits net) where
   -- a factor of the node times its surplus
   surplus_by_links : (flow : List ℤ) (c : ℕ → ℤ)
-      → sum_below net.nodes (λ v. c v *ℤ surplus net.links flow v) ≡ sum_below (length net.links) (fall net.links flow c)
+      → sum_below net.nodes (λ v. c v *ℤ surplus net.links flow v)
+      ≡ sum_below (length net.links) (fall net.links flow c)
   surplus_by_links flow c =
-      let m = length net.links in sum_below-same net.nodes _ _ (λ v l. *ℤ--ℤ (c v) (outflow net.links flow v) (inflow net.links flow v))
+      let m = length net.links in
+      sum_below-same net.nodes _ _ (λ v l. *ℤ--ℤ (c v) (outflow net.links flow v) (inflow net.links flow v))
       ∙ (sum_below-sub net.nodes (λ v. c v *ℤ outflow net.links flow v) (λ v. c v *ℤ inflow net.links flow v)
       ∙ (ap₂ ◌-ℤ◌ (regrouped net.nodes m (λ k. (link_at net.links k).from) (λ k l. (limits.links k l).from_in) c (flow_on flow))
       (regrouped net.nodes m (λ k. (link_at net.links k).to) (λ k l. (limits.links k l).to_in) c (flow_on flow))
@@ -54,7 +57,8 @@ reduced_part links potentials flow k = reduced_cost (link_at links k) potentials
 
 -- the reduced cost is the cost and the fall of the potential
 cost_and_fall : (links : List Link) (flow potentials : List ℤ)
-    → sum_below (length links) (reduced_part links potentials flow) ≡ cost_of links flow +ℤ sum_below (length links) (fall links flow (potential_at potentials))
+    → sum_below (length links) (reduced_part links potentials flow)
+    ≡ cost_of links flow +ℤ sum_below (length links) (fall links flow (potential_at potentials))
 unfolding reduced_part
 cost_and_fall links flow potentials =
     sum_below-same (length links) (reduced_part links potentials flow)
@@ -63,16 +67,22 @@ cost_and_fall links flow potentials =
     ∙ sum_below-add (length links) (λ k. (link_at links k).cost *ℤ flow_on flow k) (fall links flow (potential_at potentials))
   where
     split : (cost a b x : ℤ) → ((cost +ℤ a) -ℤ b) *ℤ x ≡ cost *ℤ x +ℤ (a -ℤ b) *ℤ x
-    split cost a b x = let same : (cost +ℤ a) -ℤ b ≡ cost +ℤ (a -ℤ b) = omega (arith, ints) in ap (λ r. r *ℤ x) same ∙ +ℤ-*ℤ cost (a -ℤ b) x
+    split cost a b x =
+        let same : (cost +ℤ a) -ℤ b ≡ cost +ℤ (a -ℤ b) = omega (arith, ints) in
+        ap (λ r. r *ℤ x) same ∙ +ℤ-*ℤ cost (a -ℤ b) x
 
 -- a factor below 0 turns the order round
 *ℤ-≤ℤ_turned : (a b c : ℤ) → a ≤ℤ pos 0 → c ≤ℤ b → (a *ℤ b) ≤ℤ (a *ℤ c)
 *ℤ-≤ℤ_turned a b c h k =
-    let gap = product_not_negative (pos 0 -ℤ a) (b -ℤ c) (omega (arith, ints)) (omega (arith, ints)) in let split = -ℤ-*ℤ (pos 0) a (b -ℤ c) in
-    let parts = *ℤ--ℤ a b c in let none = zero-*ℤ (b -ℤ c) in omega (arith, ints)
+    let gap = product_not_negative (pos 0 -ℤ a) (b -ℤ c) (omega (arith, ints)) (omega (arith, ints)) in
+    let split = -ℤ-*ℤ (pos 0) a (b -ℤ c) in
+    let parts = *ℤ--ℤ a b c in
+    let none = zero-*ℤ (b -ℤ c) in
+    omega (arith, ints)
 
 -- no flow within the room of a link makes its reduced cost times the flow less
-least_term : (r x y room : ℤ) → pos 0 ≤ℤ y → y ≤ℤ room → (x <ℤ room → pos 0 ≤ℤ r) → (pos 0 <ℤ x → r ≤ℤ pos 0) → x ≤ℤ room → (r *ℤ x) ≤ℤ (r *ℤ y)
+least_term : (r x y room : ℤ) → pos 0 ≤ℤ y → y ≤ℤ room → (x <ℤ room → pos 0 ≤ℤ r) → (pos 0 <ℤ x → r ≤ℤ pos 0)
+    → x ≤ℤ room → (r *ℤ x) ≤ℤ (r *ℤ y)
 least_term (pos zero) x y room from upto left flowing within = omega (arith, ints)
 least_term (pos (suc n)) x y room from upto left flowing within =
     by_lt_z (pos 0) x (λ above. let at_most = flowing above in absurd (omega (arith, ints)))
@@ -91,7 +101,8 @@ leaving_room links set k = if leaves set (link_at links k) then (link_at links k
 
 -- what a link takes across a cut, against the room of the links that leave: at most as much, and just as much where
 -- the links that leave are full and those that enter are empty
-crossing_term : (p q : Bool) (x room : ℤ) → pos 0 ≤ℤ x → x ≤ℤ room → ((when p (pos 1) -ℤ when q (pos 1)) *ℤ x) ≤ℤ (if (p && not q) then room else pos 0)
+crossing_term : (p q : Bool) (x room : ℤ) → pos 0 ≤ℤ x → x ≤ℤ room
+    → ((when p (pos 1) -ℤ when q (pos 1)) *ℤ x) ≤ℤ (if (p && not q) then room else pos 0)
 crossing_term true true x room from upto = omega (arith, ints)
 crossing_term true false x room from upto = omega (arith, ints)
 crossing_term false true x room from upto = omega (arith, ints)
@@ -110,16 +121,19 @@ module _ (net : Net) (limits : IsWithinLimits net) (source sink : ℕ) (ends : A
       → surplus net.links flow v ≡ surplus_of_routing source sink amount v
   surplus_is amount flow routing v within = elim (cases_eq source v) [
     | inl e ↦
-        let other : sink ≢ v = (λ d. ends.apart (e ∙ sym d)) in rw (eq-eqb source v e, ne_eqb sink v other)
+        let other : sink ≢ v = (λ d. ends.apart (e ∙ sym d)) in
+        rw (eq-eqb source v e, ne_eqb sink v other)
         (subst (λ u. surplus net.links flow u ≡ amount -ℤ pos 0) e (omega (arith, ints)))
     | inr ne ↦ rw (ne_eqb source v ne) (elim (cases_eq sink v) [
       | inl e ↦ rw (eq-eqb sink v e) (subst (λ u. surplus net.links flow u ≡ pos 0 -ℤ amount) e (omega (arith, ints)))
-      | inr other ↦ rw (ne_eqb sink v other) (let same = routing.balances v within (λ d. ne (sym d)) (λ d. other (sym d)) in omega (arith, ints))
+      | inr other ↦
+          rw (ne_eqb sink v other) (let same = routing.balances v within (λ d. ne (sym d)) (λ d. other (sym d)) in omega (arith, ints))
     ])
   ]
 
   pub routing_from_surplus : (amount : ℤ) (flow : List ℤ) → IsWithinRooms net.links flow
-      → ((v : ℕ) → v < net.nodes → surplus net.links flow v ≡ surplus_of_routing source sink amount v) → IsRouting net source sink amount flow
+      → ((v : ℕ) → v < net.nodes → surplus net.links flow v ≡ surplus_of_routing source sink amount v)
+      → IsRouting net source sink amount flow
   routing_from_surplus amount flow rooms is = record {
     rooms = rooms;
     balances = λ v within not_source not_sink. let here = is v within in
@@ -138,7 +152,8 @@ module _ (net : Net) (limits : IsWithinLimits net) (source sink : ℕ) (ends : A
 
   module _ (amount : ℤ) (flow : List ℤ) (routing : IsRouting net source sink amount flow) where
     -- a routing with such potentials costs least
-    pub least_from_potentials : (potentials other : List ℤ) → AreProofOfLeast net.links flow potentials → IsRouting net source sink amount other
+    pub least_from_potentials : (potentials other : List ℤ) → AreProofOfLeast net.links flow potentials
+        → IsRouting net source sink amount other
         → cost_of net.links flow ≤ℤ cost_of net.links other
     unfolding reduced_part
     least_from_potentials potentials other proof other_routing =
@@ -150,11 +165,13 @@ module _ (net : Net) (limits : IsWithinLimits net) (source sink : ℕ) (ends : A
         (λ v b. ap (λ s. potential_at potentials v *ℤ s) (surplus_is amount flow routing v b ∙ sym (surplus_is amount other other_routing v b))) in
         let falls = sym (surplus_by_links net limits flow (potential_at potentials))
         ∙ (same_nodes ∙ surplus_by_links net limits other (potential_at potentials)) in
-        let here = cost_and_fall net.links flow potentials in let there = cost_and_fall net.links other potentials in
+        let here = cost_and_fall net.links flow potentials in
+        let there = cost_and_fall net.links other potentials in
         omega (arith, ints, terms, falls, here, there)
 
     -- what a potential falls along the links, times the flows on them, is in all its fall from the source to the sink, times the amount
-    pub falls_of_routing : (c : ℕ → ℤ) → sum_below (length net.links) (fall net.links flow c) ≡ c source *ℤ amount -ℤ c sink *ℤ amount
+    pub falls_of_routing : (c : ℕ → ℤ)
+        → sum_below (length net.links) (fall net.links flow c) ≡ c source *ℤ amount -ℤ c sink *ℤ amount
     falls_of_routing c =
         let n = net.nodes in sym (surplus_by_links net limits flow c)
         ∙ (sum_below-same n (λ v. c v *ℤ surplus net.links flow v) (λ v. when (source == v) (c v *ℤ amount) -ℤ when (sink == v) (c v *ℤ amount))
@@ -162,7 +179,8 @@ module _ (net : Net) (limits : IsWithinLimits net) (source sink : ℕ) (ends : A
         ∙ (sum_below-sub n (λ v. when (source == v) (c v *ℤ amount)) (λ v. when (sink == v) (c v *ℤ amount))
         ∙ ap₂ ◌-ℤ◌ (sum_below-single n (λ v. c v *ℤ amount) source ends.source_in) (sum_below-single n (λ v. c v *ℤ amount) sink ends.sink_in)))
       where
-        inside : (c : ℤ) (p q : Bool) → c *ℤ (when p amount -ℤ when q amount) ≡ when p (c *ℤ amount) -ℤ when q (c *ℤ amount)
+        inside : (c : ℤ) (p q : Bool)
+            → c *ℤ (when p amount -ℤ when q amount) ≡ when p (c *ℤ amount) -ℤ when q (c *ℤ amount)
         inside c true true = *ℤ--ℤ c amount amount
         inside c true false = *ℤ--ℤ c amount (pos 0) ∙ ap (λ z. (c *ℤ amount) -ℤ z) (*ℤ-zero c)
         inside c false true = *ℤ--ℤ c (pos 0) amount ∙ ap (λ z. z -ℤ (c *ℤ amount)) (*ℤ-zero c)
@@ -176,7 +194,8 @@ module _ (net : Net) (limits : IsWithinLimits net) (source sink : ℕ) (ends : A
       -- so the rooms that leave the set are not less than the amount
       pub amount_within_rooms : amount ≤ℤ sum_below (length net.links) (leaving_room net.links set)
       amount_within_rooms =
-          let crossing = crossing_is in let terms = sum_below-le (length net.links) (fall net.links flow (indicator set)) (leaving_room net.links set)
+          let crossing = crossing_is in
+          let terms = sum_below-le (length net.links) (fall net.links flow (indicator set)) (leaving_room net.links set)
           (λ k l. crossing_term (is_in set (link_at net.links k).from) (is_in set (link_at net.links k).to) (flow_on flow k) (link_at net.links k).room
           (routing.rooms.not_negative k l) (routing.rooms.upto_room k l)) in
           omega (arith, ints, crossing, terms)
@@ -192,5 +211,8 @@ module _ (net : Net) (limits : IsWithinLimits net) (source sink : ℕ) (ends : A
           (empty k l))) ∙ crossing_is
 
   -- nothing routes an amount past a cut
-  pub none_past_cut : (amount : ℤ) (flow : List ℤ) (set : List Bool) → IsCutBelow net source sink amount set → IsRouting net source sink amount flow → ⊥
-  none_past_cut amount flow set cut routing = let most = amount_within_rooms amount flow routing set cut.source_in cut.sink_out in omega (arith, ints, most)
+  pub none_past_cut : (amount : ℤ) (flow : List ℤ) (set : List Bool) → IsCutBelow net source sink amount set
+      → IsRouting net source sink amount flow → ⊥
+  none_past_cut amount flow set cut routing =
+      let most = amount_within_rooms amount flow routing set cut.source_in cut.sink_out in
+      omega (arith, ints, most)

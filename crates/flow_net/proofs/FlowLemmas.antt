@@ -28,7 +28,8 @@ turned-arc links = arc_cases links (λ a. IsArc links (turned a)) way
   where
     way : OfWays links (λ a. IsArc links (turned a))
     way k true below = record { below = below; is = refl }
-    way k false below = record { below = below; is = ap (λ z. record (arc_of (link_at links k) k true) { cost = z }) (neg_ℤ-neg_ℤ (link_at links k).cost) }
+    way k false below =
+        record { below = below; is = ap (λ z. record (arc_of (link_at links k) k true) { cost = z }) (neg_ℤ-neg_ℤ (link_at links k).cost) }
 
 -- an arc of a net within the limits joins two of its nodes, at a cost within the limits
 module _ (net : Net) (limits : IsWithinLimits net) where
@@ -49,9 +50,11 @@ module _ (net : Net) (limits : IsWithinLimits net) where
           let l = (limits.links k below).cost in (omega (arith, sizes), omega (arith, sizes))
 
 -- a residual arc has no negative reduced cost at potentials that prove the flow
-pub reduced-not_negative : (links : List Link) (flow potentials : List ℤ) → AreProofOfLeast links flow potentials → (a : Arc) → IsArc links a
+pub reduced-not_negative : (links : List Link) (flow potentials : List ℤ)
+    → AreProofOfLeast links flow potentials → (a : Arc) → IsArc links a
     → pos 0 <ℤ residual_of links flow a → pos 0 ≤ℤ reduced_cost_of potentials a
-reduced-not_negative links flow potentials proof = arc_cases links (λ a. pos 0 <ℤ residual_of links flow a → pos 0 ≤ℤ reduced_cost_of potentials a) way
+reduced-not_negative links flow potentials proof =
+    arc_cases links (λ a. pos 0 <ℤ residual_of links flow a → pos 0 ≤ℤ reduced_cost_of potentials a) way
   where
     way : OfWays links (λ a. pos 0 <ℤ residual_of links flow a → pos 0 ≤ℤ reduced_cost_of potentials a)
     way k true below residual = proof.left_to_add k below (omega (arith, ints))
@@ -69,10 +72,12 @@ module _ (links : List Link) (flow : List ℤ) (k : ℕ) (below : k < length lin
   each_link : (P : ℕ → Type 0) → P k → (j : ℕ) → (j ≢ k → P j) → P j
   each_link P here j there = elim (cases_eq j k) [ inl e ↦ subst P (sym e) here | inr ne ↦ there ne ]
 
-  changed_rooms : IsWithinRooms links flow → pos 0 ≤ℤ x → x ≤ℤ (link_at links k).room → IsWithinRooms links (set flow k x)
+  changed_rooms : IsWithinRooms links flow → pos 0 ≤ℤ x → x ≤ℤ (link_at links k).room
+      → IsWithinRooms links (set flow k x)
   changed_rooms rooms from upto = record {
     one_each = length-set flow k x ∙ one_each;
-    not_negative = λ j l. each_link (λ i. pos 0 ≤ℤ flow_on (set flow k x) i) (rw flow_here from) j (λ ne. rw (flow_there j ne) (rooms.not_negative j l));
+    not_negative =
+        λ j l. each_link (λ i. pos 0 ≤ℤ flow_on (set flow k x) i) (rw flow_here from) j (λ ne. rw (flow_there j ne) (rooms.not_negative j l));
     upto_room = λ j l.
         each_link (λ i. flow_on (set flow k x) i ≤ℤ (link_at links i).room) (rw flow_here upto) j (λ ne. rw (flow_there j ne) (rooms.upto_room j l));
   }
@@ -83,7 +88,9 @@ module _ (links : List Link) (flow : List ℤ) (k : ℕ) (below : k < length lin
   changed_sum test =
       let change = sum_below-change (length links) (λ j. when (test j) (flow_on flow j)) (λ j. when (test j) (flow_on (set flow k x) j)) k below
       (λ j l ne. ap (when (test j)) (flow_there j ne)) in
-      let here = ap (when (test k)) flow_here in let difference = less (test k) x (flow_on flow k) in omega (arith, ints, change, here, difference)
+      let here = ap (when (test k)) flow_here in
+      let difference = less (test k) x (flow_on flow k) in
+      omega (arith, ints, change, here, difference)
     where
       less : (p : Bool) (a b : ℤ) → when p a -ℤ when p b ≡ when p (a -ℤ b)
       less true a b = refl
@@ -92,15 +99,19 @@ module _ (links : List Link) (flow : List ℤ) (k : ℕ) (below : k < length lin
   changed_surplus : (v : ℕ) → surplus links (set flow k x) v
       ≡ surplus links flow v +ℤ (when ((link_at links k).from == v) (x -ℤ flow_on flow k) -ℤ when ((link_at links k).to == v) (x -ℤ flow_on flow k))
   changed_surplus v =
-      let out = changed_sum (λ j. (link_at links j).from == v) in let into = changed_sum (λ j. (link_at links j).to == v) in omega (arith, ints, out, into)
+      let out = changed_sum (λ j. (link_at links j).from == v) in
+      let into = changed_sum (λ j. (link_at links j).to == v) in
+      omega (arith, ints, out, into)
 
-  changed_proof : (potentials : List ℤ) → AreProofOfLeast links flow potentials → reduced_cost (link_at links k) potentials ≡ pos 0
+  changed_proof : (potentials : List ℤ) → AreProofOfLeast links flow potentials
+      → reduced_cost (link_at links k) potentials ≡ pos 0
       → AreProofOfLeast links (set flow k x) potentials
   changed_proof potentials proof none = record {
     left_to_add = λ j l.
         each_link (λ i. flow_on (set flow k x) i <ℤ (link_at links i).room → pos 0 ≤ℤ reduced_cost (link_at links i) potentials) (λ left. omega (arith, ints)) j
         (λ ne. rw (flow_there j ne) (proof.left_to_add j l));
-    flowing = λ j l. each_link (λ i. pos 0 <ℤ flow_on (set flow k x) i → reduced_cost (link_at links i) potentials ≤ℤ pos 0) (λ some. omega (arith, ints)) j
+    flowing =
+        λ j l. each_link (λ i. pos 0 <ℤ flow_on (set flow k x) i → reduced_cost (link_at links i) potentials ≤ℤ pos 0) (λ some. omega (arith, ints)) j
         (λ ne. rw (flow_there j ne) (proof.flowing j l));
   }
 
@@ -110,8 +121,10 @@ ends_gain u w m v = when (u == v) m -ℤ when (w == v) m
 
 -- an amount sent along an arc
 module _ (links : List Link) (flow : List ℤ) (m : ℤ) (rooms : IsWithinRooms links flow) where
-  sent-rooms : (a : Arc) → IsArc links a → pos 0 ≤ℤ m → m ≤ℤ residual_of links flow a → IsWithinRooms links (sent_along flow a m)
-  sent-rooms = arc_cases links (λ a. pos 0 ≤ℤ m → m ≤ℤ residual_of links flow a → IsWithinRooms links (sent_along flow a m)) way
+  sent-rooms : (a : Arc) → IsArc links a → pos 0 ≤ℤ m → m ≤ℤ residual_of links flow a
+      → IsWithinRooms links (sent_along flow a m)
+  sent-rooms =
+      arc_cases links (λ a. pos 0 ≤ℤ m → m ≤ℤ residual_of links flow a → IsWithinRooms links (sent_along flow a m)) way
     where
       way : OfWays links (λ a. pos 0 ≤ℤ m → m ≤ℤ residual_of links flow a → IsWithinRooms links (sent_along flow a m))
       way k true below from upto =
@@ -121,8 +134,10 @@ module _ (links : List Link) (flow : List ℤ) (m : ℤ) (rooms : IsWithinRooms 
           let carried = rooms.upto_room k below in
           changed_rooms links flow k below rooms.one_each (flow_on flow k -ℤ m) rooms (omega (arith, ints)) (omega (arith, ints))
 
-  sent-surplus : (v : ℕ) (a : Arc) → IsArc links a → surplus links (sent_along flow a m) v ≡ surplus links flow v +ℤ ends_gain a.tail a.head m v
-  sent-surplus v = arc_cases links (λ a. surplus links (sent_along flow a m) v ≡ surplus links flow v +ℤ ends_gain a.tail a.head m v) way
+  sent-surplus : (v : ℕ) (a : Arc) → IsArc links a
+      → surplus links (sent_along flow a m) v ≡ surplus links flow v +ℤ ends_gain a.tail a.head m v
+  sent-surplus v =
+      arc_cases links (λ a. surplus links (sent_along flow a m) v ≡ surplus links flow v +ℤ ends_gain a.tail a.head m v) way
     where
       more : (x : ℤ) → (x +ℤ m) -ℤ x ≡ m
       more x = omega (arith, ints)
@@ -141,13 +156,17 @@ module _ (links : List Link) (flow : List ℤ) (m : ℤ) (rooms : IsWithinRooms 
           changed_surplus links flow k below rooms.one_each (flow_on flow k -ℤ m) v
           ∙ ap (λ d. surplus links flow v +ℤ d) (less ((link_at links k).from == v) ((link_at links k).to == v) (flow_on flow k))
 
-  sent-proof : (potentials : List ℤ) → AreProofOfLeast links flow potentials → (a : Arc) → IsArc links a → reduced_cost_of potentials a ≡ pos 0
+  sent-proof : (potentials : List ℤ) → AreProofOfLeast links flow potentials → (a : Arc) → IsArc links a
+      → reduced_cost_of potentials a ≡ pos 0
       → AreProofOfLeast links (sent_along flow a m) potentials
-  sent-proof potentials proof = arc_cases links (λ a. reduced_cost_of potentials a ≡ pos 0 → AreProofOfLeast links (sent_along flow a m) potentials) way
+  sent-proof potentials proof =
+      arc_cases links (λ a. reduced_cost_of potentials a ≡ pos 0 → AreProofOfLeast links (sent_along flow a m) potentials) way
     where
       way : OfWays links (λ a. reduced_cost_of potentials a ≡ pos 0 → AreProofOfLeast links (sent_along flow a m) potentials)
-      way k true below none = changed_proof links flow k below rooms.one_each (flow_on flow k +ℤ m) potentials proof none
-      way k false below none = changed_proof links flow k below rooms.one_each (flow_on flow k -ℤ m) potentials proof (omega (arith, ints))
+      way k true below none =
+          changed_proof links flow k below rooms.one_each (flow_on flow k +ℤ m) potentials proof none
+      way k false below none =
+          changed_proof links flow k below rooms.one_each (flow_on flow k -ℤ m) potentials proof (omega (arith, ints))
 
 -- a path whose first arc carries the amount: the rest can carry it still
 module _ (links : List Link) (flow : List ℤ) (a : Arc) (path : List Arc) (m : ℤ) (rooms : IsWithinRooms links flow)
@@ -156,7 +175,8 @@ module _ (links : List Link) (flow : List ℤ) (a : Arc) (path : List Arc) (m : 
   first_arc = All-head (IsArc links) a path can.arcs
 
   pub first_rooms : pos 0 ≤ℤ m → IsWithinRooms links (sent_along flow a m)
-  first_rooms from = sent-rooms links flow m rooms a first_arc from (All-head (λ b. m ≤ℤ residual_of links flow b) a path can.residual)
+  first_rooms from =
+      sent-rooms links flow m rooms a first_arc from (All-head (λ b. m ≤ℤ residual_of links flow b) a path can.residual)
 
   pub CanCarry-rest : CanCarry links (sent_along flow a m) path m
   CanCarry-rest = record {
@@ -164,17 +184,20 @@ module _ (links : List Link) (flow : List ℤ) (a : Arc) (path : List Arc) (m : 
     apart = can.apart.1;
     residual = λ k d l. let b = get_or path k d in
         let same = get_or-set_other flow a.link b.link (carry a (flow_on flow a.link) m) (pos 0) (can.apart.0 k d l) in
-        let before = All-tail (λ b. m ≤ℤ residual_of links flow b) a path can.residual k d l in rw same before;
+        let before = All-tail (λ b. m ≤ℤ residual_of links flow b) a path can.residual k d l in
+        rw same before;
   }
 
 -- the flow after an amount is sent along a path
-pub path-rooms : (links : List Link) (flow : List ℤ) (path : List Arc) (m : ℤ) → pos 0 ≤ℤ m → IsWithinRooms links flow → CanCarry links flow path m
+pub path-rooms : (links : List Link) (flow : List ℤ) (path : List Arc) (m : ℤ) → pos 0 ≤ℤ m
+    → IsWithinRooms links flow → CanCarry links flow path m
     → IsWithinRooms links (sent_along_path flow path m)
 path-rooms links flow [] m from rooms can = rooms
 path-rooms links flow (a ∷ path) m from rooms can =
     path-rooms links (sent_along flow a m) path m from (first_rooms links flow a path m rooms can from) (CanCarry-rest links flow a path m rooms can)
 
-pub path-proof : (links : List Link) (flow potentials : List ℤ) (path : List Arc) (m : ℤ) → pos 0 ≤ℤ m → IsWithinRooms links flow → CanCarry links flow path m
+pub path-proof : (links : List Link) (flow potentials : List ℤ) (path : List Arc) (m : ℤ) → pos 0 ≤ℤ m
+    → IsWithinRooms links flow → CanCarry links flow path m
     → All (λ a. reduced_cost_of potentials a ≡ pos 0) path → AreProofOfLeast links flow potentials
     → AreProofOfLeast links (sent_along_path flow path m) potentials
 path-proof links flow potentials [] m from rooms can none proof = proof
@@ -185,14 +208,17 @@ path-proof links flow potentials (a ∷ path) m from rooms can none proof =
     (All-head (λ b. reduced_cost_of potentials b ≡ pos 0) a path none))
 
 -- only the ends of a path have another surplus
-pub path-surplus : (links : List Link) (flow : List ℤ) (path : List Arc) (m : ℤ) (u w v : ℕ) → pos 0 ≤ℤ m → IsWithinRooms links flow
-    → CanCarry links flow path m → IsWalk path u w → surplus links (sent_along_path flow path m) v ≡ surplus links flow v +ℤ ends_gain u w m v
+pub path-surplus : (links : List Link) (flow : List ℤ) (path : List Arc) (m : ℤ) (u w v : ℕ) → pos 0 ≤ℤ m
+    → IsWithinRooms links flow
+    → CanCarry links flow path m → IsWalk path u w
+    → surplus links (sent_along_path flow path m) v ≡ surplus links flow v +ℤ ends_gain u w m v
 path-surplus links flow [] m u w v from rooms can walk =
     subst (λ x. surplus links flow v ≡ surplus links flow v +ℤ ends_gain u x m v) walk (omega (arith, ints))
 path-surplus links flow (a ∷ path) m u w v from rooms can walk =
     let rest = path-surplus links (sent_along flow a m) path m a.head w v from (first_rooms links flow a path m rooms can from)
     (CanCarry-rest links flow a path m rooms can) walk.1 in
-    let first = sent-surplus links flow m rooms v a (first_arc links flow a path m rooms can) in let begins = ap (λ x. when (x == v) m) walk.0 in
+    let first = sent-surplus links flow m rooms v a (first_arc links flow a path m rooms can) in
+    let begins = ap (λ x. when (x == v) m) walk.0 in
     omega (arith, ints, rest, first, begins)
 
 -- what the code reads past the end of a list of arcs
@@ -209,8 +235,10 @@ module _ (links : List Link) (flow : List ℤ) (path : List Arc) (m : ℤ) (i : 
   next_arc = first_arc links flow (get_or path i no_arc) (drop (i + 1) path) m rooms next_can
 
   -- what its link carries, as the code reads it
-  pub next_carried : (x : ℤ) → x ≡ get_or flow (get_or path i no_arc).link x → x ≡ flow_on flow (get_or path i no_arc).link
-  next_carried x e = get_or_read flow (get_or path i no_arc).link x (let b = next_arc.below in let each = rooms.one_each in omega arith) e (pos 0)
+  pub next_carried : (x : ℤ) → x ≡ get_or flow (get_or path i no_arc).link x
+      → x ≡ flow_on flow (get_or path i no_arc).link
+  next_carried x e =
+      get_or_read flow (get_or path i no_arc).link x (let b = next_arc.below in let each = rooms.one_each in omega arith) e (pos 0)
 
   pub next_rooms : pos 0 ≤ℤ m → IsWithinRooms links (sent_along flow (get_or path i no_arc) m)
   next_rooms = first_rooms links flow (get_or path i no_arc) (drop (i + 1) path) m rooms next_can
@@ -220,7 +248,9 @@ module _ (links : List Link) (flow : List ℤ) (path : List Arc) (m : ℤ) (i : 
 
   pub next_sent : (first : List ℤ) → flow ≡ sent_along_path first (take i path) m
       → sent_along flow (get_or path i no_arc) m ≡ sent_along_path first (take (i + 1) path) m
-  next_sent first e = ap (λ f. sent_along f (get_or path i no_arc) m) e ∙ sym (fold_more (λ f a. sent_along f a m) first path i no_arc within)
+  next_sent first e =
+      ap (λ f. sent_along f (get_or path i no_arc) m) e
+      ∙ sym (fold_more (λ f a. sent_along f a m) first path i no_arc within)
 
 -- What stands while a part of the amount is routed, before the first step and after each.
 
@@ -230,8 +260,10 @@ largest_cost-small net limits =
     greatest-le (λ (l : Link). l.cost) net.links MOST_COST (record { from = 0; to = 0; room = pos 0; cost = pos 0 }) (λ k l. (limits.links k l).cost)
 
 -- the same lists and the same amount stand alike
-pub Stands-same : (p : Problem) (flow flow' potentials potentials' : List ℤ) (routed routed' : ℤ) (ways : List Way) → flow' ≡ flow
-    → potentials' ≡ potentials → routed' ≡ routed → Stands p flow potentials routed ways → Stands p flow' potentials' routed' ways
+pub Stands-same : (p : Problem) (flow flow' potentials potentials' : List ℤ) (routed routed' : ℤ) (ways : List Way)
+    → flow' ≡ flow
+    → potentials' ≡ potentials → routed' ≡ routed → Stands p flow potentials routed ways
+    → Stands p flow' potentials' routed' ways
 Stands-same p flow flow' potentials potentials' routed routed' ways e f g h =
     subst (λ x. Stands p x potentials' routed' ways) (sym e)
     (subst (λ x. Stands p flow x routed' ways) (sym f) (subst (λ x. Stands p flow potentials x ways) (sym g) h))
@@ -239,7 +271,8 @@ Stands-same p flow flow' potentials potentials' routed routed' ways e f g h =
 module _ (p : Problem) (r : Routing) (standing : IsStanding p r) where
   pub IsPotential-standing : (v : ℕ) → v < p.net.now.nodes → IsPotential (potential_at r.potentials.items v)
   IsPotential-standing v within =
-      let net = p.net.now in let bound = standing.bounded.bounded v within in
+      let net = p.net.now in
+      let bound = standing.bounded.bounded v within in
       let largest = greatest-le (λ (s : ℤ). s) p.start.now MOST_INITIAL_POTENTIAL (pos 0) (λ k b. standing.problem.start.within k (omega arith)) in
       let times : net.nodes * largest_cost net ≤ MOST_NODES * MOST_COST =
       mul-le net.nodes (largest_cost net) MOST_NODES MOST_COST standing.problem.net.few_nodes (largest_cost-small net standing.problem.net) in
@@ -256,12 +289,14 @@ module _ (p : Problem) (r : Routing) (standing : IsStanding p r) where
       }
 
   -- the same where its ends and its cost are read elsewhere
-  pub IsPriced-between : (a : Arc) → IsArc p.net.now.links a → (tail head : ℕ) (cost : ℤ) → a.tail ≡ tail → head ≡ a.head → cost ≡ a.cost
+  pub IsPriced-between : (a : Arc) → IsArc p.net.now.links a → (tail head : ℕ) (cost : ℤ) → a.tail ≡ tail
+      → head ≡ a.head → cost ≡ a.cost
       → IsPricedBetween r.potentials.items tail head cost
   IsPriced-between a is tail head cost from to at = rw (sym from, to, at) (IsPriced-arc a is)
 
   pub reduced-residual : (a : Arc) → IsResidualArc p r a → pos 0 ≤ℤ reduced_cost_of r.potentials.items a
-  reduced-residual a is = reduced-not_negative p.net.now.links r.flow.items r.potentials.items standing.proof a is.arc is.residual
+  reduced-residual a is =
+      reduced-not_negative p.net.now.links r.flow.items r.potentials.items standing.proof a is.arc is.residual
 
   -- what a path can carry is sent along it
   module _ (path : List Arc) (free : IsFreePath p r path) (m : ℤ) (most : IsBottleneck p r path m) where
@@ -272,19 +307,25 @@ module _ (p : Problem) (r : Routing) (standing : IsStanding p r) where
       residual = most.residual;
     }
 
-    pub Stands-augmented : (ways : List Way) → AreWays p.net.now.links (sent_along_path r.flow.items path m) p.adjacency.arcs.items ways
+    pub Stands-augmented : (ways : List Way)
+        → AreWays p.net.now.links (sent_along_path r.flow.items path m) p.adjacency.arcs.items ways
         → Stands p (sent_along_path r.flow.items path m) r.potentials.items (r.routed +ℤ m) ways
     Stands-augmented ways are =
-        let net = p.net.now in let from : pos 0 ≤ℤ m = omega (arith, ints) in let rooms = standing.routes.rooms in record {
+        let net = p.net.now in
+        let from : pos 0 ≤ℤ m = omega (arith, ints) in
+        let rooms = standing.routes.rooms in
+        record {
           problem = standing.problem;
           routed_from = omega (arith, ints);
           routed_upto = omega (arith, ints);
           opened = are;
-          routes = routing_from_surplus net standing.problem.net p.source p.sink standing.problem.ends (r.routed +ℤ m) (sent_along_path r.flow.items path m)
+          routes =
+              routing_from_surplus net standing.problem.net p.source p.sink standing.problem.ends (r.routed +ℤ m) (sent_along_path r.flow.items path m)
               (path-rooms net.links r.flow.items path m from rooms path_carries) (λ v within.
               let before = surplus_is net standing.problem.net p.source p.sink standing.problem.ends r.routed r.flow.items standing.routes v within in
               let change = path-surplus net.links r.flow.items path m p.source p.sink v from rooms path_carries free.walk in
-              let split_source = when-sum (p.source == v) r.routed in let split_sink = when-sum (p.sink == v) r.routed in
+              let split_source = when-sum (p.source == v) r.routed in
+              let split_sink = when-sum (p.sink == v) r.routed in
               omega (arith, ints, before, change, split_source, split_sink));
           proof = path-proof net.links r.flow.items r.potentials.items path m from rooms path_carries
               (All-weaker (IsFreeArc p r) (λ a. reduced_cost_of r.potentials.items a ≡ pos 0) (λ a h. h.free) path free.arcs) standing.proof;
@@ -323,7 +364,8 @@ Stands-none p ways h are = record {
   };
   bounded = record {
     one_each = h.start.one_each;
-    bounded = λ v within. let size = size-le-greatest (λ (x : ℤ). x) p.start.now v (pos 0) (omega (arith, within)) in omega (arith, size);
+    bounded = λ v within. let size = size-le-greatest (λ (x : ℤ). x) p.start.now v (pos 0) (omega (arith, within)) in
+        omega (arith, size);
   };
   at_source = refl;
   risen = λ v within. omega (arith, ints);
@@ -342,38 +384,46 @@ Stands-none p ways h are = record {
     none_when false x e = refl
 
     no_outflow : (v : ℕ) → outflow p.net.now.links (replicate (length p.net.now.links) (pos 0)) v ≡ pos 0
-    no_outflow v = sum_below-zero (length p.net.now.links) _ (λ k b. none_when ((link_at p.net.now.links k).from == v) _ (nothing k))
+    no_outflow v =
+        sum_below-zero (length p.net.now.links) _ (λ k b. none_when ((link_at p.net.now.links k).from == v) _ (nothing k))
 
     no_inflow : (v : ℕ) → inflow p.net.now.links (replicate (length p.net.now.links) (pos 0)) v ≡ pos 0
-    no_inflow v = sum_below-zero (length p.net.now.links) _ (λ k b. none_when ((link_at p.net.now.links k).to == v) _ (nothing k))
+    no_inflow v =
+        sum_below-zero (length p.net.now.links) _ (λ k b. none_when ((link_at p.net.now.links k).to == v) _ (nothing k))
 
 -- Walks whose arcs rise by a rank of their nodes, and the tree of a search.
 
 -- a walk that is found from its end: an arc before it, and its first arc off again
-pub walk-push : (path : List Arc) (a : Arc) (w : ℕ) → IsWalk (reverse path) a.head w → IsWalk (reverse (path ++ a ∷ [])) a.tail w
+pub walk-push : (path : List Arc) (a : Arc) (w : ℕ) → IsWalk (reverse path) a.head w
+    → IsWalk (reverse (path ++ a ∷ [])) a.tail w
 walk-push path a w walk = subst (λ xs. IsWalk xs a.tail w) (sym (reverse-append path (a ∷ []))) (refl, walk)
 
-pub walk-pop : (path : List Arc) (a : Arc) (u w : ℕ) → IsWalk (reverse (path ++ a ∷ [])) u w → (a.tail ≡ u) × IsWalk (reverse path) a.head w
+pub walk-pop : (path : List Arc) (a : Arc) (u w : ℕ) → IsWalk (reverse (path ++ a ∷ [])) u w
+    → (a.tail ≡ u) × IsWalk (reverse path) a.head w
 walk-pop path a u w walk = subst (λ xs. IsWalk xs u w) (reverse-append path (a ∷ [])) walk
 
 -- the arcs of a walk that rises begin no lower than the walk
-pub rising_above : (rank : ℕ → ℕ) (path : List Arc) (u w : ℕ) → IsWalk path u w → All (λ a. rank a.tail < rank a.head) path
+pub rising_above : (rank : ℕ → ℕ) (path : List Arc) (u w : ℕ) → IsWalk path u w
+    → All (λ a. rank a.tail < rank a.head) path
     → All (λ a. rank u ≤ rank a.tail) path
 rising_above rank [] u w walk rising = All-nil (λ a. rank u ≤ rank a.tail)
 rising_above rank (a ∷ path) u w walk rising =
-    let first = All-head (λ b. rank b.tail < rank b.head) a path rising in let begins = ap rank walk.0 in
+    let first = All-head (λ b. rank b.tail < rank b.head) a path rising in
+    let begins = ap rank walk.0 in
     All-cons (λ b. rank u ≤ rank b.tail) a path (omega (arith, begins))
     (All-weaker (λ b. rank a.head ≤ rank b.tail) (λ b. rank u ≤ rank b.tail) (λ b h. omega (arith, h, first, begins)) path
     (rising_above rank path a.head w walk.1 (All-tail (λ b. rank b.tail < rank b.head) a path rising)))
 
 -- of two ways along one link, one ends where the other does, or where it begins
-ways_meet : (l : Link) (k : ℕ) (x y : Bool) → ((arc_of l k y).head ≡ (arc_of l k x).head) ⊎ ((arc_of l k y).head ≡ (arc_of l k x).tail)
+ways_meet : (l : Link) (k : ℕ) (x y : Bool)
+    → ((arc_of l k y).head ≡ (arc_of l k x).head) ⊎ ((arc_of l k y).head ≡ (arc_of l k x).tail)
 ways_meet l k true true = inl refl
 ways_meet l k true false = inr refl
 ways_meet l k false true = inr refl
 ways_meet l k false false = inl refl
 
-same_ends : (links : List Link) (a b : Arc) → IsArc links a → IsArc links b → b.link ≡ a.link → (b.head ≡ a.head) ⊎ (b.head ≡ a.tail)
+same_ends : (links : List Link) (a b : Arc) → IsArc links a → IsArc links b → b.link ≡ a.link
+    → (b.head ≡ a.head) ⊎ (b.head ≡ a.tail)
 same_ends links a b p q same =
     let head = ap (λ c. c.head) (q.is ∙ ap (λ k. arc_of (link_at links k) k b.forward) same) in
     elim (ways_meet (link_at links a.link) a.link a.forward b.forward) [
@@ -382,17 +432,22 @@ same_ends links a b p q same =
     ]
 
 -- so no two arcs of a walk that rises are ways along one link
-apart_by_rank : (links : List Link) (rank : ℕ → ℕ) (path : List Arc) (u w : ℕ) → IsWalk path u w → All (IsArc links) path
+apart_by_rank : (links : List Link) (rank : ℕ → ℕ) (path : List Arc) (u w : ℕ) → IsWalk path u w
+    → All (IsArc links) path
     → All (λ a. rank a.tail < rank a.head) path → AreApart path
 apart_by_rank links rank [] u w walk arcs rising = tt
 apart_by_rank links rank (a ∷ path) u w walk arcs rising =
-    let first = All-head (λ b. rank b.tail < rank b.head) a path rising in let rest = All-tail (λ b. rank b.tail < rank b.head) a path rising in
-    let above = rising_above rank path a.head w walk.1 rest in let is = All-head (IsArc links) a path arcs in
+    let first = All-head (λ b. rank b.tail < rank b.head) a path rising in
+    let rest = All-tail (λ b. rank b.tail < rank b.head) a path rising in
+    let above = rising_above rank path a.head w walk.1 rest in
+    let is = All-head (IsArc links) a path arcs in
     let others = All-tail (IsArc links) a path arcs in (
-      λ k d l same. let up = rest k d l in let over = above k d l in elim (same_ends links a (get_or path k d) is (others k d l) same) [
-        | inl e ↦ (let h = ap rank e in omega (arith, h, first, up, over))
-        | inr e ↦ (let h = ap rank e in omega (arith, h, first, up, over))
-      ],
+      λ k d l same. let up = rest k d l in
+          let over = above k d l in
+          elim (same_ends links a (get_or path k d) is (others k d l) same) [
+            | inl e ↦ (let h = ap rank e in omega (arith, h, first, up, over))
+            | inr e ↦ (let h = ap rank e in omega (arith, h, first, up, over))
+          ],
       apart_by_rank links rank path a.head w walk.1 others rest,
     )
 
@@ -421,7 +476,8 @@ IsTree-arrived p r s h =
     }
 
 -- the path of the tree is a path along free arcs, where its arcs are free
-pub IsFreePath-tree : (p : Problem) (r : Routing) (s : Search) (path : List Arc) → IsTree p s → ((a : Arc) → IsTreeArc p s a → IsFreeArc p r a)
+pub IsFreePath-tree : (p : Problem) (r : Routing) (s : Search) (path : List Arc) → IsTree p s
+    → ((a : Arc) → IsTreeArc p s a → IsFreeArc p r a)
     → IsTreePath p s path → IsFreePath p r path
 IsFreePath-tree p r s path tree free h =
     IsFreePath-rising p r (depth_at s.labels.items) path h.walk
@@ -431,9 +487,11 @@ IsFreePath-tree p r s path tree free h =
 -- Paths through a level graph, found from the sink.
 
 -- one level more within a bound keeps all within it
-pub heights-set : (levels : List (Option ℕ)) (v n : ℕ) (o : Option ℕ) → v < length levels → height_of o ≤ n → ((u : ℕ) → height_at levels u ≤ n) → (u : ℕ)
+pub heights-set : (levels : List (Option ℕ)) (v n : ℕ) (o : Option ℕ) → v < length levels → height_of o ≤ n
+    → ((u : ℕ) → height_at levels u ≤ n) → (u : ℕ)
     → height_at (set levels v o) u ≤ n
-heights-set levels v n o within here there = set_cases levels v o None within (λ u x. height_of x ≤ n) here (λ u ne. there u)
+heights-set levels v n o within here there =
+    set_cases levels v o None within (λ u x. height_of x ≤ n) here (λ u ne. there u)
 
 -- how many nodes have a level
 abbrev pub level_count : List (Option ℕ) → ℕ
@@ -445,7 +503,8 @@ pub record IsStep (p : Problem) (r : Routing) (levels : List (Option ℕ)) (a : 
   pub up : height_at levels a.tail < height_at levels a.head
   pub has_level : is_some (level_at levels a.tail) ≡ true
 
-pub IsStep-up : (p : Problem) (r : Routing) (levels : List (Option ℕ)) (a : Arc) → IsFreeArc p r a → StepsUp levels a.tail a.head → IsStep p r levels a
+pub IsStep-up : (p : Problem) (r : Routing) (levels : List (Option ℕ)) (a : Arc) → IsFreeArc p r a
+    → StepsUp levels a.tail a.head → IsStep p r levels a
 IsStep-up p r levels a free up =
     let from = ap height_of up.tail in
     let to = ap height_of up.head in
@@ -453,13 +512,17 @@ IsStep-up p r levels a free up =
 
 -- the first node of a path is closed: the other arcs begin at higher levels
 module _ (p : Problem) (r : Routing) (levels : List (Option ℕ)) (path : List Arc) (a : Arc) (w : ℕ) (step : IsStep p r levels a) where
-  pub IsStep-closed : IsWalk (reverse path) a.head w → All (IsStep p r levels) path → All (IsStep p r (set levels a.tail None)) path
+  pub IsStep-closed : IsWalk (reverse path) a.head w → All (IsStep p r levels) path
+      → All (IsStep p r (set levels a.tail None)) path
   IsStep-closed walk steps =
       let turned = All-permutation (IsStep p r levels) _ _ (IsPermutation-reverse path) steps in
       let above = rising_above (height_at levels) (reverse path) a.head w walk
       (All-weaker (IsStep p r levels) (λ b. height_at levels b.tail < height_at levels b.head) (λ b h. omega arith) (reverse path) turned) in
       let higher = All-permutation (λ b. height_at levels a.head ≤ height_at levels b.tail) _ _ (IsPermutation-sym _ _ (IsPermutation-reverse path)) above in
-      λ k d l. let b = get_or path k d in let s = steps k d l in let over = higher k d l in let next = s.up in
+      λ k d l. let b = get_or path k d in
+      let s = steps k d l in
+      let over = higher k d l in
+      let next = s.up in
       let tail = kept b.tail (λ e. let same = ap (height_at levels) e in absurd (omega (arith, over, same))) in
       let head = kept b.head (λ e. let same = ap (height_at levels) e in absurd (omega (arith, over, next, same))) in
       let low = ap height_of tail in
@@ -477,4 +540,5 @@ module _ (p : Problem) (r : Routing) (levels : List (Option ℕ)) (path : List A
       let was = ap {B = ℕ} (λ b. cond b 1 0) step.has_level in omega (arith, change, was)
 
   pub height_kept : height_at (set levels a.tail None) a.head ≡ height_at levels a.head
-  height_kept = ap height_of (get_or-set_other levels a.tail a.head None None (λ e. let same = ap (height_at levels) e in absurd (omega (arith, same))))
+  height_kept =
+      ap height_of (get_or-set_other levels a.tail a.head None None (λ e. let same = ap (height_at levels) e in absurd (omega (arith, same))))

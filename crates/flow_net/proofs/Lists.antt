@@ -3,15 +3,18 @@ use Rattle.std.proofs.Common.{List, [], arith, get_or, inl, inr, length, replica
 use Rattle.flow_net.proofs.Words.{cases_eq, cases_lt, get_or-replicate, get_or-set_other, get_or-set_same, get_or_append_left, get_or_past, get_or_push, length-replicate}
 
 -- what holds of the element written, and of each other element, holds of each
-pub set_cases : {X : Type 0} (xs : List X) (i : ℕ) (x d : X) → i < length xs → (P : ℕ → X → Type 0) → P i x → ((v : ℕ) → v ≢ i → P v (get_or xs v d)) → (v : ℕ)
+pub set_cases : {X : Type 0} (xs : List X) (i : ℕ) (x d : X) → i < length xs → (P : ℕ → X → Type 0) → P i x
+    → ((v : ℕ) → v ≢ i → P v (get_or xs v d)) → (v : ℕ)
     → P v (get_or (set xs i x) v d)
 set_cases xs i x d within P here there v = elim (cases_eq v i) [
-  | inl e ↦ subst (λ u. P u (get_or (set xs i x) u d)) (sym e) (subst (P i) (sym (get_or-set_same xs i x d within)) here)
+  | inl e ↦
+      subst (λ u. P u (get_or (set xs i x) u d)) (sym e) (subst (P i) (sym (get_or-set_same xs i x d within)) here)
   | inr ne ↦ subst (P v) (sym (get_or-set_other xs i v x d ne)) (there v ne)
 ]
 
 -- what holds of each element, and of one more at the end, holds of each
-pub push_cases : {X : Type 0} (xs : List X) (x d : X) (n : ℕ) → length xs ≡ n → (P : ℕ → X → Type 0) → P n x → ((j : ℕ) → j < n → P j (get_or xs j d)) → (j : ℕ)
+pub push_cases : {X : Type 0} (xs : List X) (x d : X) (n : ℕ) → length xs ≡ n → (P : ℕ → X → Type 0) → P n x
+    → ((j : ℕ) → j < n → P j (get_or xs j d)) → (j : ℕ)
     → j < n + 1 → P j (get_or (xs ++ x ∷ []) j d)
 push_cases xs x d n count P here there j l = elim (cases_lt j n) [
   | inl lt ↦ subst (P j) (sym (get_or_append_left xs (x ∷ []) d j (omega (arith, lt, count)))) (there j lt)

@@ -15,15 +15,23 @@ one_side (negsuc n) = omega arith
 pub ruleset sizes = (ints, abs_is, one_side)
 
 -- the more is routed, the less is left
-pub less_left : (amount before now : ℤ) → before <ℤ now → now ≤ℤ amount → unsigned_abs (amount -ℤ now) < unsigned_abs (amount -ℤ before)
+pub less_left : (amount before now : ℤ) → before <ℤ now → now ≤ℤ amount
+    → unsigned_abs (amount -ℤ now) < unsigned_abs (amount -ℤ before)
 less_left amount before now more upto = omega (arith, sizes)
 
-pub size-le-greatest : {X : Type 0} (f : X → ℤ) (xs : List X) (k : ℕ) (d : X) → k < length xs → unsigned_abs (f (get_or xs k d)) ≤ greatest_size f xs
+pub size-le-greatest : {X : Type 0} (f : X → ℤ) (xs : List X) (k : ℕ) (d : X) → k < length xs
+    → unsigned_abs (f (get_or xs k d)) ≤ greatest_size f xs
 size-le-greatest f [] k d l = absurd (omega arith)
 size-le-greatest f (x ∷ xs) zero d l = omega arith
-size-le-greatest f (x ∷ xs) (suc k) d l = let rest = size-le-greatest f xs k d (omega arith) in omega arith
+size-le-greatest f (x ∷ xs) (suc k) d l =
+    let rest = size-le-greatest f xs k d (omega arith) in
+    omega arith
 
-pub greatest-le : {X : Type 0} (f : X → ℤ) (xs : List X) (n : ℕ) (d : X) → ((k : ℕ) → k < length xs → unsigned_abs (f (get_or xs k d)) ≤ n)
+pub greatest-le : {X : Type 0} (f : X → ℤ) (xs : List X) (n : ℕ) (d : X)
+    → ((k : ℕ) → k < length xs → unsigned_abs (f (get_or xs k d)) ≤ n)
     → greatest_size f xs ≤ n
 greatest-le f [] n d h = omega arith
-greatest-le f (x ∷ xs) n d h = let first = h 0 (omega arith) in let rest = greatest-le f xs n d (λ k l. h (suc k) (omega arith)) in omega arith
+greatest-le f (x ∷ xs) n d h =
+    let first = h 0 (omega arith) in
+    let rest = greatest-le f xs n d (λ k l. h (suc k) (omega arith)) in
+    omega arith

@@ -27,7 +27,8 @@ Bool-cases_eq false true = inr (λ e. cc)
 Bool-cases_eq false false = inl refl
 
 -- two arcs along one link in one direction are one arc
-same_way : (links : List Link) (a b : Arc) → IsArc links a → IsArc links b → a.link ≡ b.link → a.forward ≡ b.forward → a ≡ b
+same_way : (links : List Link) (a b : Arc) → IsArc links a → IsArc links b → a.link ≡ b.link
+    → a.forward ≡ b.forward → a ≡ b
 same_way links a b p q link way =
     p.is ∙ (ap (λ k. arc_of (link_at links k) k a.forward) link ∙ (ap (λ w. arc_of (link_at links b.link) b.link w) way ∙ sym q.is))
 
@@ -46,18 +47,23 @@ module _ (links : List Link) (arcs : List Arc) (i : ℕ) (places : List Places) 
   changed = set places a.link (placed (places_at places a.link) a.forward i)
 
   at_link : places_at changed a.link ≡ placed (places_at places a.link) a.forward i
-  at_link = get_or-set_same places a.link (placed (places_at places a.link) a.forward i) (record { forward = 0; back = 0 }) (let b = (are i no_arc within).below in omega (arith, b, each))
+  at_link =
+      let b = (are i no_arc within).below in
+      get_or-set_same places a.link (placed (places_at places a.link) a.forward i) (record { forward = 0; back = 0 })
+      (omega (arith, b, each))
 
   own_place : place_of changed a ≡ i
   own_place = ap (λ p. place_in p a.forward) at_link ∙ placed_here (places_at places a.link) a.forward i
 
   kept_place : (j : ℕ) → j < i → place_of changed (arc_numbered arcs j) ≡ place_of places (arc_numbered arcs j)
   kept_place j less = elim (cases_eq (arc_numbered arcs j).link a.link) [
-    | inr ne ↦ ap (λ p. place_in p (arc_numbered arcs j).forward) (get_or-set_other places a.link (arc_numbered arcs j).link _ _ ne)
+    | inr ne ↦
+        ap (λ p. place_in p (arc_numbered arcs j).forward) (get_or-set_other places a.link (arc_numbered arcs j).link _ _ ne)
     | inl e ↦
         let way = (arc_numbered arcs j).forward in
         let apart : way ≢ a.forward =
-        λ way_too. once j i no_arc less within (same_way links (arc_numbered arcs j) a (are j no_arc (omega (arith, less, within))) (are i no_arc within) e way_too) in
+        λ way_too. once j i no_arc less within
+        (same_way links (arc_numbered arcs j) a (are j no_arc (omega (arith, less, within))) (are i no_arc within) e way_too) in
         ap (λ m. place_in (places_at changed m) way) e ∙ (ap (λ p. place_in p way) at_link
         ∙ (placed_there (places_at places a.link) a.forward way i apart ∙ ap (λ m. place_in (places_at places m) way) (sym e)))
   ]
@@ -73,7 +79,8 @@ module _ (links : List Link) (arcs : List Arc) (i : ℕ) (places : List Places) 
     ];
   }
 
-pub ArePlaces-all : (n : ℕ) (arcs : List Arc) (i : ℕ) (places : List Places) → length arcs ≤ i → ArePlacedBelow n arcs i places → ArePlaces n arcs places
+pub ArePlaces-all : (n : ℕ) (arcs : List Arc) (i : ℕ) (places : List Places) → length arcs ≤ i
+    → ArePlacedBelow n arcs i places → ArePlaces n arcs places
 ArePlaces-all n arcs i places past h = record { one_each = h.one_each; own = λ j l. h.own j (omega (arith, l, past)) }
 
 -- ---- ways
@@ -87,25 +94,29 @@ pub IsWayOf-along : (links : List Link) (flow : List ℤ) (a : Arc) (w : Way) �
     → IsWay (link_at links a.link) (flow_on flow a.link) a.forward w → IsWayOf links flow a w
 IsWayOf-along links flow a w is h = subst (λ b. IsWayOf links flow b w) (sym is.is) (each a.link a.forward h)
   where
-    each : (k : ℕ) (forward : Bool) → IsWay (link_at links k) (flow_on flow k) forward w → IsWayOf links flow (arc_of (link_at links k) k forward) w
+    each : (k : ℕ) (forward : Bool) → IsWay (link_at links k) (flow_on flow k) forward w
+        → IsWayOf links flow (arc_of (link_at links k) k forward) w
     each k true h = record { head = h.head; is_open = h.is_open; cost = h.cost }
     each k false h = record { head = h.head; is_open = h.is_open; cost = h.cost }
 
 -- the ways where nothing flows
-pub AreWays-none : (links : List Link) (arcs : List Arc) (ways : List Way) → All (IsArc links) arcs → length ways ≡ length arcs
+pub AreWays-none : (links : List Link) (arcs : List Arc) (ways : List Way) → All (IsArc links) arcs
+    → length ways ≡ length arcs
     → ((j : ℕ) → j < length arcs → IsWay (link_at links (arc_numbered arcs j).link) (pos 0) (arc_numbered arcs j).forward (way_at ways j))
     → AreWays links (replicate (length links) (pos 0)) arcs ways
 AreWays-none links arcs ways are one_each each = record {
   one_each = one_each;
   each = λ j l.
-      let a = arc_numbered arcs j in let is = are j no_arc l in
+      let a = arc_numbered arcs j in
+      let is = are j no_arc l in
       let nothing = get_or-replicate (length links) a.link (pos 0) (pos 0) is.below in
       IsWayOf-along links (replicate (length links) (pos 0)) a (way_at ways j) is
       (subst (λ z. IsWay (link_at links a.link) z a.forward (way_at ways j)) (sym nothing) (each j l));
 }
 
 -- the ways of a range of arcs
-pub AreWays-range : (links : List Link) (flow : List ℤ) (arcs : List Arc) (ways : List Way) (i j : ℕ) → i ≤ j → j ≤ length arcs → AreWays links flow arcs ways
+pub AreWays-range : (links : List Link) (flow : List ℤ) (arcs : List Arc) (ways : List Way) (i j : ℕ) → i ≤ j
+    → j ≤ length arcs → AreWays links flow arcs ways
     → AreWays links flow (slice_range arcs i j) (slice_range ways i j)
 AreWays-range links flow arcs ways i j rises within h = record {
   one_each = of_ways ∙ sym of_arcs;
@@ -121,24 +132,30 @@ AreWays-range links flow arcs ways i j rises within h = record {
     of_arcs = simp (length-take, length-drop) (omega (arith, rises, within))
 
     of_ways : length (slice_range ways i j) ≡ j - i
-    of_ways = let e = h.one_each in simp (length-take, length-drop) (omega (arith, rises, within, e))
+    of_ways =
+        let e = h.one_each in
+        simp (length-take, length-drop) (omega (arith, rises, within, e))
 
 module _ (n : ℕ) (links : List Link) (adjacency : Adjacency) (sound : IsAdjacency n links adjacency) where
   -- each arc of the net stands at its place
   pub place-within : (a : Arc) → IsArc links a → place_of adjacency.places.items a < length adjacency.arcs.items
   place-within a is =
-      let (j, within, at) = sound.arcs.complete a is in let own = sound.places.own j within in
+      let (j, within, at) = sound.arcs.complete a is in
+      let own = sound.places.own j within in
       let stands = sym (get_or_default adjacency.arcs.items j a _ within) ∙ at in
       subst (λ i. i < length adjacency.arcs.items) (sym (ap (place_of adjacency.places.items) (sym stands) ∙ own)) within
 
-  pub place-stands : (a : Arc) → IsArc links a → arc_numbered adjacency.arcs.items (place_of adjacency.places.items a) ≡ a
+  pub place-stands : (a : Arc) → IsArc links a
+      → arc_numbered adjacency.arcs.items (place_of adjacency.places.items a) ≡ a
   place-stands a is =
-      let (j, within, at) = sound.arcs.complete a is in let own = sound.places.own j within in
+      let (j, within, at) = sound.arcs.complete a is in
+      let own = sound.places.own j within in
       let stands = sym (get_or_default adjacency.arcs.items j a _ within) ∙ at in
       ap (arc_numbered adjacency.arcs.items) (ap (place_of adjacency.places.items) (sym stands) ∙ own) ∙ stands
 
   -- an arc can carry more where the way at its place is open
-  pub place-open : (flow : List ℤ) (ways : List Way) → AreWays links flow adjacency.arcs.items ways → (a : Arc) → IsArc links a
+  pub place-open : (flow : List ℤ) (ways : List Way) → AreWays links flow adjacency.arcs.items ways
+      → (a : Arc) → IsArc links a
       → IsTrue (way_at ways (place_of adjacency.places.items a)).is_open ↔ (pos 0 <ℤ residual_of links flow a)
   place-open flow ways are a is =
       subst (λ b. IsTrue (way_at ways (place_of adjacency.places.items a)).is_open ↔ (pos 0 <ℤ residual_of links flow b)) (place-stands a is)
@@ -149,7 +166,8 @@ module _ (n : ℕ) (links : List Link) (adjacency : Adjacency) (sound : IsAdjace
   arc_along k below true = record { below = below; is = refl }
   arc_along k below false = record { below = below; is = refl }
 
-  pub link_place-within : (k : ℕ) → k < length links → (w : Bool) → place_in (places_at adjacency.places.items k) w < length adjacency.arcs.items
+  pub link_place-within : (k : ℕ) → k < length links → (w : Bool)
+      → place_in (places_at adjacency.places.items k) w < length adjacency.arcs.items
   link_place-within k below true = place-within (arc_of (link_at links k) k true) (arc_along k below true)
   link_place-within k below false = place-within (arc_of (link_at links k) k false) (arc_along k below false)
 
@@ -170,22 +188,26 @@ module _ (n : ℕ) (links : List Link) (adjacency : Adjacency) (sound : IsAdjace
     carried = get_or-set_same flow k x (pos 0) (omega (arith, below, each_flow))
 
     -- at a place of the link stands the way along it
-    here : (w : Bool) (m : ℕ) (way : Way) → m ≡ place_in (places_at adjacency.places.items k) w → IsWay (link_at links k) x w way
+    here : (w : Bool) (m : ℕ) (way : Way) → m ≡ place_in (places_at adjacency.places.items k) w
+        → IsWay (link_at links k) x w way
         → IsWayOf links (set flow k x) (arc_numbered adjacency.arcs.items m) way
     here w m way at h =
         subst (λ u. IsWayOf links (set flow k x) (arc_numbered adjacency.arcs.items u) way) (sym at) (own w h)
       where
         own : (w : Bool) → IsWay (link_at links k) x w way
             → IsWayOf links (set flow k x) (arc_numbered adjacency.arcs.items (place_in (places_at adjacency.places.items k) w)) way
-        own true h = subst (λ a. IsWayOf links (set flow k x) a way) (sym (place-stands (arc_of (link_at links k) k true) (arc_along k below true)))
+        own true h =
+            subst (λ a. IsWayOf links (set flow k x) a way) (sym (place-stands (arc_of (link_at links k) k true) (arc_along k below true)))
             (IsWayOf-along links (set flow k x) (arc_of (link_at links k) k true) way (arc_along k below true)
             (subst (λ z. IsWay (link_at links k) z true way) (sym carried) h))
-        own false h = subst (λ a. IsWayOf links (set flow k x) a way) (sym (place-stands (arc_of (link_at links k) k false) (arc_along k below false)))
+        own false h =
+            subst (λ a. IsWayOf links (set flow k x) a way) (sym (place-stands (arc_of (link_at links k) k false) (arc_along k below false)))
             (IsWayOf-along links (set flow k x) (arc_of (link_at links k) k false) way (arc_along k below false)
             (subst (λ z. IsWay (link_at links k) z false way) (sym carried) h))
 
     -- at no other place stands an arc of the link
-    other_link : (m : ℕ) → m < length adjacency.arcs.items → m ≢ i → m ≢ j → (arc_numbered adjacency.arcs.items m).link ≢ k
+    other_link : (m : ℕ) → m < length adjacency.arcs.items → m ≢ i → m ≢ j
+        → (arc_numbered adjacency.arcs.items m).link ≢ k
     other_link m within not_i not_j same =
         let own = sound.places.own m within in
         apart (arc_numbered adjacency.arcs.items m).forward
@@ -195,7 +217,8 @@ module _ (n : ℕ) (links : List Link) (adjacency : Adjacency) (sound : IsAdjace
         apart true e = not_i e
         apart false e = not_j e
 
-    pub AreWays-set : IsWay (link_at links k) x true forth → IsWay (link_at links k) x false back → AreWays links flow adjacency.arcs.items ways
+    pub AreWays-set : IsWay (link_at links k) x true forth → IsWay (link_at links k) x false back
+        → AreWays links flow adjacency.arcs.items ways
         → AreWays links (set flow k x) adjacency.arcs.items (set (set ways i forth) j back)
     AreWays-set forward backward are = record {
       one_each = length-set (set ways i forth) j back ∙ (length-set ways i forth ∙ are.one_each);
@@ -211,4 +234,5 @@ module _ (n : ℕ) (links : List Link) (adjacency : Adjacency) (sound : IsAdjace
         there m not_i not_j within =
             let a = arc_numbered adjacency.arcs.items m in
             let same = get_or-set_other flow k a.link x (pos 0) (other_link m within not_i not_j) in
-            let old = are.each m within in record { head = old.head; is_open = rw same old.is_open; cost = old.cost }
+            let old = are.each m within in
+            record { head = old.head; is_open = rw same old.is_open; cost = old.cost }

@@ -27,7 +27,8 @@ below_not_same a b less same = below_not_at_most a b less (at_most_from_same b a
 
 -- of two, one is at most the other
 pub below_or_at_most : (a b : Rational) → IsBelow a b ⊎ IsAtMost b a
-below_or_at_most a b = by_lt_z (a.num *ℤ pos b.den) (b.num *ℤ pos a.den) (λ h. inl (record { cross = h })) (λ h. inr (record { cross = h }))
+below_or_at_most a b =
+    by_lt_z (a.num *ℤ pos b.den) (b.num *ℤ pos a.den) (λ h. inl (record { cross = h })) (λ h. inr (record { cross = h }))
 
 pub at_most_from_not_below : (a b : Rational) → (IsBelow a b → ⊥) → IsAtMost b a
 at_most_from_not_below a b not_less = ⊎_elim (λ less. absurd (not_less less)) (λ more. more) (below_or_at_most a b)
@@ -36,7 +37,10 @@ pub below_from_not_at_most : (a b : Rational) → (IsAtMost b a → ⊥) → IsB
 below_from_not_at_most a b not_more = ⊎_elim (λ less. less) (λ more. absurd (not_more more)) (below_or_at_most a b)
 
 pub at_most_antisymm : (a b : Rational) → IsAtMost a b → IsAtMost b a → a ≡ b
-at_most_antisymm a b one two = let x = one.cross in let y = two.cross in same_from_value a b (omega (arith, ints, x, y))
+at_most_antisymm a b one two =
+    let x = one.cross in
+    let y = two.cross in
+    same_from_value a b (omega (arith, ints, x, y))
 
 -- ---- the tests (for `==`: Decides-rational_eq of specs/Order.antt)
 
@@ -62,7 +66,8 @@ Decides-not_below a b =
 pub is_below-ranks : (a b : Rational) → MatchBool (is_below a b) (IsBelow a b) (IsAtMost b a)
 is_below-ranks a b = by (is_below a b) (Decides-is_below a b) (Decides-not_below a b)
   where
-    by : (t : Bool) → Decides t (IsBelow a b) → Decides (not t) (IsAtMost b a) → MatchBool t (IsBelow a b) (IsAtMost b a)
+    by : (t : Bool) → Decides t (IsBelow a b) → Decides (not t) (IsAtMost b a)
+        → MatchBool t (IsBelow a b) (IsAtMost b a)
     by true less more = less.0 refl
     by false less more = more.0 refl
 
@@ -75,7 +80,8 @@ pub below-cross : (n m : ℤ) (d e : ℕ) → 0 < d → 0 < e → IsBelow (ratio
 below-cross n m d e hd he =
     one_test _ (Decides-is_below (ratio n d) (ratio m e)) (rw (rational_cmp-ratio n m d e hd he) (int_lt-decides (n *ℤ pos e) (m *ℤ pos d)))
 
-pub at_most-cross : (n m : ℤ) (d e : ℕ) → 0 < d → 0 < e → IsAtMost (ratio n d) (ratio m e) ↔ ((n *ℤ pos e) ≤ℤ (m *ℤ pos d))
+pub at_most-cross : (n m : ℤ) (d e : ℕ) → 0 < d → 0 < e
+    → IsAtMost (ratio n d) (ratio m e) ↔ ((n *ℤ pos e) ≤ℤ (m *ℤ pos d))
 at_most-cross n m d e hd he =
     one_test _ (Decides-is_le (ratio n d) (ratio m e)) (rw (rational_cmp-ratio n m d e hd he) (int_le-decides (n *ℤ pos e) (m *ℤ pos d)))
 
@@ -116,7 +122,8 @@ at_most-plus_plus = by_four _ (λ n m l k d some h g. simp one_denominator (at_m
     (omega (arith, ints, at_most_from_ratio n m d some h, at_most_from_ratio l k d some g))))
 
 pub below-plus : (a b c : Rational) → IsBelow a b → IsBelow (plus a c) (plus b c)
-below-plus = by_three _ (λ n m l d some h. simp one_denominator (below-ratio (n +ℤ l) (m +ℤ l) d some (omega (arith, ints, below_from_ratio n m d some h))))
+below-plus =
+    by_three _ (λ n m l d some h. simp one_denominator (below-ratio (n +ℤ l) (m +ℤ l) d some (omega (arith, ints, below_from_ratio n m d some h))))
 
 -- a lesser value less a greater one
 pub at_most-minus_minus : (a b c e : Rational) → IsAtMost a b → IsAtMost c e → IsAtMost (minus a e) (minus b c)
@@ -159,45 +166,54 @@ pub not_negative-ratio : (n : ℤ) (d : ℕ) → 0 < d → pos 0 ≤ℤ n → Is
 not_negative-ratio n d some h = subst (λ x. IsAtMost x (ratio n d)) (ratio-zero d) (at_most-ratio (pos 0) n d some h)
 
 pub not_negative_from_ratio : (n : ℤ) (d : ℕ) → 0 < d → IsAtMost rational_zero (ratio n d) → pos 0 ≤ℤ n
-not_negative_from_ratio n d some h = at_most_from_ratio (pos 0) n d some (subst (λ x. IsAtMost x (ratio n d)) (sym (ratio-zero d)) h)
+not_negative_from_ratio n d some h =
+    at_most_from_ratio (pos 0) n d some (subst (λ x. IsAtMost x (ratio n d)) (sym (ratio-zero d)) h)
 
 pub positive-ratio : (n : ℤ) (d : ℕ) → 0 < d → pos 0 <ℤ n → IsBelow rational_zero (ratio n d)
 positive-ratio n d some h = subst (λ x. IsBelow x (ratio n d)) (ratio-zero d) (below-ratio (pos 0) n d some h)
 
 pub positive_from_ratio : (n : ℤ) (d : ℕ) → 0 < d → IsBelow rational_zero (ratio n d) → pos 0 <ℤ n
-positive_from_ratio n d some h = below_from_ratio (pos 0) n d some (subst (λ x. IsBelow x (ratio n d)) (sym (ratio-zero d)) h)
+positive_from_ratio n d some h =
+    below_from_ratio (pos 0) n d some (subst (λ x. IsBelow x (ratio n d)) (sym (ratio-zero d)) h)
 
 pub positive-nonzero : (a : Rational) → IsBelow rational_zero a → a ≢ rational_zero
 positive-nonzero a some none = below_not_same rational_zero a some (sym none)
 
 -- a difference is not negative exactly where it goes down
 pub not_negative-minus : (a b : Rational) → IsAtMost a b → IsAtMost rational_zero (minus b a)
-not_negative-minus = by_two _ (λ n m d some h. simp one_denominator (not_negative-ratio (m -ℤ n) d some (omega (arith, ints, at_most_from_ratio n m d some h))))
+not_negative-minus =
+    by_two _ (λ n m d some h. simp one_denominator (not_negative-ratio (m -ℤ n) d some (omega (arith, ints, at_most_from_ratio n m d some h))))
 
 pub at_most_from_not_negative : (a b : Rational) → IsAtMost rational_zero (minus b a) → IsAtMost a b
 at_most_from_not_negative = by_two _ (λ n m d some h. at_most-ratio n m d some
     (omega (arith, ints, not_negative_from_ratio (m -ℤ n) d some (simp one_denominator at h))))
 
 pub positive-minus : (a b : Rational) → IsBelow a b → IsBelow rational_zero (minus b a)
-positive-minus = by_two _ (λ n m d some h. simp one_denominator (positive-ratio (m -ℤ n) d some (omega (arith, ints, below_from_ratio n m d some h))))
+positive-minus =
+    by_two _ (λ n m d some h. simp one_denominator (positive-ratio (m -ℤ n) d some (omega (arith, ints, below_from_ratio n m d some h))))
 
 pub below_from_positive : (a b : Rational) → IsBelow rational_zero (minus b a) → IsBelow a b
-below_from_positive = by_two _ (λ n m d some h. below-ratio n m d some (omega (arith, ints, positive_from_ratio (m -ℤ n) d some (simp one_denominator at h))))
+below_from_positive =
+    by_two _ (λ n m d some h. below-ratio n m d some (omega (arith, ints, positive_from_ratio (m -ℤ n) d some (simp one_denominator at h))))
 
-pub not_negative-plus : (a b : Rational) → IsAtMost rational_zero a → IsAtMost rational_zero b → IsAtMost rational_zero (plus a b)
+pub not_negative-plus : (a b : Rational) → IsAtMost rational_zero a → IsAtMost rational_zero b
+    → IsAtMost rational_zero (plus a b)
 not_negative-plus = by_two _ (λ n m d some h k. simp one_denominator (not_negative-ratio (n +ℤ m) d some
     (omega (arith, ints, not_negative_from_ratio n d some h, not_negative_from_ratio m d some k))))
 
-pub positive-plus : (a b : Rational) → IsBelow rational_zero a → IsAtMost rational_zero b → IsBelow rational_zero (plus a b)
+pub positive-plus : (a b : Rational) → IsBelow rational_zero a → IsAtMost rational_zero b
+    → IsBelow rational_zero (plus a b)
 positive-plus = by_two _ (λ n m d some h k. simp one_denominator (positive-ratio (n +ℤ m) d some
     (omega (arith, ints, positive_from_ratio n d some h, not_negative_from_ratio m d some k))))
 
 -- what is added, where it is not negative
 pub at_most-plus_right : (a b : Rational) → IsAtMost rational_zero b → IsAtMost a (plus a b)
-at_most-plus_right = by_two _ (λ n m d some h. simp one_denominator (at_most-ratio n (n +ℤ m) d some (omega (arith, ints, not_negative_from_ratio m d some h))))
+at_most-plus_right =
+    by_two _ (λ n m d some h. simp one_denominator (at_most-ratio n (n +ℤ m) d some (omega (arith, ints, not_negative_from_ratio m d some h))))
 
 pub at_most-plus_left : (a b : Rational) → IsAtMost rational_zero a → IsAtMost b (plus a b)
-at_most-plus_left = by_two _ (λ n m d some h. simp one_denominator (at_most-ratio m (n +ℤ m) d some (omega (arith, ints, not_negative_from_ratio n d some h))))
+at_most-plus_left =
+    by_two _ (λ n m d some h. simp one_denominator (at_most-ratio m (n +ℤ m) d some (omega (arith, ints, not_negative_from_ratio n d some h))))
 
 -- ---- products and quotients
 
@@ -209,8 +225,10 @@ at_most-times = by_three _ (λ n m l d some h k. let square = mul-pos some some 
 pub at_most-times_left : (c a b : Rational) → IsAtMost rational_zero c → IsAtMost a b → IsAtMost (times c a) (times c b)
 at_most-times_left c a b some h = subst₂ IsAtMost (times_comm a c) (times_comm b c) (at_most-times a b c some h)
 
-pub not_negative-times : (a b : Rational) → IsAtMost rational_zero a → IsAtMost rational_zero b → IsAtMost rational_zero (times a b)
-not_negative-times a b one two = subst (λ x. IsAtMost x (times a b)) (zero-times b) (at_most-times rational_zero a b two one)
+pub not_negative-times : (a b : Rational) → IsAtMost rational_zero a → IsAtMost rational_zero b
+    → IsAtMost rational_zero (times a b)
+not_negative-times a b one two =
+    subst (λ x. IsAtMost x (times a b)) (zero-times b) (at_most-times rational_zero a b two one)
 
 -- a factor that is not above 0 turns the order
 pub times-turned : (f h x : Rational) → IsAtMost f h → IsAtMost x rational_zero → IsAtMost (times h x) (times f x)
@@ -221,7 +239,8 @@ times-turned f h x more below = at_most_from_minus_turned (times h x) (times f x
     away g = times-minus g rational_zero x ∙ ap (λ y. minus y (times g x)) (times-zero g)
 
 -- what is above 0 by a factor that is not negative
-pub positive_factor : (f x : Rational) → IsAtMost rational_zero f → IsBelow rational_zero (times f x) → IsBelow rational_zero x
+pub positive_factor : (f x : Rational) → IsAtMost rational_zero f → IsBelow rational_zero (times f x)
+    → IsBelow rational_zero x
 positive_factor f x some h = below_from_not_at_most rational_zero x
     (λ none. below_not_at_most rational_zero (times f x) h (subst (IsAtMost (times f x)) (times-zero f) (at_most-times_left f x rational_zero some none)))
 

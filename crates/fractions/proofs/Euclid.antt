@@ -16,7 +16,8 @@ below_power n =
 fewer_digits : (m n : ℕ) → 0 < n → 2 * m ≤ n → binary_digits m < binary_digits n
 unfolding binary_digits
 fewer_digits m n some h = let step = length-digits_of_step 2 n (omega arith) some in
-    let few = length-digits_of-le 2 (length (digits_of 2 (n / 2))) m (omega arith) (omega (arith, h, below_power (n / 2))) in omega (arith, step, few)
+    let few = length-digits_of-le 2 (length (digits_of 2 (n / 2))) m (omega arith) (omega (arith, h, below_power (n / 2))) in
+    omega (arith, step, few)
 
 -- the steps that are left
 unfoldable pub steps_left : ℕ → ℕ → ℕ
@@ -30,8 +31,12 @@ exchange x y h = let rest : x % y ≡ x = mod-eq_of_lt h in rw rest (grind (arit
 -- and each other leaves at most half of the first one
 halve : (x y : ℕ) → 0 < y → y ≤ x → steps_left y (x % y) < steps_left x y
 unfolding steps_left
-halve x y some h = let split = div-add-mod x y in let rest : x % y < y = omega arith in let once = mul-le-mul_left y (le-div 1 x y some (omega (arith, h))) in
-    let fewer = fewer_digits (x % y) x (omega (arith, some, h)) (omega (arith, split, rest, once)) in grind (arith, nat_tests)
+halve x y some h =
+    let split = div-add-mod x y in
+    let rest : x % y < y = omega arith in
+    let once = mul-le-mul_left y (le-div 1 x y some (omega (arith, h))) in
+    let fewer = fewer_digits (x % y) x (omega (arith, some, h)) (omega (arith, split, rest, once)) in
+    grind (arith, nat_tests)
 
 pub steps_left-decreases : (x y : ℕ) → 0 < y → steps_left y (x % y) < steps_left x y
 steps_left-decreases x y some = ⊎_elim (exchange x y) (halve x y some) (cases_lt x y)

@@ -24,7 +24,10 @@ Decides-is_within_limits a = (to, from)
     to e = record { den = grind (arith, nat_tests); num = grind (arith, nat_tests) }
 
     from : IsWithinLimits a → is_within_limits a ≡ true
-    from within = let den = within.den in let num = within.num in grind (arith, nat_tests)
+    from within =
+        let den = within.den in
+        let num = within.num in
+        grind (arith, nat_tests)
 
 -- what a call forms
 pub value_formed : (a b : Rational) (r : Option Rational) → r ≡ Some b → Gives r a → b ≡ a
@@ -34,7 +37,8 @@ pub within_formed : (a b : Rational) (r : Option Rational) → r ≡ Some b → 
 within_formed a b r formed is = (Decides-is_within_limits a).1 (within_from_some a b (rw formed at is))
 
 pub within_not_formed : (a : Rational) (r : Option Rational) → r ≡ None → Gives r a → is_within_limits a ≡ false
-within_not_formed a r none is = false_from_ne_true (is_within_limits a) (λ e. outside_from_none a (rw none at is) ((Decides-is_within_limits a).0 e))
+within_not_formed a r none is =
+    false_from_ne_true (is_within_limits a) (λ e. outside_from_none a (rw none at is) ((Decides-is_within_limits a).0 e))
 
 -- and so the whole answer
 pub Gives-is : (a : Rational) (r : Option Rational) → Gives r a → r ≡ (if is_within_limits a then Some a else None)
@@ -43,7 +47,8 @@ Gives-is a (Some b) is = rw (within_formed a b (Some b) refl is) (ap Some is.val
 
 -- numbers within the bounds are so in lowest form too
 pub within-ratio : (n : ℤ) (d : ℕ) → 0 < d → unsigned_abs n ≤ 2 ^ 76 → d ≤ 2 ^ 48 → IsWithinLimits (ratio n d)
-within-ratio n d some num den = record { den = omega (arith, ratio-den_le n d some); num = omega (arith, ratio-num_le n d) }
+within-ratio n d some num den =
+    record { den = omega (arith, ratio-den_le n d some); num = omega (arith, ratio-num_le n d) }
 
 pub within-whole : (n : ℤ) → unsigned_abs n ≤ 2 ^ 76 → IsWithinLimits (whole n)
 within-whole n small = record { den = omega arith; num = small }

@@ -28,7 +28,8 @@ difference : numbers (minus (ratio (pos 1) 3) (ratio (pos 1) 2)) ≡ (negsuc 0, 
 unfolding minus ratio lowest_form gcd last_remainder
 difference = refl
 
-fine_sum : numbers (plus (ratio (pos 1) 281474976710656) (ratio (pos 1) 281474976710655)) ≡ (pos 562949953421311, 79228162514264056118567239680)
+fine_sum : numbers (plus (ratio (pos 1) 281474976710656) (ratio (pos 1) 281474976710655))
+    ≡ (pos 562949953421311, 79228162514264056118567239680)
 unfolding plus ratio lowest_form gcd last_remainder
 fine_sum = refl
 

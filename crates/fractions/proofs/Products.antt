@@ -12,15 +12,18 @@ times_comm = by_two _ (λ n m d some. simp times-ratio (ap (λ z. ratio z (d * d
 pub times_assoc : (a b c : Rational) → times (times a b) c ≡ times a (times b c)
 times_assoc = by_three _ (λ n m l d some.
     let square = mul-pos some some in
-    ap (λ x. times x (ratio l d)) (times-ratio n m d d some some) ∙ times-ratio (n *ℤ m) l (d * d) d square some ∙ ap₂ ratio (*ℤ_assoc n m l) (omega arith)
+    ap (λ x. times x (ratio l d)) (times-ratio n m d d some some)
+    ∙ times-ratio (n *ℤ m) l (d * d) d square some ∙ ap₂ ratio (*ℤ_assoc n m l) (omega arith)
     ∙ sym (times-ratio n (m *ℤ l) d (d * d) some square) ∙ ap (times (ratio n d)) (sym (times-ratio m l d d some some)))
 
 pub times-one : (a : Rational) → times a rational_one ≡ a
-times-one = by_one _ (λ n d some. ap (times (ratio n d)) (sym (ratio-one (pos 1))) ∙ times-ratio n (pos 1) d 1 some (omega arith)
+times-one =
+    by_one _ (λ n d some. ap (times (ratio n d)) (sym (ratio-one (pos 1))) ∙ times-ratio n (pos 1) d 1 some (omega arith)
     ∙ ap₂ ratio (*ℤ-pos_one n) (mul-one d))
 
 pub times-zero : (a : Rational) → times a rational_zero ≡ rational_zero
-times-zero = by_one _ (λ n d some. ap (times (ratio n d)) (sym (ratio-one (pos 0))) ∙ times-ratio n (pos 0) d 1 some (omega arith)
+times-zero =
+    by_one _ (λ n d some. ap (times (ratio n d)) (sym (ratio-one (pos 0))) ∙ times-ratio n (pos 0) d 1 some (omega arith)
     ∙ ap (λ z. ratio z (d * 1)) (*ℤ-zero n) ∙ ratio-zero (d * 1))
 
 pub zero-times : (a : Rational) → times rational_zero a ≡ rational_zero
@@ -44,7 +47,8 @@ pub zero_from_num : (a : Rational) → a.num ≡ pos 0 → a ≡ rational_zero
 zero_from_num a none = sym (ratio-self a) ∙ ap (λ z. ratio z a.den) none ∙ ratio-zero a.den
 
 pub size-positive : (a : Rational) → a ≢ rational_zero → 0 < unsigned_abs a.num
-size-positive a some = ⊎_elim (λ none. absurd (some (zero_from_num a (zero_from_size a.num none)))) (λ above. above) (eq-zero-or-pos (unsigned_abs a.num))
+size-positive a some =
+    ⊎_elim (λ none. absurd (some (zero_from_num a (zero_from_size a.num none)))) (λ above. above) (eq-zero-or-pos (unsigned_abs a.num))
 
 square_of_sign : (negative : Bool) (a b : ℕ) → signed negative a *ℤ signed negative b ≡ pos (a * b)
 square_of_sign false a b = signed-*ℤ-signed false false a b
@@ -52,12 +56,17 @@ square_of_sign true a b = signed-*ℤ-signed true true a b
 
 pub times-reciprocal : (a : Rational) → a ≢ rational_zero → times a (reciprocal a) ≡ rational_one
 unfolding reciprocal
-times-reciprocal a some = let negative = int_lt a.num (pos 0) in let size = unsigned_abs a.num in let above = size-positive a some in
+times-reciprocal a some =
+    let negative = int_lt a.num (pos 0) in
+    let size = unsigned_abs a.num in
+    let above = size-positive a some in
     let product : a.num *ℤ signed negative a.den ≡ pos (size * a.den) =
     ap (λ z. z *ℤ signed negative a.den) (sym (signed-sign a.num)) ∙ square_of_sign negative size a.den in
-    ap (λ x. times x (reciprocal a)) (sym (ratio-self a)) ∙ times-ratio a.num (signed negative a.den) a.den size a.positive above
+    ap (λ x. times x (reciprocal a)) (sym (ratio-self a))
+    ∙ times-ratio a.num (signed negative a.den) a.den size a.positive above
     ∙ ap (λ z. ratio z (a.den * size)) product
-    ∙ ratio-same (pos (size * a.den)) (pos 1) (a.den * size) 1 (mul-pos a.positive above) (omega arith) (ap pos (omega arith)) ∙ ratio-one (pos 1)
+    ∙ ratio-same (pos (size * a.den)) (pos 1) (a.den * size) 1 (mul-pos a.positive above) (omega arith) (ap pos (omega arith))
+    ∙ ratio-one (pos 1)
 
 -- ---- cancelling
 
@@ -72,7 +81,8 @@ times_cancel_right a b c some same = sym (back a) ∙ ap (λ x. times x (recipro
 -- the quotient times the divisor
 pub over-times : (a b : Rational) → b ≢ rational_zero → times (over a b) b ≡ a
 unfolding over
-over-times a b some = times_assoc a (reciprocal b) b ∙ ap (times a) (times_comm (reciprocal b) b ∙ times-reciprocal b some) ∙ times-one a
+over-times a b some =
+    times_assoc a (reciprocal b) b ∙ ap (times a) (times_comm (reciprocal b) b ∙ times-reciprocal b some) ∙ times-one a
 
 pub times-over : (a b : Rational) → b ≢ rational_zero → times b (over a b) ≡ a
 times-over a b some = times_comm b (over a b) ∙ over-times a b some

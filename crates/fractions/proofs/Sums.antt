@@ -12,7 +12,8 @@ pub plus_assoc : (a b c : Rational) → plus (plus a b) c ≡ plus a (plus b c)
 plus_assoc = by_three _ (λ n m l d some. simp one_denominator (ap (λ k. ratio k d) (omega (arith, ints))))
 
 pub plus-zero : (a : Rational) → plus a rational_zero ≡ a
-plus-zero = by_one _ (λ n d some. ap (plus (ratio n d)) (sym (ratio-zero d)) ∙ plus-ratio_same_den n (pos 0) d ∙ ap (λ k. ratio k d) (omega (arith, ints)))
+plus-zero =
+    by_one _ (λ n d some. ap (plus (ratio n d)) (sym (ratio-zero d)) ∙ plus-ratio_same_den n (pos 0) d ∙ ap (λ k. ratio k d) (omega (arith, ints)))
 
 pub zero-plus : (a : Rational) → plus rational_zero a ≡ a
 zero-plus a = plus_comm rational_zero a ∙ plus-zero a
@@ -29,10 +30,12 @@ plus-interchange = by_four _ (λ n m l k d some. simp one_denominator (ap (λ z.
 -- ---- differences
 
 pub minus-self : (a : Rational) → minus a a ≡ rational_zero
-minus-self = by_one _ (λ n d some. minus-ratio_same_den n n d ∙ ap (λ k. ratio k d) (omega (arith, ints)) ∙ ratio-zero d)
+minus-self =
+    by_one _ (λ n d some. minus-ratio_same_den n n d ∙ ap (λ k. ratio k d) (omega (arith, ints)) ∙ ratio-zero d)
 
 pub minus-zero : (a : Rational) → minus a rational_zero ≡ a
-minus-zero = by_one _ (λ n d some. ap (minus (ratio n d)) (sym (ratio-zero d)) ∙ minus-ratio_same_den n (pos 0) d ∙ ap (λ k. ratio k d) (omega (arith, ints)))
+minus-zero =
+    by_one _ (λ n d some. ap (minus (ratio n d)) (sym (ratio-zero d)) ∙ minus-ratio_same_den n (pos 0) d ∙ ap (λ k. ratio k d) (omega (arith, ints)))
 
 pub minus-plus : (a b : Rational) → minus (plus a b) b ≡ a
 minus-plus = by_two _ (λ n m d some. simp one_denominator (ap (λ k. ratio k d) (omega (arith, ints))))

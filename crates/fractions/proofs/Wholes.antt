@@ -10,7 +10,8 @@ pub whole-minus : (n m : ℤ) → minus (whole n) (whole m) ≡ whole (n -ℤ m)
 whole-minus n m = rw (← ratio-one n, ← ratio-one m, ← ratio-one (n -ℤ m)) (minus-ratio_same_den n m 1)
 
 pub whole-times : (n m : ℤ) → times (whole n) (whole m) ≡ whole (n *ℤ m)
-whole-times n m = rw (← ratio-one n, ← ratio-one m, ← ratio-one (n *ℤ m)) (times-ratio n m 1 1 (omega arith) (omega arith))
+whole-times n m =
+    rw (← ratio-one n, ← ratio-one m, ← ratio-one (n *ℤ m)) (times-ratio n m 1 1 (omega arith) (omega arith))
 
 pub same_from_whole : (n m : ℤ) → whole n ≡ whole m → n ≡ m
 same_from_whole n m same = ap (λ a. a.num) same
@@ -25,5 +26,6 @@ ratio-multiple n d some = ap (ratio (n *ℤ pos d)) (omega arith) ∙ ratio-canc
 -- a ratio times its denominator
 pub ratio-times_den : (n : ℤ) (d : ℕ) → 0 < d → times (ratio n d) (whole (pos d)) ≡ whole n
 ratio-times_den n d some =
-    ap (times (ratio n d)) (sym (ratio-one (pos d))) ∙ times-ratio n (pos d) d 1 some (omega arith) ∙ ap (ratio (n *ℤ pos d)) (omega arith)
+    ap (times (ratio n d)) (sym (ratio-one (pos d))) ∙ times-ratio n (pos d) d 1 some (omega arith)
+    ∙ ap (ratio (n *ℤ pos d)) (omega arith)
     ∙ ratio-multiple n d some

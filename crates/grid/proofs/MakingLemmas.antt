@@ -16,14 +16,17 @@ use Rattle.stream_case.specs.declared.source.Source.TheVariants.{Stream as of_st
 
 module _ {X : Type 0} (test : X → Bool) (make : ℕ → X → Part) where
   -- what holds of each source that passes holds of each part
-  pub All-picked : (P : Part → Type 0) (n : ℕ) (xs : List X) → ((i k : ℕ) (x : X) → i ≡ n + k → slice_get xs k ≡ Some x → test x ≡ true → P (make i x))
+  pub All-picked : (P : Part → Type 0) (n : ℕ) (xs : List X)
+      → ((i k : ℕ) (x : X) → i ≡ n + k → slice_get xs k ≡ Some x → test x ≡ true → P (make i x))
       → All P (picked test make n xs)
   All-picked P n [] h = All-nil P
-  All-picked P n (x ∷ xs) h = All-cons_if P (test x) (make n x) (picked test make (suc n) xs) (λ e. h n 0 x (omega arith) refl e)
+  All-picked P n (x ∷ xs) h =
+      All-cons_if P (test x) (make n x) (picked test make (suc n) xs) (λ e. h n 0 x (omega arith) refl e)
       (All-picked P (suc n) xs (λ i k y e at passes. h i (suc k) y (omega arith) at passes))
 
   pub AllPairs-picked : (R : Part → Part → Type 0) (n : ℕ) (xs : List X)
-      → ((i j : ℕ) (x y : X) → i < j → test x ≡ true → test y ≡ true → R (make i x) (make j y)) → AllPairs R (picked test make n xs)
+      → ((i j : ℕ) (x y : X) → i < j → test x ≡ true → test y ≡ true → R (make i x) (make j y))
+      → AllPairs R (picked test make n xs)
   AllPairs-picked R n [] h = AllPairs-nil R
   AllPairs-picked R n (x ∷ xs) h = AllPairs-cons_if R (test x) (make n x) (picked test make (suc n) xs)
       (λ e. All-picked (R (make n x)) (suc n) xs (λ i k y at is passes. h n i x y (omega arith) e passes)) (AllPairs-picked R (suc n) xs h)
@@ -32,13 +35,16 @@ module _ {X : Type 0} (test : X → Bool) (make : ℕ → X → Part) where
       → Contains (picked test make n xs) (make i x)
   Contains-picked n [] i k x e at passes = absurd (none-some x at)
   Contains-picked n (y ∷ ys) i zero x e at passes =
-      let same : i ≡ n = omega arith in let is : y ≡ x = same_Some y x at in
+      let same : i ≡ n = omega arith in
+      let is : y ≡ x = same_Some y x at in
       let found = Contains-cons_if_here (test y) (make n y) (picked test make (suc n) ys) (ap test is ∙ passes) in
-      let P : ℕ → X → Type 0 = λ j v. Contains (picked test make n (y ∷ ys)) (make j v) in subst (λ j. P j x) (sym same) (subst (P n) is found)
+      let P : ℕ → X → Type 0 = λ j v. Contains (picked test make n (y ∷ ys)) (make j v) in
+      subst (λ j. P j x) (sym same) (subst (P n) is found)
   Contains-picked n (y ∷ ys) i (suc k) x e at passes =
       Contains-cons_if (test y) (make n y) (make i x) (picked test make (suc n) ys) (Contains-picked (suc n) ys i k x (omega arith) at passes)
 
-  picked-append : (n : ℕ) (xs ys : List X) → picked test make n (xs ++ ys) ≡ picked test make n xs ++ picked test make (n + length xs) ys
+  picked-append : (n : ℕ) (xs ys : List X)
+      → picked test make n (xs ++ ys) ≡ picked test make n xs ++ picked test make (n + length xs) ys
   picked-append n [] ys = rw add-zero
   picked-append n (x ∷ xs) ys =
       let index : suc n + length xs ≡ n + suc (length xs) = omega arith in
@@ -55,16 +61,19 @@ module _ {X : Type 0} (test : X → Bool) (make : ℕ → X → Part) where
       ∙ ap (λ y. picked test make 0 (take i xs) ++ picked test make i (y ∷ [])) (sym is)
 
   -- a loop's step, where the source passes and where it fails
-  pub picked-push : (xs : List X) (i : ℕ) (x : X) (before now next : List Part) (p : Part) → i < length xs → x ≡ get_or xs i x
+  pub picked-push : (xs : List X) (i : ℕ) (x : X) (before now next : List Part) (p : Part) → i < length xs
+      → x ≡ get_or xs i x
       → now ≡ before ++ picked test make 0 (take i xs) → test x ≡ true → p ≡ make i x → next ≡ now ++ p ∷ []
       → next ≡ before ++ picked test make 0 (take (i + 1) xs)
   picked-push xs i x before now next p within is so_far passes made pushed =
-      let one : cons_if (test x) (make i x) [] ≡ p ∷ [] = ap (λ b. cons_if b (make i x) []) passes ∙ ap (λ q. q ∷ []) (sym made) in
+      let one : cons_if (test x) (make i x) [] ≡ p ∷ []
+      = ap (λ b. cons_if b (make i x) []) passes ∙ ap (λ q. q ∷ []) (sym made) in
       pushed ∙ ap (λ ps. ps ++ p ∷ []) so_far ∙ append_assoc before (picked test make 0 (take i xs)) (p ∷ [])
       ∙ ap (λ ps. before ++ ps) (ap (λ ps. picked test make 0 (take i xs) ++ ps) (sym one) ∙ sym (picked-more xs i x within is))
 
   pub picked-pass : (xs : List X) (i : ℕ) (x : X) (before now next : List Part) → i < length xs → x ≡ get_or xs i x
-      → now ≡ before ++ picked test make 0 (take i xs) → test x ≡ false → next ≡ now → next ≡ before ++ picked test make 0 (take (i + 1) xs)
+      → now ≡ before ++ picked test make 0 (take i xs) → test x ≡ false → next ≡ now
+      → next ≡ before ++ picked test make 0 (take (i + 1) xs)
   picked-pass xs i x before now next within is so_far fails same =
       let none : cons_if (test x) (make i x) [] ≡ [] = ap (λ b. cons_if b (make i x) []) fails in
       same ∙ so_far ∙ ap (λ ps. before ++ ps)
@@ -84,7 +93,8 @@ has_latent_heat-true s h =
     }
 
 pub has_latent_heat-from : (s : Stream) → IsLatent s → has_latent_heat s ≡ true
-has_latent_heat-from s h = and_from (int_eq s.supply s.target) (int_eq s.cp (pos 0) && (int_le (pos 1) s.load && int_le s.load MOST_LOAD))
+has_latent_heat-from s h =
+    and_from (int_eq s.supply s.target) (int_eq s.cp (pos 0) && (int_le (pos 1) s.load && int_le s.load MOST_LOAD))
     ((Decides-int_eq s.supply s.target).1 h.level)
     (and_from (int_eq s.cp (pos 0)) (int_le (pos 1) s.load && int_le s.load MOST_LOAD) ((Decides-int_eq s.cp (pos 0)).1 h.cp)
     (and_from (int_le (pos 1) s.load) (int_le s.load MOST_LOAD) (int_le-from (pos 1) s.load h.load.from) (int_le-from s.load MOST_LOAD h.load.upto)))
@@ -98,7 +108,8 @@ pub record StandsAt (side : Side) (place : ℤ) (s : Stream) : Type 0 where
 pub stands_at-true : (side : Side) (place : ℤ) (s : Stream) → stands_at side place s ≡ true → StandsAt side place s
 stands_at-true side place s h =
     let parts = and_parts (same_side s.side side) (has_latent_heat s && int_eq (high_end s) place) h in
-    let level = and_parts (has_latent_heat s) (int_eq (high_end s) place) parts.1 in let latent = has_latent_heat-true s level.0 in
+    let level = and_parts (has_latent_heat s) (int_eq (high_end s) place) parts.1 in
+    let latent = has_latent_heat-true s level.0 in
     let high = (Decides-int_eq (high_end s) place).0 level.1 in
     record { side_is = same_side-true s.side side parts.0; latent = latent; high = high; low = sym (level-latent s latent) ∙ high }
 
@@ -107,17 +118,21 @@ pub record IsHere (side : Side) (place : ℤ) (u : Utility) : Type 0 where
   pub level : shifted_level u ≡ place
 
 pub is_here-true : (side : Side) (place : ℤ) (u : Utility) → is_here side place u ≡ true → IsHere side place u
-is_here-true side place u h = let parts = and_parts (same_side u.side side) (int_eq (shifted_level u) place) h in
+is_here-true side place u h =
+    let parts = and_parts (same_side u.side side) (int_eq (shifted_level u) place) h in
     record { side_is = same_side-true u.side side parts.0; level = (Decides-int_eq (shifted_level u) place).0 parts.1 }
 
 pub same_side-from : (a b : Side) → a ≡ b → same_side a b ≡ true
 same_side-from a b e = ap (λ s. same_side s b) e ∙ own_side b
 
-pub stands_at-from : (side : Side) (place : ℤ) (s : Stream) → s.side ≡ side → IsLatent s → high_end s ≡ place → stands_at side place s ≡ true
-stands_at-from side place s h latent level = and_from (same_side s.side side) (has_latent_heat s && int_eq (high_end s) place) (same_side-from s.side side h)
+pub stands_at-from : (side : Side) (place : ℤ) (s : Stream) → s.side ≡ side → IsLatent s → high_end s ≡ place
+    → stands_at side place s ≡ true
+stands_at-from side place s h latent level =
+    and_from (same_side s.side side) (has_latent_heat s && int_eq (high_end s) place) (same_side-from s.side side h)
     (and_from (has_latent_heat s) (int_eq (high_end s) place) (has_latent_heat-from s latent) ((Decides-int_eq (high_end s) place).1 level))
 
-is_here-from : (side : Side) (place : ℤ) (u : Utility) → u.side ≡ side → shifted_level u ≡ place → is_here side place u ≡ true
+is_here-from : (side : Side) (place : ℤ) (u : Utility) → u.side ≡ side → shifted_level u ≡ place
+    → is_here side place u ≡ true
 is_here-from side place u h k =
     and_from (same_side u.side side) (int_eq (shifted_level u) place) (same_side-from u.side side h) ((Decides-int_eq (shifted_level u) place).1 k)
 
@@ -132,19 +147,23 @@ covers-true side high low s h =
     let ends = and_parts (int_le (low_end s) low) (int_le high (high_end s)) parts.1 in
     record { side_is = same_side-true s.side side parts.0; from = int_le-true (low_end s) low ends.0; upto = int_le-true high (high_end s) ends.1 }
 
-covers-from : (side : Side) (high low : ℤ) (s : Stream) → s.side ≡ side → low_end s ≤ℤ low → high ≤ℤ high_end s → covers side high low s ≡ true
-covers-from side high low s h from upto = and_from (same_side s.side side) (int_le (low_end s) low && int_le high (high_end s)) (same_side-from s.side side h)
+covers-from : (side : Side) (high low : ℤ) (s : Stream) → s.side ≡ side → low_end s ≤ℤ low
+    → high ≤ℤ high_end s → covers side high low s ≡ true
+covers-from side high low s h from upto =
+    and_from (same_side s.side side) (int_le (low_end s) low && int_le high (high_end s)) (same_side-from s.side side h)
     (and_from (int_le (low_end s) low) (int_le high (high_end s)) (int_le-from (low_end s) low from) (int_le-from high (high_end s) upto))
 
 -- no interval lies inside the range of a latent stream
-pub covers-latent : (side : Side) (high low : ℤ) (s : Stream) → IsLatent s → low <ℤ high → covers side high low s ≡ false
+pub covers-latent : (side : Side) (high low : ℤ) (s : Stream) → IsLatent s → low <ℤ high
+    → covers side high low s ≡ false
 covers-latent side high low s latent falls =
     false_from_ne_true (covers side high low s) (λ e. let covered = covers-true side high low s e in let level = level-latent s latent in omega (arith, ints))
 
 -- ---- places
 
 -- a falling list of some numbers holds all places that are among them
-pub HoldsPlaces-ListsFalling : (streams : List Stream) (utilities : List Utility) (P : ℤ → Type 0) (places : List ℤ) → ListsFalling P places
+pub HoldsPlaces-ListsFalling : (streams : List Stream) (utilities : List Utility) (P : ℤ → Type 0) (places : List ℤ)
+    → ListsFalling P places
     → All P (places_of streams utilities) → HoldsPlaces streams utilities places
 HoldsPlaces-ListsFalling streams utilities P places h each =
     record { falls = h.ordered; holds = All-weaker P (Contains places) h.every (places_of streams utilities) each }
@@ -156,13 +175,16 @@ HoldsPlaces-IsGrid c places h =
 module _ (streams : List Stream) (utilities : List Utility) (places : List ℤ) (h : HoldsPlaces streams utilities places) where
   pub holds_ends : All (λ s. Contains places (high_end s) × Contains places (low_end s)) streams
   holds_ends =
-      let ends = stream_ends streams in let levels = map shifted_level utilities in
+      let ends = stream_ends streams in
+      let levels = map shifted_level utilities in
       each_end (Contains places) streams (λ k d within. All-contains (Contains places) (ends ++ levels) (get_or ends k d) h.holds
       (Contains-append_left ends levels (get_or ends k d) (Contains-get_or ends k d within)))
 
   pub holds_levels : All (λ u. Contains places (shifted_level u)) utilities
   holds_levels k d within =
-      let ends = stream_ends streams in let levels = map shifted_level utilities in let level = shifted_level (get_or utilities k d) in
+      let ends = stream_ends streams in
+      let levels = map shifted_level utilities in
+      let level = shifted_level (get_or utilities k d) in
       All-contains (Contains places) (ends ++ levels) level h.holds
       (Contains-append_right ends levels level (k, rw length-map within, get_or-map shifted_level utilities k d level within))
 
@@ -171,11 +193,13 @@ module _ (streams : List Stream) (utilities : List Utility) (places : List ℤ) 
 Contains-from_slice_get : {X : Type 0} (xs : List X) (i : ℕ) (x : X) → slice_get xs i ≡ Some x → Contains xs x
 Contains-from_slice_get xs i x at = (i, slice_get_within xs i x at, get_or_from_slice_get xs i x x at)
 
-IsInterval-later : (g : ℤ) (places : List ℤ) (high low : ℤ) → IsInterval places high low → IsInterval (g ∷ places) high low
+IsInterval-later : (g : ℤ) (places : List ℤ) (high low : ℤ) → IsInterval places high low
+    → IsInterval (g ∷ places) high low
 IsInterval-later g places high low h = let e : suc (h.index + 1) ≡ suc h.index + 1 = omega arith in
     record { index = suc h.index; from = h.from; to = subst (λ n. slice_get (g ∷ places) n ≡ Some low) e h.to }
 
-IsPiece-later : (g : ℤ) (places : List ℤ) (s : Stream) (high low : ℤ) → IsPiece places s high low → IsPiece (g ∷ places) s high low
+IsPiece-later : (g : ℤ) (places : List ℤ) (s : Stream) (high low : ℤ) → IsPiece places s high low
+    → IsPiece (g ∷ places) s high low
 IsPiece-later g places s high low (inl h) = inl (IsInterval-later g places high low h)
 IsPiece-later g places s high low (inr level) = inr level
 
@@ -206,7 +230,10 @@ module _ (streams : List Stream) (utilities : List Utility) (side : Side) where
 
   each_latent : (places : List ℤ) (g : ℤ) → All (IsPart places) (latent_here g)
   each_latent places g = All-picked (stands_at side g) (stream_part g g) (IsPart places) 0 streams (λ i k s e at passes.
-      let stands = stands_at-true side g s passes in let same : k ≡ i = omega (arith, e) in let from = stands.low in let upto = stands.high in
+      let stands = stands_at-true side g s passes in
+      let same : k ≡ i = omega (arith, e) in
+      let from = stands.low in
+      let upto = stands.high in
       inl (
         i,
         s,
@@ -227,8 +254,10 @@ module _ (streams : List Stream) (utilities : List Utility) (side : Side) where
 
   each_stream : (g : ℤ) (places : List ℤ) → All (IsPart (g ∷ places)) (inside g places)
   each_stream g [] = All-nil (IsPart (g ∷ []))
-  each_stream g (low ∷ places) = All-picked (covers side g low) (stream_part g low) (IsPart (g ∷ low ∷ places)) 0 streams (λ i k s e at passes.
-      let covered = covers-true side g low s passes in let same : k ≡ i = omega (arith, e) in
+  each_stream g (low ∷ places) =
+      All-picked (covers side g low) (stream_part g low) (IsPart (g ∷ low ∷ places)) 0 streams (λ i k s e at passes.
+      let covered = covers-true side g low s passes in
+      let same : k ≡ i = omega (arith, e) in
       inl (
         i,
         s,
@@ -257,8 +286,10 @@ module _ (streams : List Stream) (utilities : List Utility) (side : Side) where
       Contains-append_right (here g) (inside g places ++ made places) p (Contains-append_right (inside g places) (made places) p found)
 
   -- each part of the side is made
-  Contains-stream : (places : List ℤ) (index i : ℕ) (s : Stream) (high low : ℤ) → slice_get streams i ≡ Some s → covers side high low s ≡ true
-      → slice_get places index ≡ Some high → slice_get places (suc index) ≡ Some low → Contains (made places) (stream_part high low i s)
+  Contains-stream : (places : List ℤ) (index i : ℕ) (s : Stream) (high low : ℤ)
+      → slice_get streams i ≡ Some s → covers side high low s ≡ true
+      → slice_get places index ≡ Some high → slice_get places (suc index) ≡ Some low
+      → Contains (made places) (stream_part high low i s)
   Contains-stream [] index i s high low at passes from to = absurd (none-some high from)
   Contains-stream (g ∷ []) zero i s high low at passes from to = absurd (none-some low to)
   Contains-stream (g ∷ l ∷ places) zero i s high low at passes from to =
@@ -271,11 +302,13 @@ module _ (streams : List Stream) (utilities : List Utility) (side : Side) where
   Contains-stream (g ∷ places) (suc index) i s high low at passes from to =
       Contains-later g places (stream_part high low i s) (Contains-stream places index i s high low at passes from to)
 
-  Contains-latent : (places : List ℤ) (index i : ℕ) (s : Stream) → slice_get streams i ≡ Some s → s.side ≡ side → IsLatent s
+  Contains-latent : (places : List ℤ) (index i : ℕ) (s : Stream) → slice_get streams i ≡ Some s
+      → s.side ≡ side → IsLatent s
       → slice_get places index ≡ Some (high_end s) → Contains (made places) (stream_part (high_end s) (high_end s) i s)
   Contains-latent [] index i s at side_is latent from = absurd (none-some (high_end s) from)
   Contains-latent (g ∷ places) zero i s at side_is latent from =
-      let level = high_end s in let part = stream_part level level i s in
+      let level = high_end s in
+      let part = stream_part level level i s in
       let found =
       Contains-picked (stands_at side level) (stream_part level level) 0 streams i i s (omega arith) at (stands_at-from side level s side_is latent refl) in
       subst (λ h. Contains (made (h ∷ places)) part) (sym (same_Some g level from))
@@ -286,14 +319,18 @@ module _ (streams : List Stream) (utilities : List Utility) (side : Side) where
   Contains-utility : (places : List ℤ) (index i : ℕ) (u : Utility) → slice_get utilities i ≡ Some u → u.side ≡ side
       → slice_get places index ≡ Some (shifted_level u) → Contains (made places) (utility_part i u)
   Contains-utility [] index i u at side_is from = absurd (none-some (shifted_level u) from)
-  Contains-utility (g ∷ places) zero i u at side_is from = Contains-append_left (here g) (inside g places ++ made places) (utility_part i u)
+  Contains-utility (g ∷ places) zero i u at side_is from =
+      Contains-append_left (here g) (inside g places ++ made places) (utility_part i u)
       (Contains-append_right (latent_here g) (utilities_here g) (utility_part i u)
       (Contains-picked (is_here side g) utility_part 0 utilities i i u (omega arith) at
       (is_here-from side g u side_is (sym (same_Some g (shifted_level u) from)))))
-  Contains-utility (g ∷ places) (suc index) i u at side_is from = Contains-later g places (utility_part i u) (Contains-utility places index i u at side_is from)
+  Contains-utility (g ∷ places) (suc index) i u at side_is from =
+      Contains-later g places (utility_part i u) (Contains-utility places index i u at side_is from)
 
-  Contains-piece : (places : List ℤ) → HoldsPlaces streams utilities places → (i : ℕ) (s : Stream) (high low : ℤ) → slice_get streams i ≡ Some s → s.side ≡ side
-      → low_end s ≤ℤ low → high ≤ℤ high_end s → IsPiece places s high low → Contains (made places) (stream_part high low i s)
+  Contains-piece : (places : List ℤ) → HoldsPlaces streams utilities places
+      → (i : ℕ) (s : Stream) (high low : ℤ) → slice_get streams i ≡ Some s → s.side ≡ side
+      → low_end s ≤ℤ low → high ≤ℤ high_end s → IsPiece places s high low
+      → Contains (made places) (stream_part high low i s)
   Contains-piece places holds i s high low at side_is from upto (inl h) =
       let next : h.index + 1 ≡ suc h.index = omega arith in
       Contains-stream places h.index i s high low at (covers-from side high low s side_is from upto) h.from
@@ -302,11 +339,14 @@ module _ (streams : List Stream) (utilities : List Utility) (side : Side) where
       let (index, within, is) =
       (All-contains (λ x. Contains places (high_end x) × Contains places (low_end x)) streams s (holds_ends streams utilities places holds)
       (Contains-from_slice_get streams i s at)).0 in
-      let level = level-latent s latent in let is_high : high_end s ≡ high = omega (arith, ints) in let is_low : high_end s ≡ low = omega (arith, ints) in
+      let level = level-latent s latent in
+      let is_high : high_end s ≡ high = omega (arith, ints) in
+      let is_low : high_end s ≡ low = omega (arith, ints) in
       let found = Contains-latent places index i s at side_is latent (slice_get-get_or places index (high_end s) within ∙ ap Some is) in
       subst (λ h. Contains (made places) (stream_part h low i s)) is_high (subst (λ l. Contains (made places) (stream_part (high_end s) l i s)) is_low found)
 
-  every_made : (places : List ℤ) → HoldsPlaces streams utilities places → (p : Part) → IsPart places p → Contains (made places) p
+  every_made : (places : List ℤ) → HoldsPlaces streams utilities places → (p : Part) → IsPart places p
+      → Contains (made places) p
   every_made places holds p (inl (i, s, h)) =
       subst (Contains (made places)) (sym h.is) (Contains-piece places holds i s p.high p.low h.stream h.side_is h.from h.upto h.piece)
   every_made places holds p (inr (i, u, h)) =
@@ -322,16 +362,20 @@ module _ (streams : List Stream) (utilities : List Utility) (side : Side) where
       All-append P (latent_here g) (utilities_here g) (All-picked (stands_at side g) (stream_part g g) P 0 streams (λ i k s e at passes. (refl, refl)))
       (All-picked (is_here side g) utility_part P 0 utilities (λ i k u e at passes. let level = (is_here-true side g u passes).level in (level, level)))
 
-  ends_below : (g : ℤ) (places : List ℤ) → All (λ place. place <ℤ g) places → All (λ p. (p.high ≡ g) × (p.low <ℤ g)) (inside g places)
+  ends_below : (g : ℤ) (places : List ℤ) → All (λ place. place <ℤ g) places
+      → All (λ p. (p.high ≡ g) × (p.low <ℤ g)) (inside g places)
   ends_below g [] falls = All-nil (λ p. (p.high ≡ g) × (p.low <ℤ g))
-  ends_below g (low ∷ places) falls = All-picked (covers side g low) (stream_part g low) (λ p. (p.high ≡ g) × (p.low <ℤ g)) 0 streams
+  ends_below g (low ∷ places) falls =
+      All-picked (covers side g low) (stream_part g low) (λ p. (p.high ≡ g) × (p.low <ℤ g)) 0 streams
       (λ i k s e at passes. (refl, All-head (λ place. place <ℤ g) low places falls))
 
   -- nothing that is made below a place stands at it
-  below : (g : ℤ) (places : List ℤ) → AllPairs (λ a b. b <ℤ a) places → All (λ place. place <ℤ g) places → All (λ p. p.high <ℤ g) (made places)
+  below : (g : ℤ) (places : List ℤ) → AllPairs (λ a b. b <ℤ a) places → All (λ place. place <ℤ g) places
+      → All (λ p. p.high <ℤ g) (made places)
   below g [] falls under = All-nil (λ p. p.high <ℤ g)
   below g (h ∷ places) falls under =
-      let P : Part → Type 0 = λ p. p.high <ℤ g in let top : h <ℤ g = All-head (λ place. place <ℤ g) h places under in
+      let P : Part → Type 0 = λ p. p.high <ℤ g in
+      let top : h <ℤ g = All-head (λ place. place <ℤ g) h places under in
       let lower = AllPairs-head (λ a b. b <ℤ a) h places falls in
       All-append P (here h) (inside h places ++ made places)
       (All-weaker (λ p. (p.high ≡ h) × (p.low ≡ h)) P (λ p e. subst (λ z. z <ℤ g) (sym e.0) top) (here h) (ends_here h))
@@ -343,7 +387,8 @@ module _ (streams : List Stream) (utilities : List Utility) (side : Side) where
   ordered_here g = AllPairs-append comes_before (latent_here g) (utilities_here g)
       (AllPairs-picked (stands_at side g) (stream_part g g) comes_before 0 streams (λ i j s t before one other. inr (inr (refl, refl, before))))
       (AllPairs-picked (is_here side g) utility_part comes_before 0 utilities (λ i j u v before one other.
-      let p = is_here-true side g u one in let q = is_here-true side g v other in
+      let p = is_here-true side g u one in
+      let q = is_here-true side g v other in
       inr (inr (q.level ∙ sym p.level, q.level ∙ sym p.level, before))))
       (All-picked (stands_at side g) (stream_part g g) (λ p. All (comes_before p) (utilities_here g)) 0 streams (λ i k s e at passes.
       All-picked (is_here side g) utility_part (comes_before (stream_part g g i s)) 0 utilities
@@ -357,8 +402,12 @@ module _ (streams : List Stream) (utilities : List Utility) (side : Side) where
   ordered_made : (places : List ℤ) → AllPairs (λ a b. b <ℤ a) places → AllPairs comes_before (made places)
   ordered_made [] falls = AllPairs-nil comes_before
   ordered_made (g ∷ places) falls =
-      let lower = AllPairs-head (λ a b. b <ℤ a) g places falls in let rest_falls = AllPairs-tail (λ a b. b <ℤ a) g places falls in let rest = made places in
-      let at_place = ends_here g in let on_interval = ends_below g places lower in let under = below g places rest_falls lower in
+      let lower = AllPairs-head (λ a b. b <ℤ a) g places falls in
+      let rest_falls = AllPairs-tail (λ a b. b <ℤ a) g places falls in
+      let rest = made places in
+      let at_place = ends_here g in
+      let on_interval = ends_below g places lower in
+      let under = below g places rest_falls lower in
       AllPairs-append comes_before (here g) (inside g places ++ rest) (ordered_here g)
       (AllPairs-append comes_before (inside g places) rest (ordered_inside g places) (ordered_made places rest_falls)
       (All-weaker (λ p. (p.high ≡ g) × (p.low <ℤ g)) (λ p. All (comes_before p) rest)
@@ -371,7 +420,8 @@ module _ (streams : List Stream) (utilities : List Utility) (side : Side) where
 
   pub made_parts-AreParts : (places : List ℤ) → HoldsPlaces streams utilities places
       → AreParts streams utilities places side (made_parts streams utilities side places)
-  made_parts-AreParts places h = record { ordered = ordered_made places h.falls; each = each_made places; every = every_made places h }
+  made_parts-AreParts places h =
+      record { ordered = ordered_made places h.falls; each = each_made places; every = every_made places h }
 
 -- ---- the parts of a side are one list
 
@@ -392,7 +442,8 @@ one_way p q (inr (inr h)) (inl k) = omega (arith, ints)
 one_way p q (inr (inr h)) (inr (inl k)) = omega (arith, ints)
 one_way p q (inr (inr h)) (inr (inr k)) = one_way_source p.source q.source h.2 k.2
 
-pub AreParts-made : (streams : List Stream) (utilities : List Utility) (side : Side) (places : List ℤ) (ps : List Part) → HoldsPlaces streams utilities places
+pub AreParts-made : (streams : List Stream) (utilities : List Utility) (side : Side) (places : List ℤ) (ps : List Part)
+    → HoldsPlaces streams utilities places
     → AreParts streams utilities places side ps → ps ≡ made_parts streams utilities side places
 AreParts-made streams utilities side places ps h k =
     Lists-unique comes_before one_way (IsPartOf streams utilities places side) ps (made_parts streams utilities side places) k
@@ -407,7 +458,8 @@ module _ (streams : List Stream) (utilities : List Utility) (side : Side) (place
   -- what was made at the place
   made-level : between ≡ now ++ level_parts streams utilities side g
   made-level =
-      let latent_parts = picked (stands_at side g) (stream_part g g) 0 streams in let utility_parts = picked (is_here side g) utility_part 0 utilities in
+      let latent_parts = picked (stands_at side g) (stream_part g g) 0 streams in
+      let utility_parts = picked (is_here side g) utility_part 0 utilities in
       level ∙ ap (λ ps. ps ++ utility_parts) latent ∙ append_assoc now latent_parts utility_parts
 
   -- what is left from the next place on, after what was made at this one and below it
@@ -415,19 +467,24 @@ module _ (streams : List Stream) (utilities : List Utility) (side : Side) (place
       → now ++ made_parts streams utilities side (drop i places) ≡ whole → next ≡ between ++ more
       → next ++ made_parts streams utilities side (drop (i + 1) places) ≡ whole
   made-more more next whole on_interval so_far pushed =
-      let here = level_parts streams utilities side g in let rest = made_parts streams utilities side (drop (i + 1) places) in
+      let here = level_parts streams utilities side g in
+      let rest = made_parts streams utilities side (drop (i + 1) places) in
       let left = ap (made_parts streams utilities side) (drop_more places i (pos 0) within ∙ ap (λ z. z ∷ drop (i + 1) places) is)
       ∙ ap (λ ps. here ++ (ps ++ rest)) on_interval in
-      ap (λ ps. ps ++ rest) (pushed ∙ ap (λ ps. ps ++ more) made-level) ∙ append_assoc (now ++ here) more rest ∙ append_assoc now here (more ++ rest)
+      ap (λ ps. ps ++ rest) (pushed ∙ ap (λ ps. ps ++ more) made-level)
+      ∙ append_assoc (now ++ here) more rest ∙ append_assoc now here (more ++ rest)
       ∙ ap (λ ps. now ++ ps) (sym left) ∙ so_far
 
   pub made-push : (low : ℤ) (next whole : List Part) → i + 1 < length places → get_or places (i + 1) (pos 0) ≡ low
-      → now ++ made_parts streams utilities side (drop i places) ≡ whole → next ≡ between ++ picked (covers side g low) (stream_part g low) 0 streams
+      → now ++ made_parts streams utilities side (drop i places) ≡ whole
+      → next ≡ between ++ picked (covers side g low) (stream_part g low) 0 streams
       → next ++ made_parts streams utilities side (drop (i + 1) places) ≡ whole
-  made-push low next whole inside is_low so_far pushed = made-more (picked (covers side g low) (stream_part g low) 0 streams) next whole
+  made-push low next whole inside is_low so_far pushed =
+      made-more (picked (covers side g low) (stream_part g low) 0 streams) next whole
       (ap (interval_parts streams utilities side g) (drop_more places (i + 1) (pos 0) inside ∙ ap (λ z. z ∷ drop (i + 1 + 1) places) is_low)) so_far pushed
 
-  pub made-end : (next whole : List Part) → length places ≤ i + 1 → now ++ made_parts streams utilities side (drop i places) ≡ whole → next ≡ between
+  pub made-end : (next whole : List Part) → length places ≤ i + 1
+      → now ++ made_parts streams utilities side (drop i places) ≡ whole → next ≡ between
       → next ++ made_parts streams utilities side (drop (i + 1) places) ≡ whole
   made-end next whole end so_far same =
       made-more [] next whole (ap (interval_parts streams utilities side g) (drop_all (i + 1) places end)) so_far (same ∙ sym (append-nil between))

@@ -9,18 +9,23 @@ one_more : {X : Type 0} (b : Bool) (y : X) (ys : List X) (x : X) → Contains ys
 one_more true y ys x found = Contains-append_right (y ∷ []) ys x found
 one_more false y ys x found = found
 
-Contains-filter : {X : Type 0} (p : X → Bool) (xs : List X) (x : X) → p x ≡ true → Contains xs x → Contains (filter p xs) x
+Contains-filter : {X : Type 0} (p : X → Bool) (xs : List X) (x : X) → p x ≡ true → Contains xs x
+    → Contains (filter p xs) x
 Contains-filter p [] x h found = found
-Contains-filter p (y ∷ ys) x h found = ⊎_elim (λ e. subst (λ b. Contains (cond b (y ∷ filter p ys) (filter p ys)) x) (sym (ap p e ∙ h)) (0, omega arith, e))
+Contains-filter p (y ∷ ys) x h found =
+    ⊎_elim (λ e. subst (λ b. Contains (cond b (y ∷ filter p ys) (filter p ys)) x) (sym (ap p e ∙ h)) (0, omega arith, e))
     (λ later. one_more (p y) y (filter p ys) x (Contains-filter p ys x h later)) (Contains-cons y ys x found)
 
 -- a number in its place among falling ones
 abbrev among : ℤ → List ℤ → List ℤ
 among x ys = filter (λ y. int_lt x y) ys ++ x ∷ filter (λ y. int_lt y x) ys
 
-ListsFalling-among : (x : ℤ) (xs ys : List ℤ) → ListsFalling (Contains xs) ys → ListsFalling (Contains (x ∷ xs)) (among x ys)
+ListsFalling-among : (x : ℤ) (xs ys : List ℤ) → ListsFalling (Contains xs) ys
+    → ListsFalling (Contains (x ∷ xs)) (among x ys)
 ListsFalling-among x xs ys h =
-    let falls = λ (a b : ℤ). b <ℤ a in let high = λ (y : ℤ). int_lt x y in let low = λ (y : ℤ). int_lt y x in
+    let falls = λ (a b : ℤ). b <ℤ a in
+    let high = λ (y : ℤ). int_lt x y in
+    let low = λ (y : ℤ). int_lt y x in
     let above = All-weaker (λ y. high y ≡ true) (λ y. x <ℤ y) (λ y e. omega (arith, ints)) (filter high ys) (filter_passes high ys) in
     let below = All-weaker (λ y. low y ≡ true) (λ y. y <ℤ x) (λ y e. omega (arith, ints)) (filter low ys) (filter_passes low ys) in
     let each = All-weaker (Contains xs) (Contains (x ∷ xs)) (Contains-append_right (x ∷ []) xs) ys h.each in
@@ -29,7 +34,8 @@ ListsFalling-among x xs ys h =
           (AllPairs-cons falls x (filter low ys) below (AllPairs-filter falls low ys h.ordered))
           (All-weaker (λ y. x <ℤ y) (λ y. All (λ z. z <ℤ y) (x ∷ filter low ys)) (λ y more. All-cons (λ z. z <ℤ y) x (filter low ys) more
           (All-weaker (λ z. z <ℤ x) (λ z. z <ℤ y) (λ z less. omega (arith, ints)) (filter low ys) below)) (filter high ys) above);
-      each = All-append (Contains (x ∷ xs)) (filter high ys) (x ∷ filter low ys) (All-filter high (Contains (x ∷ xs)) ys each)
+      each =
+          All-append (Contains (x ∷ xs)) (filter high ys) (x ∷ filter low ys) (All-filter high (Contains (x ∷ xs)) ys each)
           (All-cons (Contains (x ∷ xs)) x (filter low ys) (0, omega arith, refl) (All-filter low (Contains (x ∷ xs)) ys each));
       every = λ y found.
           let here = λ (e : x ≡ y). Contains-append_right (filter high ys) (x ∷ filter low ys) y (0, omega arith, e) in
@@ -42,7 +48,8 @@ ListsFalling-among x xs ys h =
     }
 
 some_falling : (xs : List ℤ) → (ys : List ℤ) × ListsFalling (Contains xs) ys
-some_falling [] = ([], record { ordered = AllPairs-nil (λ a b. b <ℤ a); each = All-nil (Contains []); every = λ x found. found })
+some_falling [] =
+    ([], record { ordered = AllPairs-nil (λ a b. b <ℤ a); each = All-nil (Contains []); every = λ x found. found })
 some_falling (x ∷ xs) = let (ys, h) = some_falling xs in (among x ys, ListsFalling-among x xs ys h)
 
 pub some_parts : (c : Case) → (hot : List Part) × (cold : List Part) × AreCaseParts c hot cold
@@ -60,8 +67,10 @@ some_parts c =
     )
 
 -- the parts of a side are fixed, since the grid is
-pub one_side : (c : Case) (places others : List ℤ) (side : Side) (parts more : List Part) → IsGrid c places → IsGrid c others
+pub one_side : (c : Case) (places others : List ℤ) (side : Side) (parts more : List Part) → IsGrid c places
+    → IsGrid c others
     → AreParts c.streams c.utilities places side parts → AreParts c.streams c.utilities others side more → parts ≡ more
-one_side c places others side parts more grid other are are_more = AreParts-made c.streams c.utilities side places parts (HoldsPlaces-IsGrid c places grid) are
+one_side c places others side parts more grid other are are_more =
+    AreParts-made c.streams c.utilities side places parts (HoldsPlaces-IsGrid c places grid) are
     ∙ ap (made_parts c.streams c.utilities side) (ListsFalling-unique (Contains (places_of c.streams c.utilities)) places others grid other)
     ∙ sym (AreParts-made c.streams c.utilities side others more (HoldsPlaces-IsGrid c others other) are_more)

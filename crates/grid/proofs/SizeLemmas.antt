@@ -35,42 +35,56 @@ either : (b : Bool) → (if b then pos 1 else pos 0) ≤ℤ pos 1
 either true = omega (arith, ints)
 either false = omega (arith, ints)
 
-stream_run-at_most : (side : Side) (s : Stream) (places : List ℤ) → stream_run (λ high low x. pos 1) side s places ≤ℤ pos (length places)
+stream_run-at_most : (side : Side) (s : Stream) (places : List ℤ)
+    → stream_run (λ high low x. pos 1) side s places ≤ℤ pos (length places)
 stream_run-at_most side s [] = omega (arith, ints)
 stream_run-at_most side s (g ∷ []) = omega (arith, ints)
 stream_run-at_most side s (g ∷ low ∷ places) =
-    let rest = stream_run-at_most side s (low ∷ places) in let one = either (covers side g low s) in omega (arith, ints)
+    let rest = stream_run-at_most side s (low ∷ places) in
+    let one = either (covers side g low s) in
+    omega (arith, ints)
 
-latent_run-at_most : (side : Side) (s : Stream) (places : List ℤ) → latent_run (λ high low x. pos 1) side s places ≤ℤ pos (length places)
+latent_run-at_most : (side : Side) (s : Stream) (places : List ℤ)
+    → latent_run (λ high low x. pos 1) side s places ≤ℤ pos (length places)
 latent_run-at_most side s [] = omega (arith, ints)
-latent_run-at_most side s (g ∷ places) = let rest = latent_run-at_most side s places in let one = either (stands_at side g s) in omega (arith, ints)
+latent_run-at_most side s (g ∷ places) =
+    let rest = latent_run-at_most side s places in
+    let one = either (stands_at side g s) in
+    omega (arith, ints)
 
 -- a stream has parts at places or on intervals
 runs-at_most : (side : Side) (places : List ℤ) → AllPairs (λ a b. b <ℤ a) places → (s : Stream)
     → (latent_run (λ high low x. pos 1) side s places +ℤ stream_run (λ high low x. pos 1) side s places) ≤ℤ pos (length places)
 runs-at_most side places falls s = ⊎_elim (λ latent.
-    let none = stream_run-latent (λ high low x. pos 1) side s places (has_latent_heat-true s latent) falls in let most = latent_run-at_most side s places in
+    let none = stream_run-latent (λ high low x. pos 1) side s places (has_latent_heat-true s latent) falls in
+    let most = latent_run-at_most side s places in
     omega (arith, ints)) (λ sensible.
-    let none = latent_run-none (λ high low x. pos 1) side s places sensible in let most = stream_run-at_most side s places in
+    let none = latent_run-none (λ high low x. pos 1) side s places sensible in
+    let most = stream_run-at_most side s places in
     omega (arith, ints)) (cases_Bool (has_latent_heat s))
 
 runs-other : (side : Side) (places : List ℤ) (s : Stream) → same_side s.side side ≡ false
     → latent_run (λ high low x. pos 1) side s places +ℤ stream_run (λ high low x. pos 1) side s places ≡ pos 0
 runs-other side places s other =
-    let latent = latent_run-other (λ high low x. pos 1) side s places other in let on_intervals = stream_run-other (λ high low x. pos 1) side s places other in
+    let latent = latent_run-other (λ high low x. pos 1) side s places other in
+    let on_intervals = stream_run-other (λ high low x. pos 1) side s places other in
     omega (arith, ints)
 
 -- a sum over streams, of at most m for each of a side and nothing for the others
 sum-at_most : (side : Side) (f : Stream → ℤ) (m : ℕ) (streams : List Stream) → ((s : Stream) → f s ≤ℤ pos m)
-    → ((s : Stream) → same_side s.side side ≡ false → f s ≡ pos 0) → int_sum_by f streams ≤ℤ pos (m * count_on side streams)
+    → ((s : Stream) → same_side s.side side ≡ false → f s ≡ pos 0)
+    → int_sum_by f streams ≤ℤ pos (m * count_on side streams)
 sum-at_most side f m [] most none = omega (arith, ints)
 sum-at_most side f m (s ∷ ss) most none =
-    let rest = sum-at_most side f m ss most none in let count = count_by-cons (λ (x : Stream). same_side x.side side) s ss in
+    let rest = sum-at_most side f m ss most none in
+    let count = count_by-cons (λ (x : Stream). same_side x.side side) s ss in
     ⊎_elim (λ same.
-    let total : count_on side (s ∷ ss) ≡ 1 + count_on side ss = count ∙ ap (λ b. cond b 1 0 + count_on side ss) same in let first = most s in
+    let total : count_on side (s ∷ ss) ≡ 1 + count_on side ss = count ∙ ap (λ b. cond b 1 0 + count_on side ss) same in
+    let first = most s in
     let product = ap (λ n. m * n) total in
     omega (arith, ints)) (λ other.
-    let total : count_on side (s ∷ ss) ≡ 0 + count_on side ss = count ∙ ap (λ b. cond b 1 0 + count_on side ss) other in let first = none s other in
+    let total : count_on side (s ∷ ss) ≡ 0 + count_on side ss = count ∙ ap (λ b. cond b 1 0 + count_on side ss) other in
+    let first = none s other in
     let product = ap (λ n. m * n) total in omega (arith, ints)) (cases_Bool (same_side s.side side))
 
 module _ (streams : List Stream) (utilities : List Utility) (side : Side) (places : List ℤ) (holds : HoldsPlaces streams utilities places) where
@@ -95,19 +109,28 @@ module _ (streams : List Stream) (utilities : List Utility) (side : Side) (place
   -- so a side has few
   pub length-made-few : AreStreams streams → length utilities ≤ ALL_UTILITIES → length places ≤ MOST_PLACES
       → length (made_parts streams utilities side places) ≤ MOST_PARTS
-  length-made-few are_streams few_utilities few_places = let product = mul-le-mul few_places (are_streams.few side) in omega (arith, length-made, product)
+  length-made-few are_streams few_utilities few_places =
+      let product = mul-le-mul few_places (are_streams.few side) in
+      omega (arith, length-made, product)
 
 -- ---- what each part keeps
 
-pub IsLength-covered : (s : Stream) (high low : ℤ) → IsValidStream s → low ≤ℤ high → low_end s ≤ℤ low → high ≤ℤ high_end s → IsLength (high -ℤ low)
-IsLength-covered s high low valid order from upto = let range = range-length s valid in omega (arith, ints)
+pub IsLength-covered : (s : Stream) (high low : ℤ) → IsValidStream s → low ≤ℤ high → low_end s ≤ℤ low
+    → high ≤ℤ high_end s → IsLength (high -ℤ low)
+IsLength-covered s high low valid order from upto =
+    let range = range-length s valid in
+    omega (arith, ints)
 
 -- one summand of the heat of a piece is 0, but both together are little already
-piece_heat-between : (high low : ℤ) (s : Stream) → IsValidStream s → IsLength (high -ℤ low) → IsHeat (piece_heat high low s)
+piece_heat-between : (high low : ℤ) (s : Stream) → IsValidStream s → IsLength (high -ℤ low)
+    → IsHeat (piece_heat high low s)
 piece_heat-between high low s valid length =
-    let product = heat-between s (high -ℤ low) valid length in let load = load-between s valid.heat in omega (arith, ints)
+    let product = heat-between s (high -ℤ low) valid length in
+    let load = load-between s valid.heat in
+    omega (arith, ints)
 
-IsBounded-stream : (high low : ℤ) (i : ℕ) (s : Stream) → IsHeat (piece_heat high low s) → IsBounded (stream_part high low i s)
+IsBounded-stream : (high low : ℤ) (i : ℕ) (s : Stream) → IsHeat (piece_heat high low s)
+    → IsBounded (stream_part high low i s)
 IsBounded-stream high low i s heat =
     record { least = record { from = heat.from; upto = omega (arith, ints) }; most = omega (arith, ints); price = omega (arith, ints); free = λ j e. refl }
 
@@ -123,7 +146,9 @@ module _ (streams : List Stream) (utilities : List Utility) (side : Side) (place
       subst IsBounded (sym h.is) (IsBounded-stream p.high p.low i s (piece_heat-between p.high p.low s own length))
     where
       order : IsPiece places s p.high p.low → p.low ≤ℤ p.high
-      order (inl interval) = let falls = interval_falls places p.high p.low holds.falls interval in omega (arith, ints)
+      order (inl interval) =
+          let falls = interval_falls places p.high p.low holds.falls interval in
+          omega (arith, ints)
       order (inr (latent, same)) = omega (arith, ints)
   IsBounded-part p (inr (i, u, h)) =
       let own = All-contains IsPlaced utilities u placed (i, slice_get_within utilities i u h.utility, get_or_from_slice_get utilities i u u h.utility) in
@@ -135,14 +160,17 @@ pub record IsSide (streams : List Stream) (utilities : List Utility) (side : Sid
   pub few : length parts ≤ MOST_PARTS
   pub bounded : All IsBounded parts
 
-pub IsSide-made : (streams : List Stream) (utilities : List Utility) (side : Side) (places : List ℤ) (parts : List Part) → AreStreams streams
-    → All IsPlaced utilities → length utilities ≤ ALL_UTILITIES → HoldsPlaces streams utilities places → length places ≤ MOST_PLACES
+pub IsSide-made : (streams : List Stream) (utilities : List Utility) (side : Side) (places : List ℤ) (parts : List Part)
+    → AreStreams streams
+    → All IsPlaced utilities → length utilities ≤ ALL_UTILITIES → HoldsPlaces streams utilities places
+    → length places ≤ MOST_PLACES
     → parts ≡ made_parts streams utilities side places → IsSide streams utilities side places parts
 IsSide-made streams utilities side places parts are_streams placed few_utilities holds few_places is =
     let made = made_parts-AreParts streams utilities side places holds in
     subst (IsSide streams utilities side places) (sym is) (record {
       are_parts = made;
       few = length-made-few streams utilities side places holds are_streams few_utilities few_places;
-      bounded = All-weaker (IsPartOf streams utilities places side) IsBounded (IsBounded-part streams utilities side places are_streams.each placed holds)
+      bounded =
+          All-weaker (IsPartOf streams utilities places side) IsBounded (IsBounded-part streams utilities side places are_streams.each placed holds)
           (made_parts streams utilities side places) made.each;
     })

@@ -7,5 +7,7 @@ abbrev each_on : Side → ℤ → List Utility → ℤ
 each_on side each us = int_sum_by (λ u. if same_side u.side side then each else pos 0) us
 
 pub sum_utilities : (c : Case) → IsStandard c → (side : Side) (each : ℤ) → each_on side each c.utilities ≡ each
-sum_utilities c standard Hot each = in_order c standard (λ us. each_on Hot each us ≡ each) (omega (arith, ints)) (omega (arith, ints))
-sum_utilities c standard Cold each = in_order c standard (λ us. each_on Cold each us ≡ each) (omega (arith, ints)) (omega (arith, ints))
+sum_utilities c standard Hot each =
+    in_order c standard (λ us. each_on Hot each us ≡ each) (omega (arith, ints)) (omega (arith, ints))
+sum_utilities c standard Cold each =
+    in_order c standard (λ us. each_on Cold each us ≡ each) (omega (arith, ints)) (omega (arith, ints))

@@ -7,12 +7,17 @@ pub record SumSoFar {X : Type 0} (f : ℕ → X → ℤ) (most : ℤ) (xs : List
   pub sum : total ≡ int_sum_from f 0 (take i xs)
   pub range : IsWithin (pos i *ℤ most) total
 
-pub SumSoFar-more : {X : Type 0} (f : ℕ → X → ℤ) (most : ℤ) (xs : List X) (i : ℕ) (d : X) (total value : ℤ) → i < length xs
-    → (pos (i + 1) *ℤ most) <ℤ pos (2 ^ 127) → SumSoFar f most xs i total → value ≡ f i (get_or xs i d) → IsWithin most value
+pub SumSoFar-more : {X : Type 0} (f : ℕ → X → ℤ) (most : ℤ) (xs : List X) (i : ℕ) (d : X) (total value : ℤ)
+    → i < length xs
+    → (pos (i + 1) *ℤ most) <ℤ pos (2 ^ 127) → SumSoFar f most xs i total → value ≡ f i (get_or xs i d)
+    → IsWithin most value
     → SumSoFar f most xs (i + 1) (to_z w128 (of_z w128 (total +ℤ to_z w128 (of_z w128 value))))
 SumSoFar-more f most xs i d total value within room so_far is range =
-    let split = +ℤ-*ℤ (pos i) (pos 1) most in let from = so_far.range.from in let upto = so_far.range.upto in
-    let next : to_z w128 (of_z w128 (total +ℤ to_z w128 (of_z w128 value))) ≡ total +ℤ value = omega (arith, ints, range.from, range.upto) in
+    let split = +ℤ-*ℤ (pos i) (pos 1) most in
+    let from = so_far.range.from in
+    let upto = so_far.range.upto in
+    let next : to_z w128 (of_z w128 (total +ℤ to_z w128 (of_z w128 value))) ≡ total +ℤ value
+    = omega (arith, ints, range.from, range.upto) in
     record {
       sum = next ∙ ap₂ ◌+ℤ◌ so_far.sum is ∙ sym (int_sum_from-more f xs i d within);
       range = record { from = omega (arith, ints, range.from); upto = omega (arith, ints, range.upto) };

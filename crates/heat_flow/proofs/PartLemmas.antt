@@ -2,7 +2,8 @@
 use Rattle.heat_flow.proofs.Words.{AreCaseParts, Case, Cold, HoldsOfParts, Hot, Part, one_side}
 use Rattle.std.proofs.Common.{List, subst₂}
 
-pub HoldsOfParts-some : (c : Case) (P : List Part → List Part → Type 0) (hot cold : List Part) → AreCaseParts c hot cold → P hot cold → HoldsOfParts c P
+pub HoldsOfParts-some : (c : Case) (P : List Part → List Part → Type 0) (hot cold : List Part)
+    → AreCaseParts c hot cold → P hot cold → HoldsOfParts c P
 HoldsOfParts-some c P hot cold parts holds = record {
   some = (hot, cold, parts);
   each = λ others more other.

@@ -9,11 +9,13 @@ use Rattle.std.proofs.Common.{◌+◌, ◌<◌, ◌∙◌, ◌∷◌, ◌≡◌}
 -- ---- permissions of a hot source
 
 pub forbids_of_complete : (c : Case) → IsComplete c → All (λ f. IsSourceOf c f.cold) c.forbids
-forbids_of_complete c complete = All-weaker (IsValidForbid c) (λ f. IsSourceOf c f.cold) (λ f h. IsSourceOf-side c f.cold (ap is_some h.1)) c.forbids
+forbids_of_complete c complete =
+    All-weaker (IsValidForbid c) (λ f. IsSourceOf c f.cold) (λ f h. IsSourceOf-side c f.cold (ap is_some h.1)) c.forbids
     (StaysValid-IsComplete c complete).forbids
 
 -- parts that reach are there
-pub both_parts : (c : Case) (x y : Option Part) → both_reach c x y ≡ true → (p : Part) × (q : Part) × (x ≡ Some p) × (y ≡ Some q) × (part_reaches c p q ≡ true)
+pub both_parts : (c : Case) (x y : Option Part) → both_reach c x y ≡ true
+    → (p : Part) × (q : Part) × (x ≡ Some p) × (y ≡ Some q) × (part_reaches c p q ≡ true)
 both_parts c None y h = cc
 both_parts c (Some p) None h = cc
 both_parts c (Some p) (Some q) h = (p, q, refl, refl, h)
@@ -35,12 +37,14 @@ cell_at c hot cold a b d h k =
     let row = λ (p : Part). map (part_reaches c p) cold in
     let before : length (cell_rows c (take a hot) cold) ≡ a * length cold =
     length-cell_rows c (take a hot) cold ∙ ap (λ n. n * length cold) (length-take-le a hot (omega (arith, h))) in
-    ap (λ n. get_or (cell_rows c hot cold) (n + b) false) (sym before) ∙ get_or-flat_map row hot a b d false h (rw length-map k)
+    ap (λ n. get_or (cell_rows c hot cold) (n + b) false) (sym before)
+    ∙ get_or-flat_map row hot a b d false h (rw length-map k)
     ∙ get_or-map (part_reaches c (get_or hot a d)) cold b d false k
 
 -- they are the reach of the parts
 pub cell_rows-reach : (c : Case) (hot cold : List Part) (a b : ℕ)
-    → (nat_lt a (length hot) && nat_lt b (length cold)) && get_or (cell_rows c hot cold) (a * length cold + b) false ≡ reach_between c hot cold a b
+    → (nat_lt a (length hot) && nat_lt b (length cold)) && get_or (cell_rows c hot cold) (a * length cold + b) false
+    ≡ reach_between c hot cold a b
 cell_rows-reach c hot cold a b = ⊎_elim (λ row.
     ⊎_elim
     (λ column. let cell = cell_at c hot cold a b blank row column in let p = slice_get-get_or hot a blank row in let q = slice_get-get_or cold b blank column in
@@ -50,7 +54,9 @@ cell_rows-reach c hot cold a b = ⊎_elim (λ row.
 
 -- ---- the sources of a case's parts
 
-pub sources_of_parts : (c : Case) (grid : List ℤ) (side : Side) (parts : List Part) → AreParts c.streams c.utilities grid side parts
+pub sources_of_parts : (c : Case) (grid : List ℤ) (side : Side) (parts : List Part)
+    → AreParts c.streams c.utilities grid side parts
     → All (λ p. IsSourceOf c p.source) parts
-sources_of_parts c grid side parts h = All-weaker (IsPartOf c.streams c.utilities grid side) (λ p. IsSourceOf c p.source)
+sources_of_parts c grid side parts h =
+    All-weaker (IsPartOf c.streams c.utilities grid side) (λ p. IsSourceOf c p.source)
     (λ p h. IsSourceOf-side c p.source (ap is_some (side_of_part c grid side p h))) parts h.each

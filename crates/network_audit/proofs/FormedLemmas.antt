@@ -14,13 +14,16 @@ AreFormed items = All IsFormed items
 pub formed-none : AreFormed []
 formed-none = All-nil IsFormed
 
-pub formed-step : (at : Place) (number : ℕ) (value : Rational) (items : List Item) → IsWithinLimits value → AreFormed items
+pub formed-step : (at : Place) (number : ℕ) (value : Rational) (items : List Item) → IsWithinLimits value
+    → AreFormed items
     → AreFormed (Step at number value ∷ items)
 formed-step at number value items within formed = All-cons IsFormed _ _ within formed
 
 -- a step that failed is not found among them
-formed-no_step : (items : List Item) (at : Place) (number : ℕ) → AreFormed items → first_finding items ≡ Some (finding.TooFine at number) → ⊥
-formed-no_step items at number formed found = let (item, is, failed, same) = found-item IsFormed items
+formed-no_step : (items : List Item) (at : Place) (number : ℕ) → AreFormed items
+    → first_finding items ≡ Some (finding.TooFine at number) → ⊥
+formed-no_step items at number formed found =
+    let (item, is, failed, same) = found-item IsFormed items
     (finding.TooFine at number) formed found in by item is failed same
   where
     by : (item : Item) → IsFormed item → is_passed item ≡ false → finding_of item ≡ finding.TooFine at number → ⊥
@@ -31,7 +34,8 @@ formed-no_step items at number formed found = let (item, is, failed, same) = fou
 
 module _ (case : Case) (network : Network) where
   pub no_finding : (values : Valuation) → HasShape case network → IsWholeValuation case network values
-      → IsValidNetwork case network → All IsFormed (items case network values (length network.lines)) → HasNoFinding case network
+      → IsValidNetwork case network → All IsFormed (items case network values (length network.lines))
+      → HasNoFinding case network
   no_finding values shape valuation valid formed =
       record { values = values; valuation = valuation; none = by (first_finding (items case network values (length network.lines))) refl }
     where
@@ -40,4 +44,5 @@ module _ (case : Case) (network : Network) where
       by None is = is
       by (Some (finding.Failed at because)) is = absurd
           (invalid_network case network at because shape (record { n = length network.lines; values = values; valuation = valuation; first = is }) valid)
-      by (Some (finding.TooFine at number)) is = absurd (formed-no_step (items case network values (length network.lines)) at number formed is)
+      by (Some (finding.TooFine at number)) is =
+          absurd (formed-no_step (items case network values (length network.lines)) at number formed is)

@@ -11,11 +11,13 @@ module _ (case : Case) (network : Network) (values : Valuation) (complete : IsCo
     (valuation : IsWholeValuation case network values) (valid : IsValidNetwork case network) (room : HasRoom case network values) where
   -- where each utility's heat is whole, and the sums on the way to it are within the limits
   pub no_finding_from_room : HaveWholeHeats case network
-      → ((index : ℕ) (u : Utility) → slice_get case.utilities index ≡ Some u → AreFormed (utility_items_at network (index, u))) → HasNoFinding case network
-  no_finding_from_room heats sums = no_finding case network values shape valuation valid (each-part IsFormed case network values (record {
-    lines = lines_formed case network values shape valuation room;
-    streams = λ index s here. All-from_recursion IsFormed (stream_items_at network (index, s)) (tt, tt);
-    exchangers = λ number e here. exchanger_formed case network values complete room.branches number e;
-    utilities = sums;
-    balance = balance_formed case network complete shape heats;
-  }))
+      → ((index : ℕ) (u : Utility) → slice_get case.utilities index ≡ Some u → AreFormed (utility_items_at network (index, u)))
+      → HasNoFinding case network
+  no_finding_from_room heats sums =
+      no_finding case network values shape valuation valid (each-part IsFormed case network values (record {
+        lines = lines_formed case network values shape valuation room;
+        streams = λ index s here. All-from_recursion IsFormed (stream_items_at network (index, s)) (tt, tt);
+        exchangers = λ number e here. exchanger_formed case network values complete room.branches number e;
+        utilities = sums;
+        balance = balance_formed case network complete shape heats;
+      }))

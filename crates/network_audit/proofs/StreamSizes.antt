@@ -14,7 +14,8 @@ module _ (s : Stream) (valid : IsValidStream s) where
       by (inr latent) = record { from = omega (arith, ints); upto = omega (arith, ints) }
 
   pub full_size-sized : (m : ℕ) → unsigned_abs MOST_LOAD ≤ m → IsSized 1 m (full_size s)
-  full_size-sized m larger = sized-whole 1 m (s.cp +ℤ s.load) (omega arith) (omega (arith, ints, size-between.from, size-between.upto, larger))
+  full_size-sized m larger =
+      sized-whole 1 m (s.cp +ℤ s.load) (omega arith) (omega (arith, ints, size-between.from, size-between.upto, larger))
 
   pub full_size-most : IsAtMost (full_size s) (whole MOST_LOAD)
   full_size-most = at_most-whole (s.cp +ℤ s.load) MOST_LOAD size-between.upto

@@ -18,7 +18,8 @@ use Rattle.stream_case.specs.declared.source.Side.TheVariants as side
 
 -- ---- means
 
-not_negative_factor : (c x : Rational) → IsBelow rational_zero c → IsAtMost rational_zero (times c x) → IsAtMost rational_zero x
+not_negative_factor : (c x : Rational) → IsBelow rational_zero c → IsAtMost rational_zero (times c x)
+    → IsAtMost rational_zero x
 not_negative_factor c x some h = at_most_from_not_below x rational_zero (λ below.
     let turned = times-turned rational_zero c x (at_most_from_below rational_zero c some) (at_most_from_below x rational_zero below) in
     let none = at_most_antisymm (times c x) rational_zero (subst (IsAtMost (times c x)) (zero-times x) turned) h in
@@ -44,26 +45,32 @@ module _ (first second to : BranchValue) (some : IsBelow rational_zero first.cp)
     other_size = at_most_from_below rational_zero second.cp other
 
     mixed_at_most : (x : Rational) → IsAtMost first.t x → IsAtMost second.t x → IsAtMost to.t x
-    mixed_at_most x one two = let both = at_most-plus_plus (times first.cp first.t) (times first.cp x) (times second.cp second.t) (times second.cp x)
+    mixed_at_most x one two =
+        let both = at_most-plus_plus (times first.cp first.t) (times first.cp x) (times second.cp second.t) (times second.cp x)
         (at_most-times_left first.cp first.t x one_size one) (at_most-times_left second.cp second.t x other_size two) in
         at_most_from_times to.cp to.t x size (subst₂ IsAtMost (sym mix.heat) (sym (parts x)) both)
 
     mixed_at_least : (x : Rational) → IsAtMost x first.t → IsAtMost x second.t → IsAtMost x to.t
-    mixed_at_least x one two = let both = at_most-plus_plus (times first.cp x) (times first.cp first.t) (times second.cp x) (times second.cp second.t)
+    mixed_at_least x one two =
+        let both = at_most-plus_plus (times first.cp x) (times first.cp first.t) (times second.cp x) (times second.cp second.t)
         (at_most-times_left first.cp x first.t one_size one) (at_most-times_left second.cp x second.t other_size two) in
         at_most_from_times to.cp x to.t size (subst₂ IsAtMost (sym (parts x)) (sym mix.heat) both)
 
     mixed_part : IsPartOfLoad first.t → IsPartOfLoad second.t → IsPartOfLoad to.t
-    mixed_part one two = record { least = mixed_at_least rational_zero one.least two.least; most = mixed_at_most (whole (pos 1)) one.most two.most }
+    mixed_part one two =
+        record { least = mixed_at_least rational_zero one.least two.least; most = mixed_at_most (whole (pos 1)) one.most two.most }
 
 -- ---- streams
 
 first_part : (on : Side) → IsPartOfLoad (first_part_of_load on)
-first_part side.Hot = record { least = at_most-whole (pos 0) (pos 1) (omega (arith, ints)); most = at_most_refl (whole (pos 1)) }
-first_part side.Cold = record { least = at_most_refl rational_zero; most = at_most-whole (pos 0) (pos 1) (omega (arith, ints)) }
+first_part side.Hot =
+    record { least = at_most-whole (pos 0) (pos 1) (omega (arith, ints)); most = at_most_refl (whole (pos 1)) }
+first_part side.Cold =
+    record { least = at_most_refl rational_zero; most = at_most-whole (pos 0) (pos 1) (omega (arith, ints)) }
 
 first_kept : (s : Stream) → IsTrue (is_latent s) → IsPartOfLoad (first_state s)
-first_kept s latent = subst IsPartOfLoad (sym (ap (λ b. if b then first_part_of_load s.side else whole s.supply) latent)) (first_part s.side)
+first_kept s latent =
+    subst IsPartOfLoad (sym (ap (λ b. if b then first_part_of_load s.side else whole s.supply) latent)) (first_part s.side)
 
 -- ---- branches, line by line
 
@@ -81,8 +88,10 @@ module _ (case : Case) (network : Network) (n : ℕ) (values : Valuation) (shape
   KeptBefore index = (branch : ℕ) → branch < made_before case network index → Kept branch
 
   -- a state that is that of another branch of the stream
-  kept_as : (a b : ℕ) → stream_at network.branches a ≡ stream_at network.branches b → (value_at values a).t ≡ (value_at values b).t → Kept b → Kept a
-  kept_as a b stream state kept latent = subst IsPartOfLoad (sym state) (kept (sym (same_latent case network a b stream) ∙ latent))
+  kept_as : (a b : ℕ) → stream_at network.branches a ≡ stream_at network.branches b
+      → (value_at values a).t ≡ (value_at values b).t → Kept b → Kept a
+  kept_as a b stream state kept latent =
+      subst IsPartOfLoad (sym state) (kept (sym (same_latent case network a b stream) ∙ latent))
 
   own_kept : (branch : ℕ) → branch < length case.streams → Kept branch
   own_kept branch early latent = let (s, at) = item_at case.streams branch early in
@@ -90,15 +99,21 @@ module _ (case : Case) (network : Network) (n : ℕ) (values : Valuation) (shape
       subst IsPartOfLoad (sym (ap (λ v. v.t) (own_value is branch s at))) (first_kept s (sym (is_latent_branch-is case network branch s stream) ∙ latent))
 
   -- the branches that the line at an index makes, where those before it have such states
-  made_kept : (index : ℕ) (l : Line) → KeptBefore index → index < n → IsOfOneStream network.branches l → HasNumbers case network index l
+  made_kept : (index : ℕ) (l : Line) → KeptBefore index → index < n → IsOfOneStream network.branches l
+      → HasNumbers case network index l
       → Solves case network values l → PassKeepsLoad case network values l → All Kept (makes l)
-  made_kept index (line.Split from first cp second) before early one_stream numbers solved passes = let kept = before from (numbers.used 0 0 (omega arith)) in
+  made_kept index (line.Split from first cp second) before early one_stream numbers solved passes =
+      let kept = before from (numbers.used 0 0 (omega arith)) in
       All-cons Kept first (second ∷ []) (kept_as first from one_stream.0 solved.first_state kept)
       (All-cons Kept second [] (kept_as second from one_stream.1 solved.second_state kept) (All-nil Kept))
-  made_kept index (line.Pass from exchanger to) before early one_stream numbers solved passes = All-cons Kept to [] passes (All-nil Kept)
+  made_kept index (line.Pass from exchanger to) before early one_stream numbers solved passes =
+      All-cons Kept to [] passes (All-nil Kept)
   made_kept index (line.Mix first second to) before early one_stream numbers solved passes =
-      let one = numbers.used 0 0 (omega arith) in let two = numbers.used 1 0 (omega arith) in
-      let above : (branch : ℕ) → branch < made_before case network index → IsBelow rational_zero (value_at values branch).cp = λ branch known.
+      let one = numbers.used 0 0 (omega arith) in
+      let two = numbers.used 1 0 (omega arith) in
+      let above : (branch : ℕ) → branch < made_before case network index
+      → IsBelow rational_zero (value_at values branch).cp
+      = λ branch known.
       branch_positive case network n values is branch (omega (arith, known, made_fewer case network index n (omega (arith, early)))) in
       All-cons Kept to [] (λ latent.
       let of_first = sym (same_latent case network to first one_stream.1) ∙ latent in
@@ -107,17 +122,22 @@ module _ (case : Case) (network : Network) (n : ℕ) (values : Valuation) (shape
   made_kept index l before early one_stream numbers solved passes = All-nil Kept
 
   -- a branch made before a line or by it
-  known_kept : (index : ℕ) (l : Line) → KeptBefore index → HasNumbers case network index l → All Kept (makes l) → (branch : ℕ)
-      → branch < made_before case network (suc index) → (branch < made_before case network index) ⊎ (made_before case network index ≤ branch) → Kept branch
+  known_kept : (index : ℕ) (l : Line) → KeptBefore index → HasNumbers case network index l
+      → All Kept (makes l) → (branch : ℕ)
+      → branch < made_before case network (suc index)
+      → (branch < made_before case network index) ⊎ (made_before case network index ≤ branch) → Kept branch
   known_kept index l before numbers made branch known (inl earlier) = before branch earlier
-  known_kept index l before numbers made branch known (inr later) = let j = branch - made_before case network index in
+  known_kept index l before numbers made branch known (inr later) =
+      let j = branch - made_before case network index in
       let inside : j < length (makes l) = omega (arith, known, numbers.next, later) in
       subst Kept (numbers.made j inside ∙ omega (arith, later)) (made j 0 inside)
 
-  kept_before : All (PassKeepsLoad case network values) (take n network.lines) → (index : ℕ) → index ≤ n → KeptBefore index
+  kept_before : All (PassKeepsLoad case network values) (take n network.lines) → (index : ℕ) → index ≤ n
+      → KeptBefore index
   unfolding made_by
   kept_before passes zero upto branch known = own_kept branch (omega (arith, known))
-  kept_before passes (suc index) upto branch known = let l = get_or network.lines index (line.End 0) in
+  kept_before passes (suc index) upto branch known =
+      let l = get_or network.lines index (line.End 0) in
       let of = line_of shape index l (line_at network.lines index (line.End 0) (omega (arith, upto, is.within))).here in
       let before = kept_before passes index (omega (arith, upto)) in
       let solved = first_each (Solves case network values) network.lines n is.solved index l (omega (arith, upto)) of.at.here in

@@ -15,19 +15,24 @@ abbrev numbers : Rational → ℤ × ℕ
 numbers a = (a.num, a.den)
 
 abbrev hot_stream : Stream
-hot_stream = record { name = codes "H"; side = side.Hot; supply = pos 600; target = pos 400; cp = pos 20; load = pos 0; contribution = pos 50 }
+hot_stream =
+    record { name = codes "H"; side = side.Hot; supply = pos 600; target = pos 400; cp = pos 20; load = pos 0; contribution = pos 50 }
 
 abbrev cold_stream : Stream
-cold_stream = record { name = codes "C"; side = side.Cold; supply = pos 300; target = pos 700; cp = pos 10; load = pos 0; contribution = pos 50 }
+cold_stream =
+    record { name = codes "C"; side = side.Cold; supply = pos 300; target = pos 700; cp = pos 10; load = pos 0; contribution = pos 50 }
 
 abbrev heater : Utility
-heater = record { name = codes "ST"; side = side.Hot; level = pos 1000; least = pos 0; most = pos 1000000; price = pos 1; contribution = pos 50 }
+heater =
+    record { name = codes "ST"; side = side.Hot; level = pos 1000; least = pos 0; most = pos 1000000; price = pos 1; contribution = pos 50 }
 
 abbrev cooler : Utility
-cooler = record { name = codes "CW"; side = side.Cold; level = pos 250; least = pos 0; most = pos 1000000; price = pos 0; contribution = pos 50 }
+cooler =
+    record { name = codes "CW"; side = side.Cold; level = pos 250; least = pos 0; most = pos 1000000; price = pos 0; contribution = pos 50 }
 
 abbrev worked_case : Case
-worked_case = record { contribution = pos 50; streams = hot_stream ∷ cold_stream ∷ []; utilities = heater ∷ cooler ∷ []; forbids = [] }
+worked_case =
+    record { contribution = pos 50; streams = hot_stream ∷ cold_stream ∷ []; utilities = heater ∷ cooler ∷ []; forbids = [] }
 
 abbrev lines : List Line
 lines =
@@ -93,13 +98,15 @@ values_solve = let P : Line → Type 0 = Solves worked_case worked_network worke
     record { first_size = refl; sizes = same_from_fields _ _ refl refl; first_state = refl; second_state = refl } in
     let three : P (line.Pass 4 0 6) = record { size = refl; heat = same_from_fields _ _ refl refl } in
     let four : P (line.Pass 5 1 7) = record { size = refl; heat = same_from_fields _ _ refl refl } in
-    let mixed : P (line.Mix 6 7 8) = record { size = same_from_fields _ _ refl refl; heat = same_from_fields _ _ refl refl } in
+    let mixed : P (line.Mix 6 7 8)
+    = record { size = same_from_fields _ _ refl refl; heat = same_from_fields _ _ refl refl } in
     let five : P (line.Pass 8 2 9) = record { size = refl; heat = same_from_fields _ _ refl refl } in
     All-from_recursion P lines (tt, (tt, (tt, (tt, (one, (two, (tt, (divided, (three, (four, (mixed, (five, (tt, tt)))))))))))))
 
 whole_valuation : IsWholeValuation worked_case worked_network worked_values
 unfolding made_by
-whole_valuation = record { within = omega arith; count = refl; own = refl; positive = values_positive; solved = values_solve }
+whole_valuation =
+    record { within = omega arith; count = refl; own = refl; positive = values_positive; solved = values_solve }
 
 are_ended : AreEnded worked_case worked_network worked_values
 unfolding ended_by ended_streams stream_at

@@ -13,14 +13,18 @@ use Rattle.stream_case.specs.declared.source.Side.TheVariants as side
 use Rattle.stream_case.specs.declared.source.Source.TheVariants as source
 
 -- a sum with one term that is not 0
-sum-single : (c : Rational) (k n : ℕ) → k < n → rational_sum_by (λ i. if i == k then c else rational_zero) (range_with_len 0 n) ≡ c
+sum-single : (c : Rational) (k n : ℕ) → k < n
+    → rational_sum_by (λ i. if i == k then c else rational_zero) (range_with_len 0 n) ≡ c
 sum-single c k n within = let f = λ (i : ℕ). if i == k then c else rational_zero in
     let others : (i : ℕ) → i < n → but_at f k i ≡ rational_zero = λ i inside. grind arith in
-    one_taken f k 0 n (omega arith) (omega (arith, within)) ∙ ap₂ plus (ap (λ b. if b then c else rational_zero) (eq-eqb k k refl))
-    (rational_sum_by-zero (but_at f k) (range_with_len 0 n) (All-range (λ i. but_at f k i ≡ rational_zero) n others)) ∙ plus-zero c
+    one_taken f k 0 n (omega arith) (omega (arith, within))
+    ∙ ap₂ plus (ap (λ b. if b then c else rational_zero) (eq-eqb k k refl))
+    (rational_sum_by-zero (but_at f k) (range_with_len 0 n) (All-range (λ i. but_at f k i ≡ rational_zero) n others))
+    ∙ plus-zero c
 
 -- the two sides of an exchanger are two sources
-sides_differ : (case : Case) (e : Exchanger) → IsExchanger case e → (i : ℕ) → e.hot ≡ source.Stream i → e.cold ≡ source.Stream i → ⊥
+sides_differ : (case : Case) (e : Exchanger) → IsExchanger case e → (i : ℕ) → e.hot ≡ source.Stream i
+    → e.cold ≡ source.Stream i → ⊥
 sides_differ case e is i hot cold = let same : side.Hot ≡ side.Cold = same_Some side.Hot side.Cold
     (sym is.hot ∙ ap (side_of case) (hot ∙ sym cold) ∙ is.cold) in cc same
 
@@ -35,7 +39,8 @@ module _ (weight : ℕ → Rational) (network : Network) where
 
   -- what the pass of a side takes
   abbrev pub side_taken : ℕ → Source → Rational
-  side_taken number (source.Stream i) = minus (inlet_height weight (pass_of network number i)) (outlet_height weight (pass_of network number i))
+  side_taken number (source.Stream i) =
+      minus (inlet_height weight (pass_of network number i)) (outlet_height weight (pass_of network number i))
   side_taken number (source.Utility i) = rational_zero
 
   abbrev pub sides_taken : ℕ × Exchanger → Rational
@@ -53,14 +58,18 @@ module _ (weight : ℕ → Rational) (case : Case) (network : Network) (shape : 
       → rational_sum_by (λ l. line_taken weight network l number s) network.lines ≡ side_taken weight network number s
   unfolding pass_of
   side_once number e at (source.Stream i) joins = let p = is_pass_of network.branches number i in
-      let once : count_by p network.lines ≡ 1 = sym (count-passages network.branches number i network.lines) ∙ shape.passed_once number i e at (joins i refl) in
+      let once : count_by p network.lines ≡ 1
+      = sym (count-passages network.branches number i network.lines)
+      ∙ shape.passed_once number i e at (joins i refl) in
       sum-once p (pass_loss weight) network.lines once ∙ taken_once weight (find p network.lines)
-  side_once number e at (source.Utility i) joins = rational_sum_by-zero (λ l. rational_zero) network.lines (λ k d within. refl)
+  side_once number e at (source.Utility i) joins =
+      rational_sum_by-zero (λ l. rational_zero) network.lines (λ k d within. refl)
 
   -- no pass: no side
   none_taken : (l : Line) → ((number stream : ℕ) → is_pass_of network.branches number stream l ≡ false)
       → rational_zero ≡ rational_sum_by (line_sides weight network l) (enumerate_from 0 (exchangers_of network.lines))
-  none_taken l none = sym (sum-enumerate (line_sides weight network l) (λ i. rational_zero) (exchangers_of network.lines)
+  none_taken l none =
+      sym (sum-enumerate (line_sides weight network l) (λ i. rational_zero) (exchangers_of network.lines)
       (λ number e at. ap₂ plus (of_side number e.hot) (of_side number e.cold) ∙ plus-zero rational_zero)
       ∙ rational_sum_by-zero (λ i. rational_zero) (range_with_len 0 (length (exchangers_of network.lines))) (λ k d within. refl))
     where
@@ -73,55 +82,75 @@ module _ (weight : ℕ → Rational) (case : Case) (network : Network) (shape : 
     abbrev the_pass : Line
     the_pass = line.Pass from exchanger to
 
-    elsewhere : (number : ℕ) (s : Source) → number ≢ exchanger → line_taken weight network the_pass number s ≡ rational_zero
-    elsewhere number (source.Stream i) other = ap (λ b. if b && (i == stream_at network.branches from) then pass_loss weight the_pass else rational_zero)
+    elsewhere : (number : ℕ) (s : Source) → number ≢ exchanger
+        → line_taken weight network the_pass number s ≡ rational_zero
+    elsewhere number (source.Stream i) other =
+        ap (λ b. if b && (i == stream_at network.branches from) then pass_loss weight the_pass else rational_zero)
         (ne_eqb number exchanger other)
     elsewhere number (source.Utility i) other = refl
 
     own_side : (number : ℕ) (s : Source) → number ≡ exchanger → s ≡ source.Stream (stream_at network.branches from)
         → line_taken weight network the_pass number s ≡ pass_loss weight the_pass
     own_side number s here same = let i = stream_at network.branches from in
-        ap (line_taken weight network the_pass number) same ∙ ap₂ (λ b c. if b && c then pass_loss weight the_pass else rational_zero)
+        ap (line_taken weight network the_pass number) same
+        ∙ ap₂ (λ b c. if b && c then pass_loss weight the_pass else rational_zero)
         (eq-eqb number exchanger here) (eq-eqb i i refl)
 
-    other_side : (number : ℕ) (s : Source) → s ≢ source.Stream (stream_at network.branches from) → line_taken weight network the_pass number s ≡ rational_zero
+    other_side : (number : ℕ) (s : Source) → s ≢ source.Stream (stream_at network.branches from)
+        → line_taken weight network the_pass number s ≡ rational_zero
     other_side number (source.Stream i) differ =
         ap (λ b. if (number == exchanger) && b then pass_loss weight the_pass else rational_zero) (ne_eqb i (stream_at network.branches from)
-        (λ same. differ (ap source.Stream same))) ∙ ap (λ b. if b then pass_loss weight the_pass else rational_zero) (and-false (number == exchanger))
+        (λ same. differ (ap source.Stream same)))
+        ∙ ap (λ b. if b then pass_loss weight the_pass else rational_zero) (and-false (number == exchanger))
     other_side number (source.Utility i) differ = refl
 
-    own_sides : (number : ℕ) (e : Exchanger) → IsExchanger case e → number ≡ exchanger → Joins e (stream_at network.branches from)
+    own_sides : (number : ℕ) (e : Exchanger) → IsExchanger case e → number ≡ exchanger
+        → Joins e (stream_at network.branches from)
         → line_sides weight network the_pass (number, e) ≡ pass_loss weight the_pass
     own_sides number e is here (inl hot) = ap₂ plus (own_side number e.hot here hot) (other_side number e.cold
-        (λ cold. sides_differ case e is (stream_at network.branches from) hot cold)) ∙ plus-zero (pass_loss weight the_pass)
-    own_sides number e is here (inr cold) = ap₂ plus (other_side number e.hot (λ hot. sides_differ case e is (stream_at network.branches from) hot cold))
+        (λ cold. sides_differ case e is (stream_at network.branches from) hot cold))
+        ∙ plus-zero (pass_loss weight the_pass)
+    own_sides number e is here (inr cold) =
+        ap₂ plus (other_side number e.hot (λ hot. sides_differ case e is (stream_at network.branches from) hot cold))
         (own_side number e.cold here cold) ∙ zero-plus (pass_loss weight the_pass)
 
-    pass_taken : (e : Exchanger) → slice_get (exchangers_of network.lines) exchanger ≡ Some e → Joins e (stream_at network.branches from)
-        → pass_loss weight the_pass ≡ rational_sum_by (line_sides weight network the_pass) (enumerate_from 0 (exchangers_of network.lines))
-    pass_taken e at joins = let es = exchangers_of network.lines in let c = pass_loss weight the_pass in
+    pass_taken : (e : Exchanger) → slice_get (exchangers_of network.lines) exchanger ≡ Some e
+        → Joins e (stream_at network.branches from)
+        → pass_loss weight the_pass
+        ≡ rational_sum_by (line_sides weight network the_pass) (enumerate_from 0 (exchangers_of network.lines))
+    pass_taken e at joins =
+        let es = exchangers_of network.lines in
+        let c = pass_loss weight the_pass in
         sym (sum-enumerate (line_sides weight network the_pass) (λ i. if i == exchanger then c else rational_zero) es each
         ∙ sum-single c exchanger (length es) (slice_get_within es exchanger e at))
       where
         each : (number : ℕ) (other : Exchanger) → slice_get (exchangers_of network.lines) number ≡ Some other
-            → line_sides weight network the_pass (number, other) ≡ (if number == exchanger then pass_loss weight the_pass else rational_zero)
+            → line_sides weight network the_pass (number, other)
+            ≡ (if number == exchanger then pass_loss weight the_pass else rational_zero)
         each number other here = by (cases_eq number exchanger)
           where
             by : (number ≡ exchanger) ⊎ (number ≢ exchanger)
-                → line_sides weight network the_pass (number, other) ≡ (if number == exchanger then pass_loss weight the_pass else rational_zero)
-            by (inl same) = let one : e ≡ other = same_Some e other (sym at ∙ ap (slice_get (exchangers_of network.lines)) (sym same) ∙ here) in
+                → line_sides weight network the_pass (number, other)
+                ≡ (if number == exchanger then pass_loss weight the_pass else rational_zero)
+            by (inl same) =
+                let one : e ≡ other
+                = same_Some e other (sym at ∙ ap (slice_get (exchangers_of network.lines)) (sym same) ∙ here) in
                 own_sides number other (all_at (IsExchanger case) (exchangers_of network.lines) number other shape.exchangers.each here) same
                 (subst (λ x. Joins x (stream_at network.branches from)) one joins)
                 ∙ sym (ap (λ b. if b then pass_loss weight the_pass else rational_zero) (eq-eqb number exchanger same))
-            by (inr differ) = ap₂ plus (elsewhere number other.hot differ) (elsewhere number other.cold differ) ∙ plus-zero rational_zero
+            by (inr differ) =
+                ap₂ plus (elsewhere number other.hot differ) (elsewhere number other.cold differ)
+                ∙ plus-zero rational_zero
                 ∙ sym (ap (λ b. if b then pass_loss weight the_pass else rational_zero) (ne_eqb number exchanger differ))
 
   line_by_sides : (index : ℕ) (l : Line) → slice_get network.lines index ≡ Some l
       → pass_loss weight l ≡ rational_sum_by (line_sides weight network l) (enumerate_from 0 (exchangers_of network.lines))
   line_by_sides index (line.Pass from exchanger to) here = let l = line.Pass from exchanger to in
-      let (e, declared, joins) = shape.declared_first index l here in let earlier = exchangers_of (take index network.lines) in
+      let (e, declared, joins) = shape.declared_first index l here in
+      let earlier = exchangers_of (take index network.lines) in
       let later = exchangers_of (l ∷ drop (suc index) network.lines) in
-      let parts : exchangers_of network.lines ≡ earlier ++ later = declared_parts (stands_at network.lines index l here) in
+      let parts : exchangers_of network.lines ≡ earlier ++ later
+      = declared_parts (stands_at network.lines index l here) in
       pass_taken from exchanger to e (ap (λ es. slice_get es exchanger) parts ∙ slice_get-append earlier later exchanger e declared) joins
   line_by_sides index l here = none_taken l (λ number stream. refl)
 

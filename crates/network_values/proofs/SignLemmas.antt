@@ -24,28 +24,35 @@ module _ (case : Case) (network : Network) (values : Valuation) (view : View) (s
   height = height_at case view network values
 
   -- what is released is at least the hot share, and what is absorbed at most the cold one
-  released-least : (number : ℕ) (e : Exchanger) (s : Source) → RunsOnOneScale case network values number (record e { hot = s })
+  released-least : (number : ℕ) (e : Exchanger) (s : Source)
+      → RunsOnOneScale case network values number (record e { hot = s })
       → IsAtMost (share_in view e.duty (shifted_run side.Hot case network values number s)) (released_heat height network number e.duty s)
   released-least number e (source.Stream i) runs = at_most_from_same _ _ (sym (runs.released view i refl))
   released-least number e (source.Utility i) runs = (shares_parts view.from_itself (whole view.place) e.duty
       (shifted_run side.Hot case network values number (source.Utility i)) runs.positive runs.hot_duty).most
 
-  absorbed-most : (number : ℕ) (e : Exchanger) (s : Source) → RunsOnOneScale case network values number (record e { cold = s })
+  absorbed-most : (number : ℕ) (e : Exchanger) (s : Source)
+      → RunsOnOneScale case network values number (record e { cold = s })
       → IsAtMost (absorbed_heat height network number s) (share_in view e.duty (shifted_run side.Cold case network values number s))
   absorbed-most number e (source.Stream i) runs = at_most_from_same _ _ (runs.absorbed view i refl)
   absorbed-most number e (source.Utility i) runs = (shares_parts view.from_itself (whole view.place) e.duty
       (shifted_run side.Cold case network values number (source.Utility i)) runs.positive runs.cold_duty).least
 
-  exchanger_sign : (number : ℕ) (e : Exchanger) → slice_get (exchangers_of network.lines) number ≡ Some e → KeepsApproach case network values number e
+  exchanger_sign : (number : ℕ) (e : Exchanger) → slice_get (exchangers_of network.lines) number ≡ Some e
+      → KeepsApproach case network values number e
       → IsAtMost rational_zero (penalty height network (number, e))
   exchanger_sign number e at apart = let runs = run_on_scale shape whole_values number e at in
       let shares = hot_shares_lead view.from_itself (whole view.place) e.duty _ _ runs.positive runs.hot_duty runs.cold_duty (runs.apart apart) in
       not_negative-minus _ _ (at_most_trans _ _ _ (absorbed-most number e e.cold runs) (at_most_trans _ _ _ shares (released-least number e e.hot runs)))
 
-  mix_sign : (l : Line) → All (λ b. b < length network.branches) (uses l) → IsOfOneStream network.branches l → Solves case network values l
+  mix_sign : (l : Line) → All (λ b. b < length network.branches) (uses l) → IsOfOneStream network.branches l
+      → Solves case network values l
       → IsAtMost rational_zero (mix_loss height l)
-  mix_sign (line.Mix first second to) within one solves = let first_within = within 0 0 (omega arith) in let second_within = within 1 0 (omega arith) in
-      let i = stream_at network.branches first in let (s, at) = item_at case.streams i (stream_within shape first first_within) in
+  mix_sign (line.Mix first second to) within one solves =
+      let first_within = within 0 0 (omega arith) in
+      let second_within = within 1 0 (omega arith) in
+      let i = stream_at network.branches first in
+      let (s, at) = item_at case.streams i (stream_within shape first first_within) in
       let mixed = height_on-mixed view.from_itself (course_of view.place s) (value_at values first) (value_at values second) (value_at values to)
       (branch_above whole_values shape first first_within) (branch_above whole_values shape second second_within) solves in
       not_negative-minus (height to) (plus (height first) (height second)) (subst₂ IsAtMost (sym (branch_height shape whole_values view i s to at one.1))
@@ -55,7 +62,8 @@ module _ (case : Case) (network : Network) (values : Valuation) (view : View) (s
   pub no_negative : KeepApproaches case network values → HasNoNegativePenalty case view network values
   no_negative apart = record {
     exchangers = λ number e at. exchanger_sign number e at (apart number e at);
-    mixes = λ k d within. mix_sign (get_or network.lines k d) (used_there shape.made_once shape.made_first k d within) (shape.one_stream k d within)
+    mixes =
+        λ k d within. mix_sign (get_or network.lines k d) (used_there shape.made_once shape.made_first k d within) (shape.one_stream k d within)
         (all_solved whole_values k d within);
   }
 
@@ -68,7 +76,8 @@ module _ (case : Case) (network : Network) (values : Valuation) (view : View) (s
       (not_negative-rational_sum_by (mix_loss height) network.lines none.mixes)
 
 pub penalties_sign : PenaltiesAreNotNegative
-penalties_sign case network values view shape whole_values apart = no_negative case network values view shape whole_values apart
+penalties_sign case network values view shape whole_values apart =
+    no_negative case network values view shape whole_values apart
 
 pub deficits_met : DeficitsAreMet
 deficits_met case network values view streams shape whole_values ended apart =
@@ -77,18 +86,23 @@ deficits_met case network values view streams shape whole_values ended apart =
 
 -- ---- the targets
 
-utility_part-least : (duty : Rational) → IsBelow rational_zero duty → (s : Source) → IsAtMost rational_zero (utility_part duty s)
+utility_part-least : (duty : Rational) → IsBelow rational_zero duty → (s : Source)
+    → IsAtMost rational_zero (utility_part duty s)
 utility_part-least duty positive s = grind (arith, at_most_refl, at_most_from_below rational_zero duty positive)
 
 hot_heat-least : (case : Case) (network : Network) → HasShape case network → IsAtMost rational_zero (hot_heat network)
 hot_heat-least case network shape = not_negative-rational_sum_by hot_duty (exchangers_of network.lines) (λ k d within.
-    let e = get_or (exchangers_of network.lines) k d in utility_part-least e.duty (positive-is e.duty (shape.exchangers.each k d within).duty.above) e.hot)
+    let e = get_or (exchangers_of network.lines) k d in
+    utility_part-least e.duty (positive-is e.duty (shape.exchangers.each k d within).duty.above) e.hot)
 
 -- the hot target is 0, or one of both deficits at some end
 pub targets_met : TargetsAreMet
 targets_met case network values valid shape whole_values ended apart =
-    let streams = case.streams in let ends = stream_ends streams in let IsMet = λ (d : ℤ). IsAtMost (whole d) (hot_heat network) in
-    let met : (from_itself : Bool) (t : ℤ) → IsMet (deficit_over from_itself streams t) = λ from_itself t. deficits_met case network values
+    let streams = case.streams in
+    let ends = stream_ends streams in
+    let IsMet = λ (d : ℤ). IsAtMost (whole d) (hot_heat network) in
+    let met : (from_itself : Bool) (t : ℤ) → IsMet (deficit_over from_itself streams t)
+    = λ from_itself t. deficits_met case network values
     (record { place = t; from_itself = from_itself }) valid shape whole_values ended apart in
     let all_met = λ (from_itself : Bool). All-map IsMet (deficit_over from_itself streams) ends (λ k d within. met from_itself (get_or ends k d)) in
     let each : All IsMet (end_deficits streams) = All-append IsMet _ _ (all_met false) (all_met true) in

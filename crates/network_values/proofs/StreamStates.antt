@@ -19,8 +19,10 @@ first_state-sensible s h = ap (λ b. if b then first_part_of_load s.side else wh
 pub last_state-sensible : (s : Stream) → IsSensible s → last_state s ≡ whole s.target
 last_state-sensible s h = ap (λ b. if b then last_part_of_load s.side else whole s.target) (is_latent-sensible s h)
 
-pub fixed_level-sensible : (case : Case) (i : ℕ) (s : Stream) → slice_get case.streams i ≡ Some s → IsSensible s → fixed_level case (source.Stream i) ≡ None
-fixed_level-sensible case i s at h = ap stream_level at ∙ ap (λ b. if b then Some s.supply else None) (is_latent-sensible s h)
+pub fixed_level-sensible : (case : Case) (i : ℕ) (s : Stream) → slice_get case.streams i ≡ Some s
+    → IsSensible s → fixed_level case (source.Stream i) ≡ None
+fixed_level-sensible case i s at h =
+    ap stream_level at ∙ ap (λ b. if b then Some s.supply else None) (is_latent-sensible s h)
 
 -- ---- latent streams
 
@@ -35,16 +37,19 @@ last_state-latent s h = ap (λ b. if b then last_part_of_load s.side else whole 
 
 pub fixed_level-latent : (case : Case) (i : ℕ) (s : Stream) → slice_get case.streams i ≡ Some s → IsLatent s
     → fixed_level case (source.Stream i) ≡ Some s.supply
-fixed_level-latent case i s at h = ap stream_level at ∙ ap (λ b. if b then Some s.supply else None) (is_latent-latent s h)
+fixed_level-latent case i s at h =
+    ap stream_level at ∙ ap (λ b. if b then Some s.supply else None) (is_latent-latent s h)
 
 -- ---- all streams
 
 pub full_size-positive : (s : Stream) → IsValidStream s → IsBelow rational_zero (full_size s)
-full_size-positive s h = below-whole (pos 0) (s.cp +ℤ s.load) (⊎_elim (λ sensible. omega (arith, ints, sensible.load, sensible.cp.from))
+full_size-positive s h =
+    below-whole (pos 0) (s.cp +ℤ s.load) (⊎_elim (λ sensible. omega (arith, ints, sensible.load, sensible.cp.from))
     (λ latent. omega (arith, ints, latent.cp, latent.load.from)) h.heat)
 
 pub is_latent_branch-is : (case : Case) (network : Network) (branch : ℕ) (s : Stream)
-    → slice_get case.streams (stream_at network.branches branch) ≡ Some s → is_latent_branch case network branch ≡ is_latent s
+    → slice_get case.streams (stream_at network.branches branch) ≡ Some s
+    → is_latent_branch case network branch ≡ is_latent s
 unfolding is_latent_branch
 is_latent_branch-is case network branch s at = ap (λ found. option_map_or is_latent found false) at
 
@@ -63,7 +68,8 @@ unshifted-shifted : (on : Side) (t c : ℤ) → unshifted on (shifted on t c) c 
 unshifted-shifted side.Hot t c = omega (arith, ints)
 unshifted-shifted side.Cold t c = omega (arith, ints)
 
-pub first_state-unshifted : (on : Side) (s : Stream) → IsSensible s → s.side ≡ on → whole (unshifted on (first_end on s) s.contribution) ≡ first_state s
+pub first_state-unshifted : (on : Side) (s : Stream) → IsSensible s → s.side ≡ on
+    → whole (unshifted on (first_end on s) s.contribution) ≡ first_state s
 first_state-unshifted side.Hot s sensible is =
     ap (λ a. whole (unshifted side.Hot (shifted a (if is_hot a then s.supply else s.target) s.contribution) s.contribution)) is
     ∙ ap whole (unshifted-shifted side.Hot s.supply s.contribution) ∙ sym (first_state-sensible s sensible)
@@ -71,7 +77,8 @@ first_state-unshifted side.Cold s sensible is =
     ap (λ a. whole (unshifted side.Cold (shifted a (if is_hot a then s.target else s.supply) s.contribution) s.contribution)) is
     ∙ ap whole (unshifted-shifted side.Cold s.supply s.contribution) ∙ sym (first_state-sensible s sensible)
 
-pub last_state-unshifted : (on : Side) (s : Stream) → IsSensible s → s.side ≡ on → whole (unshifted on (last_end on s) s.contribution) ≡ last_state s
+pub last_state-unshifted : (on : Side) (s : Stream) → IsSensible s → s.side ≡ on
+    → whole (unshifted on (last_end on s) s.contribution) ≡ last_state s
 last_state-unshifted side.Hot s sensible is =
     ap (λ a. whole (unshifted side.Hot (shifted a (if is_hot a then s.target else s.supply) s.contribution) s.contribution)) is
     ∙ ap whole (unshifted-shifted side.Hot s.target s.contribution) ∙ sym (last_state-sensible s sensible)

@@ -6,7 +6,8 @@ use Rattle.std.proofs.Common.{All, List, None, Option, Some, [], ap, arith, filt
 use Rattle.std.proofs.Common.{◌++◌, ◌<◌, ◌∷◌, ◌≡◌, ◌≤◌}
 use Rattle.networks.specs.declared.network.Line.TheVariants as line
 
-pub exchangers_of-push : (ls : List Line) (l : Line) → exchangers_of (ls ++ l ∷ []) ≡ exchangers_of ls ++ option_to_list (exchanger_of l)
+pub exchangers_of-push : (ls : List Line) (l : Line)
+    → exchangers_of (ls ++ l ∷ []) ≡ exchangers_of ls ++ option_to_list (exchanger_of l)
 unfolding exchangers_of
 exchangers_of-push ls l = filter_map-push exchanger_of ls l
 
@@ -18,7 +19,8 @@ pub used_by-push : (ls : List Line) (l : Line) → used_by (ls ++ l ∷ []) ≡ 
 unfolding used_by
 used_by-push ls l = flat_map-push uses ls l
 
-pub passages_of-push : (bs : List Branch) (ls : List Line) (l : Line) → passages_of bs (ls ++ l ∷ []) ≡ passages_of bs ls ++ option_to_list (passage_of bs l)
+pub passages_of-push : (bs : List Branch) (ls : List Line) (l : Line)
+    → passages_of bs (ls ++ l ∷ []) ≡ passages_of bs ls ++ option_to_list (passage_of bs l)
 unfolding passages_of
 passages_of-push bs ls l = filter_map-push (passage_of bs) ls l
 
@@ -37,18 +39,24 @@ few_exchangers (l ∷ ls) = omega (arith, length-option (exchanger_of l) (filter
 -- a branch keeps its stream
 pub stream_at-front : (bs more : List Branch) (k : ℕ) → k < length bs → stream_at (bs ++ more) k ≡ stream_at bs k
 unfolding stream_at
-stream_at-front bs more k within = ap (λ o. unwrap_or (option_map (λ (b : Branch). b.stream) o) 0) (slice_get-front bs more k within)
+stream_at-front bs more k within =
+    ap (λ o. unwrap_or (option_map (λ (b : Branch). b.stream) o) 0) (slice_get-front bs more k within)
 
-pub passage_of-front : (bs more : List Branch) (l : Line) → All (λ k. k < length bs) (uses l) → passage_of (bs ++ more) l ≡ passage_of bs l
-passage_of-front bs more (line.Pass from exchanger to) made = ap (λ s. Some (record { exchanger = exchanger; stream = s }))
+pub passage_of-front : (bs more : List Branch) (l : Line) → All (λ k. k < length bs) (uses l)
+    → passage_of (bs ++ more) l ≡ passage_of bs l
+passage_of-front bs more (line.Pass from exchanger to) made =
+    ap (λ s. Some (record { exchanger = exchanger; stream = s }))
     (stream_at-front bs more from (All-head (λ k. k < length bs) from [] made))
 passage_of-front bs more other made = refl
 
-pub passages_of-front : (bs more : List Branch) (ls : List Line) → All (λ k. k < length bs) (used_by ls) → passages_of (bs ++ more) ls ≡ passages_of bs ls
+pub passages_of-front : (bs more : List Branch) (ls : List Line) → All (λ k. k < length bs) (used_by ls)
+    → passages_of (bs ++ more) ls ≡ passages_of bs ls
 unfolding passages_of used_by
 passages_of-front bs more [] made = refl
-passages_of-front bs more (l ∷ ls) made = let here = passage_of-front bs more l (All-front (λ k. k < length bs) (uses l) (flat_map uses ls) made) in
-    let rest = passages_of-front bs more ls (All-back (λ k. k < length bs) (uses l) (flat_map uses ls) made) in λ i. cons_option (here i) (rest i)
+passages_of-front bs more (l ∷ ls) made =
+    let here = passage_of-front bs more l (All-front (λ k. k < length bs) (uses l) (flat_map uses ls) made) in
+    let rest = passages_of-front bs more ls (All-back (λ k. k < length bs) (uses l) (flat_map uses ls) made) in
+    λ i. cons_option (here i) (rest i)
 
 pub names_of-append : (bs more : List Branch) → names_of (bs ++ more) ≡ names_of bs ++ names_of more
 unfolding names_of

@@ -16,19 +16,24 @@ slice_get-take (suc m) (x ∷ xs) zero early = refl
 slice_get-take (suc m) (x ∷ xs) (suc i) early = slice_get-take m xs i (omega (arith, early))
 
 -- one element more
-pub flat_map-push : {X Y : Type 0} (h : X → List Y) (xs : List X) (x : X) → flat_map h (xs ++ x ∷ []) ≡ flat_map h xs ++ h x
+pub flat_map-push : {X Y : Type 0} (h : X → List Y) (xs : List X) (x : X)
+    → flat_map h (xs ++ x ∷ []) ≡ flat_map h xs ++ h x
 flat_map-push h xs x = flat_map-append h xs (x ∷ []) ∙ ap (λ ys. flat_map h xs ++ ys) (append-nil (h x))
 
-pub enumerate_from-push : {X : Type 0} (n : ℕ) (xs : List X) (x : X) → enumerate_from n (xs ++ x ∷ []) ≡ enumerate_from n xs ++ (n + length xs, x) ∷ []
+pub enumerate_from-push : {X : Type 0} (n : ℕ) (xs : List X) (x : X)
+    → enumerate_from n (xs ++ x ∷ []) ≡ enumerate_from n xs ++ (n + length xs, x) ∷ []
 enumerate_from-push n xs x = enumerate_from-append n xs (x ∷ [])
 
 -- ---- pairs
 
 pub AllPairs-take : {X : Type 0} (R : X → X → Type 0) (m : ℕ) (xs : List X) → AllPairs R xs → AllPairs R (take m xs)
-AllPairs-take R m xs pairs = AllPairs-front R (take m xs) (drop m xs) (subst (AllPairs R) (sym (take-append-drop m xs)) pairs)
+AllPairs-take R m xs pairs =
+    AllPairs-front R (take m xs) (drop m xs) (subst (AllPairs R) (sym (take-append-drop m xs)) pairs)
 
-pub two_pushed : {X : Type 0} (R : X → X → Type 0) (xs : List X) (y z : X) → AllPairs R xs → All (λ x. R x y) xs → All (λ x. R x z) xs → R y z
+pub two_pushed : {X : Type 0} (R : X → X → Type 0) (xs : List X) (y z : X) → AllPairs R xs
+    → All (λ x. R x y) xs → All (λ x. R x z) xs → R y z
     → AllPairs R (xs ++ y ∷ z ∷ [])
 two_pushed R xs y z pairs first second last =
-    let one = all_pairs_push R xs y pairs first in let all = all_pairs_push R (xs ++ y ∷ []) z one (All-push (λ x. R x z) xs y second last) in
+    let one = all_pairs_push R xs y pairs first in
+    let all = all_pairs_push R (xs ++ y ∷ []) z one (All-push (λ x. R x z) xs y second last) in
     subst (AllPairs R) (append_assoc xs (y ∷ []) (z ∷ [])) all

@@ -23,15 +23,20 @@ unfolding first_too_fine
 none_of_nothing = refl
 
 -- a step that a call formed, or did not form
-pub after_formed : (at : Place) (k : ℕ) (a b : Rational) (r : Option Rational) (steps : List Step) → r ≡ Some b → Gives r a
+pub after_formed : (at : Place) (k : ℕ) (a b : Rational) (r : Option Rational) (steps : List Step)
+    → r ≡ Some b → Gives r a
     → first_too_fine (step at k a ∷ steps) ≡ first_too_fine steps
 unfolding first_too_fine
-after_formed at k a b r steps formed gives = let within : is_within_limits a ≡ true = within_formed a b r formed gives in rw within refl
+after_formed at k a b r steps formed gives =
+    let within : is_within_limits a ≡ true = within_formed a b r formed gives in
+    rw within refl
 
 pub at_not_formed : (at : Place) (k : ℕ) (a : Rational) (r : Option Rational) (steps : List Step) → r ≡ None → Gives r a
     → first_too_fine (step at k a ∷ steps) ≡ Some (at, k)
 unfolding first_too_fine
-at_not_formed at k a r steps none gives = let outside : is_within_limits a ≡ false = within_not_formed a r none gives in rw outside refl
+at_not_formed at k a r steps none gives =
+    let outside : is_within_limits a ≡ false = within_not_formed a r none gives in
+    rw outside refl
 
 -- ---- steps in a row
 
@@ -44,16 +49,19 @@ pub first_behind : (xs ys : List Step) → first_too_fine xs ≡ None → first_
 first_behind = first-behind first_too_fine steps-append
 
 -- more steps change nothing
-pub first_front : (xs ys : List Step) (found : Place × ℕ) → first_too_fine xs ≡ Some found → first_too_fine (xs ++ ys) ≡ Some found
+pub first_front : (xs ys : List Step) (found : Place × ℕ) → first_too_fine xs ≡ Some found
+    → first_too_fine (xs ++ ys) ≡ Some found
 first_front = first-front first_too_fine steps-append
 
 -- ---- answers
 
 -- what a `?` hands on
-pub handed_on : {X : Type 0} (steps : List Step) (P : X → Type 0) (found : TooFine) (answer : Result X TooFine) → IsErrAnd answer (λ e. e ≡ found)
+pub handed_on : {X : Type 0} (steps : List Step) (P : X → Type 0) (found : TooFine) (answer : Result X TooFine)
+    → IsErrAnd answer (λ e. e ≡ found)
     → first_too_fine steps ≡ Some (found.place, found.step) → Formed steps P answer
 handed_on steps P found (Ok x) same is = absurd same
-handed_on steps P found (Err e) same is = subst (λ (f : TooFine). first_too_fine steps ≡ Some (f.place, f.step)) (sym same) is
+handed_on steps P found (Err e) same is =
+    subst (λ (f : TooFine). first_too_fine steps ≡ Some (f.place, f.step)) (sym same) is
 
 -- the difference of two numbers, behind the steps that form them
 module _ (xs ys : List Step) (a b x y : Rational) (at : Place) (k : ℕ) (r : Option Rational) (one : (first_too_fine xs ≡ None) × (a ≡ x))
@@ -61,13 +69,15 @@ module _ (xs ys : List Step) (a b x y : Rational) (at : Place) (k : ℕ) (r : Op
   difference : Gives r (minus x y)
   difference = subst (Gives r) (ap₂ minus one.1 other.1) gives
 
-  pub difference_formed : (d : Rational) → r ≡ Some d → (first_too_fine (xs ++ (ys ++ step at k (minus x y) ∷ [])) ≡ None) × (d ≡ minus x y)
+  pub difference_formed : (d : Rational) → r ≡ Some d
+      → (first_too_fine (xs ++ (ys ++ step at k (minus x y) ∷ [])) ≡ None) × (d ≡ minus x y)
   difference_formed d is =
       let last = after_formed at k (minus x y) d r [] is difference ∙ none_of_nothing in
       (first_behind xs _ one.0 ∙ first_behind ys _ other.0 ∙ last, value_formed (minus x y) d r is difference)
 
   pub difference_not_formed : r ≡ None → first_too_fine (xs ++ (ys ++ step at k (minus x y) ∷ [])) ≡ Some (at, k)
-  difference_not_formed is = first_behind xs _ one.0 ∙ first_behind ys _ other.0 ∙ at_not_formed at k (minus x y) r [] is difference
+  difference_not_formed is =
+      first_behind xs _ one.0 ∙ first_behind ys _ other.0 ∙ at_not_formed at k (minus x y) r [] is difference
 
 -- Rows of penalties, as they are added one by one.
 
@@ -76,13 +86,17 @@ module _ {X Y : Type 0} (xs : List X) (n : ℕ) (d : X) (within : n < length xs)
   pub made-more : (f : ℕ × X → Y) (list front : List Y) → list ≡ front ++ map f (enumerate_from 0 (take n xs))
       → list ++ f (n, get_or xs n d) ∷ [] ≡ front ++ map f (enumerate_from 0 (take (n + 1) xs))
   made-more f list front is =
-      ap (λ ys. ys ++ f (n, get_or xs n d) ∷ []) is ∙ append_assoc front (map f (enumerate_from 0 (take n xs))) (f (n, get_or xs n d) ∷ [])
+      ap (λ ys. ys ++ f (n, get_or xs n d) ∷ []) is
+      ∙ append_assoc front (map f (enumerate_from 0 (take n xs))) (f (n, get_or xs n d) ∷ [])
       ∙ ap (λ ys. front ++ ys) (sym (ap (map f) (enumerated-more xs n d within) ∙ map-append f (enumerate_from 0 (take n xs)) ((n, get_or xs n d) ∷ [])))
 
   -- one member more, which may have a row
-  pub filtered-more : (f : ℕ × X → Option Y) (list front : List Y) → list ≡ front ++ filter_map f (enumerate_from 0 (take n xs))
+  pub filtered-more : (f : ℕ × X → Option Y) (list front : List Y)
+      → list ≡ front ++ filter_map f (enumerate_from 0 (take n xs))
       → list ++ filter_map f ((n, get_or xs n d) ∷ []) ≡ front ++ filter_map f (enumerate_from 0 (take (n + 1) xs))
-  filtered-more f list front is = ap (λ ys. ys ++ filter_map f ((n, get_or xs n d) ∷ [])) is ∙ append_assoc front (filter_map f (enumerate_from 0 (take n xs)))
+  filtered-more f list front is =
+      ap (λ ys. ys ++ filter_map f ((n, get_or xs n d) ∷ [])) is
+      ∙ append_assoc front (filter_map f (enumerate_from 0 (take n xs)))
       (filter_map f ((n, get_or xs n d) ∷ [])) ∙ ap (λ ys. front ++ ys)
       (sym (ap (filter_map f) (enumerated-more xs n d within) ∙ filter_map-append f (enumerate_from 0 (take n xs)) ((n, get_or xs n d) ∷ [])))
 
@@ -91,7 +105,8 @@ module _ {X Y : Type 0} (xs : List X) (n : ℕ) (d : X) (within : n < length xs)
 abbrev pub IsNoMix : Line → Type 0
 IsNoMix l = (first second to : ℕ) → l ≡ line.Mix first second to → ⊥
 
-pub no_steps : (height : ℕ → Rational) (steps : Place → ℕ → ℕ → List Step) (n : ℕ) (l : Line) → IsNoMix l → line_steps height steps (n, l) ≡ []
+pub no_steps : (height : ℕ → Rational) (steps : Place → ℕ → ℕ → List Step) (n : ℕ) (l : Line) → IsNoMix l
+    → line_steps height steps (n, l) ≡ []
 no_steps height steps n (line.Mix first second to) other = absurd (other first second to refl)
 no_steps height steps n l other = refl
 
@@ -108,15 +123,18 @@ value_of p = p.value
 
 module _ (height : ℕ → Rational) where
   sum-mixes : (n : ℕ) (lines : List Line)
-      → rational_sum_by value_of (filter_map (mix_row height) (enumerate_from n lines)) ≡ rational_sum_by (mix_loss height) lines
+      → rational_sum_by value_of (filter_map (mix_row height) (enumerate_from n lines))
+      ≡ rational_sum_by (mix_loss height) lines
   sum-mixes n [] = refl
-  sum-mixes n (line.Mix first second to ∷ lines) = ap (plus (mix_loss height (line.Mix first second to))) (sum-mixes (n + 1) lines)
+  sum-mixes n (line.Mix first second to ∷ lines) =
+      ap (plus (mix_loss height (line.Mix first second to))) (sum-mixes (n + 1) lines)
   sum-mixes n (other ∷ lines) = sum-mixes (n + 1) lines ∙ sym (zero-plus (rational_sum_by (mix_loss height) lines))
 
   abbrev LosesSome : Line → Type 0
   LosesSome l = IsAtMost rational_zero (mix_loss height l)
 
-  mixes_not_negative : (n : ℕ) (lines : List Line) → All LosesSome lines → All IsNotNegative (filter_map (mix_row height) (enumerate_from n lines))
+  mixes_not_negative : (n : ℕ) (lines : List Line) → All LosesSome lines
+      → All IsNotNegative (filter_map (mix_row height) (enumerate_from n lines))
   mixes_not_negative n [] some = All-nil IsNotNegative
   mixes_not_negative n (line.Exchanger name hot cold duty ∷ lines) some =
       mixes_not_negative (n + 1) lines (All-tail LosesSome (line.Exchanger name hot cold duty) lines some)
@@ -124,9 +142,11 @@ module _ (height : ℕ → Rational) where
       mixes_not_negative (n + 1) lines (All-tail LosesSome (line.Split from first cp second) lines some)
   mixes_not_negative n (line.Pass from exchanger to ∷ lines) some =
       mixes_not_negative (n + 1) lines (All-tail LosesSome (line.Pass from exchanger to) lines some)
-  mixes_not_negative n (line.Mix first second to ∷ lines) some = All-cons IsNotNegative _ _ (All-head LosesSome (line.Mix first second to) lines some)
+  mixes_not_negative n (line.Mix first second to ∷ lines) some =
+      All-cons IsNotNegative _ _ (All-head LosesSome (line.Mix first second to) lines some)
       (mixes_not_negative (n + 1) lines (All-tail LosesSome (line.Mix first second to) lines some))
-  mixes_not_negative n (line.End branch ∷ lines) some = mixes_not_negative (n + 1) lines (All-tail LosesSome (line.End branch) lines some)
+  mixes_not_negative n (line.End branch ∷ lines) some =
+      mixes_not_negative (n + 1) lines (All-tail LosesSome (line.End branch) lines some)
 
 -- ---- all rows
 
@@ -135,49 +155,60 @@ module _ (case : Case) (network : Network) (streams : AreStreams case.streams) (
   same_values : (values : Valuation) → IsWholeValuation case network values → valid.values ≡ values
   same_values values is = one_valuation case network (length network.lines) valid.values values shape valid.valuation is
 
-  rows_not_negative : (view : View) (values : Valuation) → IsWholeValuation case network values → All IsNotNegative (penalties_of case view network values)
+  rows_not_negative : (view : View) (values : Valuation) → IsWholeValuation case network values
+      → All IsNotNegative (penalties_of case view network values)
   unfolding exchanger_rows mix_rows
   rows_not_negative view values whole_values =
-      let height = height_at case view network values in let signs : HasNoNegativePenalty case view network values =
+      let height = height_at case view network values in
+      let signs : HasNoNegativePenalty case view network values =
       penalties_sign case network values view shape whole_values (subst (KeepApproaches case network) (same_values values whole_values) valid.approaches) in
       All-append IsNotNegative (exchanger_rows height network) (mix_rows height network.lines)
       (All-map IsNotNegative (exchanger_row height network) (enumerate_from 0 (exchangers_of network.lines))
       (All-enumerated (λ p. IsNotNegative (exchanger_row height network p)) (exchangers_of network.lines) (λ number e at. signs.exchangers number e at)))
       (mixes_not_negative height 0 network.lines signs.mixes)
 
-  sum-rows : (view : View) (values : Valuation) → IsReferenceView case.streams view → IsWholeValuation case network values
+  sum-rows : (view : View) (values : Valuation) → IsReferenceView case.streams view
+      → IsWholeValuation case network values
       → sum_of (penalties_of case view network values) ≡ excess_of case network
   unfolding exchanger_rows mix_rows
   sum-rows view values is_reference whole_values =
-      let height = height_at case view network values in rational_sum_by-append value_of (exchanger_rows height network) (mix_rows height network.lines)
+      let height = height_at case view network values in
+      rational_sum_by-append value_of (exchanger_rows height network) (mix_rows height network.lines)
       ∙ ap₂ plus (rational_sum_by-map value_of (exchanger_row height network) (enumerate_from 0 (exchangers_of network.lines)))
       (sum-mixes height 0 network.lines) ∙ penalties_excess case network values view streams shape whole_values
       (subst (AreEnded case network) (same_values values whole_values) valid.ended) is_reference
 
-  pub listed_not_negative : (listed : List Penalty) → ListsPenalties case network (list.Listed listed) → All IsNotNegative listed
-  listed_not_negative listed is = All-same IsNotNegative listed _ is.lists.1 (rows_not_negative is.view is.values is.valuation)
+  pub listed_not_negative : (listed : List Penalty) → ListsPenalties case network (list.Listed listed)
+      → All IsNotNegative listed
+  listed_not_negative listed is =
+      All-same IsNotNegative listed _ is.lists.1 (rows_not_negative is.view is.values is.valuation)
 
-  pub listed_sum : (listed : List Penalty) → ListsPenalties case network (list.Listed listed) → sum_of listed ≡ excess_of case network
+  pub listed_sum : (listed : List Penalty) → ListsPenalties case network (list.Listed listed)
+      → sum_of listed ≡ excess_of case network
   listed_sum listed is = ap sum_of is.lists.1 ∙ sum-rows is.view is.values is.is_reference is.valuation
 
 -- What the two loops answer is what is answered for the network.
 
 -- what a loop found, and what it found not
-pub found_some : (steps : List Step) (P : Type 0) (o : Option TooFine) (found : TooFine) → Finds steps P o → o ≡ Some found
+pub found_some : (steps : List Step) (P : Type 0) (o : Option TooFine) (found : TooFine) → Finds steps P o
+    → o ≡ Some found
     → first_too_fine steps ≡ Some (found.place, found.step)
 found_some steps P o found finds is = subst (Finds steps P) is finds
 
-pub found_none : (steps : List Step) (P : Type 0) (o : Option TooFine) → Finds steps P o → ((found : TooFine) → o ≡ Some found → ⊥)
+pub found_none : (steps : List Step) (P : Type 0) (o : Option TooFine) → Finds steps P o
+    → ((found : TooFine) → o ≡ Some found → ⊥)
     → (first_too_fine steps ≡ None) × P
 found_none steps P None finds none = finds
 found_none steps P (Some found) finds none = absurd (none found refl)
 
 -- the view from the place that was found, as it counts from itself or not
-pub reference_view : (streams : List Stream) (place found : ℤ) (from_itself : Bool) → place ≡ found → IsReferencePlace streams found
+pub reference_view : (streams : List Stream) (place found : ℤ) (from_itself : Bool) → place ≡ found
+    → IsReferencePlace streams found
     → ((p : ℤ) → IsReferencePlace streams p → IsTrue from_itself ↔ CountsFromItself streams p)
     → IsReferenceView streams (record { place = place; from_itself = from_itself })
 reference_view streams place found from_itself same is counts =
-    let there = subst (IsReferencePlace streams) (sym same) is in record { place = there; from_itself = counts place there }
+    let there = subst (IsReferencePlace streams) (sym same) is in
+    record { place = there; from_itself = counts place there }
 
 module _
     (case : Case) (network : Network) (audit : Audit) (view : View) (joints : List Joint) (accepted : HasAccepted audit case network)
@@ -193,39 +224,49 @@ module _
     steps = branch_steps case view network (values_of audit)
 
     valuation_kept : IsWholeValuation case network (values_of audit)
-    valuation_kept = subst (IsWholeValuation case network) (sym (ap values_of accepted.is)) (faultless_values audit case network accepted knows).valuation
+    valuation_kept =
+        subst (IsWholeValuation case network) (sym (ap values_of accepted.is)) (faultless_values audit case network accepted knows).valuation
 
-    exchangers_first : first_too_fine (all_exchanger_steps height steps network) ≡ first_too_fine (all_joint_steps height steps joints)
-    exchangers_first = ap first_too_fine (sym (ap (all_joint_steps height steps) table ∙ steps-joints height network steps))
+    exchangers_first : first_too_fine (all_exchanger_steps height steps network)
+        ≡ first_too_fine (all_joint_steps height steps joints)
+    exchangers_first =
+        ap first_too_fine (sym (ap (all_joint_steps height steps) table ∙ steps-joints height network steps))
 
-    pub too_fine_first : (place : Place) (step : ℕ) → first_too_fine (all_joint_steps height steps joints) ≡ Some (place, step)
+    pub too_fine_first : (place : Place) (step : ℕ)
+        → first_too_fine (all_joint_steps height steps joints) ≡ Some (place, step)
         → ListsPenalties case network (list.TooFine place step)
     too_fine_first place step found = record {
       view = view;
       values = values_of audit;
       is_reference = is_reference;
       valuation = valuation_kept;
-      lists = first_front (all_exchanger_steps height steps network) (all_mix_steps height steps network.lines) (place, step) (exchangers_first ∙ found);
+      lists =
+          first_front (all_exchanger_steps height steps network) (all_mix_steps height steps network.lines) (place, step) (exchangers_first ∙ found);
     }
 
     module _ (lines : List Line) (own : lines ≡ network.lines) where
-      mixes_later : first_too_fine (all_mix_steps height steps network.lines) ≡ first_too_fine (all_mix_steps height steps lines)
+      mixes_later : first_too_fine (all_mix_steps height steps network.lines)
+          ≡ first_too_fine (all_mix_steps height steps lines)
       mixes_later = ap (λ ls. first_too_fine (all_mix_steps height steps ls)) (sym own)
 
       pub too_fine_later : (place : Place) (step : ℕ) → first_too_fine (all_joint_steps height steps joints) ≡ None
-          → first_too_fine (all_mix_steps height steps lines) ≡ Some (place, step) → ListsPenalties case network (list.TooFine place step)
+          → first_too_fine (all_mix_steps height steps lines) ≡ Some (place, step)
+          → ListsPenalties case network (list.TooFine place step)
       too_fine_later place step none found = record {
         view = view;
         values = values_of audit;
         is_reference = is_reference;
         valuation = valuation_kept;
-        lists = first_behind (all_exchanger_steps height steps network) (all_mix_steps height steps network.lines) (exchangers_first ∙ none) ∙ mixes_later
+        lists =
+            first_behind (all_exchanger_steps height steps network) (all_mix_steps height steps network.lines) (exchangers_first ∙ none)
+            ∙ mixes_later
             ∙ found;
       }
 
       -- the list begins empty, gets the rows of the exchangers, and then those of the mixes
       pub all_listed : (start first listed : List Penalty) → first_too_fine (all_joint_steps height steps joints) ≡ None
-          → first_too_fine (all_mix_steps height steps lines) ≡ None → start ≡ [] → first ≡ start ++ joint_rows height joints
+          → first_too_fine (all_mix_steps height steps lines) ≡ None → start ≡ []
+          → first ≡ start ++ joint_rows height joints
           → listed ≡ first ++ mix_rows height lines → ListsPenalties case network (list.Listed listed)
       all_listed start first listed none later empty rows more = record {
         view = view;
@@ -233,7 +274,8 @@ module _
         is_reference = is_reference;
         valuation = valuation_kept;
         lists = (
-          first_behind (all_exchanger_steps height steps network) (all_mix_steps height steps network.lines) (exchangers_first ∙ none) ∙ mixes_later ∙ later,
+          first_behind (all_exchanger_steps height steps network) (all_mix_steps height steps network.lines) (exchangers_first ∙ none)
+              ∙ mixes_later ∙ later,
           more ∙ ap₂ (λ front ls. front ++ mix_rows height ls) (rows ∙ ap (λ xs. xs ++ joint_rows height joints) empty ∙ ap (joint_rows height) table
               ∙ rows-joints height network) own,
         );

@@ -41,9 +41,11 @@ module _ {case : Case} {hot cold : List Piece} {exchanges : List Exchange} (can 
   values_here = map first_value case.streams ++ courses_values courses_here
 
   -- the lines declare the exchangers and then lead the streams
-  lines-are : network_here.lines ≡ map declared_line (declared_here can) ++ courses_lines (length case.streams) 0 (courses_along courses_here)
+  lines-are : network_here.lines
+      ≡ map declared_line (declared_here can) ++ courses_lines (length case.streams) 0 (courses_along courses_here)
   unfolding network_of
-  lines-are = ap (λ cs. map declared_line (declared_here can) ++ courses_lines (length case.streams) 0 cs) (sym (courses_along-led exchanges hot cold case))
+  lines-are =
+      ap (λ cs. map declared_line (declared_here can) ++ courses_lines (length case.streams) 0 cs) (sym (courses_along-led exchanges hot cold case))
 
   -- ---- streams that are led
 
@@ -68,7 +70,8 @@ module _ {case : Case} {hot cold : List Piece} {exchanges : List Exchange} (can 
         let there = ap (slice_get (on_side s.side hot cold)) on ∙ piece.there in
         positive-is (size_on s.side e) (size-for can s.side number e p stream at there piece.own).above);
     sizes = piece.is.sizes;
-    duties = each-share exchanges (λ a. times a.cp (change s.side p.before p.after) ≡ duty_at network_here a.exchanger) s.side index
+    duties =
+        each-share exchanges (λ a. times a.cp (change s.side p.before p.after) ≡ duty_at network_here a.exchanger) s.side index
         (λ number e at on. piece.is.heats number e at on ∙ sym (duty-is number e at));
   }
 
@@ -90,7 +93,8 @@ module _ {case : Case} {hot cold : List Piece} {exchanges : List Exchange} (can 
         s,
         ap (slice_get case.streams) (sym number) ∙ here,
         record {
-          led = each-piece (IsLedStage network_here s.side (full_size s)) k s here (λ index p piece. stage-led k s index p piece);
+          led =
+              each-piece (IsLedStage network_here s.side (full_size s)) k s here (λ index p piece. stage-led k s index p piece);
           joined = joined.meet;
           ends = joined.ends;
         },
@@ -108,7 +112,8 @@ module _ {case : Case} {hot cold : List Piece} {exchanges : List Exchange} (can 
   -- the lines of the network make the values of the courses
   network-makes : Make case network_here (map first_value case.streams) network_here.lines (courses_values courses_here)
   network-makes =
-      let start = map first_value case.streams in let made = courses_values courses_here in
+      let start = map first_value case.streams in
+      let made = courses_values courses_here in
       let led = courses_lines (length case.streams) 0 (courses_along courses_here) in
       let many = sym (length-map case.streams first_value) in
       let drawn = courses_made case network_here courses_here start (length case.streams) 0 many (own_start case) all-led in
@@ -117,7 +122,8 @@ module _ {case : Case} {hot cold : List Piece} {exchanges : List Exchange} (can 
       (subst (λ (vs : Valuation). Make case network_here vs led made) (sym (append-nil start)) drawn))
 
   -- they are its valuation, and each end has its whole stream in its last state
-  pub network-valued : (shape : HasShape case network_here) → AreValues case network_here shape (courses_values courses_here)
+  pub network-valued : (shape : HasShape case network_here)
+      → AreValues case network_here shape (courses_values courses_here)
   network-valued shape = values_made case network_here shape (courses_values courses_here) can.complete network-makes
 
   pub streams-ended : (stream : ℕ) → stream < length case.streams → Contains (ended_streams network_here) stream
@@ -161,8 +167,10 @@ module _ {case : Case} {hot cold : List Piece} {exchanges : List Exchange} (can 
   pub passes-run : All (RunsAs case network_here IsRun values_here) network_here.lines
   passes-run =
       let Runs = RunsAs case network_here IsRun values_here in
-      let start = map first_value case.streams in let made = courses_values courses_here in
-      let n = length case.streams in let many = sym (length-map case.streams first_value) in
+      let start = map first_value case.streams in
+      let made = courses_values courses_here in
+      let n = length case.streams in
+      let many = sym (length-map case.streams first_value) in
       let all : values_here ≡ start ++ (made ++ []) = ap (λ vs. start ++ vs) (sym (append-nil made)) in
       let runs = courses_run case network_here IsRun courses_here start [] values_here n 0 many (own_start case) all-led each-runs all in
       subst (All Runs) (sym lines-are) (All-append Runs (map declared_line (declared_here can)) (courses_lines n 0 (courses_along courses_here))
@@ -179,7 +187,8 @@ balance-network_of case hot cold exchanges =
       hot = rational_sum_by (λ x. utility_part x.duty x.hot) (are i);
       cold = rational_sum_by (λ x. utility_part x.duty x.cold) (are i);
       excess = minus (rational_sum_by (λ x. utility_part x.duty x.hot) (are i)) (whole (hot_target case.streams));
-      cost = rational_sum_by (λ e. times (whole e.1.price) (rational_sum (filter_map (duty_with e.0) (are i)))) (enumerate_from 0 case.utilities);
+      cost =
+          rational_sum_by (λ e. times (whole e.1.price) (rational_sum (filter_map (duty_with e.0) (are i)))) (enumerate_from 0 case.utilities);
     }
 
 -- ---- what holds of any source and of any stream
@@ -199,7 +208,8 @@ levelled side.Cold run before after (Some level) goes = record { enters = refl; 
 -- a stream's own branch leaves room
 first-roomy : (s : Stream) → IsValidStream s → IsRoomy (first_value s)
 first-roomy s valid =
-    let size = unsigned_abs MOST_LOAD in let state = unsigned_abs HIGHEST_LEVEL in
+    let size = unsigned_abs MOST_LOAD in
+    let state = unsigned_abs HIGHEST_LEVEL in
     let small : AreSmall 1 size 1 state =
     record { size_den = omega arith; state_den = omega arith; dens = omega arith; size = omega arith; state = omega arith; heat = omega arith } in
     sized_roomy 1 size 1 state (first_value s) small (full_size-sized s valid size (omega arith)) (first_state-sized s valid state (omega arith))
@@ -221,26 +231,33 @@ module _ {case : Case} {hot cold : List Piece} {exchanges : List Exchange} (can 
     there : slice_get (on_side of hot cold) (piece_on of e) ≡ Some p
 
   -- a stream passes the exchanger from the one state of its piece to the other
-  stream-goes : (of : Side) (number : ℕ) (e : Exchange) (p : Piece) (stream : ℕ) → IsPieceOf of number e p → p.source ≡ source.Stream stream
+  stream-goes : (of : Side) (number : ℕ) (e : Exchange) (p : Piece) (stream : ℕ) → IsPieceOf of number e p
+      → p.source ≡ source.Stream stream
       → Goes of (passed_run case network values number (source.Stream stream)) p.before p.after
   unfolding branch_side
   stream-goes of number e p stream is own =
       let has = piece-for can of number e is.at in
       let same : has.piece ≡ p = same_Some has.piece p (sym has.there ∙ is.there) in
-      let on : side_of case (source.Stream stream) ≡ Some of = ap (side_of case) (sym own) ∙ ap (λ (q : Piece). side_of case q.source) (sym same) ∙ has.on in
-      let declared = ap (λ (xs : List Exchanger). slice_get xs number) exchangers-are ∙ exchanger-at can number e is.at in
+      let on : side_of case (source.Stream stream) ≡ Some of
+      = ap (side_of case) (sym own) ∙ ap (λ (q : Piece). side_of case q.source) (sym same) ∙ has.on in
+      let declared = ap (λ (xs : List Exchanger). slice_get xs number) exchangers-are
+      ∙ exchanger-at can number e is.at in
       let joins = exchanger-joins can of number e p stream is.there own in
       let (from, to, index, pass) = the_pass_of (HasShape-pieces can) number stream (exchanger_for can (number, e)) declared joins in
-      let first = value_at values from in let second = value_at values to in
+      let first = value_at values from in
+      let second = value_at values to in
       let run : IsRun can _ number first.t second.t =
       all_at (RunsAs case network (IsRun can) values) network.lines index (line.Pass from number to) (passes-run can) pass.here in
-      let here : slice_get case.streams stream ≡ Some run.s = ap (slice_get case.streams) (sym pass.of_stream) ∙ run.here in
-      let side_is : run.s.side ≡ of = same_Some run.s.side of (sym (ap (option_map (λ (s : Stream). s.side)) here) ∙ on) in
+      let here : slice_get case.streams stream ≡ Some run.s
+      = ap (slice_get case.streams) (sym pass.of_stream) ∙ run.here in
+      let side_is : run.s.side ≡ of
+      = same_Some run.s.side of (sym (ap (option_map (λ (s : Stream). s.side)) here) ∙ on) in
       let e_is : run.e ≡ e = same_Some run.e e (sym run.at ∙ is.at) in
       let piece_at = λ (on : Side) (x : Exchange). slice_get (on_side on hot cold) (piece_on on x) in
       let p_is : run.p ≡ p = same_Some run.p p (sym run.there ∙ ap₂ piece_at side_is e_is ∙ is.there) in
       let side_at = λ (k : ℕ). unwrap_or (side_of case (source.Stream k)) side.Hot in
-      let branch_is : branch_side case network from ≡ of = ap side_at pass.of_stream ∙ ap (λ o. unwrap_or o side.Hot) on in
+      let branch_is : branch_side case network from ≡ of
+      = ap side_at pass.of_stream ∙ ap (λ o. unwrap_or o side.Hot) on in
       let passed : passed_run case network values number (source.Stream stream) ≡ run_between of first second =
       ap (pass_run case network values) pass.found ∙ ap (λ d. run_between d first second) branch_is in
       record {
@@ -248,7 +265,8 @@ module _ {case : Case} {hot cold : List Piece} {exchanges : List Exchange} (can 
         leaves = ap (leaves of) passed ∙ leaves-run of first second ∙ run.after_is ∙ ap (λ (q : Piece). q.after) p_is;
       }
 
-  source-goes : (of : Side) (number : ℕ) (e : Exchange) (p : Piece) (a : Source) → IsPieceOf of number e p → p.source ≡ a
+  source-goes : (of : Side) (number : ℕ) (e : Exchange) (p : Piece) (a : Source) → IsPieceOf of number e p
+      → p.source ≡ a
       → Goes of (side_run case network values number a) (temperature case a p.before) (temperature case a p.after)
   unfolding side_run
   source-goes of number e p (source.Stream k) is own =
@@ -260,19 +278,27 @@ module _ {case : Case} {hot cold : List Piece} {exchanges : List Exchange} (can 
   runs-through : (of : Side) (number : ℕ) (e : Exchange) (p : Piece) → slice_get exchanges number ≡ Some e
       → slice_get (on_side of hot cold) (piece_on of e) ≡ Some p → RunsThrough case network values number of p
   runs-through of number e p at there =
-      let goes = source-goes of number e p p.source (record { at = at; there = there }) refl in record { enters = goes.enters; leaves = goes.leaves }
+      let goes = source-goes of number e p p.source (record { at = at; there = there }) refl in
+      record { enters = goes.enters; leaves = goes.leaves }
 
-  exchange-keeps : (number : ℕ) (e : Exchange) → slice_get exchanges number ≡ Some e → KeepsApproach case network values number (exchanger_for can (number, e))
+  exchange-keeps : (number : ℕ) (e : Exchange) → slice_get exchanges number ≡ Some e
+      → KeepsApproach case network values number (exchanger_for can (number, e))
   exchange-keeps number e at =
-      let j = joined-at can number e at in let a = j.hot_piece in let b = j.cold_piece in
-      let a_is = sym (source_at-piece hot e.hot a j.hot_there) in let b_is = sym (source_at-piece cold e.cold b j.cold_there) in
-      let giving = runs-through side.Hot number e a at j.hot_there in let taking = runs-through side.Cold number e b at j.cold_there in
+      let j = joined-at can number e at in
+      let a = j.hot_piece in
+      let b = j.cold_piece in
+      let a_is = sym (source_at-piece hot e.hot a j.hot_there) in
+      let b_is = sym (source_at-piece cold e.cold b j.cold_there) in
+      let giving = runs-through side.Hot number e a at j.hot_there in
+      let taking = runs-through side.Cold number e b at j.cold_there in
       let run = side_run case network values number in
       let apart = λ (u v : Rational). IsAtMost (plus u (whole (approach_of case a.source b.source))) v in
       record {
-        hot_end = subst₂ (λ x y. IsAtMost (plus (leaves side.Cold (run y)) (whole (approach_of case x y))) (enters side.Hot (run x))) a_is b_is
+        hot_end =
+            subst₂ (λ x y. IsAtMost (plus (leaves side.Cold (run y)) (whole (approach_of case x y))) (enters side.Hot (run x))) a_is b_is
             (subst₂ apart (sym taking.leaves) (sym giving.enters) j.apart.hot_end);
-        cold_end = subst₂ (λ x y. IsAtMost (plus (enters side.Cold (run y)) (whole (approach_of case x y))) (leaves side.Hot (run x))) a_is b_is
+        cold_end =
+            subst₂ (λ x y. IsAtMost (plus (enters side.Cold (run y)) (whole (approach_of case x y))) (leaves side.Hot (run x))) a_is b_is
             (subst₂ apart (sym taking.enters) (sym giving.leaves) j.apart.cold_end);
       }
 
@@ -287,8 +313,12 @@ module _ {case : Case} {hot cold : List Piece} {exchanges : List Exchange} (can 
   stage-roomy : (stream : ℕ) (s : Stream) (index : ℕ) (p : Piece) → IsOwnPiece can stream s index p
       → StageHolds IsRoomy (led_piece s.side exchanges (index, p))
   stage-roomy stream s index p piece =
-      let fine = piece.is.fine in let full = full_size s in
-      let d = fine.size_den in let m = fine.most_size in let e = fine.state_den in let n = fine.most_state in
+      let fine = piece.is.fine in
+      let full = full_size s in
+      let d = fine.size_den in
+      let m = fine.most_size in
+      let e = fine.state_den in
+      let n = fine.most_state in
       let shares = shares_of s.side index exchanges in
       let IsRatio = λ (a : Share). (num : ℤ) × (a.cp ≡ ratio num d) in
       let over = All-weaker IsRatio (λ (a : Share). IsOver d a.cp) (λ a (num, same). record { num = num; is = same }) shares fine.sizes in
@@ -313,14 +343,16 @@ module _ {case : Case} {hot cold : List Piece} {exchanges : List Exchange} (can 
     changes = λ k from exchanger to here.
         let run : IsRun can _ exchanger (value_at values from).t (value_at values to).t =
         all_at (RunsAs case network (IsRun can) values) network.lines k (line.Pass from exchanger to) (passes-run can) here in
-        let fine = run.is.fine in let of = branch_side case network from in
+        let fine = run.is.fine in
+        let of = branch_side case network from in
         subst₂ (λ t u. IsWithinLimits (change of t u)) (sym run.before_is) (sym run.after_is)
         (sized_change fine.size_den fine.most_size fine.state_den fine.most_state of run.p.before run.p.after fine.small fine.before fine.after);
   }
 
   -- ---- loads
 
-  line-keeps : (l : Line) → RunsAs case network (IsRun can) values l → IsOfOneStream network.branches l → PassKeepsLoad case network values l
+  line-keeps : (l : Line) → RunsAs case network (IsRun can) values l → IsOfOneStream network.branches l
+      → PassKeepsLoad case network values l
   line-keeps (line.Exchanger name one other duty) run one_stream = tt
   line-keeps (line.Split from first size second) run one_stream = tt
   line-keeps (line.Pass from exchanger to) run one_stream = λ latent.
@@ -331,8 +363,11 @@ module _ {case : Case} {hot cold : List Piece} {exchanges : List Exchange} (can 
 
   keeps-loads : KeepLoads case network values
   keeps-loads =
-      let lines = network.lines in let shape = HasShape-pieces can in let Keeps = PassKeepsLoad case network values in
-      let each : All Keeps lines = λ k l within. line-keeps (get_or lines k l) (passes-run can k l within) (shape.one_stream k l within) in
+      let lines = network.lines in
+      let shape = HasShape-pieces can in
+      let Keeps = PassKeepsLoad case network values in
+      let each : All Keeps lines
+      = λ k l within. line-keeps (get_or lines k l) (passes-run can k l within) (shape.one_stream k l within) in
       loads_kept case network (length lines) values shape (network-valued can shape).valuation
       (subst (All Keeps) (sym (take_all (length lines) lines (omega arith))) each)
 
@@ -342,7 +377,8 @@ module _ {case : Case} {hot cold : List Piece} {exchanges : List Exchange} (can 
   unfolding duties_with
   duties-are index = ap (filter_map (duty_with index)) exchangers-are
 
-  heat-is : (index : ℕ) (u : Utility) (has : HasUtilityHeat (sources_of hot) (sources_of cold) exchanges index u) → heat_with network index ≡ whole has.heat
+  heat-is : (index : ℕ) (u : Utility) (has : HasUtilityHeat (sources_of hot) (sources_of cold) exchanges index u)
+      → heat_with network index ≡ whole has.heat
   heat-is index u has = ap rational_sum (duties-are index) ∙ has.total
 
   in-range : (index : ℕ) (u : Utility) → slice_get case.utilities index ≡ Some u → IsInRange u (heat_with network index)
@@ -357,7 +393,8 @@ module _ {case : Case} {hot cold : List Piece} {exchanges : List Exchange} (can 
       heat-sized 1 u (heat_with network index) has.heat (omega arith) (heat-is index u has ∙ sym (ratio-one has.heat))
       (all_at IsPlaced case.utilities index u (IsPlaced-IsComplete case can.complete) here) (in-range index u here)
 
-  sums-formed : (index : ℕ) (u : Utility) → slice_get case.utilities index ≡ Some u → AreFormed (utility_items_at network (index, u))
+  sums-formed : (index : ℕ) (u : Utility) → slice_get case.utilities index ≡ Some u
+      → AreFormed (utility_items_at network (index, u))
   sums-formed index u here =
       let has = can.led.utilities index u here in
       grouped_utility_formed has.den has.most has.small network index u has.groups (duties-are index ∙ has.are) has.few has.each
@@ -369,7 +406,8 @@ module _ {case : Case} {hot cold : List Piece} {exchanges : List Exchange} (can 
       subst (All (IsPermitted case)) (sym exchangers-are)
       (All-numbered (exchanger_for can) exchanges (IsPermitted case) (λ number e at.
       let j = joined-at can number e at in
-      let given = source_at-piece hot e.hot j.hot_piece j.hot_there in let taken = source_at-piece cold e.cold j.cold_piece j.cold_there in
+      let given = source_at-piece hot e.hot j.hot_piece j.hot_there in
+      let taken = source_at-piece cold e.cold j.cold_piece j.cold_there in
       ap₂ (is_forbidden case.forbids) given taken ∙ j.permitted))
 
   valid-network : IsValidNetwork case network
@@ -387,7 +425,8 @@ module _ {case : Case} {hot cold : List Piece} {exchanges : List Exchange} (can 
 
   led-network : IsLedNetwork case hot cold exchanges network
   led-network =
-      let shape = HasShape-pieces can in let valuation = (network-valued can shape).valuation in
+      let shape = HasShape-pieces can in
+      let valuation = (network-valued can shape).valuation in
       record {
         shape = shape;
         values = values;
@@ -395,9 +434,13 @@ module _ {case : Case} {hot cold : List Piece} {exchanges : List Exchange} (can 
         hot_runs = runs-through side.Hot;
         cold_runs = runs-through side.Cold;
         valid = valid-network;
-        accepted = no_finding_from_room case network values can.complete shape valuation valid-network has-room heats-whole sums-formed;
+        accepted =
+            no_finding_from_room case network values can.complete shape valuation valid-network has-room heats-whole sums-formed;
       }
 
-pub led_network : (case : Case) (hot cold : List Piece) (exchanges : List Exchange) → IsComplete case → 7 * length exchanges + length case.streams ≤ MOST_LINES
-    → AreLedPieces case hot cold exchanges → IsLedNetwork case hot cold exchanges (network_of case (sources_of hot) (sources_of cold) exchanges)
-led_network case hot cold exchanges complete few led = led-network (record { complete = complete; few = few; led = led })
+pub led_network : (case : Case) (hot cold : List Piece) (exchanges : List Exchange) → IsComplete case
+    → 7 * length exchanges + length case.streams ≤ MOST_LINES
+    → AreLedPieces case hot cold exchanges
+    → IsLedNetwork case hot cold exchanges (network_of case (sources_of hot) (sources_of cold) exchanges)
+led_network case hot cold exchanges complete few led =
+    led-network (record { complete = complete; few = few; led = led })

@@ -16,14 +16,17 @@ use Rattle.stream_case.specs.declared.source.Source.TheVariants as source
 module _ {X Y : Type 0} (h : X → Option Y) (xs : List X) (i : ℕ) (x : X) (within : i < length xs) (here : x ≡ get_or xs i x) where
   pub one_more : filter_map h (take (i + 1) xs) ≡ filter_map h (take i xs) ++ option_to_list (h x)
   one_more =
-      ap (filter_map h) (take_more xs i x within ∙ ap (λ (y : X). take i xs ++ y ∷ []) (sym here)) ∙ filter_map-push h (take i xs) x
+      ap (filter_map h) (take_more xs i x within ∙ ap (λ (y : X). take i xs ++ y ∷ []) (sym here))
+      ∙ filter_map-push h (take i xs) x
 
 -- what is kept of the shares of a stream at one of its pieces are the shares of the piece
 module _ (of : Side) (sources : List Source) (stream index : ℕ) (own : is_of_stream sources stream index ≡ true) where
-  own_kept : (es : List (ℕ × Exchange)) → filter_map (share_at index) (filter_map (own_share of sources stream) es) ≡ filter_map (share_of of index) es
+  own_kept : (es : List (ℕ × Exchange))
+      → filter_map (share_at index) (filter_map (own_share of sources stream) es) ≡ filter_map (share_of of index) es
   own_kept [] = refl
   own_kept ((number, e) ∷ es) =
-      by (is_of_stream sources stream (piece_on of e)) (piece_on of e) refl ∙ ap (cons_option (share_of of index (number, e))) (own_kept es)
+      by (is_of_stream sources stream (piece_on of e)) (piece_on of e) refl
+      ∙ ap (cons_option (share_of of index (number, e))) (own_kept es)
     where
       by : (b : Bool) (piece : ℕ) → is_of_stream sources stream piece ≡ b
           → filter_map (share_at index) (cons_option (if b then Some (piece, share_for of (number, e)) else None) (filter_map (own_share of sources stream) es))
@@ -34,24 +37,29 @@ module _ (of : Side) (sources : List Source) (stream index : ℕ) (own : is_of_s
           let other = ne_eqb piece index (λ same. false≢true (sym is ∙ ap (is_of_stream sources stream) same ∙ own)) in
           ap (λ b. cons_option (if b then Some (share_for of (number, e)) else None) kept) (sym other)
 
-  pub own-shares : (exchanges : List Exchange) → filter_map (share_at index) (own_shares of sources exchanges stream) ≡ shares_of of index exchanges
+  pub own-shares : (exchanges : List Exchange)
+      → filter_map (share_at index) (own_shares of sources exchanges stream) ≡ shares_of of index exchanges
   unfolding own_shares shares_of
   own-shares exchanges = own_kept (enumerate_from 0 exchanges)
 
 -- ---- numbered items
 
 module _ {X Y : Type 0} (h : ℕ × X → Option Y) (xs : List X) (i : ℕ) (x : X) (within : i < length xs) (here : x ≡ get_or xs i x) where
-  pub kept-skip : h (i, x) ≡ None → filter_map h (enumerate_from 0 (take (i + 1) xs)) ≡ filter_map h (enumerate_from 0 (take i xs))
+  pub kept-skip : h (i, x) ≡ None
+      → filter_map h (enumerate_from 0 (take (i + 1) xs)) ≡ filter_map h (enumerate_from 0 (take i xs))
   kept-skip none =
       let before = filter_map h (enumerate_from 0 (take i xs)) in
       filter_map-enumerate_more h xs i x within here ∙ ap (λ o. before ++ option_to_list o) none ∙ append-nil before
 
-  pub kept-more : (y : Y) → h (i, x) ≡ Some y → filter_map h (enumerate_from 0 (take (i + 1) xs)) ≡ filter_map h (enumerate_from 0 (take i xs)) ++ y ∷ []
+  pub kept-more : (y : Y) → h (i, x) ≡ Some y
+      → filter_map h (enumerate_from 0 (take (i + 1) xs)) ≡ filter_map h (enumerate_from 0 (take i xs)) ++ y ∷ []
   kept-more y some =
-      filter_map-enumerate_more h xs i x within here ∙ ap (λ o. filter_map h (enumerate_from 0 (take i xs)) ++ option_to_list o) some
+      filter_map-enumerate_more h xs i x within here
+      ∙ ap (λ o. filter_map h (enumerate_from 0 (take i xs)) ++ option_to_list o) some
 
 -- what is kept of turned items is what is kept of them, turned
-pub filter_map-reverse : {X Y : Type 0} (h : X → Option Y) (xs : List X) → filter_map h (reverse xs) ≡ reverse (filter_map h xs)
+pub filter_map-reverse : {X Y : Type 0} (h : X → Option Y) (xs : List X)
+    → filter_map h (reverse xs) ≡ reverse (filter_map h xs)
 filter_map-reverse h [] = refl
 filter_map-reverse {X} {Y} h (x ∷ xs) =
     ap (filter_map h) (reverse-append (x ∷ []) xs) ∙ filter_map-append h (reverse xs) (x ∷ [])
@@ -61,7 +69,8 @@ filter_map-reverse {X} {Y} h (x ∷ xs) =
     by None = append-nil (reverse (filter_map h xs))
     by (Some y) = sym (reverse-append (y ∷ []) (filter_map h xs))
 
-pub filter_map-way : {X Y : Type 0} (h : X → Option Y) (of : Side) (xs : List X) → filter_map h (on_the_way of xs) ≡ on_the_way of (filter_map h xs)
+pub filter_map-way : {X Y : Type 0} (h : X → Option Y) (of : Side) (xs : List X)
+    → filter_map h (on_the_way of xs) ≡ on_the_way of (filter_map h xs)
 filter_map-way h side.Hot xs = refl
 filter_map-way h side.Cold xs = filter_map-reverse h xs
 
@@ -71,25 +80,33 @@ All-way P side.Hot xs all = all
 All-way P side.Cold xs all = All-reverse P xs all
 
 -- nothing is kept where no item is
-pub no_items : {X Y : Type 0} (h : ℕ × X → Option Y) (b : ℕ) (xs : List X) → ((j : ℕ) (z : X) → slice_get xs j ≡ Some z → h (b + j, z) ≡ None)
+pub no_items : {X Y : Type 0} (h : ℕ × X → Option Y) (b : ℕ) (xs : List X)
+    → ((j : ℕ) (z : X) → slice_get xs j ≡ Some z → h (b + j, z) ≡ None)
     → filter_map h (enumerate_from b xs) ≡ []
 no_items h b [] none = refl
 no_items h b (z ∷ xs) none =
-    let first : b ≡ b + 0 = omega arith in ap (λ o. cons_option o (filter_map h (enumerate_from (b + 1) xs))) (ap (λ i. h (i, z)) first ∙ none 0 z refl)
+    let first : b ≡ b + 0 = omega arith in
+    ap (λ o. cons_option o (filter_map h (enumerate_from (b + 1) xs))) (ap (λ i. h (i, z)) first ∙ none 0 z refl)
     ∙ no_items h (b + 1) xs (λ j w at. let next : b + 1 + j ≡ b + suc j = omega arith in ap (λ i. h (i, w)) next ∙ none (suc j) w at)
 
 -- what is kept of a list of which one item alone is kept
-pub only_item : {X Y : Type 0} (h : ℕ × X → Option Y) (b : ℕ) (xs : List X) (k : ℕ) (x : X) (y : Y) → slice_get xs k ≡ Some x → h (b + k, x) ≡ Some y
-    → ((j : ℕ) (z : X) → slice_get xs j ≡ Some z → j ≢ k → h (b + j, z) ≡ None) → filter_map h (enumerate_from b xs) ≡ y ∷ []
+pub only_item : {X Y : Type 0} (h : ℕ × X → Option Y) (b : ℕ) (xs : List X) (k : ℕ) (x : X) (y : Y)
+    → slice_get xs k ≡ Some x → h (b + k, x) ≡ Some y
+    → ((j : ℕ) (z : X) → slice_get xs j ≡ Some z → j ≢ k → h (b + j, z) ≡ None)
+    → filter_map h (enumerate_from b xs) ≡ y ∷ []
 only_item h b [] k x y there kept others = cc there
 only_item {X} {Y} h b (z ∷ xs) zero x y there kept others =
     ap (λ o. cons_option o (filter_map h (enumerate_from (b + 1) xs))) (own ∙ kept) ∙ ap (λ (ys : List Y). y ∷ ys)
     (no_items h (b + 1) xs (λ j w at. let next : b + 1 + j ≡ b + suc j = omega arith in ap (λ i. h (i, w)) next ∙ others (suc j) w at (λ same. cc same)))
   where
     own : h (b, z) ≡ h (b + 0, x)
-    own = let none : b ≡ b + 0 = omega arith in let same : z ≡ x = cc there in λ i. h (none i, same i)
+    own =
+        let none : b ≡ b + 0 = omega arith in
+        let same : z ≡ x = cc there in
+        λ i. h (none i, same i)
 only_item h b (z ∷ xs) (suc k) x y there kept others =
-    let none : b ≡ b + 0 = omega arith in let next : b + suc k ≡ b + 1 + k = omega arith in
+    let none : b ≡ b + 0 = omega arith in
+    let next : b + suc k ≡ b + 1 + k = omega arith in
     ap (λ o. cons_option o (filter_map h (enumerate_from (b + 1) xs))) (ap (λ i. h (i, z)) none ∙ others 0 z refl (λ same. cc same))
     ∙ only_item h (b + 1) xs k x y there (ap (λ i. h (i, x)) (sym next) ∙ kept)
     (λ j w at other. let later : b + 1 + j ≡ b + suc j = omega arith in ap (λ i. h (i, w)) later ∙ others (suc j) w at (λ same. other (omega (arith, same))))
@@ -104,9 +121,11 @@ module _ {X Y : Type 0} (P : Y → Type 0) (h : ℕ × X → Option Y) where
 
   kept-each : (es : List (ℕ × X)) → All Gives es → All P (filter_map h es)
   kept-each [] each = All-nil P
-  kept-each (e ∷ es) each = one-kept (h e) (filter_map h es) (All-head Gives e es each) (kept-each es (All-tail Gives e es each))
+  kept-each (e ∷ es) each =
+      one-kept (h e) (filter_map h es) (All-head Gives e es each) (kept-each es (All-tail Gives e es each))
 
-  pub kept-all : (of : Side) (xs : List X) → ((i : ℕ) (x : X) (y : Y) → slice_get xs i ≡ Some x → h (i, x) ≡ Some y → P y)
+  pub kept-all : (of : Side) (xs : List X)
+      → ((i : ℕ) (x : X) (y : Y) → slice_get xs i ≡ Some x → h (i, x) ≡ Some y → P y)
       → All P (filter_map h (on_the_way of (enumerate_from 0 xs)))
   kept-all of xs each =
       kept-each (on_the_way of (enumerate_from 0 xs)) (All-way Gives of (enumerate_from 0 xs) (All-enumerated Gives xs (λ i x at. λ y is. each i x y at is)))
@@ -120,18 +139,21 @@ module _ {X Y : Type 0} (f : ℕ × X → Y) (xs : List X) where
       let first : i ≡ 0 + i = omega arith in
       subst (P i) (ap (λ (k : ℕ). f (k, x)) first ∙ is) (each i x here)
 
-  pub All-numbered : (P : Y → Type 0) → ((i : ℕ) (x : X) → slice_get xs i ≡ Some x → P (f (i, x))) → All P (map f (enumerate_from 0 xs))
+  pub All-numbered : (P : Y → Type 0) → ((i : ℕ) (x : X) → slice_get xs i ≡ Some x → P (f (i, x)))
+      → All P (map f (enumerate_from 0 xs))
   All-numbered P each = All-map P f (enumerate_from 0 xs) (All-enumerated (λ e. P (f e)) xs each)
 
 -- an item of what each makes comes from the one there
-pub mapped_item : {X Y : Type 0} (f : X → Y) (xs : List X) (i : ℕ) (y : Y) → slice_get (map f xs) i ≡ Some y → (x : X) × (slice_get xs i ≡ Some x) × (f x ≡ y)
+pub mapped_item : {X Y : Type 0} (f : X → Y) (xs : List X) (i : ℕ) (y : Y) → slice_get (map f xs) i ≡ Some y
+    → (x : X) × (slice_get xs i ≡ Some x) × (f x ≡ y)
 mapped_item f [] i y at = cc at
 mapped_item f (x ∷ xs) zero y at = (x, refl, same_Some (f x) y at)
 mapped_item f (x ∷ xs) (suc i) y at = mapped_item f xs i y at
 
 -- ---- the source of a piece
 
-pub on_side-ap : {X Y : Type 0} (of : Side) (f : X → Y) (hot cold : X) → on_side of (f hot) (f cold) ≡ f (on_side of hot cold)
+pub on_side-ap : {X Y : Type 0} (of : Side) (f : X → Y) (hot cold : X)
+    → on_side of (f hot) (f cold) ≡ f (on_side of hot cold)
 on_side-ap side.Hot f hot cold = refl
 on_side-ap side.Cold f hot cold = refl
 
@@ -182,14 +204,16 @@ module _ (exchanges : List Exchange) where
   -- ---- the courses that are led are those that are drawn
 
   led_shares : (of : Side) (stream : ℕ) (es : List (ℕ × Piece))
-      → shares_along (filter_map (led_stage of exchanges stream) es) ≡ filter_map (λ e. stage_of of exchanges stream (e.0, e.1.source)) es
+      → shares_along (filter_map (led_stage of exchanges stream) es)
+      ≡ filter_map (λ e. stage_of of exchanges stream (e.0, e.1.source)) es
   led_shares of stream [] = refl
   led_shares of stream ((i, p) ∷ es) =
       by (is_stage of exchanges stream i p.source) (led_piece of exchanges (i, p)) (filter_map (led_stage of exchanges stream) es)
       ∙ ap (cons_option (stage_of of exchanges stream (i, p.source))) (led_shares of stream es)
     where
       by : (b : Bool) (stage : LedStage) (rest : List LedStage)
-          → shares_along (cons_option (if b then Some stage else None) rest) ≡ cons_option (if b then Some stage.shares else None) (shares_along rest)
+          → shares_along (cons_option (if b then Some stage else None) rest)
+          ≡ cons_option (if b then Some stage.shares else None) (shares_along rest)
       by true stage rest = refl
       by false stage rest = refl
 
@@ -197,25 +221,31 @@ module _ (exchanges : List Exchange) where
       → filter_map (λ e. stage_of of exchanges stream (e.0, e.1.source)) (enumerate_from n pieces)
       ≡ filter_map (stage_of of exchanges stream) (enumerate_from n (sources_of pieces))
   source_stages of stream n [] = refl
-  source_stages of stream n (p ∷ pieces) = ap (cons_option (stage_of of exchanges stream (n, p.source))) (source_stages of stream (n + 1) pieces)
+  source_stages of stream n (p ∷ pieces) =
+      ap (cons_option (stage_of of exchanges stream (n, p.source))) (source_stages of stream (n + 1) pieces)
 
   shares_along-led : (of : Side) (pieces : List Piece) (stream : ℕ)
-      → shares_along (filter_map (led_stage of exchanges stream) (on_the_way of (enumerate_from 0 pieces))) ≡ course_of of (sources_of pieces) exchanges stream
+      → shares_along (filter_map (led_stage of exchanges stream) (on_the_way of (enumerate_from 0 pieces)))
+      ≡ course_of of (sources_of pieces) exchanges stream
   shares_along-led of pieces stream =
       let h = λ (e : ℕ × Piece). stage_of of exchanges stream (e.0, e.1.source) in
       led_shares of stream (on_the_way of (enumerate_from 0 pieces)) ∙ filter_map-way h of (enumerate_from 0 pieces)
-      ∙ ap (on_the_way of) (source_stages of stream 0 pieces) ∙ sym (filter_map-way (stage_of of exchanges stream) of (enumerate_from 0 (sources_of pieces)))
+      ∙ ap (on_the_way of) (source_stages of stream 0 pieces)
+      ∙ sym (filter_map-way (stage_of of exchanges stream) of (enumerate_from 0 (sources_of pieces)))
 
   module _ (hot cold : List Piece) where
     pub shares_along-course : (stream : ℕ) (s : Stream)
-        → shares_along (led_course hot cold exchanges (stream, s)) ≡ stream_course (sources_of hot) (sources_of cold) exchanges (stream, s)
+        → shares_along (led_course hot cold exchanges (stream, s))
+        ≡ stream_course (sources_of hot) (sources_of cold) exchanges (stream, s)
     shares_along-course stream s =
-        shares_along-led s.side (on_side s.side hot cold) stream ∙ ap (λ ss. course_of s.side ss exchanges stream) (sym (on_side-ap s.side sources_of hot cold))
+        shares_along-led s.side (on_side s.side hot cold) stream
+        ∙ ap (λ ss. course_of s.side ss exchanges stream) (sym (on_side-ap s.side sources_of hot cold))
 
     abbrev pub led_courses : Case → List (List LedStage)
     led_courses case = map (led_course hot cold exchanges) (enumerate_from 0 case.streams)
 
-    pub courses_along-led : (case : Case) → courses_along (led_courses case) ≡ courses_of case (sources_of hot) (sources_of cold) exchanges
+    pub courses_along-led : (case : Case)
+        → courses_along (led_courses case) ≡ courses_of case (sources_of hot) (sources_of cold) exchanges
     courses_along-led case =
         let es = enumerate_from 0 case.streams in
         map-map shares_along (led_course hot cold exchanges) es ∙ (λ i. map (λ e. shares_along-course e.0 e.1 i) es)

@@ -24,7 +24,8 @@ pub record Found (name : List ℕ) (files : List MemoryFile) (i k : ℕ) : Type 
 abbrev pub Looked : List ℕ → List MemoryFile → ℕ → Option ℕ → Type 0
 Looked name files i r = MatchOption r (find_file name (named_files files) ≡ None) (λ k. Found name files i k)
 
-later : (name : List ℕ) (file : MemoryFile) (files : List MemoryFile) (i : ℕ) (r : Option ℕ) → has_name name file ≡ false → Looked name files (i + 1) r
+later : (name : List ℕ) (file : MemoryFile) (files : List MemoryFile) (i : ℕ) (r : Option ℕ)
+    → has_name name file ≡ false → Looked name files (i + 1) r
     → Looked name (file ∷ files) i r
 later name file files i None other missing = rw other missing
 later name file files i (Some k) other found =
@@ -44,10 +45,12 @@ looked name (file ∷ files) i = elim (cases_Bool (has_name name file)) [
 pub looked_first : (name : List ℕ) (files : List MemoryFile) → Looked name files 0 (index_of name files)
 looked_first name files = rw position_from-zero (looked name files 0)
 
-asked_at : (name : List ℕ) (files : List MemoryFile) (r : Option ℕ) → Looked name files 0 r → name_at files r ≡ asked_for name (Some (named_files files))
+asked_at : (name : List ℕ) (files : List MemoryFile) (r : Option ℕ) → Looked name files 0 r
+    → name_at files r ≡ asked_for name (Some (named_files files))
 asked_at name files None missing = rw missing
 asked_at name files (Some k) found =
-    let here : slice_get files k ≡ Some found.file = ap (slice_get files) (found.at ∙ zero-add found.index) ∙ found.there in
+    let here : slice_get files k ≡ Some found.file
+    = ap (slice_get files) (found.at ∙ zero-add found.index) ∙ found.there in
     rw (here, found.first, found.named)
 
 -- a start asks for the name if a file has it
@@ -59,7 +62,8 @@ left_at : (name : List ℕ) (files : List MemoryFile) (r : Option ℕ) → Looke
     → find_file name (named_files files) ≡ Some (bytes_from files r 0)
 left_at name files None missing some = cc
 left_at name files (Some k) found some =
-    let here : slice_get files k ≡ Some found.file = ap (slice_get files) (found.at ∙ zero-add found.index) ∙ found.there in
+    let here : slice_get files k ≡ Some found.file
+    = ap (slice_get files) (found.at ∙ zero-add found.index) ∙ found.there in
     rw here found.first
 
 -- and then has the bytes of the first file of the name to come
@@ -80,7 +84,8 @@ took xs buf new pos n count copied =
     )
 
 -- into a buffer with room it puts none exactly where none was to come
-pub took_none : (xs buf new : List ℕ) (pos n : ℕ) → n ≡ min (length buf) (length (drop pos xs)) → new ≡ take n (drop pos xs)
+pub took_none : (xs buf new : List ℕ) (pos n : ℕ) → n ≡ min (length buf) (length (drop pos xs))
+    → new ≡ take n (drop pos xs)
     → 0 < length (new ++ drop n buf) → (n ≡ 0) ↔ (drop pos xs ≡ [])
 took_none xs buf new pos n count copied some =
     let size : length new ≡ n = omega (arith, ap length copied, length-take n (drop pos xs)) in

@@ -16,16 +16,20 @@ pub Wrote-none : (old : Option (List ℕ)) (bytes : List ℕ) → Wrote old old 
 Wrote-none old bytes = record { done = []; split = refl; appended = Appends-nil old }
 
 -- a write of n bytes more, after which the rest is `&rest[n..]`
-pub Wrote-more : (old now next : Option (List ℕ)) (bytes rest : List ℕ) (m n : ℕ) → m ≡ length rest → Wrote old now bytes rest → Appends now next (take n rest)
+pub Wrote-more : (old now next : Option (List ℕ)) (bytes rest : List ℕ) (m n : ℕ) → m ≡ length rest
+    → Wrote old now bytes rest → Appends now next (take n rest)
     → Wrote old next bytes (take (m - n) (drop n rest))
 Wrote-more old now next bytes rest m n size wrote more =
     rw (take_all (m - n) (drop n rest) (omega (arith, size, length-drop n rest))) (record {
       done = wrote.done ++ take n rest;
-      split = wrote.split ∙ ap (λ l. wrote.done ++ l) (sym (take-append-drop n rest)) ∙ sym (append_assoc wrote.done (take n rest) (drop n rest));
+      split =
+          wrote.split ∙ ap (λ l. wrote.done ++ l) (sym (take-append-drop n rest))
+          ∙ sym (append_assoc wrote.done (take n rest) (drop n rest));
       appended = Appends-trans old now next _ _ wrote.appended more;
     })
 
-pub Wrote-front : (old now next : Option (List ℕ)) (bytes rest : List ℕ) → Wrote old now bytes rest → Keeps now next → AppendsFront old next bytes
+pub Wrote-front : (old now next : Option (List ℕ)) (bytes rest : List ℕ) → Wrote old now bytes rest
+    → Keeps now next → AppendsFront old next bytes
 Wrote-front old now next bytes rest wrote keeps = record {
   count = length wrote.done;
   within = omega (arith, ap length wrote.split, length-append wrote.done rest);
@@ -35,5 +39,7 @@ Wrote-front old now next bytes rest wrote keeps = record {
       subst (Appends old next) front (Appends-kept old now next _ wrote.appended keeps);
 }
 
-pub Wrote-all : (old now : Option (List ℕ)) (bytes rest : List ℕ) → Wrote old now bytes rest → rest ≡ [] → Appends old now bytes
-Wrote-all old now bytes rest wrote end = subst (Appends old now) (sym (wrote.split ∙ ap (λ l. wrote.done ++ l) end ∙ append-nil wrote.done)) wrote.appended
+pub Wrote-all : (old now : Option (List ℕ)) (bytes rest : List ℕ) → Wrote old now bytes rest → rest ≡ []
+    → Appends old now bytes
+Wrote-all old now bytes rest wrote end =
+    subst (Appends old now) (sym (wrote.split ∙ ap (λ l. wrote.done ++ l) end ∙ append-nil wrote.done)) wrote.appended

@@ -18,26 +18,32 @@ main_places-append c (x ∷ xs) ys = ap (λ places. takes_at c x ∷ gives_at c 
 pub main_places-more : (c : ℤ) (mains : List Main) (i : ℕ) (main : Main) → i < length mains → main ≡ get_or mains i main
     → main_places c (take (i + 1) mains) ≡ main_places c (take i mains) ++ takes_at c main ∷ gives_at c main ∷ []
 main_places-more c mains i main within is =
-    ap (main_places c) (take_more mains i main within ∙ ap (λ m. take i mains ++ m ∷ []) (sym is)) ∙ main_places-append c (take i mains) (main ∷ [])
+    ap (main_places c) (take_more mains i main within ∙ ap (λ m. take i mains ++ m ∷ []) (sym is))
+    ∙ main_places-append c (take i mains) (main ∷ [])
 
 -- two places are appended
-pub push_two : (initial before : List ℤ) (a b : ℤ) → ((initial ++ before) ++ a ∷ []) ++ b ∷ [] ≡ initial ++ (before ++ a ∷ b ∷ [])
-push_two initial before a b = append_assoc (initial ++ before) (a ∷ []) (b ∷ []) ∙ append_assoc initial before (a ∷ b ∷ [])
+pub push_two : (initial before : List ℤ) (a b : ℤ)
+    → ((initial ++ before) ++ a ∷ []) ++ b ∷ [] ≡ initial ++ (before ++ a ∷ b ∷ [])
+push_two initial before a b =
+    append_assoc (initial ++ before) (a ∷ []) (b ∷ []) ∙ append_assoc initial before (a ∷ b ∷ [])
 
 length-main_places : (c : ℤ) (mains : List Main) → length (main_places c mains) ≡ 2 * length mains
 length-main_places c [] = refl
 length-main_places c (m ∷ ms) = omega (arith, length-main_places c ms)
 
-main_places-between : (c : ℤ) (mains : List Main) → IsContribution c → All (λ m. IsTemperature m.level) mains → All IsShifted (main_places c mains)
+main_places-between : (c : ℤ) (mains : List Main) → IsContribution c → All (λ m. IsTemperature m.level) mains
+    → All IsShifted (main_places c mains)
 main_places-between c [] range levels = All-nil IsShifted
 main_places-between c (m ∷ ms) range levels =
     let level = All-head (λ (main : Main). IsTemperature main.level) m ms levels in
     let rest = main_places-between c ms range (All-tail (λ (main : Main). IsTemperature main.level) m ms levels) in
-    let takes : IsShifted (takes_at c m) = omega (arith, ints, level, range) in let gives : IsShifted (gives_at c m) = omega (arith, ints, level, range) in
+    let takes : IsShifted (takes_at c m) = omega (arith, ints, level, range) in
+    let gives : IsShifted (gives_at c m) = omega (arith, ints, level, range) in
     All-cons IsShifted (takes_at c m) (gives_at c m ∷ main_places c ms) takes (All-cons IsShifted (gives_at c m) (main_places c ms) gives rest)
 
 -- a main gives heat at a place
-gives_at-place : (c : ℤ) (mains : List Main) (level : ℤ) → Contains (map (λ m. m.level) mains) level → Contains (main_places c mains) (level -ℤ c)
+gives_at-place : (c : ℤ) (mains : List Main) (level : ℤ) → Contains (map (λ m. m.level) mains) level
+    → Contains (main_places c mains) (level -ℤ c)
 gives_at-place c [] level (k, within, is) = absurd (omega (arith, within))
 gives_at-place c (m ∷ ms) level found =
     ⊎_elim (λ same. Contains-append_right (takes_at c m ∷ []) (gives_at c m ∷ main_places c ms) (level -ℤ c) (0, omega arith, ap (λ t. t -ℤ c) same))
@@ -47,10 +53,12 @@ gives_at-place c (m ∷ ms) level found =
 -- ---- the places of a site
 
 pub site_places-between : (site : Site) → IsValidSite site → All IsShifted (site_places site)
-site_places-between site valid = All-append IsShifted (stream_ends (streams_of site.plants)) (main_places site.contribution site.mains)
+site_places-between site valid =
+    All-append IsShifted (stream_ends (streams_of site.plants)) (main_places site.contribution site.mains)
     (stream_ends-between (streams_of site.plants) valid.streams.each) (main_places-between site.contribution site.mains valid.contribution valid.mains.levels)
 
-pub length-site_places : (site : Site) → length (site_places site) ≡ 2 * length (streams_of site.plants) + 2 * length site.mains
+pub length-site_places : (site : Site)
+    → length (site_places site) ≡ 2 * length (streams_of site.plants) + 2 * length site.mains
 length-site_places site = omega (
   arith,
   length-append (stream_ends (streams_of site.plants)) (main_places site.contribution site.mains),
@@ -66,12 +74,14 @@ lowest_place : (site : Site) → IsValidSite site → Contains (site_places site
 lowest_place site valid = (IsOutermost-outermost Cold (site_places site) (some_place site valid)).member
 
 pub lowest-between : (site : Site) → IsValidSite site → IsShifted (least (site_places site))
-lowest-between site valid = All-contains IsShifted (site_places site) (least (site_places site)) (site_places-between site valid) (lowest_place site valid)
+lowest-between site valid =
+    All-contains IsShifted (site_places site) (least (site_places site)) (site_places-between site valid) (lowest_place site valid)
 
 -- and the boiler stands at one
 boiler_place : (site : Site) → IsValidSite site → Contains (site_places site) (shifted_level (boiler site))
 boiler_place site valid =
-    let levels = map (λ (m : Main). m.level) site.mains in let highest = IsOutermost-outermost Hot levels (rw length-map valid.mains.some) in
+    let levels = map (λ (m : Main). m.level) site.mains in
+    let highest = IsOutermost-outermost Hot levels (rw length-map valid.mains.some) in
     Contains-append_right (stream_ends (streams_of site.plants)) (main_places site.contribution site.mains) (shifted_level (boiler site))
     (gives_at-place site.contribution site.mains (greatest levels) highest.member)
 
@@ -92,7 +102,8 @@ utilities-placed site valid =
 
 -- ---- the grid
 
-pub length-grid : (site : Site) (places : List ℤ) → IsValidSite site → IsSiteGrid site places → length places ≤ MOST_PLACES
+pub length-grid : (site : Site) (places : List ℤ) → IsValidSite site → IsSiteGrid site places
+    → length places ≤ MOST_PLACES
 length-grid site places valid grid = omega (
   arith,
   length-le_falling places (site_places site) grid.ordered grid.each,
@@ -104,14 +115,16 @@ length-grid site places valid grid = omega (
 pub HoldsPlaces-grid : (site : Site) (places : List ℤ) → IsValidSite site → IsSiteGrid site places
     → HoldsPlaces (streams_of site.plants) (site_utilities site) places
 HoldsPlaces-grid site places valid grid =
-    let ends : All (Contains places) (stream_ends (streams_of site.plants)) = λ k d within. grid.every (get_or (stream_ends (streams_of site.plants)) k d)
+    let ends : All (Contains places) (stream_ends (streams_of site.plants))
+    = λ k d within. grid.every (get_or (stream_ends (streams_of site.plants)) k d)
     (Contains-append_left (stream_ends (streams_of site.plants)) (main_places site.contribution site.mains) (get_or (stream_ends (streams_of site.plants)) k d)
     (Contains-get_or (stream_ends (streams_of site.plants)) k d within)) in
     let first = grid.every (shifted_level (boiler site)) (boiler_place site valid) in
     let second = subst (Contains places) (sym (cooling_level site)) (grid.every (least (site_places site)) (lowest_place site valid)) in
     record {
       falls = grid.ordered;
-      holds = All-append (Contains places) (stream_ends (streams_of site.plants)) (map shifted_level (site_utilities site)) ends
+      holds =
+          All-append (Contains places) (stream_ends (streams_of site.plants)) (map shifted_level (site_utilities site)) ends
           (All-cons (Contains places) (shifted_level (boiler site)) (shifted_level (cooling site) ∷ []) first
           (All-cons (Contains places) (shifted_level (cooling site)) [] second (All-nil (Contains places))));
     }

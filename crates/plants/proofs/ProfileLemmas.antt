@@ -16,7 +16,8 @@ length_below-is low high t = omega (arith, ints, clamps)
 
 heat_below-is : (t : ℤ) (s : Stream) → IsSensible s → heat_below t s ≡ heat_of s -ℤ heat_above t s
 heat_below-is t s h =
-    ap (λ l. s.cp *ℤ l) (length_below-is (low_end s) (high_end s) t) ∙ *ℤ--ℤ s.cp (high_end s -ℤ low_end s) (length_above (low_end s) (high_end s) t)
+    ap (λ l. s.cp *ℤ l) (length_below-is (low_end s) (high_end s) t)
+    ∙ *ℤ--ℤ s.cp (high_end s -ℤ low_end s) (length_above (low_end s) (high_end s) t)
     ∙ sym (ap₂ ◌-ℤ◌ (heat_of-sensible s h) (heat_over-sensible false t s h))
 
 -- the heat of a side below t
@@ -26,10 +27,12 @@ side_below side t streams h =
     let all = λ (s : Stream). if same_side s.side side then heat_of s else pos 0 in
     let above = λ (s : Stream). if same_side s.side side then heat_above t s else pos 0 in
     int_sum_by-same (λ s. if same_side s.side side then heat_below t s else pos 0) (λ s. all s -ℤ above s) streams
-    (λ k d within. term (same_side (get_or streams k d).side side) (get_or streams k d) (h k d within)) ∙ int_sum_by-sub all above streams
+    (λ k d within. term (same_side (get_or streams k d).side side) (get_or streams k d) (h k d within))
+    ∙ int_sum_by-sub all above streams
   where
     term : (b : Bool) (s : Stream) → IsSensible s
-        → (if b then heat_below t s else pos 0) ≡ (if b then heat_of s else pos 0) -ℤ (if b then heat_above t s else pos 0)
+        → (if b then heat_below t s else pos 0)
+        ≡ (if b then heat_of s else pos 0) -ℤ (if b then heat_above t s else pos 0)
     term true s sensible = heat_below-is t s sensible
     term false s sensible = refl
 
@@ -41,7 +44,9 @@ surplus_below-is t streams h =
     let below = All-weaker IsValidStream (λ s. least <ℤ low_end s)
     (λ s valid. let ends = AreEnds-IsValidStream s valid in omega (arith, ints, ends)) streams h.are_streams.each in
     let lowest = deficit_above-lowest least streams h.are_streams.each below in
-    let hot = side_below Hot t streams h.sensible in let cold = side_below Cold t streams h.sensible in omega (arith, ints)
+    let hot = side_below Hot t streams h.sensible in
+    let cold = side_below Cold t streams h.sensible in
+    omega (arith, ints)
 
 -- ---- the greatest excess
 
@@ -56,7 +61,8 @@ module _ (direction : Direction) (t : ℤ) (streams : List Stream) where
       by : (b : Bool) → fold (raised direction t streams) (if b then int_max so_far (excess direction streams place) else so_far) places
           ≡ fold int_max (if b then int_max so_far (excess direction streams place) else so_far)
           (map (excess direction streams) (filter (is_beyond direction t) places))
-          → fold (raised direction t streams) (if b then int_max so_far (excess direction streams place) else so_far) places ≡ fold int_max so_far
+          → fold (raised direction t streams) (if b then int_max so_far (excess direction streams place) else so_far) places
+          ≡ fold int_max so_far
           (map (excess direction streams) (cond b (place ∷ filter (is_beyond direction t) places) (filter (is_beyond direction t) places)))
       by true rest = rest
       by false rest = rest
@@ -67,10 +73,12 @@ module _ (direction : Direction) (t : ℤ) (streams : List Stream) where
       ≡ raised direction t streams (raised direction t streams (fold (raised direction t streams) so_far (stream_ends (take i others))) (high_end s))
       (low_end s)
   raised-ends so_far others i s within is = let look = raised direction t streams in
-      ap (fold look so_far) (stream_ends-more others i s within is) ∙ fold-append look so_far (stream_ends (take i others)) (high_end s ∷ low_end s ∷ [])
+      ap (fold look so_far) (stream_ends-more others i s within is)
+      ∙ fold-append look so_far (stream_ends (take i others)) (high_end s ∷ low_end s ∷ [])
 
   -- a plant more, and a main more
-  pub raised-plants : (so_far : ℤ) (plants : List Plant) (i : ℕ) (plant : Plant) → i < length plants → plant ≡ get_or plants i plant
+  pub raised-plants : (so_far : ℤ) (plants : List Plant) (i : ℕ) (plant : Plant) → i < length plants
+      → plant ≡ get_or plants i plant
       → fold (raised direction t streams) so_far (stream_ends (streams_of (take (i + 1) plants)))
       ≡ fold (raised direction t streams) (fold (raised direction t streams) so_far (stream_ends (streams_of (take i plants)))) (stream_ends plant.streams)
   raised-plants so_far plants i plant within is =
@@ -78,7 +86,8 @@ module _ (direction : Direction) (t : ℤ) (streams : List Stream) where
       ap (fold look so_far) (ends_of-more plants i plant within is)
       ∙ fold-append look so_far (stream_ends (streams_of (take i plants))) (stream_ends plant.streams)
 
-  pub raised-mains : (so_far contribution : ℤ) (mains : List Main) (i : ℕ) (main : Main) → i < length mains → main ≡ get_or mains i main
+  pub raised-mains : (so_far contribution : ℤ) (mains : List Main) (i : ℕ) (main : Main) → i < length mains
+      → main ≡ get_or mains i main
       → fold (raised direction t streams) so_far (main_places contribution (take (i + 1) mains))
       ≡ raised direction t streams
       (raised direction t streams (fold (raised direction t streams) so_far (main_places contribution (take i mains))) (takes_at contribution main))
@@ -101,10 +110,14 @@ plant_profile-is direction t site plant =
 
 -- looked at one after the other, as the code has them
 pub plant_profile-from : (direction : Direction) (t at : ℤ) (site : Site) (plant : Plant) (streams : List Stream) (plants : List Plant) (mains : List Main)
-    (contribution at_t at_ends all : ℤ) → at ≡ t → streams ≡ plant.streams → plants ≡ site.plants → mains ≡ site.mains → contribution ≡ site.contribution
-    → at_t ≡ raised direction at streams (pos 0) at → at_ends ≡ fold (raised direction at streams) at_t (stream_ends (streams_of plants))
-    → all ≡ fold (raised direction at streams) at_ends (main_places contribution mains) → all ≡ plant_profile direction (site_places site) t plant
+    (contribution at_t at_ends all : ℤ) → at ≡ t → streams ≡ plant.streams → plants ≡ site.plants
+    → mains ≡ site.mains → contribution ≡ site.contribution
+    → at_t ≡ raised direction at streams (pos 0) at
+    → at_ends ≡ fold (raised direction at streams) at_t (stream_ends (streams_of plants))
+    → all ≡ fold (raised direction at streams) at_ends (main_places contribution mains)
+    → all ≡ plant_profile direction (site_places site) t plant
 plant_profile-from direction t at site plant streams plants mains contribution at_t at_ends all et es ep em ec first second third =
     let full_t = first ∙ (λ i. raised direction (et i) (es i) (pos 0) (et i)) in
     let full_ends = second ∙ (λ i. fold (raised direction (et i) (es i)) (full_t i) (stream_ends (streams_of (ep i)))) in
-    third ∙ (λ i. fold (raised direction (et i) (es i)) (full_ends i) (main_places (ec i) (em i))) ∙ sym (plant_profile-is direction t site plant)
+    third ∙ (λ i. fold (raised direction (et i) (es i)) (full_ends i) (main_places (ec i) (em i)))
+    ∙ sym (plant_profile-is direction t site plant)

@@ -33,7 +33,8 @@ decimal_plain : (n : ℕ) → n < 2 ^ 64 → IsPlain (decimal n)
 decimal_plain n small =
     let numeral = decimal_is_IsNumeral n small in
     list_any_none (needs_byte default_writer) (decimal n) (λ k d within.
-    let digit = digit_at (decimal n) k numeral.0.1 within in digit_plain (get_or (decimal n) k d) (rw (get_or_default (decimal n) k d 0 within) digit.0))
+    let digit = digit_at (decimal n) k numeral.0.1 within in
+    digit_plain (get_or (decimal n) k d) (rw (get_or_default (decimal n) k d 0 within) digit.0))
 
 pub number_plain : (z : ℤ) → IsPrintable z → IsPlain (signed_decimal z)
 number_plain (pos n) small = decimal_plain n (omega (arith, ints, small.upto))
@@ -46,7 +47,8 @@ pub record IsPlainRow (row : Row) : Type 0 where
   pub long : 1 < length row
   pub each : All IsPlain row
 
-fields_same : (fields : Row) → All IsPlain fields → fields_text fields ≡ csv.fields_text default_writer fields ++ 10 ∷ []
+fields_same : (fields : Row) → All IsPlain fields
+    → fields_text fields ≡ csv.fields_text default_writer fields ++ 10 ∷ []
 unfolding fields_text csv.fields_text
 fields_same [] plain = refl
 fields_same (f ∷ fs) plain =
@@ -68,19 +70,23 @@ row_read : (row : Row) (tail : List ℕ) → IsPlainRow row
 row_read [] tail plain = absurd (omega (arith, plain.long))
 row_read (x ∷ []) tail plain = absurd (omega (arith, plain.long))
 row_read (x ∷ y ∷ ys) tail plain =
-    ap (λ t. next_record default_config st.StartRecord [] [] (t ++ tail)) (row_same (x ∷ y ∷ ys) plain) ∙ read-write-many x y ys tail
+    ap (λ t. next_record default_config st.StartRecord [] [] (t ++ tail)) (row_same (x ∷ y ∷ ys) plain)
+    ∙ read-write-many x y ys tail
 
 -- a line has a byte at least
 rows_long : (rows : List Row) → All IsPlainRow rows → length rows ≤ length (rows_text rows)
 rows_long [] plain = omega arith
-rows_long (row ∷ rows) plain = let ends = ap length (row_same row (All-head IsPlainRow row rows plain)) in
+rows_long (row ∷ rows) plain =
+    let ends = ap length (row_same row (All-head IsPlainRow row rows plain)) in
     omega (arith, rows_long rows (All-tail IsPlainRow row rows plain), length-append {A = ℕ}, ends)
 
-rows_read : (rows : List Row) (n : ℕ) → All IsPlainRow rows → length rows < n → records_from default_config n st.StartRecord (rows_text rows) ≡ rows
+rows_read : (rows : List Row) (n : ℕ) → All IsPlainRow rows → length rows < n
+    → records_from default_config n st.StartRecord (rows_text rows) ≡ rows
 unfolding records_from next_record
 rows_read rows zero plain enough = absurd (omega (arith, enough))
 rows_read [] (suc n) plain enough = refl
-rows_read (row ∷ rows) (suc n) plain enough = let rest = rows_read rows n (All-tail IsPlainRow row rows plain) (omega (arith, enough)) in
+rows_read (row ∷ rows) (suc n) plain enough =
+    let rest = rows_read rows n (All-tail IsPlainRow row rows plain) (omega (arith, enough)) in
     rw (row_read row (rows_text rows) (All-head IsPlainRow row rows plain)) (ap (λ r. row ∷ r) rest)
 
 no_mark : (text : List ℕ) → strip_bom (99 ∷ text) ≡ 99 ∷ text
@@ -90,7 +96,8 @@ no_mark (a ∷ []) = refl
 no_mark (a ∷ b ∷ text) = refl
 
 -- lines of plain rows, of which the first begins with `c` (99), no byte order mark, are read as those rows
-pub rows_same : (rows : List Row) (text : List ℕ) → All IsPlainRow rows → rows_text rows ≡ 99 ∷ text → rows_of (rows_text rows) ≡ rows
+pub rows_same : (rows : List Row) (text : List ℕ) → All IsPlainRow rows → rows_text rows ≡ 99 ∷ text
+    → rows_of (rows_text rows) ≡ rows
 unfolding rows_of
 rows_same rows text plain starts =
     let same : strip_bom (rows_text rows) ≡ rows_text rows = ap strip_bom starts ∙ no_mark text ∙ sym starts in

@@ -21,7 +21,9 @@ flow_rate z range = record { from = omega (arith, ints, range.from); upto = omeg
 
 -- that of a stream, which is 0 where it is latent
 pub stream_flow_rate : (s : Stream) → IsValidStream s → IsPrintable s.cp
-stream_flow_rate s valid = let range = cp-between s valid in record { from = omega (arith, ints, range.from); upto = omega (arith, ints, range.upto) }
+stream_flow_rate s valid =
+    let range = cp-between s valid in
+    record { from = omega (arith, ints, range.from); upto = omega (arith, ints, range.upto) }
 
 pub load : (z : ℤ) → IsLoad z → IsPrintable z
 load z range = record { from = omega (arith, ints, range.from); upto = omega (arith, ints, range.upto) }
@@ -35,16 +37,20 @@ price z range = record { from = omega (arith, ints, range.from); upto = omega (a
 pub number_short : (z : ℤ) → IsPrintable z → length (signed_decimal z) ≤ MOST_DIGITS + 1
 number_short (pos n) small = let least : n < 10 ^ MOST_DIGITS = omega (arith, ints, small.upto) in
     omega (arith, length-decimal-le MOST_DIGITS n (omega arith) least (omega (arith, least)))
-number_short (negsuc n) small = let least : suc n < 10 ^ MOST_DIGITS = omega (arith, ints, small.from) in
+number_short (negsuc n) small =
+    let least : suc n < 10 ^ MOST_DIGITS = omega (arith, ints, small.from) in
     omega (arith, length-decimal-le MOST_DIGITS (suc n) (omega arith) least (omega (arith, least)))
 
 pub number_read : (z : ℤ) → IsPrintable z → number_in (signed_decimal z) ≡ Some z
 unfolding number_in
 number_read (pos n) small =
-    let least : n < 10 ^ MOST_DIGITS = omega (arith, ints, small.upto) in let numeral = decimal_is_IsNumeral n (omega (arith, least)) in
-    let digit = digit_at (decimal n) 0 numeral.0.1 numeral.0.0 in let plain : (get_or (decimal n) 0 0 == 45) ≡ false = grind (arith, nat_tests, digit) in
+    let least : n < 10 ^ MOST_DIGITS = omega (arith, ints, small.upto) in
+    let numeral = decimal_is_IsNumeral n (omega (arith, least)) in
+    let digit = digit_at (decimal n) 0 numeral.0.1 numeral.0.0 in
+    let plain : (get_or (decimal n) 0 0 == 45) ≡ false = grind (arith, nat_tests, digit) in
     rw plain (ap (option_map pos) (natural_read MOST_DIGITS n (omega arith) least (omega (arith, least))))
-number_read (negsuc n) small = let least : suc n < 10 ^ MOST_DIGITS = omega (arith, ints, small.from) in
+number_read (negsuc n) small =
+    let least : suc n < 10 ^ MOST_DIGITS = omega (arith, ints, small.from) in
     ap (option_map negative) (natural_read MOST_DIGITS (suc n) (omega arith) least (omega (arith, least)))
 
 number_long : (text : List ℕ) (z : ℤ) → number_in text ≡ Some z → (length text == 0) ≡ false
@@ -57,4 +63,5 @@ pub optional_read : (row : Row) (index : ℕ) (o : Option ℤ) → IfSome o IsPr
     → (is_number_or_empty row index ≡ true) × (optional_number row index ≡ o)
 unfolding is_number_or_empty is_number optional_number number
 optional_read row index None small printed = rw printed (refl, refl)
-optional_read row index (Some z) small printed = rw (printed, number_long (signed_decimal z) z (number_read z small), number_read z small) (refl, refl)
+optional_read row index (Some z) small printed =
+    rw (printed, number_long (signed_decimal z) z (number_read z small), number_read z small) (refl, refl)

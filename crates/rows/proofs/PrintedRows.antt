@@ -16,7 +16,8 @@ pub record IsPrintedRow (row : Row) : Type 0 where
   pub seven : length row ≡ 7
   pub each : All IsPrintedField row
 
-pub seven_fields : (a b c d e f g : List ℕ) → IsPrintedField a → IsPrintedField b → IsPrintedField c → IsPrintedField d → IsPrintedField e → IsPrintedField f
+pub seven_fields : (a b c d e f g : List ℕ) → IsPrintedField a → IsPrintedField b → IsPrintedField c
+    → IsPrintedField d → IsPrintedField e → IsPrintedField f
     → IsPrintedField g → IsPrintedRow (a ∷ b ∷ c ∷ d ∷ e ∷ f ∷ g ∷ [])
 seven_fields a b c d e f g pa pb pc pd pe pf pg =
     record { seven = refl; each = All-from_recursion IsPrintedField (a ∷ b ∷ c ∷ d ∷ e ∷ f ∷ g ∷ []) (pa, (pb, (pc, (pd, (pe, (pf, (pg, tt))))))) }
@@ -43,23 +44,29 @@ stream_kind_field side.Cold = record { plain = refl; short = omega arith }
 -- ---- the rows
 
 pub contribution_printed : (c : ℤ) → IsContribution c → IsPrintedRow (contribution_row c)
-contribution_printed c range = let kind : IsPrintedField (codes "contribution") = record { plain = refl; short = omega arith } in
+contribution_printed c range =
+    let kind : IsPrintedField (codes "contribution") = record { plain = refl; short = omega arith } in
     seven_fields _ _ _ _ _ _ _ kind no_field (number_field c (contribution c range)) no_field no_field no_field no_field
 
-pub stream_printed : (load last : List ℕ) → IsPrintedField load → IsPrintedField last → (s : Stream) → IsValidStream s → IsPrintedRow (stream_row load last s)
+pub stream_printed : (load last : List ℕ) → IsPrintedField load → IsPrintedField last → (s : Stream)
+    → IsValidStream s → IsPrintedRow (stream_row load last s)
 stream_printed load last load_printed printed s valid =
-    let supply = number_field s.supply (temperature s.supply valid.supply) in let target = number_field s.target (temperature s.target valid.target) in
+    let supply = number_field s.supply (temperature s.supply valid.supply) in
+    let target = number_field s.target (temperature s.target valid.target) in
     let cp = number_field s.cp (stream_flow_rate s valid) in
     seven_fields _ _ _ _ _ _ _ (stream_kind_field s.side) (name_field s.name valid.name) supply target cp load_printed printed
 
 -- ---- the text
 
 plain_row : (row : Row) → IsPrintedRow row → IsPlainRow row
-plain_row row printed = record { long = omega (arith, printed.seven); each = All-weaker IsPrintedField IsPlain (λ f field. field.plain) row printed.each }
+plain_row row printed =
+    record { long = omega (arith, printed.seven); each = All-weaker IsPrintedField IsPlain (λ f field. field.plain) row printed.each }
 
 -- the text of printed rows, of which the first begins with `c` (99), no byte order mark, is read as those rows
-pub rows_back : (rows : List Row) (text : List ℕ) → All IsPrintedRow rows → rows_text rows ≡ 99 ∷ text → rows_of (rows_text rows) ≡ rows
-rows_back rows text printed starts = rows_same rows text (All-weaker IsPrintedRow IsPlainRow plain_row rows printed) starts
+pub rows_back : (rows : List Row) (text : List ℕ) → All IsPrintedRow rows → rows_text rows ≡ 99 ∷ text
+    → rows_of (rows_text rows) ≡ rows
+rows_back rows text printed starts =
+    rows_same rows text (All-weaker IsPrintedRow IsPlainRow plain_row rows printed) starts
 
 fields_short : (fields : Row) → All IsPrintedField fields → length (fields_text fields) ≤ 17 * length fields + 1
 unfolding fields_text
@@ -74,5 +81,6 @@ row_short (f ∷ fs) printed = let here = All-head IsPrintedField f fs printed.e
 
 -- a line of seven fields has at most 119 bytes
 pub rows_short : (rows : List Row) → All IsPrintedRow rows → length (rows_text rows) ≤ 119 * length rows
-rows_short rows printed = let each = All-weaker IsPrintedRow (λ row. length (row_text row) ≤ 119) row_short rows printed in
+rows_short rows printed =
+    let each = All-weaker IsPrintedRow (λ row. length (row_text row) ≤ 119) row_short rows printed in
     omega (arith, length-flat_map row_text rows, sum_by-le (λ row. length (row_text row)) 119 rows each)

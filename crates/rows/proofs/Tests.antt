@@ -9,7 +9,8 @@ Decides-int_le a b = (λ e. grind (arith, ints, e), λ h. grind (arith, ints, h)
 
 pub Decides-is_within : (low high n : ℤ) → Decides (is_within low high n) (IsBetween low high n)
 unfolding is_within
-Decides-is_within low high n = Decides-like _ (λ (from, upto). record { from = from; upto = upto }) (λ h. (h.from, h.upto))
+Decides-is_within low high n =
+    Decides-like _ (λ (from, upto). record { from = from; upto = upto }) (λ h. (h.from, h.upto))
     (Decides-and _ _ (Decides-int_le low n) (Decides-int_le n high))
 
 pub passed-within : (low high n : ℤ) → is_within low high n ≡ true → IsBetween low high n
@@ -39,5 +40,6 @@ Decides-neither text a b =
 -- no item passes
 pub Decides-none : {X : Type 0} (p : X → Bool) (P : X → Type 0) → ((x : X) → Decides (p x) (P x)) → (xs : List X)
     → Decides (not (list_any p xs)) (All (λ x. ¬ (P x)) xs)
-Decides-none p P each xs = Decides-by_and (λ x. not (p x)) (λ x. ¬ (P x)) (λ ys. not (list_any p ys)) (λ x. Decides-not (p x) (each x)) refl
+Decides-none p P each xs =
+    Decides-by_and (λ x. not (p x)) (λ x. ¬ (P x)) (λ ys. not (list_any p ys)) (λ x. Decides-not (p x) (each x)) refl
     (λ x ys. elim (p x) as (λ b. not (b || list_any p ys) ≡ (not b && not (list_any p ys))) [ true ↦ refl | false ↦ refl ]) xs

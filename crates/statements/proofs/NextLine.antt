@@ -8,15 +8,19 @@ unfolding statements_of
 next-line text line rest cut = ap (λ l. filter is_statement (map fields_of l)) cut
 
 -- the next line is passed over
-pub passed_over : (text line rest : List ℕ) {s : Statement} → lines text ≡ line ∷ lines rest → s ≡ fields_of line → not (is_statement s) ≡ true
+pub passed_over : (text line rest : List ℕ) {s : Statement} → lines text ≡ line ∷ lines rest
+    → s ≡ fields_of line → not (is_statement s) ≡ true
     → statements_of text ≡ statements_of rest
 passed_over text line rest {s} cut is over =
-    let none = not-true (is_statement (fields_of line)) (ap (λ f. not (is_statement f)) (sym is) ∙ over) in next-line text line rest cut ∙ rw none refl
+    let none = not-true (is_statement (fields_of line)) (ap (λ f. not (is_statement f)) (sym is) ∙ over) in
+    next-line text line rest cut ∙ rw none refl
 
 -- or a statement
-pub statement_next : (text line rest : List ℕ) {s : Statement} → lines text ≡ line ∷ lines rest → s ≡ fields_of line → not (is_statement s) ≡ false
+pub statement_next : (text line rest : List ℕ) {s : Statement} → lines text ≡ line ∷ lines rest
+    → s ≡ fields_of line → not (is_statement s) ≡ false
     → statements_of text ≡ s ∷ statements_of rest
-statement_next text line rest {s} cut is counts = let some = not-false (is_statement (fields_of line)) (ap (λ f. not (is_statement f)) (sym is) ∙ counts) in
+statement_next text line rest {s} cut is counts =
+    let some = not-false (is_statement (fields_of line)) (ap (λ f. not (is_statement f)) (sym is) ∙ counts) in
     next-line text line rest cut ∙ rw some (ap (λ f. f ∷ statements_of rest) (sym is))
 
 -- no line is left

@@ -16,7 +16,9 @@ abbrev IsDigit : ℕ → Type 0
 IsDigit b = (48 ≤ b) × (b < 58)
 
 decimal_digits : (n : ℕ) → n < 10 ^ 64 → All IsDigit (decimal n)
-decimal_digits n small k d within = let numeral = decimal_is_IsNumeral_wide n small in let digit = digit_at (decimal n) k numeral.0.1 within in
+decimal_digits n small k d within =
+    let numeral = decimal_is_IsNumeral_wide n small in
+    let digit = digit_at (decimal n) k numeral.0.1 within in
     subst IsDigit (get_or_default (decimal n) k 0 d within) (digit.0, omega (arith, digit))
 
 pub decimal_some : (n : ℕ) → n < 10 ^ 64 → 0 < length (decimal n)
@@ -27,14 +29,16 @@ abbrev pub IsNumberByte : ℕ → Type 0
 IsNumberByte b = (45 ≤ b) × (b ≢ 47)
 
 pub decimal_bytes : (n : ℕ) → n < 10 ^ 64 → All IsNumberByte (decimal n)
-decimal_bytes n small = All-weaker IsDigit IsNumberByte (λ b digit. (omega (arith, digit), λ e. omega (arith, e, digit))) (decimal n) (decimal_digits n small)
+decimal_bytes n small =
+    All-weaker IsDigit IsNumberByte (λ b digit. (omega (arith, digit), λ e. omega (arith, e, digit))) (decimal n) (decimal_digits n small)
 
 sign_byte : IsNumberByte 45
 sign_byte = (omega arith, λ e. omega (arith, e))
 
 pub signed_bytes : (z : ℤ) → unsigned_abs z < 10 ^ 64 → All IsNumberByte (signed_decimal z)
 signed_bytes (pos n) short = decimal_bytes n (omega (arith, short))
-signed_bytes (negsuc n) short = All-cons IsNumberByte 45 (decimal (suc n)) sign_byte (decimal_bytes (suc n) (omega (arith, short)))
+signed_bytes (negsuc n) short =
+    All-cons IsNumberByte 45 (decimal (suc n)) sign_byte (decimal_bytes (suc n) (omega (arith, short)))
 
 pub signed_some : (z : ℤ) → unsigned_abs z < 10 ^ 64 → 0 < length (signed_decimal z)
 signed_some (pos n) short = decimal_some n (omega (arith, short))
@@ -44,14 +48,17 @@ pub bytes_visible : (text : List ℕ) → All IsNumberByte text → All IsVisibl
 bytes_visible text bytes = All-weaker IsNumberByte IsVisible (λ b byte. omega (arith, byte.0)) text bytes
 
 pub number_plain : (z : ℤ) → unsigned_abs z < 10 ^ 64 → IsPlainField (signed_decimal z)
-number_plain z short = record { some = signed_some z short; visible = bytes_visible (signed_decimal z) (signed_bytes z short) }
+number_plain z short =
+    record { some = signed_some z short; visible = bytes_visible (signed_decimal z) (signed_bytes z short) }
 
 -- ---- read back
 
-pub number-back : (most : ℕ) (z : ℤ) → 0 < most → unsigned_abs z < 10 ^ most → unsigned_abs z < 10 ^ 64 → number_in most (signed_decimal z) ≡ Some z
+pub number-back : (most : ℕ) (z : ℤ) → 0 < most → unsigned_abs z < 10 ^ most → unsigned_abs z < 10 ^ 64
+    → number_in most (signed_decimal z) ≡ Some z
 unfolding number_in
 number-back most (pos n) some small short =
     let digit = decimal_digits n (omega (arith, short)) 0 0 (decimal_some n (omega (arith, short))) in
     let plain : (get_or (decimal n) 0 0 == 45) ≡ false = grind (arith, nat_tests, digit) in
     rw plain (ap (option_map pos) (natural_read most n some (omega (arith, small)) (omega (arith, short))))
-number-back most (negsuc n) some small short = ap (option_map negative) (natural_read most (suc n) some (omega (arith, small)) (omega (arith, short)))
+number-back most (negsuc n) some small short =
+    ap (option_map negative) (natural_read most (suc n) some (omega (arith, small)) (omega (arith, short)))

@@ -19,14 +19,19 @@ length-names_of c = simp (length-append, length-map)
 pub count_on-add : (streams : List Stream) → count_on Hot streams + count_on Cold streams ≡ length streams
 count_on-add [] = refl
 count_on-add (s ∷ ss) =
-    let one = λ (side : Side). sum_by-cons (λ (x : Stream). cond (same_side x.side side) 1 0) s ss in let hot = one Hot in let cold = one Cold in
-    let rest = count_on-add ss in let sides = one_side s.side in omega arith
+    let one = λ (side : Side). sum_by-cons (λ (x : Stream). cond (same_side x.side side) 1 0) s ss in
+    let hot = one Hot in
+    let cold = one Cold in
+    let rest = count_on-add ss in
+    let sides = one_side s.side in
+    omega arith
   where
     one_side : (side : Side) → cond (same_side side Hot) 1 0 + cond (same_side side Cold) 1 0 ≡ 1
     one_side Hot = refl
     one_side Cold = refl
 
-pub count_on-append : (side : Side) (xs ys : List Stream) → count_on side (xs ++ ys) ≡ count_on side xs + count_on side ys
+pub count_on-append : (side : Side) (xs ys : List Stream)
+    → count_on side (xs ++ ys) ≡ count_on side xs + count_on side ys
 count_on-append side xs ys = sum_by-append (λ (s : Stream). cond (same_side s.side side) 1 0) xs ys
 
 pub length-AreStreams : (streams : List Stream) → AreStreams streams → length streams ≤ ALL_STREAMS
@@ -47,11 +52,14 @@ IsSourceOf-side c (of_utility i) some = within_map (λ u. u.side) c.utilities i 
 -- a source of the other side is not the utility
 pub other_source : (c : Case) (source : Source) (side : Side) (index : ℕ) (u : Utility) → side_of c source ≡ Some side
     → slice_get c.utilities index ≡ Some u → u.side ≢ side → same_source source (of_utility index) ≡ false
-other_source c source side index u side_is here other = false_from_ne_true (same_source source (of_utility index)) (λ holds.
-    let own = ap (side_of c) (same_source-true source (of_utility index) holds) ∙ ap (option_map (λ (v : Utility). v.side)) here in
+other_source c source side index u side_is here other =
+    false_from_ne_true (same_source source (of_utility index)) (λ holds.
+    let own = ap (side_of c) (same_source-true source (of_utility index) holds)
+    ∙ ap (option_map (λ (v : Utility). v.side)) here in
     other (same_Some u.side side (sym own ∙ side_is)))
 
-name_at : {X : Type 0} (name : X → List ℕ) (xs : List X) (i : ℕ) → option_map_or name (slice_get xs i) [] ≡ get_or (map name xs) i []
+name_at : {X : Type 0} (name : X → List ℕ) (xs : List X) (i : ℕ)
+    → option_map_or name (slice_get xs i) [] ≡ get_or (map name xs) i []
 name_at name [] i = refl
 name_at name (x ∷ xs) zero = refl
 name_at name (x ∷ xs) (suc i) = name_at name xs i
@@ -66,7 +74,8 @@ abbrev Differ : List ℕ → List ℕ → Type 0
 Differ a b = a ≢ b
 
 -- what is named is found by its name, where the names differ
-pub source_named-source_name : (c : Case) → AllPairs (λ a b. a ≢ b) (names_of c) → (source : Source) → IsSourceOf c source
+pub source_named-source_name : (c : Case) → AllPairs (λ a b. a ≢ b) (names_of c) → (source : Source)
+    → IsSourceOf c source
     → source_named c (source_name c source) ≡ Some source
 unfolding source_named
 source_named-source_name c distinct (of_stream i) within =
@@ -75,7 +84,8 @@ source_named-source_name c distinct (of_stream i) within =
     place_of names i (AllPairs-front Differ names (utility_names c) distinct) (omega (arith, within, length-map c.streams (λ (s : Stream). s.name))) in
     rw (name_at (λ (s : Stream). s.name) c.streams i) (rw (position-map (bytes_eq (get_or names i [])) (λ (s : Stream). s.name) c.streams ∙ place) refl)
 source_named-source_name c distinct (of_utility i) within =
-    let names = utility_names c in let name = get_or names i [] in
+    let names = utility_names c in
+    let name = get_or names i [] in
     let inside : i < length names = omega (arith, within, length-map c.utilities (λ (u : Utility). u.name)) in
     let place = place_of names i (AllPairs-back Differ (stream_names c) names distinct) inside in
     let nowhere = no_place_of (stream_names c) name (λ k d early. AllPairs-across Differ (stream_names c) names k d distinct early i [] inside) in
@@ -84,12 +94,17 @@ source_named-source_name c distinct (of_utility i) within =
       position-map (bytes_eq name) (λ (u : Utility). u.name) c.utilities ∙ place,
     ) refl)
 
-pub IsName-source_name : (c : Case) → All IsName (names_of c) → (source : Source) → IsSourceOf c source → IsName (source_name c source)
+pub IsName-source_name : (c : Case) → All IsName (names_of c) → (source : Source) → IsSourceOf c source
+    → IsName (source_name c source)
 IsName-source_name c each (of_stream i) within =
-    let long = length-map c.streams (λ (s : Stream). s.name) in let whole = length-names_of c in
-    let is = name_at (λ (s : Stream). s.name) c.streams i ∙ sym (get_or_append_left (stream_names c) (utility_names c) [] i (omega (arith, within, long))) in
+    let long = length-map c.streams (λ (s : Stream). s.name) in
+    let whole = length-names_of c in
+    let is = name_at (λ (s : Stream). s.name) c.streams i
+    ∙ sym (get_or_append_left (stream_names c) (utility_names c) [] i (omega (arith, within, long))) in
     subst IsName (sym is) (each i [] (omega (arith, within, whole)))
 IsName-source_name c each (of_utility i) within =
-    let long = length-map c.streams (λ (s : Stream). s.name) in let whole = length-names_of c in
-    let is = name_at (λ (u : Utility). u.name) c.utilities i ∙ sym (get_or-append-add (stream_names c) (utility_names c) i []) in
+    let long = length-map c.streams (λ (s : Stream). s.name) in
+    let whole = length-names_of c in
+    let is = name_at (λ (u : Utility). u.name) c.utilities i
+    ∙ sym (get_or-append-add (stream_names c) (utility_names c) i []) in
     subst IsName (sym is) (each (length (stream_names c) + i) [] (omega (arith, within, whole, long)))

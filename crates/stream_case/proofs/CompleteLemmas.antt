@@ -33,7 +33,8 @@ pub record StaysValid (c : Case) : Type 0 where
 
 -- ---- the utilities
 
-IsShifted-shifted : (side : Side) (level contribution : ℤ) → IsTemperature level → IsContribution contribution → IsShifted (shifted side level contribution)
+IsShifted-shifted : (side : Side) (level contribution : ℤ) → IsTemperature level
+    → IsContribution contribution → IsShifted (shifted side level contribution)
 IsShifted-shifted Hot level contribution l c = omega (arith, ints)
 IsShifted-shifted Cold level contribution l c = omega (arith, ints)
 
@@ -42,35 +43,45 @@ IsUtility-IsValidUtility u h =
     let level = h.level in record {
       name = h.name;
       level = omega (arith, ints);
-      placed = record { level = IsShifted-shifted u.side u.level u.contribution h.level h.contribution; least = h.least; most = h.most; price = h.price };
+      placed =
+          record { level = IsShifted-shifted u.side u.level u.contribution h.level h.contribution; least = h.least; most = h.most; price = h.price };
       contribution = h.contribution;
     }
 
 IsName-standard : (side : Side) (c : Case) → IsName (standard_utility side c).name
-IsName-standard Hot c = (refl, All-from_recursion (λ x. IsTrue (is_name_byte x)) (codes "OT") (refl, (refl, tt)), lit≤ tt)
-IsName-standard Cold c = (refl, All-from_recursion (λ x. IsTrue (is_name_byte x)) (codes "OLD") (refl, (refl, (refl, tt))), lit≤ tt)
+IsName-standard Hot c =
+    (refl, All-from_recursion (λ x. IsTrue (is_name_byte x)) (codes "OT") (refl, (refl, tt)), lit≤ tt)
+IsName-standard Cold c =
+    (refl, All-from_recursion (λ x. IsTrue (is_name_byte x)) (codes "OLD") (refl, (refl, (refl, tt))), lit≤ tt)
 
-pub shifted_level-standard : (side : Side) (c : Case) → shifted_level (standard_utility side c) ≡ outermost side (stream_ends c.streams)
+pub shifted_level-standard : (side : Side) (c : Case)
+    → shifted_level (standard_utility side c) ≡ outermost side (stream_ends c.streams)
 shifted_level-standard Hot c = omega (arith, ints)
 shifted_level-standard Cold c = omega (arith, ints)
 
 -- the standard utilities of valid streams
-IsUtility-standard : (side : Side) (c : Case) → All IsValidStream c.streams → IsContribution c.contribution → IsUtility (standard_utility side c)
+IsUtility-standard : (side : Side) (c : Case) → All IsValidStream c.streams → IsContribution c.contribution
+    → IsUtility (standard_utility side c)
 IsUtility-standard side c each own =
-    let end = outermost-between side c.streams each in let placed = subst IsShifted (sym (shifted_level-standard side c)) end in by side end placed
+    let end = outermost-between side c.streams each in
+    let placed = subst IsShifted (sym (shifted_level-standard side c)) end in
+    by side end placed
   where
-    by : (side : Side) → IsShifted (outermost side (stream_ends c.streams)) → IsShifted (shifted_level (standard_utility side c))
+    by : (side : Side) → IsShifted (outermost side (stream_ends c.streams))
+        → IsShifted (shifted_level (standard_utility side c))
         → IsUtility (standard_utility side c)
     by Hot end placed = record {
       name = IsName-standard Hot c;
       level = omega (arith, ints);
-      placed = record { level = placed; least = omega (arith, ints); most = omega (arith, ints); price = omega (arith, ints) };
+      placed =
+          record { level = placed; least = omega (arith, ints); most = omega (arith, ints); price = omega (arith, ints) };
       contribution = own;
     }
     by Cold end placed = record {
       name = IsName-standard Cold c;
       level = omega (arith, ints);
-      placed = record { level = placed; least = omega (arith, ints); most = omega (arith, ints); price = omega (arith, ints) };
+      placed =
+          record { level = placed; least = omega (arith, ints); most = omega (arith, ints); price = omega (arith, ints) };
       contribution = own;
     }
 
@@ -88,7 +99,8 @@ none_on side us absent k d within same =
 -- a case with no utility on either side has none
 none_at_all : (us : List Utility) → has_utility Hot us ≡ false → has_utility Cold us ≡ false → us ≡ []
 none_at_all [] hot cold = refl
-none_at_all (u ∷ us) hot cold = absurd (neither u.side (none_on Hot (u ∷ us) hot 0 u (omega arith)) (none_on Cold (u ∷ us) cold 0 u (omega arith)))
+none_at_all (u ∷ us) hot cold =
+    absurd (neither u.side (none_on Hot (u ∷ us) hot 0 u (omega arith)) (none_on Cold (u ∷ us) cold 0 u (omega arith)))
   where
     neither : (side : Side) → side ≢ Hot → side ≢ Cold → ⊥
     neither Hot a b = a refl
@@ -97,7 +109,8 @@ none_at_all (u ∷ us) hot cold = absurd (neither u.side (none_on Hot (u ∷ us)
 -- at most one utility more than the limit: with none given there are two
 few-completed : (c : Case) → IsValid c → length (completed c).utilities ≤ ALL_UTILITIES
 few-completed c h =
-    let us = c.utilities in let few = h.few_utilities in
+    let us = c.utilities in
+    let few = h.few_utilities in
     unless_given-elim (λ xs. length ((us ++ xs) ++ unless_given Cold c) ≤ ALL_UTILITIES) Hot c
     (λ _. unless_given-elim (λ ys. length ((us ++ []) ++ ys) ≤ ALL_UTILITIES) Cold c (λ _. omega (arith, length-append {A = Utility}))
     (λ _. omega (arith, length-append {A = Utility})))
@@ -111,14 +124,17 @@ unreserved : (side : Side) (c : Case) (name : List ℕ) → IsUnreserved name �
 unreserved Hot c name h = h.0
 unreserved Cold c name h = h.1
 
-rightly_named : (side : Side) (c : Case) (u : Utility) → IsRightlyNamed u → u.name ≡ (standard_utility side c).name → u.side ≡ side
+rightly_named : (side : Side) (c : Case) (u : Utility) → IsRightlyNamed u
+    → u.name ≡ (standard_utility side c).name → u.side ≡ side
 rightly_named Hot c u h = h.0
 rightly_named Cold c u h = h.1
 
 -- where no utility is on a side none has the name of its standard one
-name-free : (side : Side) (c : Case) → IsValid c → has_utility side c.utilities ≡ false → All (λ n. n ≢ (standard_utility side c).name) (names_of c)
+name-free : (side : Side) (c : Case) → IsValid c → has_utility side c.utilities ≡ false
+    → All (λ n. n ≢ (standard_utility side c).name) (names_of c)
 name-free side c h absent =
-    let P = λ (n : List ℕ). n ≢ (standard_utility side c).name in let none = none_on side c.utilities absent in
+    let P = λ (n : List ℕ). n ≢ (standard_utility side c).name in
+    let none = none_on side c.utilities absent in
     All-append P (map (λ s. s.name) c.streams) (map (λ u. u.name) c.utilities)
     (All-map P (λ s. s.name) c.streams (λ k d within. unreserved side c (get_or c.streams k d).name (h.stream_names k d within)))
     (All-map P (λ u. u.name) c.utilities (λ k d within same. none k d within (rightly_named side c (get_or c.utilities k d) (h.utility_names k d within) same)))
@@ -133,14 +149,19 @@ distinct-added names side c distinct new =
     (λ absent. all_pairs_push (λ a b. a ≢ b) names (standard_utility side c).name distinct (new absent))
 
 -- the names with further utilities
-names_of-append : (c : Case) (more : List Utility) → names_of (with_utilities c (c.utilities ++ more)) ≡ names_of c ++ map (λ u. u.name) more
-names_of-append c more = ap (λ ns. map (λ s. s.name) c.streams ++ ns) (map-append (λ (u : Utility). u.name) c.utilities more)
+names_of-append : (c : Case) (more : List Utility)
+    → names_of (with_utilities c (c.utilities ++ more)) ≡ names_of c ++ map (λ u. u.name) more
+names_of-append c more =
+    ap (λ ns. map (λ s. s.name) c.streams ++ ns) (map-append (λ (u : Utility). u.name) c.utilities more)
     ∙ sym (append_assoc (map (λ s. s.name) c.streams) (map (λ u. u.name) c.utilities) (map (λ u. u.name) more))
 
 distinct-completed : (c : Case) → IsValid c → AllPairs (λ a b. a ≢ b) (names_of (completed c))
 distinct-completed c h =
-    let us = c.utilities in let hot = unless_given Hot c in let cold = unless_given Cold c in
-    let P : List (List ℕ) → Type 0 = λ ns. AllPairs (λ a b. a ≢ b) ns in let other = λ (n : List ℕ). n ≢ codes "COLD" in
+    let us = c.utilities in
+    let hot = unless_given Hot c in
+    let cold = unless_given Cold c in
+    let P : List (List ℕ) → Type 0 = λ ns. AllPairs (λ a b. a ≢ b) ns in
+    let other = λ (n : List ℕ). n ≢ codes "COLD" in
     let first = distinct-added (names_of c) Hot c h.distinct_names (name-free Hot c h) in
     let apart = unless_given-elim (λ xs. All other (map (λ u. u.name) xs)) Hot c (λ _. All-nil other)
     (λ _. All-cons other (codes "HOT") [] (λ e. absurd (omega (arith, ap length e))) (All-nil other)) in
@@ -164,18 +185,23 @@ side_of-append : (c : Case) (more : List Utility) (source : Source) (side : Side
 side_of-append c more (of_stream i) side h = h
 side_of-append c more (of_utility i) side h = side_at-append c.utilities more i side h
 
-forbid-append : (c : Case) (more : List Utility) (f : Forbid) → IsValidForbid c f → IsValidForbid (with_utilities c (c.utilities ++ more)) f
+forbid-append : (c : Case) (more : List Utility) (f : Forbid) → IsValidForbid c f
+    → IsValidForbid (with_utilities c (c.utilities ++ more)) f
 forbid-append c more f h = (side_of-append c more f.hot Hot h.0, side_of-append c more f.cold Cold h.1)
 
 -- ---- the whole case
 
-All-added : (side : Side) (c : Case) → All IsValidStream c.streams → IsContribution c.contribution → All IsUtility (unless_given side c)
+All-added : (side : Side) (c : Case) → All IsValidStream c.streams → IsContribution c.contribution
+    → All IsUtility (unless_given side c)
 All-added side c each own = unless_given-elim (All IsUtility) side c (λ _. All-nil IsUtility)
     (λ _. All-cons IsUtility (standard_utility side c) [] (IsUtility-standard side c each own) (All-nil IsUtility))
 
 pub StaysValid-completed : (c : Case) → IsValid c → StaysValid (completed c)
 StaysValid-completed c h =
-    let us = c.utilities in let hot = unless_given Hot c in let cold = unless_given Cold c in let each = h.streams.are_streams.each in
+    let us = c.utilities in
+    let hot = unless_given Hot c in
+    let cold = unless_given Cold c in
+    let each = h.streams.are_streams.each in
     let all_utilities = All-append IsUtility (us ++ hot) cold
     (All-append IsUtility us hot (All-weaker IsValidUtility IsUtility IsUtility-IsValidUtility us h.utilities) (All-added Hot c each h.contribution))
     (All-added Cold c each h.contribution) in record {
@@ -203,7 +229,8 @@ pub AreStreams-IsComplete : (c : Case) → IsComplete c → AreStreams c.streams
 AreStreams-IsComplete c h = (HasValidStreams-IsComplete c h).are_streams
 
 pub IsPlaced-IsComplete : (c : Case) → IsComplete c → All IsPlaced c.utilities
-IsPlaced-IsComplete c h = All-weaker IsUtility IsPlaced (λ u k. k.placed) c.utilities (StaysValid-IsComplete c h).utilities
+IsPlaced-IsComplete c h =
+    All-weaker IsUtility IsPlaced (λ u k. k.placed) c.utilities (StaysValid-IsComplete c h).utilities
 
 pub length-utilities : (c : Case) → IsComplete c → length c.utilities ≤ ALL_UTILITIES
 length-utilities c h = (StaysValid-IsComplete c h).few_utilities

@@ -8,22 +8,27 @@ own : IsNumeralModel (λ ds. all_ascii_digits ds ≡ true) (digits_value 10)
 own = numerals_by_value _ tells_all_ascii_digits
 
 -- so many digits spell a number below that power of ten
-pub small : (most : ℕ) (text : List ℕ) (i : ℕ) → i ≤ most → AllDigits 10 (take i text) → digits_value 10 (take i text) < 10 ^ most
-small most text i short digits = let n = length-take i text in digits_value_short own (take i text) most (own.from (take i text) digits) (omega arith)
+pub small : (most : ℕ) (text : List ℕ) (i : ℕ) → i ≤ most → AllDigits 10 (take i text)
+    → digits_value 10 (take i text) < 10 ^ most
+small most text i short digits =
+    let n = length-take i text in
+    digits_value_short own (take i text) most (own.from (take i text) digits) (omega arith)
 
 -- a byte that is a digit
 pub digit : (c : ℕ) → is_ascii_digit c ≡ true → (digit_value c ≡ c - 48) × (c - 48 < 10)
 digit c h = grind (arith, nat_tests)
 
 -- the digits are all of the text
-pub all_read : (most : ℕ) (text : List ℕ) → 0 < length text → length text ≤ most → AllDigits 10 text → natural_in most text ≡ Some (digits_value 10 text)
+pub all_read : (most : ℕ) (text : List ℕ) → 0 < length text → length text ≤ most → AllDigits 10 text
+    → natural_in most text ≡ Some (digits_value 10 text)
 unfolding natural_in
 all_read most text some short digits = let e = own.from text digits in grind (arith, nat_tests)
 
 -- a number in decimal is read as itself
 pub natural_read : (most n : ℕ) → 0 < most → n < 10 ^ most → n < 10 ^ 64 → natural_in most (decimal n) ≡ Some n
 natural_read most n some small bound = let numeral = decimal_is_IsNumeral_wide n bound in
-    all_read most (decimal n) numeral.0.0 (length-decimal-le_wide most n some small bound) numeral.0.1 ∙ ap Some numeral.1
+    all_read most (decimal n) numeral.0.0 (length-decimal-le_wide most n some small bound) numeral.0.1
+    ∙ ap Some numeral.1
 
 -- a text of another length, or with a byte that is no digit, spells no number
 pub too_long : (most : ℕ) (text : List ℕ) → most < length text → natural_in most text ≡ None
@@ -34,10 +39,16 @@ pub empty : (most : ℕ) (text : List ℕ) → length text ≡ 0 → natural_in 
 unfolding natural_in
 empty most text none = grind (arith, nat_tests)
 
-not_all : (text : List ℕ) (i : ℕ) → i < length text → is_ascii_digit (get_or text i 0) ≡ false → (b : Bool) → all_ascii_digits text ≡ b → b ≡ false
+not_all : (text : List ℕ) (i : ℕ) → i < length text → is_ascii_digit (get_or text i 0) ≡ false → (b : Bool)
+    → all_ascii_digits text ≡ b → b ≡ false
 not_all text i within other false e = refl
-not_all text i within other true e = let r = digit_at text i (own.to text e) within in grind (arith, nat_tests)
+not_all text i within other true e =
+    let r = digit_at text i (own.to text e) within in
+    grind (arith, nat_tests)
 
-pub no_digit : (most : ℕ) (text : List ℕ) (i : ℕ) → i < length text → is_ascii_digit (get_or text i 0) ≡ false → natural_in most text ≡ None
+pub no_digit : (most : ℕ) (text : List ℕ) (i : ℕ) → i < length text
+    → is_ascii_digit (get_or text i 0) ≡ false → natural_in most text ≡ None
 unfolding natural_in
-no_digit most text i within other = let e : all_ascii_digits text ≡ false = not_all text i within other (all_ascii_digits text) refl in grind (arith, nat_tests)
+no_digit most text i within other =
+    let e : all_ascii_digits text ≡ false = not_all text i within other (all_ascii_digits text) refl in
+    grind (arith, nat_tests)

@@ -12,13 +12,17 @@ pub record HasLength (actual shifted : ℤ) : Type 0 where
   pub length : IsBetween (pos 1) LONGEST_RANGE actual
   pub same : shifted ≡ actual
 
-HasLength-range : (side : Side) (supply target contribution : ℤ) → IsRightWay side supply target → IsTemperature supply → IsTemperature target
+HasLength-range : (side : Side) (supply target contribution : ℤ) → IsRightWay side supply target
+    → IsTemperature supply → IsTemperature target
     → HasLength ((if is_hot side then supply else target) -ℤ (if is_hot side then target else supply))
     (shifted side (if is_hot side then supply else target) contribution -ℤ shifted side (if is_hot side then target else supply) contribution)
-HasLength-range Hot supply target contribution way s t = record { length = omega (arith, ints); same = omega (arith, ints) }
-HasLength-range Cold supply target contribution way s t = record { length = omega (arith, ints); same = omega (arith, ints) }
+HasLength-range Hot supply target contribution way s t =
+    record { length = omega (arith, ints); same = omega (arith, ints) }
+HasLength-range Cold supply target contribution way s t =
+    record { length = omega (arith, ints); same = omega (arith, ints) }
 
-pub HasLength-sensible : (s : Stream) → IsValidStream s → IsSensible s → HasLength (higher_temperature s -ℤ lower_temperature s) (high_end s -ℤ low_end s)
+pub HasLength-sensible : (s : Stream) → IsValidStream s → IsSensible s
+    → HasLength (higher_temperature s -ℤ lower_temperature s) (high_end s -ℤ low_end s)
 HasLength-sensible s h sensible = HasLength-range s.side s.supply s.target s.contribution sensible.way h.supply h.target
 
 pub range-length : (s : Stream) → IsValidStream s → IsLength (high_end s -ℤ low_end s)
@@ -34,8 +38,11 @@ within : {low : ℤ} {most n : ℕ} → IsBetween low (pos most) (pos n) → n �
 within h = omega (arith, ints, h.upto)
 
 -- a heat-capacity flow over a part of a range
-pub IsSensibleHeat-product : (cp length : ℤ) → IsBetween (pos 0) MOST_CP cp → IsLength length → IsSensibleHeat (cp *ℤ length)
-IsSensibleHeat-product (pos cp) (pos length) c l = let product = mul-le cp length _ _ (within c) (within l) in omega (arith, ints)
+pub IsSensibleHeat-product : (cp length : ℤ) → IsBetween (pos 0) MOST_CP cp → IsLength length
+    → IsSensibleHeat (cp *ℤ length)
+IsSensibleHeat-product (pos cp) (pos length) c l =
+    let product = mul-le cp length _ _ (within c) (within l) in
+    omega (arith, ints)
 IsSensibleHeat-product (pos cp) (negsuc length) c l = absurd (omega (arith, ints))
 IsSensibleHeat-product (negsuc cp) length c l = absurd (omega (arith, ints))
 
@@ -54,7 +61,9 @@ pub length_above-within : (low high t : ℤ) → low ≤ℤ high → IsBetween (
 length_above-within low high t h = omega (arith, ints, clamps)
 
 pub length_above-between : (t : ℤ) (s : Stream) → IsValidStream s → IsLength (length_above (low_end s) (high_end s) t)
-length_above-between t s h = let range = range-length s h in let part = length_above-within (low_end s) (high_end s) t (omega (arith, ints)) in
+length_above-between t s h =
+    let range = range-length s h in
+    let part = length_above-within (low_end s) (high_end s) t (omega (arith, ints)) in
     record { from = part.from; upto = omega (arith, ints) }
 
 -- ---- sensible and latent heat
@@ -68,7 +77,9 @@ none_over true = refl
 
 -- a sensible stream has no load
 pub load_over-sensible : (from : Bool) (t : ℤ) (s : Stream) → IsSensible s → load_over from t s ≡ pos 0
-load_over-sensible from t s h = ap (λ load. if counts_above from t (high_end s) then load else pos 0) h.load ∙ none_over (counts_above from t (high_end s))
+load_over-sensible from t s h =
+    ap (λ load. if counts_above from t (high_end s) then load else pos 0) h.load
+    ∙ none_over (counts_above from t (high_end s))
 
 pub heat_over-sensible : (from : Bool) (t : ℤ) (s : Stream) → IsSensible s → heat_over from t s ≡ sensible_above t s
 heat_over-sensible from t s h = let none = load_over-sensible from t s h in omega (arith, ints)
@@ -78,10 +89,14 @@ heat_of-sensible s h = let none = h.load in omega (arith, ints)
 
 -- a latent stream has nothing else
 pub heat_over-latent : (from : Bool) (t : ℤ) (s : Stream) → IsLatent s → heat_over from t s ≡ load_over from t s
-heat_over-latent from t s h = let none = zero-times s.cp (length_above (low_end s) (high_end s) t) h.cp in omega (arith, ints)
+heat_over-latent from t s h =
+    let none = zero-times s.cp (length_above (low_end s) (high_end s) t) h.cp in
+    omega (arith, ints)
 
 pub heat_of-latent : (s : Stream) → IsLatent s → heat_of s ≡ s.load
-heat_of-latent s h = let none = zero-times s.cp (high_end s -ℤ low_end s) h.cp in omega (arith, ints)
+heat_of-latent s h =
+    let none = zero-times s.cp (high_end s -ℤ low_end s) h.cp in
+    omega (arith, ints)
 
 -- ---- how much it is
 
@@ -97,28 +112,43 @@ load-between s (inl sensible) = let none = sensible.load in omega (arith, ints)
 load-between s (inr latent) = let load = latent.load in omega (arith, ints)
 
 pub load_over-between : (from : Bool) (t : ℤ) (s : Stream) → IsValidStream s → IsStreamHeat (load_over from t s)
-load_over-between from t s h = let load = load-between s h.heat in let some = some_of (counts_above from t (high_end s)) s.load load.from in
+load_over-between from t s h =
+    let load = load-between s h.heat in
+    let some = some_of (counts_above from t (high_end s)) s.load load.from in
     record { from = some.from; upto = omega (arith, ints) }
 
 pub heat_over-between : (from : Bool) (t : ℤ) (s : Stream) → IsValidStream s → IsStreamHeat (heat_over from t s)
 heat_over-between from t s h = by_heat h.heat
   where
     by_heat : IsSensible s ⊎ IsLatent s → IsStreamHeat (heat_over from t s)
-    by_heat (inl sensible) = let product = sensible_above-between t s h in let is = heat_over-sensible from t s sensible in omega (arith, ints)
-    by_heat (inr latent) = let some = load_over-between from t s h in let is = heat_over-latent from t s latent in omega (arith, ints)
+    by_heat (inl sensible) =
+        let product = sensible_above-between t s h in
+        let is = heat_over-sensible from t s sensible in
+        omega (arith, ints)
+    by_heat (inr latent) =
+        let some = load_over-between from t s h in
+        let is = heat_over-latent from t s latent in
+        omega (arith, ints)
 
 pub heat_of-between : (s : Stream) → IsValidStream s → IsStreamHeat (heat_of s)
 heat_of-between s h = by_heat h.heat
   where
     by_heat : IsSensible s ⊎ IsLatent s → IsStreamHeat (heat_of s)
     by_heat (inl sensible) =
-        let product = heat-between s (high_end s -ℤ low_end s) h (range-length s h) in let is = heat_of-sensible s sensible in omega (arith, ints)
-    by_heat (inr latent) = let load = latent.load in let is = heat_of-latent s latent in omega (arith, ints)
+        let product = heat-between s (high_end s -ℤ low_end s) h (range-length s h) in
+        let is = heat_of-sensible s sensible in
+        omega (arith, ints)
+    by_heat (inr latent) =
+        let load = latent.load in
+        let is = heat_of-latent s latent in
+        omega (arith, ints)
 
 -- ---- whether a stream is latent
 
 pub is_latent-sensible : (s : Stream) → IsSensible s → is_latent s ≡ false
-is_latent-sensible s h = let none = h.load in false_from_ne_true (is_latent s) (λ is. omega (arith, ints, is))
+is_latent-sensible s h =
+    let none = h.load in
+    false_from_ne_true (is_latent s) (λ is. omega (arith, ints, is))
 
 pub is_latent-latent : (s : Stream) → IsLatent s → is_latent s ≡ true
 is_latent-latent s h = let some = h.load.from in grind (arith, ints)

@@ -18,7 +18,8 @@ length-IsAnyName bytes (inl h) = let short = length-IsName bytes h in omega arit
 length-IsAnyName bytes (inr h) = length-IsDottedName bytes h
 
 -- bytes written to the front of zeros are stored
-pub IsStored-made : (bytes front : List ℕ) → front ≡ bytes → IsAnyName bytes → IsStored (front ++ drop (length bytes) (replicate 17 0)) (length bytes)
+pub IsStored-made : (bytes front : List ℕ) → front ≡ bytes → IsAnyName bytes
+    → IsStored (front ++ drop (length bytes) (replicate 17 0)) (length bytes)
 IsStored-made bytes front e h =
     let fits : length bytes ≤ 17 = length-IsAnyName bytes h in
     let P : List ℕ → Type 0 = λ f. IsStored (f ++ drop (length bytes) (replicate 17 0)) (length bytes) in
@@ -39,7 +40,8 @@ first_below_128 b h = grind (arith, nat_tests, h)
 
 All-IsName : (bytes : List ℕ) → IsName bytes → All (λ b. b < 128) bytes
 All-IsName [] h = absurd h
-All-IsName (b ∷ bs) h = All-cons (λ x. x < 128) b bs (first_below_128 b h.0) (λ k d within. below_128 (get_or bs k d) (h.1 k d within))
+All-IsName (b ∷ bs) h =
+    All-cons (λ x. x < 128) b bs (first_below_128 b h.0) (λ k d within. below_128 (get_or bs k d) (h.1 k d within))
 
 All-IsAnyName : (bytes : List ℕ) → IsAnyName bytes → All (λ b. b < 128) bytes
 All-IsAnyName bytes (inl h) = All-IsName bytes h
@@ -51,6 +53,7 @@ pub IsUtf8-IsAnyName : (bytes : List ℕ) → IsAnyName bytes → IsUtf8 bytes
 IsUtf8-IsAnyName bytes h = IsUtf8-from_ascii bytes (IsAscii-from_all bytes (All-IsAnyName bytes h))
 
 -- what is no error is a value
-pub IsOk-of_match : {T E : Type 0} (r : Result T E) (P : T → Type 0) (Q : E → Type 0) → MatchResult r P Q → ((e : E) → Q e → ⊥) → IsOk r
+pub IsOk-of_match : {T E : Type 0} (r : Result T E) (P : T → Type 0) (Q : E → Type 0) → MatchResult r P Q
+    → ((e : E) → Q e → ⊥) → IsOk r
 IsOk-of_match (Ok x) P Q h never = refl
 IsOk-of_match (Err e) P Q h never = absurd (never e h)

@@ -18,7 +18,8 @@ same_side-true Hot Cold e = cc
 same_side-true Cold Hot e = cc
 same_side-true Cold Cold e = refl
 
-pub Decides-is_right_way : (side : Side) (supply target : ℤ) → Decides (is_right_way side supply target) (IsRightWay side supply target)
+pub Decides-is_right_way : (side : Side) (supply target : ℤ)
+    → Decides (is_right_way side supply target) (IsRightWay side supply target)
 Decides-is_right_way Hot supply target = (λ e. omega (arith, ints), λ h. grind (arith, ints))
 Decides-is_right_way Cold supply target = (λ e. omega (arith, ints), λ h. grind (arith, ints))
 

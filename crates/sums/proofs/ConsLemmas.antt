@@ -3,11 +3,13 @@ use Rattle.std.proofs.Common.{All, AllPairs, Bool, Contains, List, [], arith, fa
 use Rattle.sums.proofs.Words.{All-cons, AllPairs-cons, Contains-append_right, cons_if}
 
 module _ {X : Type 0} where
-  pub All-cons_if : (P : X → Type 0) (b : Bool) (x : X) (xs : List X) → (b ≡ true → P x) → All P xs → All P (cons_if b x xs)
+  pub All-cons_if : (P : X → Type 0) (b : Bool) (x : X) (xs : List X) → (b ≡ true → P x) → All P xs
+      → All P (cons_if b x xs)
   All-cons_if P true x xs h k = All-cons P x xs (h refl) k
   All-cons_if P false x xs h k = k
 
-  pub AllPairs-cons_if : (R : X → X → Type 0) (b : Bool) (x : X) (xs : List X) → (b ≡ true → All (R x) xs) → AllPairs R xs → AllPairs R (cons_if b x xs)
+  pub AllPairs-cons_if : (R : X → X → Type 0) (b : Bool) (x : X) (xs : List X) → (b ≡ true → All (R x) xs)
+      → AllPairs R xs → AllPairs R (cons_if b x xs)
   AllPairs-cons_if R true x xs h k = AllPairs-cons R x xs (h refl) k
   AllPairs-cons_if R false x xs h k = k
 

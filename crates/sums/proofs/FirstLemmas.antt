@@ -9,14 +9,16 @@ pub first-append : {X Y : Type 0} (give : X → Y) (p : X → Bool) (xs ys : Lis
     → option_map give (find p (xs ++ ys)) ≡ option_or (option_map give (find p xs)) (option_map give (find p ys))
 first-append {X} give p xs ys = rw (find-append p xs ys) (by (find p xs))
   where
-    by : (o : Option X) → option_map give (option_or o (find p ys)) ≡ option_or (option_map give o) (option_map give (find p ys))
+    by : (o : Option X) → option_map give (option_or o (find p ys))
+        ≡ option_or (option_map give o) (option_map give (find p ys))
     by None = refl
     by (Some x) = refl
 
 -- the first n members and the next one
 pub enumerated-more : {X : Type 0} (xs : List X) (n : ℕ) (d : X) → n < length xs
     → enumerate_from 0 (take (n + 1) xs) ≡ enumerate_from 0 (take n xs) ++ (n, get_or xs n d) ∷ []
-enumerated-more xs n d within = ap (enumerate_from 0) (take_more xs n d within) ∙ enumerate_from-append 0 (take n xs) (get_or xs n d ∷ [])
+enumerated-more xs n d within =
+    ap (enumerate_from 0) (take_more xs n d within) ∙ enumerate_from-append 0 (take n xs) (get_or xs n d ∷ [])
     ∙ ap (λ k. enumerate_from 0 (take n xs) ++ (k, get_or xs n d) ∷ []) (omega (arith, within, length-take n xs))
 
 -- the items of the first n members
@@ -25,7 +27,9 @@ items_of f xs n = flat_map f (enumerate_from 0 (take n xs))
 
 pub items-more : {X Y : Type 0} (f : ℕ × X → List Y) (xs : List X) (n : ℕ) (d : X) → n < length xs
     → items_of f xs (n + 1) ≡ items_of f xs n ++ f (n, get_or xs n d)
-items-more f xs n d within = ap (flat_map f) (enumerated-more xs n d within) ∙ flat_map-append f (enumerate_from 0 (take n xs)) ((n, get_or xs n d) ∷ [])
+items-more f xs n d within =
+    ap (flat_map f) (enumerated-more xs n d within)
+    ∙ flat_map-append f (enumerate_from 0 (take n xs)) ((n, get_or xs n d) ∷ [])
     ∙ ap (λ ys. items_of f xs n ++ ys) (append-nil (f (n, get_or xs n d)))
 
 module _ {Y Z : Type 0} (first : List Y → Option Z) (append : (xs ys : List Y) → first (xs ++ ys) ≡ option_or (first xs) (first ys)) where
@@ -39,20 +43,29 @@ module _ {Y Z : Type 0} (first : List Y → Option Z) (append : (xs ys : List Y)
 
   module _ {X : Type 0} (f : ℕ × X → List Y) where
     -- the next member has none
-    pub first-more : (xs : List X) (n : ℕ) (d : X) → n < length xs → first (items_of f xs n) ≡ None → first (f (n, get_or xs n d)) ≡ None
+    pub first-more : (xs : List X) (n : ℕ) (d : X) → n < length xs → first (items_of f xs n) ≡ None
+        → first (f (n, get_or xs n d)) ≡ None
         → first (items_of f xs (n + 1)) ≡ None
-    first-more xs n d within before here = ap first (items-more f xs n d within) ∙ first-behind (items_of f xs n) (f (n, get_or xs n d)) before ∙ here
+    first-more xs n d within before here =
+        ap first (items-more f xs n d within) ∙ first-behind (items_of f xs n) (f (n, get_or xs n d)) before ∙ here
 
     -- it has one, which is the first of all members
-    pub first-here : (xs : List X) (n : ℕ) (d : X) (found : Z) → n < length xs → first (items_of f xs n) ≡ None → first (f (n, get_or xs n d)) ≡ Some found
+    pub first-here : (xs : List X) (n : ℕ) (d : X) (found : Z) → n < length xs
+        → first (items_of f xs n) ≡ None → first (f (n, get_or xs n d)) ≡ Some found
         → first (flat_map f (enumerate_from 0 xs)) ≡ Some found
-    first-here xs n d found within before here = let later = enumerate_from (0 + length (take (n + 1) xs)) (drop (n + 1) xs) in
-        let all : flat_map f (enumerate_from 0 xs) ≡ items_of f xs (n + 1) ++ flat_map f later = ap (λ ys. flat_map f (enumerate_from 0 ys))
-        (sym (take-append-drop (n + 1) xs)) ∙ ap (flat_map f) (enumerate_from-append 0 (take (n + 1) xs) (drop (n + 1) xs)) ∙ flat_map-append f
+    first-here xs n d found within before here =
+        let later = enumerate_from (0 + length (take (n + 1) xs)) (drop (n + 1) xs) in
+        let all : flat_map f (enumerate_from 0 xs) ≡ items_of f xs (n + 1) ++ flat_map f later
+        = ap (λ ys. flat_map f (enumerate_from 0 ys))
+        (sym (take-append-drop (n + 1) xs))
+        ∙ ap (flat_map f) (enumerate_from-append 0 (take (n + 1) xs) (drop (n + 1) xs)) ∙ flat_map-append f
         (enumerate_from 0 (take (n + 1) xs)) later in
-        let front : first (items_of f xs (n + 1)) ≡ Some found = ap first (items-more f xs n d within) ∙ first-behind (items_of f xs n)
-        (f (n, get_or xs n d)) before ∙ here in ap first all ∙ first-front (items_of f xs (n + 1)) (flat_map f later) found front
+        let front : first (items_of f xs (n + 1)) ≡ Some found
+        = ap first (items-more f xs n d within) ∙ first-behind (items_of f xs n)
+        (f (n, get_or xs n d)) before ∙ here in ap first all
+        ∙ first-front (items_of f xs (n + 1)) (flat_map f later) found front
 
     -- no member has one where the first n have none and there are no more
-    pub first-none : (xs : List X) (n : ℕ) → length xs ≤ n → first (items_of f xs n) ≡ None → first (flat_map f (enumerate_from 0 xs)) ≡ None
+    pub first-none : (xs : List X) (n : ℕ) → length xs ≤ n → first (items_of f xs n) ≡ None
+        → first (flat_map f (enumerate_from 0 xs)) ≡ None
     first-none xs n end none = ap (λ ys. first (flat_map f (enumerate_from 0 ys))) (sym (take_all n xs end)) ∙ none

@@ -8,19 +8,23 @@ use Rattle.sums.proofs.Words.{dedup, get_or-reverse, get_or_append_left, get_or_
 use Rattle.std.proofs.lemmas.List.Sorted.{All-permutation, Contains-permutation, IsPermutation-reverse, IsPermutation-sym}
 
 -- a list reversed has its pairs the other way round
-pub AllPairs-reverse : {X : Type 0} (R : X → X → Type 0) (xs : List X) → AllPairs R xs → AllPairs (λ a b. R b a) (reverse xs)
+pub AllPairs-reverse : {X : Type 0} (R : X → X → Type 0) (xs : List X) → AllPairs R xs
+    → AllPairs (λ a b. R b a) (reverse xs)
 AllPairs-reverse R xs h i j d before within = let same = length-reverse xs in
-    let late : j < length xs = omega (arith, within, same) in let early : i < length xs = omega arith in
+    let late : j < length xs = omega (arith, within, same) in
+    let early : i < length xs = omega arith in
     subst₂ R (sym (get_or-reverse xs j d late)) (sym (get_or-reverse xs i d early)) (h (length xs - 1 - j) (length xs - 1 - i) d (omega arith) (omega arith))
 
 pub All-reverse : {X : Type 0} (P : X → Type 0) (xs : List X) → All P xs → All P (reverse xs)
 All-reverse P xs all = All-permutation P xs (reverse xs) (IsPermutation-reverse xs) all
 
 AllPairs-strictly : (xs : List ℤ) → IsStrictlySortedBy int_cmp xs → AllPairs (λ a b. a <ℤ b) xs
-AllPairs-strictly xs h i j d before within = int_ranked _ _ Less (sym (Less-from_sorted int_cmp xs i j d h before within))
+AllPairs-strictly xs h i j d before within =
+    int_ranked _ _ Less (sym (Less-from_sorted int_cmp xs i j d h before within))
 
 -- a list reversed stands in the order turned round
-pub Lists-reverse : {X : Type 0} (before : X → X → Type 0) (P : X → Type 0) (xs : List X) → Lists before P xs → Lists (λ a b. before b a) P (reverse xs)
+pub Lists-reverse : {X : Type 0} (before : X → X → Type 0) (P : X → Type 0) (xs : List X) → Lists before P xs
+    → Lists (λ a b. before b a) P (reverse xs)
 Lists-reverse before P xs h = let turned = IsPermutation-reverse xs in
     record {
       ordered = AllPairs-reverse before xs h.ordered;
@@ -29,14 +33,16 @@ Lists-reverse before P xs h = let turned = IsPermutation-reverse xs in
     }
 
 -- what sorting and dropping repeats leaves
-pub ListsRising-sorted : (values sorted : List ℤ) → IsPermutation values sorted → IsSorted int_cmp sorted → ListsRising (Contains values) (dedup int_eq sorted)
+pub ListsRising-sorted : (values sorted : List ℤ) → IsPermutation values sorted → IsSorted int_cmp sorted
+    → ListsRising (Contains values) (dedup int_eq sorted)
 ListsRising-sorted values sorted moved order = let kept = dedup int_eq sorted in
     record {
       ordered = AllPairs-strictly kept (IsStrictlySortedBy-dedup int_cmp_total (λ x y. refl) sorted order);
       each =
           λ k d within. Contains-permutation sorted values (get_or kept k d) (IsPermutation-sym values sorted moved)
           (Contains-from_dedup int_eq sorted (get_or kept k d) (Contains-get_or kept k d within));
-      every = λ x h. Contains-dedup int_eq_equiv (λ a b. (Decides-int_eq a b).0) sorted x (Contains-permutation values sorted x moved h);
+      every =
+          λ x h. Contains-dedup int_eq_equiv (λ a b. (Decides-int_eq a b).0) sorted x (Contains-permutation values sorted x moved h);
     }
 
 -- ---- pairs of a list made of others
@@ -52,28 +58,36 @@ module _ {X : Type 0} (R : X → X → Type 0) where
   AllPairs-tail x xs h i j d before within = h (suc i) (suc j) d (omega arith) (omega arith)
 
   -- in order, in order, and each of the first before each of the second
-  pub AllPairs-append : (xs ys : List X) → AllPairs R xs → AllPairs R ys → All (λ x. All (R x) ys) xs → AllPairs R (xs ++ ys)
+  pub AllPairs-append : (xs ys : List X) → AllPairs R xs → AllPairs R ys → All (λ x. All (R x) ys) xs
+      → AllPairs R (xs ++ ys)
   AllPairs-append [] ys h k across = k
   AllPairs-append (x ∷ xs) ys h k across = AllPairs-cons R x (xs ++ ys) (All-append (R x) xs ys (AllPairs-head x xs h)
       (All-head (λ a. All (R a) ys) x xs across)) (AllPairs-append xs ys (AllPairs-tail x xs h) k (All-tail (λ a. All (R a) ys) x xs across))
 
   -- each of the two lists, and an element of the first before those of the second
   pub AllPairs-front : (xs ys : List X) → AllPairs R (xs ++ ys) → AllPairs R xs
-  AllPairs-front xs ys pairs i j d before within = subst₂ R (get_or_append_left xs ys d i (omega (arith, before, within))) (get_or_append_left xs ys d j within)
+  AllPairs-front xs ys pairs i j d before within =
+      subst₂ R (get_or_append_left xs ys d i (omega (arith, before, within))) (get_or_append_left xs ys d j within)
       (pairs i j d before (omega (arith, within, length-append xs ys)))
 
-  pub AllPairs-across : (xs ys : List X) (i : ℕ) (d : X) → AllPairs R (xs ++ ys) → i < length xs → All (R (get_or xs i d)) ys
-  AllPairs-across xs ys i d pairs early j e within = subst₂ R (get_or_append_left xs ys e i early ∙ get_or_default xs i e d early) (get_or-append-add xs ys j e)
+  pub AllPairs-across : (xs ys : List X) (i : ℕ) (d : X) → AllPairs R (xs ++ ys) → i < length xs
+      → All (R (get_or xs i d)) ys
+  AllPairs-across xs ys i d pairs early j e within =
+      subst₂ R (get_or_append_left xs ys e i early ∙ get_or_default xs i e d early) (get_or-append-add xs ys j e)
       (pairs i (length xs + j) e (omega (arith, early)) (omega (arith, within, length-append xs ys)))
 
   -- the elements before one
-  pub AllPairs-before : (xs : List X) (i : ℕ) (d : X) → AllPairs R xs → i < length xs → All (λ x. R x (get_or xs i d)) (take i xs)
-  AllPairs-before xs i d pairs within k e early = let inside : k < i = omega (arith, early, length-take-le i xs (omega (arith, within))) in
+  pub AllPairs-before : (xs : List X) (i : ℕ) (d : X) → AllPairs R xs → i < length xs
+      → All (λ x. R x (get_or xs i d)) (take i xs)
+  AllPairs-before xs i d pairs within k e early =
+      let inside : k < i = omega (arith, early, length-take-le i xs (omega (arith, within))) in
       subst₂ R (sym (get_or-take i xs k e inside)) (get_or_default xs i e d within) (pairs k i e inside within)
 
-pub AllPairs-map : {X Y : Type 0} (R : Y → Y → Type 0) (f : X → Y) (xs : List X) → AllPairs (λ a b. R (f a) (f b)) xs → AllPairs R (map f xs)
+pub AllPairs-map : {X Y : Type 0} (R : Y → Y → Type 0) (f : X → Y) (xs : List X)
+    → AllPairs (λ a b. R (f a) (f b)) xs → AllPairs R (map f xs)
 AllPairs-map R f [] pairs = AllPairs-nil R
-AllPairs-map R f (x ∷ xs) pairs = AllPairs-cons R (f x) (map f xs) (All-map (R (f x)) f xs (AllPairs-head (λ a b. R (f a) (f b)) x xs pairs))
+AllPairs-map R f (x ∷ xs) pairs =
+    AllPairs-cons R (f x) (map f xs) (All-map (R (f x)) f xs (AllPairs-head (λ a b. R (f a) (f b)) x xs pairs))
     (AllPairs-map R f xs (AllPairs-tail (λ a b. R (f a) (f b)) x xs pairs))
 
 -- ---- one list only
@@ -118,6 +132,8 @@ pub ListsFalling-unique : (P : ℤ → Type 0) (xs ys : List ℤ) → ListsFalli
 ListsFalling-unique = Lists-unique (λ a b. b <ℤ a) (λ a b h k. omega (arith, ints))
 
 -- the same list for members that are said in another way
-pub Lists-same : {X : Type 0} (before : X → X → Type 0) (P Q : X → Type 0) (xs : List X) → ((x : X) → P x → Q x) → ((x : X) → Q x → P x) → Lists before P xs
+pub Lists-same : {X : Type 0} (before : X → X → Type 0) (P Q : X → Type 0) (xs : List X)
+    → ((x : X) → P x → Q x) → ((x : X) → Q x → P x) → Lists before P xs
     → Lists before Q xs
-Lists-same before P Q xs there back h = record { ordered = h.ordered; each = All-weaker P Q there xs h.each; every = λ x q. h.every x (back x q) }
+Lists-same before P Q xs there back h =
+    record { ordered = h.ordered; each = All-weaker P Q there xs h.each; every = λ x q. h.every x (back x q) }

@@ -5,8 +5,10 @@ use Rattle.transport.specs.CaseNet.{IsCaseNet}
 use Rattle.transport.specs.declared.case_net.CaseNet.{CaseNet}
 
 -- the net of parts is that of others, of which there are as many and the same pairs reach
-pub IsCaseNet-alike : (c : Case) (hot cold others other_colds : List Part) (net : CaseNet) → length others ≡ length hot → length other_colds ≡ length cold
-    → reach_between c others other_colds ≡ reach_between c hot cold → IsCaseNet c hot cold net → IsCaseNet c others other_colds net
+pub IsCaseNet-alike : (c : Case) (hot cold others other_colds : List Part) (net : CaseNet)
+    → length others ≡ length hot → length other_colds ≡ length cold
+    → reach_between c others other_colds ≡ reach_between c hot cold → IsCaseNet c hot cold net
+    → IsCaseNet c others other_colds net
 IsCaseNet-alike c hot cold others other_colds net hots colds reach h =
     let links = net.chains.net.links in
     record {

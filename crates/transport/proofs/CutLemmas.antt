@@ -25,7 +25,8 @@ record IsShort (side : Side) (reach : ℕ → ℕ → Bool) (hot cold : List Par
 abbrev GivesLeasts : (ℕ → ℤ) → ℕ → List Part → Type 0
 GivesLeasts f n parts = (i : ℕ) (p : Part) → slice_get parts i ≡ Some p → f (n + i) ≡ p.least
 
-gives_next : (f : ℕ → ℤ) (n : ℕ) (p : Part) (parts : List Part) → GivesLeasts f n (p ∷ parts) → GivesLeasts f (suc n) parts
+gives_next : (f : ℕ → ℤ) (n : ℕ) (p : Part) (parts : List Part) → GivesLeasts f n (p ∷ parts)
+    → GivesLeasts f (suc n) parts
 gives_next f n p parts gives i q at = ap f {x = suc n + i} {y = n + suc i} (omega arith) ∙ gives (suc i) q at
 
 module _ (picked : ℕ → Bool) where
@@ -48,16 +49,19 @@ module _ (picked : ℕ → Bool) where
       All-cons_if (λ i. picked i ≡ true) (picked n && int_lt (pos 0) p.least) n (needing_from picked (suc n) parts)
       (λ here. (and_parts (picked n) (int_lt (pos 0) p.least) here).0) (members_picked (suc n) parts)
 
-  members_need : (f : ℕ → ℤ) (n : ℕ) (parts : List Part) → GivesLeasts f n parts → All (λ i. pos 0 <ℤ f i) (needing_from picked n parts)
+  members_need : (f : ℕ → ℤ) (n : ℕ) (parts : List Part) → GivesLeasts f n parts
+      → All (λ i. pos 0 <ℤ f i) (needing_from picked n parts)
   members_need f n [] gives = All-nil (λ i. pos 0 <ℤ f i)
   members_need f n (p ∷ parts) gives =
       All-cons_if (λ i. pos 0 <ℤ f i) (picked n && int_lt (pos 0) p.least) n (needing_from picked (suc n) parts)
       (λ here. let own : f n ≡ p.least = ap f (sym (add-zero n)) ∙ gives 0 p refl in
-      let some = int_lt-true (pos 0) p.least (and_parts (picked n) (int_lt (pos 0) p.least) here).1 in omega (arith, ints, own, some))
+      let some = int_lt-true (pos 0) p.least (and_parts (picked n) (int_lt (pos 0) p.least) here).1 in
+      omega (arith, ints, own, some))
       (members_need f (suc n) parts (gives_next f n p parts gives))
 
   -- what is needed is the sum of the leasts of the picked parts: those that leave out no heat are left out
-  need_term : (b : Bool) (x y : ℤ) → x ≡ y → pos 0 ≤ℤ y → (if (b && int_lt (pos 0) y) then x else pos 0) ≡ (if b then y else pos 0)
+  need_term : (b : Bool) (x y : ℤ) → x ≡ y → pos 0 ≤ℤ y
+      → (if (b && int_lt (pos 0) y) then x else pos 0) ≡ (if b then y else pos 0)
   need_term false x y same least = refl
   need_term true x y same least =
       by_lt_z (pos 0) y (λ some. ap (λ t. if t then x else pos 0) (int_lt-from (pos 0) y some) ∙ same)
@@ -72,10 +76,13 @@ module _ (picked : ℕ → Bool) where
       (need-picked f (suc n) parts (gives_next f n p parts gives) (All-tail IsBounded p parts bounded))
 
 gives_leasts : (parts : List Part) → GivesLeasts (least_at parts) 0 parts
-gives_leasts parts i p at = let here : slice_get parts (0 + i) ≡ Some p = ap (slice_get parts) (zero-add i) ∙ at in rw here refl
+gives_leasts parts i p at =
+    let here : slice_get parts (0 + i) ≡ Some p = ap (slice_get parts) (zero-add i) ∙ at in
+    rw here refl
 
 meets_near : (side : Side) (reach : ℕ → ℕ → Bool) (picked near : ℕ → Bool) (j : ℕ) (members : List ℕ)
-    → ((i : ℕ) → joins side reach i j ≡ true → picked i ≡ true → near j ≡ true) → All (λ i. picked i ≡ true) members → meets side reach members j ≡ true
+    → ((i : ℕ) → joins side reach i j ≡ true → picked i ≡ true → near j ≡ true)
+    → All (λ i. picked i ≡ true) members → meets side reach members j ≡ true
     → near j ≡ true
 meets_near side reach picked near j members closed each met =
     let (n, i, inside, at, joined) = Any-from_list_any (λ i. joins side reach i j) members met in
@@ -87,12 +94,17 @@ if_le false true x some h = some
 if_le false false x some h = omega (arith, ints)
 
 -- so they are a cut, whose need and offer are at most the mosts of their side
-IsCutWithin-short : (side : Side) (reach : ℕ → ℕ → Bool) (hot cold : List Part) (picked near : ℕ → Bool) → All IsBounded (parts_of side hot cold)
-    → All IsBounded (parts_of (opposite side) hot cold) → IsSideHeat (most_of (parts_of side hot cold)) → IsShort side reach hot cold picked near
+IsCutWithin-short : (side : Side) (reach : ℕ → ℕ → Bool) (hot cold : List Part) (picked near : ℕ → Bool)
+    → All IsBounded (parts_of side hot cold)
+    → All IsBounded (parts_of (opposite side) hot cold) → IsSideHeat (most_of (parts_of side hot cold))
+    → IsShort side reach hot cold picked near
     → IsCutWithin side reach hot cold (needing_from picked 0 (parts_of side hot cold))
 IsCutWithin-short side reach hot cold picked near bounded others most h =
-    let own = parts_of side hot cold in let other = parts_of (opposite side) hot cold in let members = needing_from picked 0 own in
-    let each = members_picked picked 0 own in let sum = need-picked picked (least_at own) 0 own (gives_leasts own) bounded in
+    let own = parts_of side hot cold in
+    let other = parts_of (opposite side) hot cold in
+    let members = needing_from picked 0 own in
+    let each = members_picked picked 0 own in
+    let sum = need-picked picked (least_at own) 0 own (gives_leasts own) bounded in
     let less = int_sum_from-le_each (λ j p. if meets side reach members j then p.most else pos 0) (λ j p. if near j then p.most else pos 0) other
     (λ j p at. if_le (meets side reach members j) (near j) p.most (most_from other others j p at)
     (λ met. meets_near side reach picked near j members (λ i. h.closed i j) each met)) in
@@ -103,13 +115,17 @@ IsCutWithin-short side reach hot cold picked near bounded others most h =
     let short : offer_of side reach other members <ℤ need_of own members = omega (arith, ints, sum, less, h.short) in
     let need : need_of own members ≤ℤ most_of own = omega (arith, ints, sum, upto, mosts own) in
     record {
-      cut = record { ordered = members_rise picked 0 own; needing = members_need picked (least_at own) 0 own (gives_leasts own); short = short };
+      cut =
+          record { ordered = members_rise picked 0 own; needing = members_need picked (least_at own) 0 own (gives_leasts own); short = short };
       need = record { from = omega (arith, ints, short, from); upto = omega (arith, ints, need, most.upto) };
       offer = record { from = from; upto = omega (arith, ints, short, need, most.upto) };
     }
   where
-    most_from : (parts : List Part) → All IsBounded parts → (i : ℕ) (p : Part) → slice_get parts i ≡ Some p → pos 0 ≤ℤ p.most
-    most_from parts each i p at = let b = All-slice_get IsBounded parts i p each at in omega (arith, ints, b.least.from, b.most.from)
+    most_from : (parts : List Part) → All IsBounded parts → (i : ℕ) (p : Part) → slice_get parts i ≡ Some p
+        → pos 0 ≤ℤ p.most
+    most_from parts each i p at =
+        let b = All-slice_get IsBounded parts i p each at in
+        omega (arith, ints, b.least.from, b.most.from)
 
 -- ---- what a cut of the net says of the parts: those on one side of it need more than is on offer
 
@@ -119,12 +135,14 @@ leaving set k l = if leaves set l then l.room else pos 0
 
 -- the two links of a hot part leave: the whole one where the part's node is outside, the spare one where it is inside and the spill outside
 hot_leaving : (inside spill : Bool) (least most : ℤ) → spill ≡ true
-    → (if (true && not inside) then most else pos 0) +ℤ (if (inside && not spill) then most -ℤ least else pos 0) ≡ (if not inside then most else pos 0)
+    → (if (true && not inside) then most else pos 0) +ℤ (if (inside && not spill) then most -ℤ least else pos 0)
+    ≡ (if not inside then most else pos 0)
 hot_leaving true spill least most e = rw e (omega (arith, ints))
 hot_leaving false spill least most e = omega (arith, ints)
 
 hot_leaving_supply : (inside spill : Bool) (least most : ℤ) → spill ≡ false
-    → (if (true && not inside) then most else pos 0) +ℤ (if (inside && not spill) then most -ℤ least else pos 0) ≡ most -ℤ (if inside then least else pos 0)
+    → (if (true && not inside) then most else pos 0) +ℤ (if (inside && not spill) then most -ℤ least else pos 0)
+    ≡ most -ℤ (if inside then least else pos 0)
 hot_leaving_supply true spill least most e = rw e (omega (arith, ints))
 hot_leaving_supply false spill least most e = omega (arith, ints)
 
@@ -135,7 +153,8 @@ cold_leaving true filler sink least most e k = rw (e, k) (omega (arith, ints))
 cold_leaving false filler sink least most e k = rw e (omega (arith, ints))
 
 cold_leaving_supply : (inside filler sink : Bool) (least most : ℤ) → filler ≡ false → sink ≡ false
-    → (if (inside && not sink) then most else pos 0) +ℤ (if (filler && not inside) then most -ℤ least else pos 0) ≡ (if inside then most else pos 0)
+    → (if (inside && not sink) then most else pos 0) +ℤ (if (filler && not inside) then most -ℤ least else pos 0)
+    ≡ (if inside then most else pos 0)
 cold_leaving_supply true filler sink least most e k = rw (e, k) (omega (arith, ints))
 cold_leaving_supply false filler sink least most e k = rw e (omega (arith, ints))
 
@@ -169,7 +188,8 @@ module _ (hot cold : List Part) (inner : Net) (g : IsAround hot cold inner) (set
   wide_stays k l at wide =
       ⊎_elim
       (λ out. let term = int_sum_from-term (leaving set) net.links no_room_negative k l at in
-      let room : leaving set k l ≡ MOST_ROOM = ap (λ b. if b then l.room else pos 0) out ∙ wide in let amount = (room_around hot cold inner g).upto in
+      let room : leaving set k l ≡ MOST_ROOM = ap (λ b. if b then l.room else pos 0) out ∙ wide in
+      let amount = (room_around hot cold inner g).upto in
       absurd (omega (arith, ints, term, room, amount, all_short)))
       (λ stays. stays) (cases_Bool (leaves set l))
 
@@ -196,17 +216,20 @@ module _ (hot cold : List Part) (inner : Net) (g : IsAround hot cold inner) (set
 
   -- the rooms of the two links of a part that leave, and of a link between the further nodes
   abbrev hot_rooms : ℕ → Part → ℤ
-  hot_rooms i p = leaving set 0 (whole_link Hot (ends inner) (0 + i) p) +ℤ leaving set 0 (spare_link Hot (ends inner) (0 + i) p)
+  hot_rooms i p =
+      leaving set 0 (whole_link Hot (ends inner) (0 + i) p) +ℤ leaving set 0 (spare_link Hot (ends inner) (0 + i) p)
 
   abbrev cold_rooms : ℕ → Part → ℤ
-  cold_rooms i p = leaving set 0 (whole_link Cold (ends inner) (length hot + i) p) +ℤ leaving set 0 (spare_link Cold (ends inner) (length hot + i) p)
+  cold_rooms i p =
+      leaving set 0 (whole_link Cold (ends inner) (length hot + i) p) +ℤ leaving set 0 (spare_link Cold (ends inner) (length hot + i) p)
 
   abbrev between_room : ℕ → ℤ
   between_room j = leaving set 0 (link_at (links_between (ends inner) (most_of hot) (most_of cold)) j)
 
   -- ---- where the filler is inside, the cold parts that are not need too much
 
-  demand_short : inside (ends inner).filler ≡ true → int_sum_from (λ j (p : Part). if not (inside j) then p.most else pos 0) 0 hot
+  demand_short : inside (ends inner).filler ≡ true
+      → int_sum_from (λ j (p : Part). if not (inside j) then p.most else pos 0) 0 hot
       <ℤ int_sum_from (λ i (p : Part). if not (inside (length hot + i)) then p.least else pos 0) 0 cold
   demand_short filler =
       let spill = spill_with_filler filler in
@@ -215,20 +238,25 @@ module _ (hot cold : List Part) (inner : Net) (g : IsAround hot cold inner) (set
       let colds = int_sum_from-same_each cold_rooms (λ i p. p.most -ℤ (if not (inside (length hot + i)) then p.least else pos 0)) cold
       (λ i p at. cold_leaving (inside (length hot + i)) (inside (ends inner).filler) (inside (ends inner).sink) p.least p.most filler cut.sink_out)
       ∙ int_sum_from-sub (λ i p. p.most) (λ i (p : Part). if not (inside (length hot + i)) then p.least else pos 0) 0 cold in
-      let passed : between_room 0 ≡ pos 0 = ap₂ (λ a b. if (a && not b) then most_of cold else pos 0) cut.source_in filler in
-      let drained : between_room 1 ≡ most_of hot = ap₂ (λ a b. if (a && not b) then most_of hot else pos 0) spill cut.sink_out in
+      let passed : between_room 0 ≡ pos 0
+      = ap₂ (λ a b. if (a && not b) then most_of cold else pos 0) cut.source_in filler in
+      let drained : between_room 1 ≡ most_of hot
+      = ap₂ (λ a b. if (a && not b) then most_of hot else pos 0) spill cut.sink_out in
       let last : between_room 2 ≡ pos 0 = ap₂ (λ a b. if (a && not b) then MOST_ROOM else pos 0) filler spill in
       omega (arith, ints, around_short, hots, colds, passed, drained, last, mosts cold)
 
   -- ---- where it is not, the hot parts that are inside have to give too much
 
-  supply_short : inside (ends inner).filler ≡ false → int_sum_from (λ j (p : Part). if inside (length hot + j) then p.most else pos 0) 0 cold
+  supply_short : inside (ends inner).filler ≡ false
+      → int_sum_from (λ j (p : Part). if inside (length hot + j) then p.most else pos 0) 0 cold
       <ℤ int_sum_from (λ i (p : Part). if inside i then p.least else pos 0) 0 hot
   supply_short filler =
       let colds = int_sum_from-same_each cold_rooms (λ j p. if inside (length hot + j) then p.most else pos 0) cold
       (λ i p at. cold_leaving_supply (inside (length hot + i)) (inside (ends inner).filler) (inside (ends inner).sink) p.least p.most filler cut.sink_out) in
-      let passed : between_room 0 ≡ most_of cold = ap₂ (λ a b. if (a && not b) then most_of cold else pos 0) cut.source_in filler in
-      let last : between_room 2 ≡ pos 0 = ap (λ a. if (a && not (inside (ends inner).spill)) then MOST_ROOM else pos 0) filler in
+      let passed : between_room 0 ≡ most_of cold
+      = ap₂ (λ a b. if (a && not b) then most_of cold else pos 0) cut.source_in filler in
+      let last : between_room 2 ≡ pos 0
+      = ap (λ a. if (a && not (inside (ends inner).spill)) then MOST_ROOM else pos 0) filler in
       let drains = λ (b : Bool) (spill : inside (ends inner).spill ≡ b). ap₂ (λ x y. if (x && not y) then most_of hot else pos 0) spill cut.sink_out in
       ⊎_elim
       (λ spill. let drained : between_room 1 ≡ most_of hot = drains true spill in
@@ -242,10 +270,12 @@ module _ (hot cold : List Part) (inner : Net) (g : IsAround hot cold inner) (set
       omega (arith, ints, around_short, colds, hots, passed, drained, last, mosts hot))
       (cases_Bool (inside (ends inner).spill))
     where
-      two_rooms : (b c : Bool) (p : Part) → IsBounded p → pos 0 ≤ℤ ((if b then p.most else pos 0) +ℤ (if c then p.most -ℤ p.least else pos 0))
+      two_rooms : (b c : Bool) (p : Part) → IsBounded p
+          → pos 0 ≤ℤ ((if b then p.most else pos 0) +ℤ (if c then p.most -ℤ p.least else pos 0))
       two_rooms b c p h =
           let first = (if_between b p.most (omega (arith, ints, h.least.from, h.most.from))).0 in
-          let second = (if_between c (p.most -ℤ p.least) (omega (arith, ints, h.most.from))).0 in omega (arith, ints, first, second)
+          let second = (if_between c (p.most -ℤ p.least) (omega (arith, ints, h.most.from))).0 in
+          omega (arith, ints, first, second)
 
   -- ---- the shortages, where a path leads between the pairs that reach
 
@@ -258,29 +288,36 @@ module _ (hot cold : List Part) (inner : Net) (g : IsAround hot cold inner) (set
 
   module _ (reach : ℕ → ℕ → Bool) (paths : PathsAreReaches (length hot) (length cold) inner.links reach) where
     reach_closed : (a b : ℕ) → reach a b ≡ true → inside a ≡ true → inside (length hot + b) ≡ true
-    reach_closed a b joined first = let (path, is) = paths.leads a b joined in path_closed path a (length hot + b) is first
+    reach_closed a b joined first =
+        let (path, is) = paths.leads a b joined in
+        path_closed path a (length hot + b) is first
 
-    demand : inside (ends inner).filler ≡ true → IsShort Cold reach hot cold (λ i. not (inside (length hot + i))) (λ j. not (inside j))
+    demand : inside (ends inner).filler ≡ true
+        → IsShort Cold reach hot cold (λ i. not (inside (length hot + i))) (λ j. not (inside j))
     demand filler = record {
       closed = λ i j joined picked. not_from (inside j) (inside (length hot + i)) (reach_closed j i joined) picked;
       short = demand_short filler;
     }
 
-    supply : inside (ends inner).filler ≡ false → IsShort Hot reach hot cold (λ i. inside (0 + i)) (λ j. inside (length hot + j))
+    supply : inside (ends inner).filler ≡ false
+        → IsShort Hot reach hot cold (λ i. inside (0 + i)) (λ j. inside (length hot + j))
     supply filler = record {
       closed = λ i j joined picked. reach_closed i j joined (subst (λ v. inside v ≡ true) (zero-add i) picked);
-      short = (let same = int_sum_from-same_each (λ i (p : Part). if inside (0 + i) then p.least else pos 0) (λ i p. if inside i then p.least else pos 0) hot
+      short =
+          (let same = int_sum_from-same_each (λ i (p : Part). if inside (0 + i) then p.least else pos 0) (λ i p. if inside i then p.least else pos 0) hot
           (λ i p at. ap (λ v. if inside v then p.least else pos 0) (zero-add i)) in
           let least = supply_short filler in omega (arith, ints, same, least));
     }
 
     -- the cut of parts where the filler is in the set, and where it is not
-    pub within_demand : (members : List ℕ) → inside (ends inner).filler ≡ true → members ≡ members_of Demand (length hot) set cold
+    pub within_demand : (members : List ℕ) → inside (ends inner).filler ≡ true
+        → members ≡ members_of Demand (length hot) set cold
         → IsCutWithin Cold reach hot cold members
     within_demand members filler same = subst (IsCutWithin Cold reach hot cold) (sym same)
         (IsCutWithin-short Cold reach hot cold _ _ g.cold_bounded g.hot_bounded (most_within cold g.few_cold g.cold_bounded) (demand filler))
 
-    pub within_supply : (members : List ℕ) → inside (ends inner).filler ≡ false → members ≡ members_of Supply 0 set hot → IsCutWithin Hot reach hot cold members
+    pub within_supply : (members : List ℕ) → inside (ends inner).filler ≡ false
+        → members ≡ members_of Supply 0 set hot → IsCutWithin Hot reach hot cold members
     within_supply members filler same = subst (IsCutWithin Hot reach hot cold) (sym same)
         (IsCutWithin-short Hot reach hot cold _ _ g.hot_bounded g.cold_bounded (most_within hot g.few_hot g.hot_bounded) (supply filler))
 
@@ -288,14 +325,17 @@ module _ (hot cold : List Part) (inner : Net) (g : IsAround hot cold inner) (set
 pub IsCutOf-members : (reach : ℕ → ℕ → Bool) (hot cold : List Part) (kind : CutKind) (members : List ℕ) (cut : Cut)
     → IsCutWithin (cut_side kind) reach hot cold members → cut.kind ≡ kind → cut.parts ≡ members
     → cut.need ≡ need_of (parts_of (cut_side kind) hot cold) members
-    → cut.offer ≡ offer_of (cut_side kind) reach (parts_of (opposite (cut_side kind)) hot cold) members → IsCutOf reach hot cold cut
+    → cut.offer ≡ offer_of (cut_side kind) reach (parts_of (opposite (cut_side kind)) hot cold) members
+    → IsCutOf reach hot cold cut
 IsCutOf-members reach hot cold kind members cut h kind_is parts_are need offer = record {
   parts = subst₂ (λ k ms. IsCut (cut_side k) reach hot cold ms) (sym kind_is) (sym parts_are) h.cut;
   need = need ∙ ap₂ (λ k ms. need_of (parts_of (cut_side k) hot cold) ms) (sym kind_is) (sym parts_are);
-  offer = offer ∙ ap₂ (λ k ms. offer_of (cut_side k) reach (parts_of (opposite (cut_side k)) hot cold) ms) (sym kind_is) (sym parts_are);
+  offer =
+      offer ∙ ap₂ (λ k ms. offer_of (cut_side k) reach (parts_of (opposite (cut_side k)) hot cold) ms) (sym kind_is) (sym parts_are);
 }
 
 -- a cut answers, since it proves that there is no heat flow
-pub IsAnswer-cut : (reach : ℕ → ℕ → Bool) (hot cold : List Part) (cut : Cut) → IsCutOf reach hot cold cut → IsAnswer reach hot cold (Stuck cut)
+pub IsAnswer-cut : (reach : ℕ → ℕ → Bool) (hot cold : List Part) (cut : Cut) → IsCutOf reach hot cold cut
+    → IsAnswer reach hot cold (Stuck cut)
 IsAnswer-cut reach hot cold cut is =
     record { certified = tt; least = tt; cut = is; stuck_only = cuts_refuse_flows reach hot cold (cut_side cut.kind) cut.parts is.parts }

@@ -23,39 +23,57 @@ mosts parts = int_sum_from-by (λ p. p.most) 0 parts
 
 module _ {X : Type 0} where
   -- the indices one further
-  pub int_sum_from-next : (f : ℕ → X → ℤ) (n : ℕ) (xs : List X) → int_sum_from f (suc n) xs ≡ int_sum_from (λ i x. f (suc i) x) n xs
+  pub int_sum_from-next : (f : ℕ → X → ℤ) (n : ℕ) (xs : List X)
+      → int_sum_from f (suc n) xs ≡ int_sum_from (λ i x. f (suc i) x) n xs
   int_sum_from-next f n [] = refl
   int_sum_from-next f n (x ∷ xs) = ap (λ z. f (suc n) x +ℤ z) (int_sum_from-next f (suc n) xs)
 
-  pub int_sum_from-mul : (c : ℤ) (f : ℕ → X → ℤ) (n : ℕ) (xs : List X) → int_sum_from (λ i x. c *ℤ f i x) n xs ≡ c *ℤ int_sum_from f n xs
+  pub int_sum_from-mul : (c : ℤ) (f : ℕ → X → ℤ) (n : ℕ) (xs : List X)
+      → int_sum_from (λ i x. c *ℤ f i x) n xs ≡ c *ℤ int_sum_from f n xs
   int_sum_from-mul c f n [] = sym (*ℤ-zero c)
-  int_sum_from-mul c f n (x ∷ xs) = let rest = int_sum_from-mul c f (suc n) xs in let split = *ℤ-+ℤ c (f n x) (int_sum_from f (suc n) xs) in omega (arith, ints)
+  int_sum_from-mul c f n (x ∷ xs) =
+      let rest = int_sum_from-mul c f (suc n) xs in
+      let split = *ℤ-+ℤ c (f n x) (int_sum_from f (suc n) xs) in
+      omega (arith, ints)
 
-  pub int_sum_from-not_negative : (f : ℕ → X → ℤ) (xs : List X) → ((i : ℕ) (x : X) → slice_get xs i ≡ Some x → pos 0 ≤ℤ f i x) → pos 0 ≤ℤ int_sum_from f 0 xs
+  pub int_sum_from-not_negative : (f : ℕ → X → ℤ) (xs : List X)
+      → ((i : ℕ) (x : X) → slice_get xs i ≡ Some x → pos 0 ≤ℤ f i x) → pos 0 ≤ℤ int_sum_from f 0 xs
   int_sum_from-not_negative f xs h =
-      let bound = int_sum_from-le_each (λ i x. pos 0) f xs h in let none = int_sum_from-zero (λ i x. pos 0) 0 xs (λ i x le. refl) in omega (arith, ints)
+      let bound = int_sum_from-le_each (λ i x. pos 0) f xs h in
+      let none = int_sum_from-zero (λ i x. pos 0) 0 xs (λ i x le. refl) in
+      omega (arith, ints)
 
   -- a sum of terms that are not negative is at least each of them
-  pub int_sum_from-term : (f : ℕ → X → ℤ) (xs : List X) → ((i : ℕ) (x : X) → slice_get xs i ≡ Some x → pos 0 ≤ℤ f i x) → (i : ℕ) (x : X)
+  pub int_sum_from-term : (f : ℕ → X → ℤ) (xs : List X)
+      → ((i : ℕ) (x : X) → slice_get xs i ≡ Some x → pos 0 ≤ℤ f i x) → (i : ℕ) (x : X)
       → slice_get xs i ≡ Some x → f i x ≤ℤ int_sum_from f 0 xs
   int_sum_from-term f [] h i x at = cc at
   int_sum_from-term f (y ∷ ys) h zero x at =
-      let rest = int_sum_from-not_negative (λ j z. f (suc j) z) ys (λ j z there. h (suc j) z there) in let next = int_sum_from-next f 0 ys in
-      let same : y ≡ x = cc at in subst (λ w. f 0 w ≤ℤ int_sum_from f 0 (y ∷ ys)) same (omega (arith, ints))
+      let rest = int_sum_from-not_negative (λ j z. f (suc j) z) ys (λ j z there. h (suc j) z there) in
+      let next = int_sum_from-next f 0 ys in
+      let same : y ≡ x = cc at in
+      subst (λ w. f 0 w ≤ℤ int_sum_from f 0 (y ∷ ys)) same (omega (arith, ints))
   int_sum_from-term f (y ∷ ys) h (suc i) x at =
-      let first = h 0 y refl in let rest = int_sum_from-term (λ j z. f (suc j) z) ys (λ j z there. h (suc j) z there) i x at in
+      let first = h 0 y refl in
+      let rest = int_sum_from-term (λ j z. f (suc j) z) ys (λ j z there. h (suc j) z there) i x at in
       let next = int_sum_from-next f 0 ys in omega (arith, ints)
 
   -- where no term of a sum is greater than that of another one, and the sum is not less, the terms are equal
-  pub int_sum_from-equal : (f g : ℕ → X → ℤ) (xs : List X) → ((i : ℕ) (x : X) → slice_get xs i ≡ Some x → f i x ≤ℤ g i x)
+  pub int_sum_from-equal : (f g : ℕ → X → ℤ) (xs : List X)
+      → ((i : ℕ) (x : X) → slice_get xs i ≡ Some x → f i x ≤ℤ g i x)
       → int_sum_from g 0 xs ≤ℤ int_sum_from f 0 xs → (i : ℕ) (x : X) → slice_get xs i ≡ Some x → f i x ≡ g i x
   int_sum_from-equal f g [] le sum i x at = cc at
   int_sum_from-equal f g (y ∷ ys) le sum zero x at =
-      let first = le 0 y refl in let rest = int_sum_from-le_each (λ j z. f (suc j) z) (λ j z. g (suc j) z) ys (λ j z there. le (suc j) z there) in
-      let fs = int_sum_from-next f 0 ys in let gs = int_sum_from-next g 0 ys in let same : y ≡ x = cc at in
+      let first = le 0 y refl in
+      let rest = int_sum_from-le_each (λ j z. f (suc j) z) (λ j z. g (suc j) z) ys (λ j z there. le (suc j) z there) in
+      let fs = int_sum_from-next f 0 ys in
+      let gs = int_sum_from-next g 0 ys in
+      let same : y ≡ x = cc at in
       subst (λ w. f 0 w ≡ g 0 w) same (omega (arith, ints))
   int_sum_from-equal f g (y ∷ ys) le sum (suc i) x at =
-      let first = le 0 y refl in let fs = int_sum_from-next f 0 ys in let gs = int_sum_from-next g 0 ys in
+      let first = le 0 y refl in
+      let fs = int_sum_from-next f 0 ys in
+      let gs = int_sum_from-next g 0 ys in
       int_sum_from-equal (λ j z. f (suc j) z) (λ j z. g (suc j) z) ys (λ j z there. le (suc j) z there) (omega (arith, ints)) i x at
 
 -- ---- a sum over the links of a net, as sums over the inner links and over the parts
@@ -64,7 +82,8 @@ sum_below-front : (n : ℕ) (f : ℕ → ℤ) → sum_below (suc n) f ≡ f 0 +�
 sum_below-front zero f = omega (arith, ints)
 sum_below-front (suc n) f = let rest = sum_below-front n f in omega (arith, ints)
 
-sum_from_links : (f : ℕ → Link → ℤ) (n : ℕ) (links : List Link) → sum_below (length links) (λ k. f (n + k) (link_at links k)) ≡ int_sum_from f n links
+sum_from_links : (f : ℕ → Link → ℤ) (n : ℕ) (links : List Link)
+    → sum_below (length links) (λ k. f (n + k) (link_at links k)) ≡ int_sum_from f n links
 sum_from_links f n [] = refl
 sum_from_links f n (l ∷ links) =
     let front = sum_below-front (length links) (λ k. f (n + k) (link_at (l ∷ links) k)) in
@@ -73,26 +92,33 @@ sum_from_links f n (l ∷ links) =
     (λ k within. ap (λ i. f i (link_at links k)) {x = n + suc k} {y = suc n + k} (omega arith)) in
     let rest = sum_from_links f (suc n) links in omega (arith, ints)
 
-pub sum_over_links : (f : ℕ → Link → ℤ) (links : List Link) → sum_below (length links) (λ k. f k (link_at links k)) ≡ int_sum_from f 0 links
+pub sum_over_links : (f : ℕ → Link → ℤ) (links : List Link)
+    → sum_below (length links) (λ k. f k (link_at links k)) ≡ int_sum_from f 0 links
 sum_over_links f links = sum_below-same (length links) (λ k. f k (link_at links k)) (λ k. f (0 + k) (link_at links k))
     (λ k within. ap (λ i. f i (link_at links k)) (sym (zero-add k))) ∙ sum_from_links f 0 links
 
 -- ---- the two links of each part
 
-pub length-links_of_parts : (side : Side) (ends : Ends) (node : ℕ) (parts : List Part) → length (links_of_parts side ends node parts) ≡ 2 * length parts
+pub length-links_of_parts : (side : Side) (ends : Ends) (node : ℕ) (parts : List Part)
+    → length (links_of_parts side ends node parts) ≡ 2 * length parts
 length-links_of_parts side ends node [] = refl
-length-links_of_parts side ends node (p ∷ parts) = let rest = length-links_of_parts side ends (suc node) parts in omega arith
+length-links_of_parts side ends node (p ∷ parts) =
+    let rest = length-links_of_parts side ends (suc node) parts in
+    omega arith
 
-int_sum_from-links : (side : Side) (ends : Ends) (f : ℕ → Link → ℤ) (first start n node i : ℕ) (parts : List Part) → n ≡ first + 2 * i → node ≡ start + i
+int_sum_from-links : (side : Side) (ends : Ends) (f : ℕ → Link → ℤ) (first start n node i : ℕ) (parts : List Part)
+    → n ≡ first + 2 * i → node ≡ start + i
     → int_sum_from f n (links_of_parts side ends node parts)
     ≡ int_sum_from (λ j p. f (first + 2 * j) (whole_link side ends (start + j) p) +ℤ f (first + 2 * j + 1) (spare_link side ends (start + j) p)) i parts
 int_sum_from-links side ends f first start n node i [] e k = refl
 int_sum_from-links side ends f first start n node i (p ∷ parts) e k =
     let next : suc n ≡ first + 2 * i + 1 = omega arith in
-    let whole : f n (whole_link side ends node p) ≡ f (first + 2 * i) (whole_link side ends (start + i) p) = ap₂ (λ a b. f a (whole_link side ends b p)) e k in
+    let whole : f n (whole_link side ends node p) ≡ f (first + 2 * i) (whole_link side ends (start + i) p)
+    = ap₂ (λ a b. f a (whole_link side ends b p)) e k in
     let spare : f (suc n) (spare_link side ends node p) ≡ f (first + 2 * i + 1) (spare_link side ends (start + i) p) =
     ap₂ (λ a b. f a (spare_link side ends b p)) next k in
-    let rest = int_sum_from-links side ends f first start (suc (suc n)) (suc node) (suc i) parts (omega arith) (omega arith) in omega (arith, ints)
+    let rest = int_sum_from-links side ends f first start (suc (suc n)) (suc node) (suc i) parts (omega arith) (omega arith) in
+    omega (arith, ints)
 
 -- ---- the links around an inner net
 
@@ -131,14 +157,17 @@ module _ (hot cold : List Part) (inner : Net) where
   between_sum f = int_sum_from f between_at (links_between (ends inner) (most_of hot) (most_of cold))
 
   pub sum_around : (f : ℕ → Link → ℤ)
-      → int_sum_from f 0 (net_around hot cold inner).links ≡ int_sum_from f 0 inner.links +ℤ (parts_sum Hot f hot +ℤ (parts_sum Cold f cold +ℤ between_sum f))
+      → int_sum_from f 0 (net_around hot cold inner).links
+      ≡ int_sum_from f 0 inner.links +ℤ (parts_sum Hot f hot +ℤ (parts_sum Cold f cold +ℤ between_sum f))
   sum_around f =
-      let hot_links = links_of_parts Hot (ends inner) 0 hot in let cold_links = links_of_parts Cold (ends inner) (length hot) cold in
+      let hot_links = links_of_parts Hot (ends inner) 0 hot in
+      let cold_links = links_of_parts Cold (ends inner) (length hot) cold in
       let between = links_between (ends inner) (most_of hot) (most_of cold) in
       let all = int_sum_from-append f 0 inner.links (hot_links ++ (cold_links ++ between)) in
       let after = int_sum_from-append f (0 + length inner.links) hot_links (cold_links ++ between) in
       let last = int_sum_from-append f (0 + length inner.links + length hot_links) cold_links between in
-      let h = length-links_of_parts Hot (ends inner) 0 hot in let k = length-links_of_parts Cold (ends inner) (length hot) cold in
+      let h = length-links_of_parts Hot (ends inner) 0 hot in
+      let k = length-links_of_parts Cold (ends inner) (length hot) cold in
       let hots = int_sum_from-links Hot (ends inner) f (first_link Hot) 0 (0 + length inner.links) 0 0 hot (omega arith) (omega arith) in
       let colds = int_sum_from-links Cold (ends inner) f (first_link Cold) (length hot) (0 + length inner.links + length hot_links) (length hot) 0 cold
       (omega arith) (omega arith) in
@@ -151,17 +180,22 @@ module _ (hot cold : List Part) (inner : Net) where
 abbrev pub no_link : Link
 no_link = record { from = 0; to = 0; room = pos 0; cost = pos 0 }
 
-parts_there : (side : Side) (e : Ends) (node : ℕ) (parts : List Part) (i : ℕ) (p : Part) (d : Link) → slice_get parts i ≡ Some p
+parts_there : (side : Side) (e : Ends) (node : ℕ) (parts : List Part) (i : ℕ) (p : Part) (d : Link)
+    → slice_get parts i ≡ Some p
     → (get_or (links_of_parts side e node parts) (2 * i) d ≡ whole_link side e (node + i) p)
     × (get_or (links_of_parts side e node parts) (2 * i + 1) d ≡ spare_link side e (node + i) p)
 parts_there side e node [] i p d at = cc at
 parts_there side e node (q ∷ parts) zero p d at =
-    let here : node ≡ node + 0 = omega arith in (ap₂ (whole_link side e) here (same_Some q p at), ap₂ (spare_link side e) here (same_Some q p at))
+    let here : node ≡ node + 0 = omega arith in
+    (ap₂ (whole_link side e) here (same_Some q p at), ap₂ (spare_link side e) here (same_Some q p at))
 parts_there side e node (q ∷ parts) (suc i) p d at =
-    let (whole, spare) = parts_there side e (suc node) parts i p d at in let links = links_of_parts side e node (q ∷ parts) in
+    let (whole, spare) = parts_there side e (suc node) parts i p d at in
+    let links = links_of_parts side e node (q ∷ parts) in
     let there : suc node + i ≡ node + suc i = omega arith in (
-      ap (λ k. get_or links k d) {x = 2 * suc i} {y = suc (suc (2 * i))} (omega arith) ∙ whole ∙ ap (λ n. whole_link side e n p) there,
-      ap (λ k. get_or links k d) {x = 2 * suc i + 1} {y = suc (suc (2 * i + 1))} (omega arith) ∙ spare ∙ ap (λ n. spare_link side e n p) there,
+      ap (λ k. get_or links k d) {x = 2 * suc i} {y = suc (suc (2 * i))} (omega arith) ∙ whole
+          ∙ ap (λ n. whole_link side e n p) there,
+      ap (λ k. get_or links k d) {x = 2 * suc i + 1} {y = suc (suc (2 * i + 1))} (omega arith) ∙ spare
+          ∙ ap (λ n. spare_link side e n p) there,
     )
 
 pub All-links_of_parts : (P : Link → Type 0) (side : Side) (e : Ends) (node : ℕ) (parts : List Part)
@@ -171,7 +205,8 @@ All-links_of_parts P side e node [] each = All-nil P
 All-links_of_parts P side e node (p ∷ parts) each =
     let here : node + 0 ≡ node = omega arith in
     let (whole, spare) = subst (λ n. P (whole_link side e n p) × P (spare_link side e n p)) here (each 0 p refl) in
-    let next = λ (i : ℕ). let same : node + suc i ≡ suc node + i = omega arith in same in
+    let next = λ (i : ℕ). let same : node + suc i ≡ suc node + i = omega arith in
+    same in
     All-cons P (whole_link side e node p) (spare_link side e node p ∷ links_of_parts side e (suc node) parts) whole
     (All-cons P (spare_link side e node p) (links_of_parts side e (suc node) parts) spare
     (All-links_of_parts P side e (suc node) parts (λ i q at. subst (λ n. P (whole_link side e n q) × P (spare_link side e n q)) (next i) (each (suc i) q at))))
@@ -200,8 +235,10 @@ module _ (hot cold : List Part) (inner : Net) where
   pub length-net_around : length net.links ≡ between_at hot cold inner + 3
   length-net_around =
       let all = length-append inner.links (links_of Hot ++ (links_of Cold ++ between)) in
-      let after = length-append (links_of Hot) (links_of Cold ++ between) in let last = length-append (links_of Cold) between in
-      let three : length between ≡ 3 = refl in omega (arith, length-of Hot, length-of Cold, all, after, last, three)
+      let after = length-append (links_of Hot) (links_of Cold ++ between) in
+      let last = length-append (links_of Cold) between in
+      let three : length between ≡ 3 = refl in
+      omega (arith, length-of Hot, length-of Cold, all, after, last, three)
 
   pub inner_at : (k : ℕ) → k < length inner.links → IsLinkAt net k (link_at inner.links k)
   inner_at k within = record {
@@ -210,10 +247,12 @@ module _ (hot cold : List Part) (inner : Net) where
   }
 
   -- what stands at an index behind the links of a front
-  past : (front rest : List Link) (k j : ℕ) → k ≡ length front + j → get_or (front ++ rest) k no_link ≡ get_or rest j no_link
+  past : (front rest : List Link) (k j : ℕ) → k ≡ length front + j
+      → get_or (front ++ rest) k no_link ≡ get_or rest j no_link
   past front rest k j is = ap (λ n. get_or (front ++ rest) n no_link) is ∙ get_or-append-add front rest j no_link
 
-  past_hot : (k j : ℕ) → k ≡ length inner.links + 2 * length hot + j → get_or net.links k no_link ≡ get_or (links_of Cold ++ between) j no_link
+  past_hot : (k j : ℕ) → k ≡ length inner.links + 2 * length hot + j
+      → get_or net.links k no_link ≡ get_or (links_of Cold ++ between) j no_link
   past_hot k j is =
       past inner.links (links_of Hot ++ (links_of Cold ++ between)) k (length (links_of Hot) + j) (omega (arith, is, length-of Hot))
       ∙ past (links_of Hot) (links_of Cold ++ between) (length (links_of Hot) + j) j refl
@@ -227,7 +266,8 @@ module _ (hot cold : List Part) (inner : Net) where
   }
 
   -- a link of a side's parts
-  of_side : (side : Side) (j k : ℕ) (l : Link) → j < 2 * length (parts_of side hot cold) → k ≡ first_link hot cold inner side + j
+  of_side : (side : Side) (j k : ℕ) (l : Link) → j < 2 * length (parts_of side hot cold)
+      → k ≡ first_link hot cold inner side + j
       → get_or (links_of side) j no_link ≡ l → IsLinkAt net k l
   of_side Hot j k l early at is = record {
     within = omega (arith, early, at, length-net_around);
@@ -237,7 +277,8 @@ module _ (hot cold : List Part) (inner : Net) where
   }
   of_side Cold j k l early at is = record {
     within = omega (arith, early, at, length-net_around);
-    is = past_hot k j at ∙ get_or_append_left (links_of Cold) between no_link j (omega (arith, early, length-of Cold)) ∙ is;
+    is =
+        past_hot k j at ∙ get_or_append_left (links_of Cold) between no_link j (omega (arith, early, length-of Cold)) ∙ is;
   }
 
   module _ (side : Side) (i : ℕ) (p : Part) (at : slice_get (parts_of side hot cold) i ≡ Some p) where
@@ -246,13 +287,16 @@ module _ (hot cold : List Part) (inner : Net) where
     links_there = parts_there side (ends inner) (first_node hot cold inner side) (parts_of side hot cold) i p no_link at
 
     pub whole_is : IsLinkAt net (whole_at hot cold inner side i) (whole_link side (ends inner) (first_node hot cold inner side + i) p)
-    whole_is = of_side side (2 * i) _ _ (let early = slice_get_within (parts_of side hot cold) i p at in omega (arith, early)) refl links_there.0
+    whole_is =
+        of_side side (2 * i) _ _ (let early = slice_get_within (parts_of side hot cold) i p at in omega (arith, early)) refl links_there.0
 
     pub spare_is : IsLinkAt net (spare_at hot cold inner side i) (spare_link side (ends inner) (first_node hot cold inner side + i) p)
-    spare_is = of_side side (2 * i + 1) _ _ (let early = slice_get_within (parts_of side hot cold) i p at in omega (arith, early)) (omega arith) links_there.1
+    spare_is =
+        of_side side (2 * i + 1) _ _ (let early = slice_get_within (parts_of side hot cold) i p at in omega (arith, early)) (omega arith) links_there.1
 
   -- what holds of the three links between the further nodes
-  All-between : (P : Link → Type 0) → P (link_at between 0) → P (link_at between 1) → P (link_at between 2) → All P between
+  All-between : (P : Link → Type 0) → P (link_at between 0) → P (link_at between 1) → P (link_at between 2)
+      → All P between
   All-between P one two three =
       All-cons P (link_at between 0) (link_at between 1 ∷ link_at between 2 ∷ []) one
       (All-cons P (link_at between 1) (link_at between 2 ∷ []) two (All-cons P (link_at between 2) [] three (All-nil P)))
@@ -281,7 +325,8 @@ pub record IsAround (hot cold : List Part) (inner : Net) : Type 0 where
   pub hot_bounded : All IsBounded hot
   pub cold_bounded : All IsBounded cold
 
-pub IsAround-parts : (parts : Parts) (inner : Net) → IsInner (length parts.hot) (length parts.cold) inner → inner.nodes ≤ MOST_INNER_NODES
+pub IsAround-parts : (parts : Parts) (inner : Net) → IsInner (length parts.hot) (length parts.cold) inner
+    → inner.nodes ≤ MOST_INNER_NODES
     → length inner.links ≤ MOST_INNER_LINKS → IsAround parts.hot parts.cold inner
 IsAround-parts parts inner inner_net few_nodes few_links = record {
   inner_net = inner_net;
@@ -293,7 +338,8 @@ IsAround-parts parts inner inner_net few_nodes few_links = record {
   cold_bounded = parts.cold_bounded;
 }
 
-pub most_within : (parts : List Part) → length parts ≤ MOST_PARTS → All IsBounded parts → IsBetween (pos 0) (pos MOST_PARTS *ℤ MOST_HEAT) (most_of parts)
+pub most_within : (parts : List Part) → length parts ≤ MOST_PARTS → All IsBounded parts
+    → IsBetween (pos 0) (pos MOST_PARTS *ℤ MOST_HEAT) (most_of parts)
 most_within parts few bounded =
     let upto = int_sum_by-at_most (λ (p : Part). p.most) (unsigned_abs MOST_HEAT) parts (λ k d within. (bounded k d within).most.upto) in
     let from = int_sum_by-not_negative (λ (p : Part). p.most) parts
@@ -314,44 +360,59 @@ no_cost : IsPrice (pos 0)
 no_cost = record { from = omega (arith, ints); upto = omega (arith, ints) }
 
 whole_room : (p : Part) → IsBounded p → IsRoom p.most
-whole_room p b = record { from = omega (arith, ints, b.least.from, b.most.from); upto = omega (arith, ints, b.most.upto) }
+whole_room p b =
+    record { from = omega (arith, ints, b.least.from, b.most.from); upto = omega (arith, ints, b.most.upto) }
 
 spare_room : (p : Part) → IsBounded p → IsRoom (p.most -ℤ p.least)
-spare_room p b = record { from = omega (arith, ints, b.most.from); upto = omega (arith, ints, b.least.from, b.most.upto) }
+spare_room p b =
+    record { from = omega (arith, ints, b.most.from); upto = omega (arith, ints, b.least.from, b.most.upto) }
 
 spare_cost : (p : Part) → IsBounded p → IsPrice (neg_ℤ p.price)
-spare_cost p b = let from = b.price.from in let upto = b.price.upto in record { from = omega (arith, ints); upto = omega (arith, ints) }
+spare_cost p b =
+    let from = b.price.from in
+    let upto = b.price.upto in
+    record { from = omega (arith, ints); upto = omega (arith, ints) }
 
 module _ (hot cold : List Part) (inner : Net) (g : IsAround hot cold inner) where
   bounded_at : (side : Side) (i : ℕ) (p : Part) → slice_get (parts_of side hot cold) i ≡ Some p → IsBounded p
   bounded_at Hot i p at = All-slice_get IsBounded hot i p g.hot_bounded at
   bounded_at Cold i p at = All-slice_get IsBounded cold i p g.cold_bounded at
 
-  node_within : (side : Side) (i : ℕ) (p : Part) → slice_get (parts_of side hot cold) i ≡ Some p → (first_node hot cold inner side + i) < inner.nodes
+  node_within : (side : Side) (i : ℕ) (p : Part) → slice_get (parts_of side hot cold) i ≡ Some p
+      → (first_node hot cold inner side + i) < inner.nodes
   node_within Hot i p at = omega (arith, g.inner_net.nodes, slice_get_within hot i p at)
   node_within Cold i p at = omega (arith, g.inner_net.nodes, slice_get_within cold i p at)
 
-  near : (l : Link) → l.from < inner.nodes + 4 → l.to < inner.nodes + 4 → IsRoom l.room → IsPrice l.cost → IsNear (inner.nodes + 4) l
+  near : (l : Link) → l.from < inner.nodes + 4 → l.to < inner.nodes + 4 → IsRoom l.room → IsPrice l.cost
+      → IsNear (inner.nodes + 4) l
   near l from to room price =
       record { limits = record { from_in = from; to_in = to; room = room; cost = omega (arith, sizes, price.from, price.upto) }; price = price }
 
   near_inner : (l : Link) → IsInnerLink (length hot) (length cold) inner.nodes l → IsNear (inner.nodes + 4) l
   near_inner l h =
-      let room = h.room in let cost = h.cost in
+      let room = h.room in
+      let cost = h.cost in
       near l (omega (arith, h.from_in)) (omega (arith, h.to_in)) (record { from = omega (arith, ints, room); upto = omega (arith, ints, room) })
       (record { from = omega (arith, ints, cost); upto = omega (arith, ints, cost) })
 
-  near_whole : (side : Side) (node : ℕ) (p : Part) → node < inner.nodes → IsBounded p → IsNear (inner.nodes + 4) (whole_link side (ends inner) node p)
-  near_whole Hot node p within b = near (whole_link Hot (ends inner) node p) (omega arith) (omega (arith, within)) (whole_room p b) no_cost
-  near_whole Cold node p within b = near (whole_link Cold (ends inner) node p) (omega (arith, within)) (omega arith) (whole_room p b) no_cost
+  near_whole : (side : Side) (node : ℕ) (p : Part) → node < inner.nodes → IsBounded p
+      → IsNear (inner.nodes + 4) (whole_link side (ends inner) node p)
+  near_whole Hot node p within b =
+      near (whole_link Hot (ends inner) node p) (omega arith) (omega (arith, within)) (whole_room p b) no_cost
+  near_whole Cold node p within b =
+      near (whole_link Cold (ends inner) node p) (omega (arith, within)) (omega arith) (whole_room p b) no_cost
 
-  near_spare : (side : Side) (node : ℕ) (p : Part) → node < inner.nodes → IsBounded p → IsNear (inner.nodes + 4) (spare_link side (ends inner) node p)
-  near_spare Hot node p within b = near (spare_link Hot (ends inner) node p) (omega (arith, within)) (omega arith) (spare_room p b) (spare_cost p b)
-  near_spare Cold node p within b = near (spare_link Cold (ends inner) node p) (omega arith) (omega (arith, within)) (spare_room p b) (spare_cost p b)
+  near_spare : (side : Side) (node : ℕ) (p : Part) → node < inner.nodes → IsBounded p
+      → IsNear (inner.nodes + 4) (spare_link side (ends inner) node p)
+  near_spare Hot node p within b =
+      near (spare_link Hot (ends inner) node p) (omega (arith, within)) (omega arith) (spare_room p b) (spare_cost p b)
+  near_spare Cold node p within b =
+      near (spare_link Cold (ends inner) node p) (omega arith) (omega (arith, within)) (spare_room p b) (spare_cost p b)
 
   near_between : All (IsNear (inner.nodes + 4)) (links_between (ends inner) (most_of hot) (most_of cold))
   near_between =
-      let given = most_within hot g.few_hot g.hot_bounded in let taken = most_within cold g.few_cold g.cold_bounded in
+      let given = most_within hot g.few_hot g.hot_bounded in
+      let taken = most_within cold g.few_cold g.cold_bounded in
       All-between hot cold inner (IsNear (inner.nodes + 4))
       (near _ (omega arith) (omega arith) (record { from = omega (arith, ints, taken.from); upto = omega (arith, ints, taken.upto) }) no_cost)
       (near _ (omega arith) (omega arith) (record { from = omega (arith, ints, given.from); upto = omega (arith, ints, given.upto) }) no_cost)
@@ -378,7 +439,8 @@ module _ (hot cold : List Part) (inner : Net) (g : IsAround hot cold inner) wher
 
   pub room_around : IsRoom (most_of hot +ℤ most_of cold)
   room_around =
-      let given = most_within hot g.few_hot g.hot_bounded in let taken = most_within cold g.few_cold g.cold_bounded in
+      let given = most_within hot g.few_hot g.hot_bounded in
+      let taken = most_within cold g.few_cold g.cold_bounded in
       record { from = omega (arith, ints, given.from, taken.from); upto = omega (arith, ints, given.upto, taken.upto) }
 
   pub small_cold : most_of cold <ℤ MOST_ROOM
@@ -397,13 +459,16 @@ module _ (hot cold : List Part) (inner : Net) (g : IsAround hot cold inner) wher
   start_further : (j : ℕ) → potential_at (start_of inner.nodes) (inner.nodes + j) ≡ get_or further j (pos 0)
   start_further j =
       ap (λ n. potential_at (start_of inner.nodes) n) {x = inner.nodes + j} {y = length (replicate inner.nodes (pos 0)) + j}
-      (omega (arith, length-replicate {A = ℤ} inner.nodes (pos 0))) ∙ get_or-append-add (replicate inner.nodes (pos 0)) further j (pos 0)
+      (omega (arith, length-replicate {A = ℤ} inner.nodes (pos 0)))
+      ∙ get_or-append-add (replicate inner.nodes (pos 0)) further j (pos 0)
 
   at_source : potential_at (start_of inner.nodes) inner.nodes ≡ MOST_PRICE
-  at_source = ap (potential_at (start_of inner.nodes)) {x = inner.nodes} {y = inner.nodes + 0} (omega arith) ∙ start_further 0
+  at_source =
+      ap (potential_at (start_of inner.nodes)) {x = inner.nodes} {y = inner.nodes + 0} (omega arith) ∙ start_further 0
 
   -- the initial potential of each node is a price
-  start_within : (v : ℕ) → v < inner.nodes + 4 → IsBetween (neg_ℤ MOST_PRICE) MOST_PRICE (potential_at (start_of inner.nodes) v)
+  start_within : (v : ℕ) → v < inner.nodes + 4
+      → IsBetween (neg_ℤ MOST_PRICE) MOST_PRICE (potential_at (start_of inner.nodes) v)
   start_within v within =
       ⊎_elim (λ early. subst (IsBetween (neg_ℤ MOST_PRICE) MOST_PRICE) (sym (start_inner v early))
       (record { from = omega (arith, ints); upto = omega (arith, ints) }))
@@ -427,7 +492,8 @@ module _ (hot cold : List Part) (inner : Net) (g : IsAround hot cold inner) wher
   fits_whole Hot node p within = rw (at_source, start_inner node within) (omega (arith, ints))
   fits_whole Cold node p within = rw (start_further 1, start_inner node within) (omega (arith, ints))
 
-  fits_spare : (side : Side) (node : ℕ) (p : Part) → node < inner.nodes → IsBounded p → Fits (spare_link side (ends inner) node p)
+  fits_spare : (side : Side) (node : ℕ) (p : Part) → node < inner.nodes → IsBounded p
+      → Fits (spare_link side (ends inner) node p)
   fits_spare Hot node p within b = rw (start_further 3, start_inner node within) (omega (arith, ints, b.price.upto))
   fits_spare Cold node p within b = rw (start_further 2, start_inner node within) (omega (arith, ints, b.price.upto))
 
@@ -441,8 +507,11 @@ module _ (hot cold : List Part) (inner : Net) (g : IsAround hot cold inner) wher
 
   pub start_around : AreInitialPotentials (net_around hot cold inner) (start_of inner.nodes)
   start_around = record {
-    one_each = length-append (replicate inner.nodes (pos 0)) further ∙ ap (λ n. n + 4) (length-replicate {A = ℤ} inner.nodes (pos 0));
-    within = λ v within. let bound = start_within v within in omega (arith, sizes, bound.from, bound.upto);
+    one_each =
+        length-append (replicate inner.nodes (pos 0)) further
+        ∙ ap (λ n. n + 4) (length-replicate {A = ℤ} inner.nodes (pos 0));
+    within = λ v within. let bound = start_within v within in
+        omega (arith, sizes, bound.from, bound.upto);
     fits = λ k within some.
         All-net_around hot cold inner Fits (All-weaker (IsInnerLink (length hot) (length cold) inner.nodes) Fits fits_inner inner.links g.inner_net.links)
         (λ side i p at. let node = first_node hot cold inner side + i in
@@ -452,10 +521,13 @@ module _ (hot cold : List Part) (inner : Net) (g : IsAround hot cold inner) wher
 
   -- ---- the size of the potentials
 
-  pub potentials_within : (potentials : List ℤ) → AreBounded (net_around hot cold inner) (start_of inner.nodes) potentials → All IsNodePotential potentials
+  pub potentials_within : (potentials : List ℤ)
+      → AreBounded (net_around hot cold inner) (start_of inner.nodes) potentials → All IsNodePotential potentials
   potentials_within potentials bounded k d within =
-      let most_price = unsigned_abs MOST_PRICE in let most_nodes = MOST_INNER_NODES + 4 in
-      let net = net_around hot cold inner in let bound = bounded.bounded k (omega (arith, bounded.one_each, within)) in
+      let most_price = unsigned_abs MOST_PRICE in
+      let most_nodes = MOST_INNER_NODES + 4 in
+      let net = net_around hot cold inner in
+      let bound = bounded.bounded k (omega (arith, bounded.one_each, within)) in
       let starts = greatest-le (λ (s : ℤ). s) (start_of inner.nodes) most_price (pos 0)
       (λ j early. let h = start_within j (omega (arith, start_around.one_each, early)) in omega (arith, sizes, h.from, h.upto)) in
       let costs = greatest-le (λ (l : Link). l.cost) net.links most_price no_link
@@ -463,7 +535,8 @@ module _ (hot cold : List Part) (inner : Net) (g : IsAround hot cold inner) wher
       let times : net.nodes * largest_cost net ≤ most_nodes * most_price =
       mul-le net.nodes (largest_cost net) most_nodes most_price (omega (arith, g.few_nodes)) costs in
       let same = get_or_default potentials k d (pos 0) within in
-      let small : unsigned_abs (get_or potentials k d) ≤ 3 * most_price + most_nodes * most_price = rw same (omega (arith, bound, starts, times)) in
+      let small : unsigned_abs (get_or potentials k d) ≤ 3 * most_price + most_nodes * most_price
+      = rw same (omega (arith, bound, starts, times)) in
       record { from = omega (arith, sizes, small); upto = omega (arith, sizes, small) }
 
 -- ---- the links of the net of the pairs that reach, and that it is an inner net whose paths are those pairs
@@ -480,7 +553,8 @@ cold_within r a b h = ltb-true b r.colds (sizes_reach r a b h).1
 
 module _ (r : Reach) where
   -- what holds of the link of each pair holds of all
-  All-pair_links : (P : Link → Type 0) → ((a b : ℕ) → IsTrue (reaches r a b) → P (pair_link r a b)) → All P (pair_links r)
+  All-pair_links : (P : Link → Type 0) → ((a b : ℕ) → IsTrue (reaches r a b) → P (pair_link r a b))
+      → All P (pair_links r)
   All-pair_links P each =
       All-flat_map P (row_links r) (range_with_len 0 r.hots)
       (λ k d _. let a = get_or (range_with_len 0 r.hots) k d in
@@ -489,7 +563,8 @@ module _ (r : Reach) where
       All-cons_if P (reaches r a b) (pair_link r a b) [] (each a b) (All-nil P)))
 
   in_range : (n i : ℕ) → i < n → Contains (range_with_len 0 n) i
-  in_range n i within = (i, omega (arith, within, length-range_with_len 0 n), get_or-range_with_len 0 n i i within ∙ zero-add i)
+  in_range n i within =
+      (i, omega (arith, within, length-range_with_len 0 n), get_or-range_with_len 0 n i i within ∙ zero-add i)
 
   Contains-pair_links : (a b : ℕ) → IsTrue (reaches r a b) → Contains (pair_links r) (pair_link r a b)
   Contains-pair_links a b joined =
@@ -501,7 +576,8 @@ module _ (r : Reach) where
   few_pair_links : length (pair_links r) ≤ r.hots * r.colds
   few_pair_links =
       let rows = length-flat_map-le (row_links r) r.colds (range_with_len 0 r.hots) row in
-      let count : length (range_with_len 0 r.hots) ≡ r.hots = length-range_with_len 0 r.hots in subst (λ n. length (pair_links r) ≤ n * r.colds) count rows
+      let count : length (range_with_len 0 r.hots) ≡ r.hots = length-range_with_len 0 r.hots in
+      subst (λ n. length (pair_links r) ≤ n * r.colds) count rows
     where
       at_most_one : (t : Bool) (l : Link) → length (cons_if t l []) ≤ 1
       at_most_one true l = omega arith
@@ -537,7 +613,8 @@ module _ (r : Reach) where
   abbrev LeadsRight : Link → Type 0
   LeadsRight l = (b : ℕ) (path : List Link) → IsPath (pair_links r) path l.to (r.hots + b) → IsTrue (reaches r l.from b)
 
-  path_reaches : (path : List Link) (a b : ℕ) → a < r.hots → IsPath (pair_links r) path a (r.hots + b) → IsTrue (reaches r a b)
+  path_reaches : (path : List Link) (a b : ℕ) → a < r.hots → IsPath (pair_links r) path a (r.hots + b)
+      → IsTrue (reaches r a b)
   path_reaches [] a b row is = absurd (omega (arith, row, is))
   path_reaches (l ∷ path) a b row is =
       let right = All-pair_links LeadsRight
@@ -556,16 +633,20 @@ module _ (r : Reach) where
 -- ---- the net of the pairs of parts
 
 module _ (r : Reach) (net : Net) (is : net ≡ pair_net r) where
-  pub PathsAreReaches-pairs : (hot cold : List Part) → HasSizes r (length hot) (length cold) → PathsAreReaches (length hot) (length cold) net.links (reaches r)
+  pub PathsAreReaches-pairs : (hot cold : List Part) → HasSizes r (length hot) (length cold)
+      → PathsAreReaches (length hot) (length cold) net.links (reaches r)
   PathsAreReaches-pairs hot cold sizes =
       subst (λ n. PathsAreReaches (length hot) (length cold) n.links (reaches r)) (sym is)
       (subst₂ (λ h k. PathsAreReaches h k (pair_links r) (reaches r)) sizes.hots sizes.colds (paths_of_pairs r))
 
   -- where they are few
-  pub IsAround-pairs : (parts : Parts) → HasSizes r (length parts.hot) (length parts.cold) → r.hots * r.colds ≤ MOST_PAIRS → IsAround parts.hot parts.cold net
+  pub IsAround-pairs : (parts : Parts) → HasSizes r (length parts.hot) (length parts.cold)
+      → r.hots * r.colds ≤ MOST_PAIRS → IsAround parts.hot parts.cold net
   IsAround-pairs parts sizes few =
-      let hots = sizes.hots in let colds = sizes.colds in
-      let inner : IsInner r.hots r.colds (pair_net r) = record { nodes = omega arith; links = inner_links r } in let links = few_pair_links r in
+      let hots = sizes.hots in
+      let colds = sizes.colds in
+      let inner : IsInner r.hots r.colds (pair_net r) = record { nodes = omega arith; links = inner_links r } in
+      let links = few_pair_links r in
       subst (IsAround parts.hot parts.cold) (sym is)
       (IsAround-parts parts (pair_net r) (subst₂ (λ h k. IsInner h k (pair_net r)) hots colds inner) (omega (arith, hots, colds, parts.few_hot, parts.few_cold))
       (omega (arith, links, few)))

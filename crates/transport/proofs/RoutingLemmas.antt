@@ -48,7 +48,8 @@ abbrev pub term : ℤ → ℤ → ℤ → ℤ
 term a b x = (a -ℤ b) *ℤ x
 
 -- six sums, each equal to another one
-sum_up : (a a' b b' c c' d d' e e' f f' g : ℤ) → a +ℤ (b +ℤ (c +ℤ (d +ℤ (e +ℤ (f +ℤ pos 0))))) ≡ g → a ≡ a' → b ≡ b' → c ≡ c' → d ≡ d' → e ≡ e' → f ≡ f'
+sum_up : (a a' b b' c c' d d' e e' f f' g : ℤ) → a +ℤ (b +ℤ (c +ℤ (d +ℤ (e +ℤ (f +ℤ pos 0))))) ≡ g → a ≡ a'
+    → b ≡ b' → c ≡ c' → d ≡ d' → e ≡ e' → f ≡ f'
     → a' +ℤ (b' +ℤ (c' +ℤ (d' +ℤ (e' +ℤ f')))) ≡ g
 sum_up a a' b b' c c' d d' e e' f f' g all ha hb hc hd he hf = omega (arith, ints)
 
@@ -68,18 +69,28 @@ module _ {hot cold : List Part} {inner : Net} {flow : List ℤ} (r : IsFullRouti
   hot_fall inside s p i = term s (inside (0 + i)) (whole Hot i) +ℤ term (inside (0 + i)) p (spare Hot i)
 
   abbrev pub cold_fall : (ℕ → ℤ) → ℤ → ℤ → ℕ → ℤ
-  cold_fall inside t f i = term (inside (length hot + i)) t (whole Cold i) +ℤ term f (inside (length hot + i)) (spare Cold i)
+  cold_fall inside t f i =
+      term (inside (length hot + i)) t (whole Cold i) +ℤ term f (inside (length hot + i)) (spare Cold i)
 
   pub falls_around : (inside : ℕ → ℤ) (s t f p : ℤ) →
       int_sum_from (λ k l. term (inside l.from) (inside l.to) (flow_on flow k)) 0 inner.links
       +ℤ (int_sum_from (λ i (q : Part). hot_fall inside s p i) 0 hot
       +ℤ (int_sum_from (λ i (q : Part). cold_fall inside t f i) 0 cold
-      +ℤ (term s f (between 0) +ℤ (term p t (between 1) +ℤ term f p (between 2))))) ≡ s *ℤ (most_of hot +ℤ most_of cold) -ℤ t *ℤ (most_of hot +ℤ most_of cold)
+      +ℤ (term s f (between 0) +ℤ (term p t (between 1) +ℤ term f p (between 2)))))
+      ≡ s *ℤ (most_of hot +ℤ most_of cold) -ℤ t *ℤ (most_of hot +ℤ most_of cold)
   falls_around inside s t f p =
-      let n = inner.nodes in let net = net_around hot cold inner in let amount = most_of hot +ℤ most_of cold in let c = given_to n inside s t f p in
-      let x = flow_on flow in let k = between_at hot cold inner in let along = λ (k : ℕ) (l : Link). term (c l.from) (c l.to) (x k) in
-      let room = r.around.inner_net.nodes in let source = at_source n inside s t f p in let sink = at_sink n inside s t f p in
-      let filler = at_filler n inside s t f p in let spill = at_spill n inside s t f p in
+      let n = inner.nodes in
+      let net = net_around hot cold inner in
+      let amount = most_of hot +ℤ most_of cold in
+      let c = given_to n inside s t f p in
+      let x = flow_on flow in
+      let k = between_at hot cold inner in
+      let along = λ (k : ℕ) (l : Link). term (c l.from) (c l.to) (x k) in
+      let room = r.around.inner_net.nodes in
+      let source = at_source n inside s t f p in
+      let sink = at_sink n inside s t f p in
+      let filler = at_filler n inside s t f p in
+      let spill = at_spill n inside s t f p in
       let same = λ (a a' b b' y : ℤ) (from : a ≡ a') (to : b ≡ b'). ap₂ (λ u v. term u v y) from to in
       let limits = limits_around hot cold inner r.around in
       let all = sym (sum_over_links along net.links)
@@ -124,14 +135,18 @@ module _ {hot cold : List Part} {inner : Net} {flow : List ℤ} (r : IsFullRouti
 
 module _ (net : Net) (flow : List ℤ) (k : ℕ) (l : Link) (at : IsLinkAt net k l) where
   pub carried : IsWithinRooms net.links flow → IsBetween (pos 0) l.room (flow_on flow k)
-  carried rooms = record { from = rooms.not_negative k at.within; upto = subst (λ m. flow_on flow k ≤ℤ m.room) at.is (rooms.upto_room k at.within) }
+  carried rooms =
+      record { from = rooms.not_negative k at.within; upto = subst (λ m. flow_on flow k ≤ℤ m.room) at.is (rooms.upto_room k at.within) }
 
-  pub reduced_left : (potentials : List ℤ) → AreProofOfLeast net.links flow potentials → flow_on flow k <ℤ l.room → pos 0 ≤ℤ reduced_cost l potentials
+  pub reduced_left : (potentials : List ℤ) → AreProofOfLeast net.links flow potentials
+      → flow_on flow k <ℤ l.room → pos 0 ≤ℤ reduced_cost l potentials
   reduced_left potentials proof left =
       subst (λ m. pos 0 ≤ℤ reduced_cost m potentials) at.is (proof.left_to_add k at.within (subst (λ m. flow_on flow k <ℤ m.room) (sym at.is) left))
 
-  pub reduced_flowing : (potentials : List ℤ) → AreProofOfLeast net.links flow potentials → pos 0 <ℤ flow_on flow k → reduced_cost l potentials ≤ℤ pos 0
-  reduced_flowing potentials proof some = subst (λ m. reduced_cost m potentials ≤ℤ pos 0) at.is (proof.flowing k at.within some)
+  pub reduced_flowing : (potentials : List ℤ) → AreProofOfLeast net.links flow potentials
+      → pos 0 <ℤ flow_on flow k → reduced_cost l potentials ≤ℤ pos 0
+  reduced_flowing potentials proof some =
+      subst (λ m. reduced_cost m potentials ≤ℤ pos 0) at.is (proof.flowing k at.within some)
 
 -- ---- a number at one node, and 0 at the others
 
@@ -154,7 +169,8 @@ term_to false z x e = rw e (omega (arith, ints))
 
 module _ {hot cold : List Part} {inner : Net} {flow : List ℤ} (r : IsFullRouting hot cold inner flow) where
   none_inside : int_sum_from (λ k (l : Link). term (pos 0) (pos 0) (flow_on flow k)) 0 inner.links ≡ pos 0
-  none_inside = int_sum_from-zero (λ k l. term (pos 0) (pos 0) (flow_on flow k)) 0 inner.links (λ k l le. omega (arith, ints))
+  none_inside =
+      int_sum_from-zero (λ k l. term (pos 0) (pos 0) (flow_on flow k)) 0 inner.links (λ k l le. omega (arith, ints))
 
   abbrev nowhere : ℕ → ℤ
   nowhere v = pos 0
@@ -182,19 +198,27 @@ module _ {hot cold : List Part} {inner : Net} {flow : List ℤ} (r : IsFullRouti
 
   -- ---- the links of the mosts are full
 
-  pub whole_within : (side : Side) (i : ℕ) (p : Part) → slice_get (parts_of side hot cold) i ≡ Some p → IsBetween (pos 0) p.most (whole r side i)
-  whole_within Hot i p at = carried (net_around hot cold inner) flow _ _ (whole_is hot cold inner Hot i p at) r.routing.rooms
-  whole_within Cold i p at = carried (net_around hot cold inner) flow _ _ (whole_is hot cold inner Cold i p at) r.routing.rooms
+  pub whole_within : (side : Side) (i : ℕ) (p : Part) → slice_get (parts_of side hot cold) i ≡ Some p
+      → IsBetween (pos 0) p.most (whole r side i)
+  whole_within Hot i p at =
+      carried (net_around hot cold inner) flow _ _ (whole_is hot cold inner Hot i p at) r.routing.rooms
+  whole_within Cold i p at =
+      carried (net_around hot cold inner) flow _ _ (whole_is hot cold inner Cold i p at) r.routing.rooms
 
-  pub spare_within : (side : Side) (i : ℕ) (p : Part) → slice_get (parts_of side hot cold) i ≡ Some p → IsBetween (pos 0) (p.most -ℤ p.least) (spare r side i)
-  spare_within Hot i p at = carried (net_around hot cold inner) flow _ _ (spare_is hot cold inner Hot i p at) r.routing.rooms
-  spare_within Cold i p at = carried (net_around hot cold inner) flow _ _ (spare_is hot cold inner Cold i p at) r.routing.rooms
+  pub spare_within : (side : Side) (i : ℕ) (p : Part) → slice_get (parts_of side hot cold) i ≡ Some p
+      → IsBetween (pos 0) (p.most -ℤ p.least) (spare r side i)
+  spare_within Hot i p at =
+      carried (net_around hot cold inner) flow _ _ (spare_is hot cold inner Hot i p at) r.routing.rooms
+  spare_within Cold i p at =
+      carried (net_around hot cold inner) flow _ _ (spare_is hot cold inner Cold i p at) r.routing.rooms
 
   passed_within : IsBetween (pos 0) (most_of cold) (between r 0)
-  passed_within = carried (net_around hot cold inner) flow _ _ (between_is hot cold inner 0 (omega arith)) r.routing.rooms
+  passed_within =
+      carried (net_around hot cold inner) flow _ _ (between_is hot cold inner 0 (omega arith)) r.routing.rooms
 
   drained_within : IsBetween (pos 0) (most_of hot) (between r 1)
-  drained_within = carried (net_around hot cold inner) flow _ _ (between_is hot cold inner 1 (omega arith)) r.routing.rooms
+  drained_within =
+      carried (net_around hot cold inner) flow _ _ (between_is hot cold inner 1 (omega arith)) r.routing.rooms
 
   pub hot_full : (i : ℕ) (p : Part) → slice_get hot i ≡ Some p → whole r Hot i ≡ p.most
   hot_full =
@@ -221,7 +245,8 @@ module _ {hot cold : List Part} {inner : Net} {flow : List ℤ} (r : IsFullRouti
   exchanged_within =
       let some = int_sum_from-not_negative (λ i (q : Part). spare r Cold i) cold (λ i q at. (spare_within Cold i q at).from) in
       record {
-        from = (carried (net_around hot cold inner) flow _ _ (between_is hot cold inner 2 (omega arith)) r.routing.rooms).from;
+        from =
+            (carried (net_around hot cold inner) flow _ _ (between_is hot cold inner 2 (omega arith)) r.routing.rooms).from;
         upto = omega (arith, ints, filler_gives, passed, some);
       }
 
@@ -229,21 +254,28 @@ module _ {hot cold : List Part} {inner : Net} {flow : List ℤ} (r : IsFullRouti
 
   hot_given : (a : ℕ) (p : Part) → slice_get hot a ≡ Some p → outflow inner.links flow a ≡ p.most -ℤ spare r Hot a
   hot_given a p at =
-      let row = slice_get_within hot a p at in let inside = mark (pos 1) a in let all = falls_around r inside (pos 0) (pos 0) (pos 0) (pos 0) in
+      let row = slice_get_within hot a p at in
+      let inside = mark (pos 1) a in
+      let all = falls_around r inside (pos 0) (pos 0) (pos 0) (pos 0) in
       let links =
       int_sum_from-same_each (λ k l. term (inside l.from) (inside l.to) (flow_on flow k)) (λ k l. if l.from == a then flow_on flow k else pos 0) inner.links
       (λ k l there. let h = All-slice_get (IsInnerLink (length hot) (length cold) inner.nodes) inner.links k l r.around.inner_net.links there in
       term_from (l.from == a) (inside l.to) (flow_on flow k) (mark_other (pos 1) a l.to (λ e. omega (arith, row, e, h.enters)))) in
-      let out = sum_over_links (λ k l. if l.from == a then flow_on flow k else pos 0) inner.links in let own = hot_fall r inside (pos 0) (pos 0) in
+      let out = sum_over_links (λ k l. if l.from == a then flow_on flow k else pos 0) inner.links in
+      let own = hot_fall r inside (pos 0) (pos 0) in
       let hots = int_sum_from-single (λ i (q : Part). own i) a 0 hot blank (omega arith) (omega (arith, row))
       (λ i q other. let none = mark_other (pos 1) a (0 + i) (λ e. other (sym (zero-add i) ∙ e)) in rw none (omega (arith, ints))) in
-      let here : own a ≡ spare r Hot a -ℤ whole r Hot a = rw (mark_here (pos 1) a (0 + a) (zero-add a)) (omega (arith, ints)) in
+      let here : own a ≡ spare r Hot a -ℤ whole r Hot a
+      = rw (mark_here (pos 1) a (0 + a) (zero-add a)) (omega (arith, ints)) in
       let colds = cold_none r inside (λ i early. mark_other (pos 1) a (length hot + i) (λ e. omega (arith, row, e))) in
       omega (arith, ints, all, links, out, hots, here, colds, hot_full a p at)
 
-  cold_taken : (b : ℕ) (p : Part) → slice_get cold b ≡ Some p → inflow inner.links flow (length hot + b) ≡ p.most -ℤ spare r Cold b
+  cold_taken : (b : ℕ) (p : Part) → slice_get cold b ≡ Some p
+      → inflow inner.links flow (length hot + b) ≡ p.most -ℤ spare r Cold b
   cold_taken b p at =
-      let column = slice_get_within cold b p at in let node = length hot + b in let inside = mark (neg_ℤ (pos 1)) node in
+      let column = slice_get_within cold b p at in
+      let node = length hot + b in
+      let inside = mark (neg_ℤ (pos 1)) node in
       let all = falls_around r inside (pos 0) (pos 0) (pos 0) (pos 0) in
       let links =
       int_sum_from-same_each (λ k l. term (inside l.from) (inside l.to) (flow_on flow k)) (λ k l. if l.to == node then flow_on flow k else pos 0) inner.links
@@ -254,7 +286,8 @@ module _ {hot cold : List Part} {inner : Net} {flow : List ℤ} (r : IsFullRouti
       let own = cold_fall r inside (pos 0) (pos 0) in
       let colds = int_sum_from-single (λ i (q : Part). own i) b 0 cold blank (omega arith) (omega (arith, column))
       (λ i q other. let none = mark_other (neg_ℤ (pos 1)) node (length hot + i) (λ e. other (omega (arith, e))) in rw none (omega (arith, ints))) in
-      let here : own b ≡ spare r Cold b -ℤ whole r Cold b = rw (mark_here (neg_ℤ (pos 1)) node (length hot + b) refl) (omega (arith, ints)) in
+      let here : own b ≡ spare r Cold b -ℤ whole r Cold b
+      = rw (mark_here (neg_ℤ (pos 1)) node (length hot + b) refl) (omega (arith, ints)) in
       let hots = hot_none r inside (λ i early. mark_other (neg_ℤ (pos 1)) node (0 + i) (λ e. omega (arith, early, e))) in
       omega (arith, ints, all, links, taken, colds, here, hots, cold_full b p at)
 
@@ -263,7 +296,8 @@ module _ {hot cold : List Part} {inner : Net} {flow : List ℤ} (r : IsFullRouti
   exchanged Hot a = outflow inner.links flow (0 + a)
   exchanged Cold b = inflow inner.links flow (length hot + b)
 
-  pub exchanged_is : (side : Side) (i : ℕ) (p : Part) → slice_get (parts_of side hot cold) i ≡ Some p → exchanged side i ≡ p.most -ℤ spare r side i
+  pub exchanged_is : (side : Side) (i : ℕ) (p : Part) → slice_get (parts_of side hot cold) i ≡ Some p
+      → exchanged side i ≡ p.most -ℤ spare r side i
   exchanged_is Hot a p at = ap (outflow inner.links flow) (zero-add a) ∙ hot_given a p at
   exchanged_is Cold b p at = cold_taken b p at
 
@@ -271,7 +305,9 @@ module _ {hot cold : List Part} {inner : Net} {flow : List ℤ} (r : IsFullRouti
 -- parts is less than the room of a link
 
 -- what leaves a node, less what enters it
-term_both : (b c : Bool) (x : ℤ) → term (if b then pos 1 else pos 0) (if c then pos 1 else pos 0) x ≡ (if b then x else pos 0) -ℤ (if c then x else pos 0)
+term_both : (b c : Bool) (x : ℤ)
+    → term (if b then pos 1 else pos 0) (if c then pos 1 else pos 0) x
+    ≡ (if b then x else pos 0) -ℤ (if c then x else pos 0)
 term_both true true x = omega (arith, ints)
 term_both true false x = omega (arith, ints)
 term_both false true x = omega (arith, ints)
@@ -282,7 +318,8 @@ term_both false false x = omega (arith, ints)
 -- 1 for the nodes of hot parts, of which there are so many, and for the chain nodes up to one, where the chain nodes begin with
 -- `first`; 0 for any other node
 abbrev gathered : ℕ → ℕ → ℕ → ℕ → ℤ
-gathered hots first last v = if nat_lt v hots then pos 1 else if nat_lt v first then pos 0 else if nat_lt last v then pos 0 else pos 1
+gathered hots first last v =
+    if nat_lt v hots then pos 1 else if nat_lt v first then pos 0 else if nat_lt last v then pos 0 else pos 1
 
 one_or_none : (a b c : Bool) → ((if a then pos 1 else if b then pos 0 else if c then pos 0 else pos 1) ≡ pos 1)
     ⊎ ((if a then pos 1 else if b then pos 0 else if c then pos 0 else pos 1) ≡ pos 0)
@@ -308,21 +345,25 @@ module _ (hots colds nodes last : ℕ) where
   inside_hot v early = rw (lt-ltb v hots early) refl
 
   inside_chain : (v : ℕ) → (hots + colds) ≤ v → v ≤ last → inside v ≡ pos 1
-  inside_chain v behind upto = rw (le-ltb v hots (omega (arith, behind)), le-ltb v (hots + colds) behind, le-ltb last v upto) refl
+  inside_chain v behind upto =
+      rw (le-ltb v hots (omega (arith, behind)), le-ltb v (hots + colds) behind, le-ltb last v upto) refl
 
   outside_cold : (v : ℕ) → hots ≤ v → v < hots + colds → inside v ≡ pos 0
   outside_cold v late early = rw (le-ltb v hots late, lt-ltb v (hots + colds) early) refl
 
   outside_chain : (v : ℕ) → (hots + colds) ≤ v → last < v → inside v ≡ pos 0
-  outside_chain v behind above = rw (le-ltb v hots (omega (arith, behind)), le-ltb v (hots + colds) behind, lt-ltb last v above) refl
+  outside_chain v behind above =
+      rw (le-ltb v hots (omega (arith, behind)), le-ltb v (hots + colds) behind, lt-ltb last v above) refl
 
   -- a link that does not begin inside does not enter
-  stays_out : (l : Link) → IsInnerLink hots colds nodes l → (hots + colds) ≤ l.from → last < l.from → inside l.to ≡ pos 0
+  stays_out : (l : Link) → IsInnerLink hots colds nodes l → (hots + colds) ≤ l.from → last < l.from
+      → inside l.to ≡ pos 0
   stays_out l h behind above =
       ⊎_elim (λ cold. outside_cold l.to h.enters cold) (λ chain. let on = h.onward behind chain in outside_chain l.to chain (omega (arith, on, above)))
       (cases_lt l.to (hots + colds))
 
-  none_enters : (l : Link) (x : ℤ) → IsInnerLink hots colds nodes l → pos 0 ≤ℤ x → pos 0 ≤ℤ term (inside l.from) (inside l.to) x
+  none_enters : (l : Link) (x : ℤ) → IsInnerLink hots colds nodes l → pos 0 ≤ℤ x
+      → pos 0 ≤ℤ term (inside l.from) (inside l.to) x
   none_enters l x h some =
       ⊎_elim (λ hot. from_inside (inside_hot l.from hot))
       (λ behind. ⊎_elim
@@ -339,7 +380,8 @@ module _ (hots colds nodes last : ℕ) where
           (one_or_none (nat_lt l.to hots) (nat_lt l.to (hots + colds)) (nat_lt last l.to))
 
   -- and the link that begins with the last node leaves
-  leaves_last : (l : Link) (x : ℤ) → IsInnerLink hots colds nodes l → l.from ≡ last → term (inside l.from) (inside l.to) x ≡ x
+  leaves_last : (l : Link) (x : ℤ) → IsInnerLink hots colds nodes l → l.from ≡ last
+      → term (inside l.from) (inside l.to) x ≡ x
   leaves_last l x h from =
       term_out (inside l.from) (inside l.to) x (⊎_elim (λ hot. inside_hot l.from hot) (λ behind. inside_chain l.from behind (omega (arith, from))) h.leaves)
       (⊎_elim (λ cold. outside_cold l.to h.enters cold)
@@ -350,8 +392,10 @@ module _ (hots colds nodes last : ℕ) where
 -- ---- the flow of an inner net
 
 module _ {hot cold : List Part} {inner : Net} {flow : List ℤ} (r : IsFullRouting hot cold inner flow) where
-  inner_link : (k : ℕ) (l : Link) → slice_get inner.links k ≡ Some l → IsInnerLink (length hot) (length cold) inner.nodes l
-  inner_link k l at = All-slice_get (IsInnerLink (length hot) (length cold) inner.nodes) inner.links k l r.around.inner_net.links at
+  inner_link : (k : ℕ) (l : Link) → slice_get inner.links k ≡ Some l
+      → IsInnerLink (length hot) (length cold) inner.nodes l
+  inner_link k l at =
+      All-slice_get (IsInnerLink (length hot) (length cold) inner.nodes) inner.links k l r.around.inner_net.links at
 
   pub carries_some : (k : ℕ) → k < length inner.links → pos 0 ≤ℤ flow_on flow k
   carries_some k within = r.routing.rooms.not_negative k (inner_at hot cold inner k within).within
@@ -359,7 +403,8 @@ module _ {hot cold : List Part} {inner : Net} {flow : List ℤ} (r : IsFullRouti
   -- a chain node passes on what it takes
   pub passes_on : (v : ℕ) → (length hot + length cold) ≤ v → inflow inner.links flow v ≡ outflow inner.links flow v
   passes_on v behind =
-      let here = mark (pos 1) v in let all = falls_around r here (pos 0) (pos 0) (pos 0) (pos 0) in
+      let here = mark (pos 1) v in
+      let all = falls_around r here (pos 0) (pos 0) (pos 0) (pos 0) in
       let links = int_sum_from-same_each (λ k l. term (here l.from) (here l.to) (flow_on flow k))
       (λ k l. (if l.from == v then flow_on flow k else pos 0) -ℤ (if l.to == v then flow_on flow k else pos 0)) inner.links
       (λ k l there. term_both (l.from == v) (l.to == v) (flow_on flow k))
@@ -374,8 +419,10 @@ module _ {hot cold : List Part} {inner : Net} {flow : List ℤ} (r : IsFullRouti
   -- hot parts give
   pub not_full : (k : ℕ) → k < length inner.links → flow_on flow k <ℤ MOST_ROOM
   not_full k within =
-      let l = link_at inner.links k in let at = slice_get-get_or inner.links k no_link within in
-      let here = gathered (length hot) (length hot + length cold) l.from in let all = falls_around r here (pos 0) (pos 0) (pos 0) (pos 0) in
+      let l = link_at inner.links k in
+      let at = slice_get-get_or inner.links k no_link within in
+      let here = gathered (length hot) (length hot + length cold) l.from in
+      let all = falls_around r here (pos 0) (pos 0) (pos 0) (pos 0) in
       let least = int_sum_from-term (λ j n. term (here n.from) (here n.to) (flow_on flow j)) inner.links
       (λ j n there. none_enters (length hot) (length cold) inner.nodes l.from n (flow_on flow j) (inner_link j n there)
       (carries_some j (slice_get_within inner.links j n there))) k l at in
@@ -390,7 +437,8 @@ module _ {hot cold : List Part} {inner : Net} {flow : List ℤ} (r : IsFullRouti
       (λ i early. outside_cold (length hot) (length cold) inner.nodes l.from (length hot + i) (omega arith) (omega (arith, early))) in
       omega (arith, ints, all, least, own, hots, less, mosts hot, colds, none, (most_within hot r.around.few_hot r.around.hot_bounded).upto)
     where
-      gives_most : (one most x y : ℤ) → one ≡ pos 1 → x ≤ℤ most → pos 0 ≤ℤ y → (pos 0 -ℤ most) ≤ℤ (term (pos 0) one x +ℤ term one (pos 0) y)
+      gives_most : (one most x y : ℤ) → one ≡ pos 1 → x ≤ℤ most → pos 0 ≤ℤ y
+          → (pos 0 -ℤ most) ≤ℤ (term (pos 0) one x +ℤ term one (pos 0) y)
       gives_most one most x y is upto from = rw is (omega (arith, ints, upto, from))
 
 -- ---- the front of the flow: what the inner net alone carries. It is a flow of heat, and its transfers are those of the whole
@@ -426,7 +474,8 @@ module _ {hot cold : List Part} {inner : Net} {flow : List ℤ} (r : IsFullRouti
       one_each = length-take-le (length inner.links) flow front_within;
       not_negative = λ k within. subst (λ x. pos 0 ≤ℤ x) (sym (same_flow k within)) (carries_some r k within);
       upto_room = λ k within.
-          let at = inner_at hot cold inner k within in let room = r.routing.rooms.upto_room k at.within in
+          let at = inner_at hot cold inner k within in
+          let room = r.routing.rooms.upto_room k at.within in
           subst (λ x. x ≤ℤ (link_at inner.links k).room) (sym (same_flow k within)) (subst (λ l. flow_on flow k ≤ℤ l.room) at.is room);
     };
     balances = λ v behind within. same_inflow v ∙ passes_on r v behind ∙ sym (same_outflow v);
@@ -459,7 +508,8 @@ pub record IsSlack (excess low high heat : ℤ) : Type 0 where
 
 abbrev pub AreSlack : Side → List Part → List ℤ → List Transfer → Type 0
 AreSlack side parts prices transfers =
-    (i : ℕ) (p : Part) → slice_get parts i ≡ Some p → IsSlack (excess_price side p.price (price_at prices i)) p.least p.most (heat_at side transfers i)
+    (i : ℕ) (p : Part) → slice_get parts i ≡ Some p
+    → IsSlack (excess_price side p.price (price_at prices i)) p.least p.most (heat_at side transfers i)
 
 -- what the heat of a side is worth at the prices of its parts
 abbrev pub worth_of : Side → List Part → List ℤ → List Transfer → ℤ
@@ -475,7 +525,8 @@ pub record Certifies (hot cold : List Part) (transfers : List Transfer) (y z : L
 slack_least : (c low high s : ℤ) → IsBetween low high s → IsSlack c low high s → least_product c low high ≡ c *ℤ s
 slack_least (pos zero) low high s h k = omega (arith, ints, clamps)
 slack_least (pos (suc n)) low high s h k =
-    let same : s ≡ low = by_lt_z low s (λ less. let no = k.to_spare less in absurd (omega (arith, ints))) (λ le. let from = h.from in omega (arith, ints)) in
+    let same : s ≡ low
+    = by_lt_z low s (λ less. let no = k.to_spare less in absurd (omega (arith, ints))) (λ le. let from = h.from in omega (arith, ints)) in
     let le = *ℤ-≤ℤ_left (pos (suc n)) low high (omega (arith, ints)) (omega (arith, ints, h.from, h.upto)) in
     subst (λ z. least_product (pos (suc n)) low high ≡ pos (suc n) *ℤ z) (sym same) (omega (arith, ints, clamps))
 slack_least (negsuc n) low high s h k =
@@ -485,7 +536,8 @@ slack_least (negsuc n) low high s h k =
     subst (λ z. least_product (negsuc n) low high ≡ negsuc n *ℤ z) (sym same) (omega (arith, ints, clamps))
 
 -- the value of a side is its cost beyond what its heat is worth
-side_value-is : (side : Side) (parts : List Part) (prices : List ℤ) (ts : List Transfer) → KeepsRanges side parts ts → AreSlack side parts prices ts
+side_value-is : (side : Side) (parts : List Part) (prices : List ℤ) (ts : List Transfer)
+    → KeepsRanges side parts ts → AreSlack side parts prices ts
     → side_value side parts prices ≡ excess_price side (side_cost side parts ts) (worth_of side parts prices ts)
 side_value-is side parts prices ts ranges slack =
     let excess = λ (i : ℕ) (p : Part). excess_price side p.price (price_at prices i) in
@@ -496,14 +548,18 @@ side_value-is side parts prices ts ranges slack =
     ∙ int_sum_from-excess side (λ i p. p.price *ℤ heat_at side ts i) (λ i p. price_at prices i *ℤ heat_at side ts i) parts
 
 -- a certified heat flow costs the value of the prices
-pub value-is_cost : (reach : ℕ → ℕ → Bool) (hot cold : List Part) (ts : List Transfer) (y z : List ℤ) → IsHeatFlow reach hot cold ts → Certifies hot cold ts y z
+pub value-is_cost : (reach : ℕ → ℕ → Bool) (hot cold : List Part) (ts : List Transfer) (y z : List ℤ)
+    → IsHeatFlow reach hot cold ts → Certifies hot cold ts y z
     → value_of hot cold y z ≡ cost_of hot cold ts
 value-is_cost reach hot cold ts y z flow prices =
     let given = side_value-is Hot hot y ts flow.hot_ranges prices.hot_slack in
-    let taken = side_value-is Cold cold z ts flow.cold_ranges prices.cold_slack in let worth = prices.worth in omega (arith, ints)
+    let taken = side_value-is Cold cold z ts flow.cold_ranges prices.cold_slack in
+    let worth = prices.worth in
+    omega (arith, ints)
 
 -- and none costs less, where the prices support every heat flow
-pub IsLeastCost-certified : (reach : ℕ → ℕ → Bool) (hot cold : List Part) (ts : List Transfer) (y z : List ℤ) → IsSupporting reach y z
+pub IsLeastCost-certified : (reach : ℕ → ℕ → Bool) (hot cold : List Part) (ts : List Transfer) (y z : List ℤ)
+    → IsSupporting reach y z
     → IsHeatFlow reach hot cold ts → Certifies hot cold ts y z → IsLeastCost reach hot cold (cost_of hot cold ts)
 IsLeastCost-certified reach hot cold ts y z supports flow prices =
     let same = value-is_cost reach hot cold ts y z flow prices in
@@ -511,12 +567,15 @@ IsLeastCost-certified reach hot cold ts y z supports flow prices =
       transfers = ts;
       flow = flow;
       costs = refl;
-      least = λ others other. let bound = weak_duality reach hot cold y z supports others other in omega (arith, ints);
+      least = λ others other. let bound = weak_duality reach hot cold y z supports others other in
+          omega (arith, ints);
     }
 
 -- from a link with the room `high - low` and the reduced cost `-c` that carries what is missing at the most
-pub slack_from_link : (c low high x : ℤ) → (x <ℤ (high -ℤ low) → c ≤ℤ pos 0) → (pos 0 <ℤ x → pos 0 ≤ℤ c) → IsSlack c low high (high -ℤ x)
-slack_from_link c low high x left flowing = record { left_to_add = λ less. flowing (omega (arith, ints)); to_spare = λ less. left (omega (arith, ints)) }
+pub slack_from_link : (c low high x : ℤ) → (x <ℤ (high -ℤ low) → c ≤ℤ pos 0) → (pos 0 <ℤ x → pos 0 ≤ℤ c)
+    → IsSlack c low high (high -ℤ x)
+slack_from_link c low high x left flowing =
+    record { left_to_add = λ less. flowing (omega (arith, ints)); to_spare = λ less. left (omega (arith, ints)) }
 
 -- ---- the potentials as prices: no part could exchange its heat for less, and what the hot parts give is worth what the cold parts take
 
@@ -524,24 +583,37 @@ slack_from_link c low high x left flowing = record { left_to_add = λ less. flow
 hot_terms : (source spill node most s x y : ℤ) → x ≡ most → s ≡ most -ℤ y
     → term source node x +ℤ term node spill y ≡ (source -ℤ spill) *ℤ most -ℤ (node -ℤ spill) *ℤ s
 hot_terms source spill node most s x y full rest =
-    let spared : y ≡ most -ℤ s = omega (arith, ints, rest) in let first = ap (λ w. term source node w) full ∙ -ℤ-*ℤ source node most in
+    let spared : y ≡ most -ℤ s = omega (arith, ints, rest) in
+    let first = ap (λ w. term source node w) full ∙ -ℤ-*ℤ source node most in
     let second = ap (λ w. term node spill w) spared ∙ *ℤ--ℤ (node -ℤ spill) most s in
-    let third = -ℤ-*ℤ node spill most in let whole = -ℤ-*ℤ source spill most in omega (arith, ints, first, second, third, whole)
+    let third = -ℤ-*ℤ node spill most in
+    let whole = -ℤ-*ℤ source spill most in
+    omega (arith, ints, first, second, third, whole)
 
 cold_terms : (filler sink node most s x y : ℤ) → x ≡ most → s ≡ most -ℤ y
     → term node sink x +ℤ term filler node y ≡ (filler -ℤ sink) *ℤ most +ℤ (node -ℤ filler) *ℤ s
 cold_terms filler sink node most s x y full rest =
-    let spared : y ≡ most -ℤ s = omega (arith, ints, rest) in let first = ap (λ w. term node sink w) full ∙ -ℤ-*ℤ node sink most in
+    let spared : y ≡ most -ℤ s = omega (arith, ints, rest) in
+    let first = ap (λ w. term node sink w) full ∙ -ℤ-*ℤ node sink most in
     let second = ap (λ w. term filler node w) spared ∙ *ℤ--ℤ (filler -ℤ node) most s in
-    let third = -ℤ-*ℤ filler node most in let fourth = -ℤ-*ℤ filler node s in let fifth = -ℤ-*ℤ node filler s in let whole = -ℤ-*ℤ filler sink most in
+    let third = -ℤ-*ℤ filler node most in
+    let fourth = -ℤ-*ℤ filler node s in
+    let fifth = -ℤ-*ℤ node filler s in
+    let whole = -ℤ-*ℤ filler sink most in
     omega (arith, ints, first, second, third, fourth, fifth, whole)
 
 -- what is left of the law of falls for the potentials
-worth_left : (s t f p h c g k u v w x y between : ℤ) → u +ℤ (v +ℤ (w +ℤ (x +ℤ (y +ℤ between)))) ≡ s *ℤ (h +ℤ c) -ℤ t *ℤ (h +ℤ c) → u ≡ pos 0
+worth_left : (s t f p h c g k u v w x y between : ℤ)
+    → u +ℤ (v +ℤ (w +ℤ (x +ℤ (y +ℤ between)))) ≡ s *ℤ (h +ℤ c) -ℤ t *ℤ (h +ℤ c) → u ≡ pos 0
     → v ≡ (s -ℤ p) *ℤ h -ℤ g → w ≡ (f -ℤ t) *ℤ c +ℤ k → x ≡ (s -ℤ f) *ℤ c → y ≡ (p -ℤ t) *ℤ h → between ≡ pos 0 → g ≡ k
 worth_left s t f p h c g k u v w x y between all inside hots colds first second none =
-    let one = -ℤ-*ℤ s p h in let two = -ℤ-*ℤ f t c in let three = -ℤ-*ℤ s f c in let four = -ℤ-*ℤ p t h in let five = *ℤ-+ℤ s h c in
-    let six = *ℤ-+ℤ t h c in omega (arith, ints, one, two, three, four, five, six, all, inside, hots, colds, first, second, none)
+    let one = -ℤ-*ℤ s p h in
+    let two = -ℤ-*ℤ f t c in
+    let three = -ℤ-*ℤ s f c in
+    let four = -ℤ-*ℤ p t h in
+    let five = *ℤ-+ℤ s h c in
+    let six = *ℤ-+ℤ t h c in
+    omega (arith, ints, one, two, three, four, five, six, all, inside, hots, colds, first, second, none)
 
 module _ {hot cold : List Part} {inner : Net} {flow potentials : List ℤ} (r : IsFullRouting hot cold inner flow)
     (proof : AreProofOfLeast (net_around hot cold inner).links flow potentials) where
@@ -589,10 +661,14 @@ module _ {hot cold : List Part} {inner : Net} {flow potentials : List ℤ} (r : 
   -- so are those of the inner net
   module _ (k : ℕ) (within : k < length inner.links) (left : flow_on flow k <ℤ MOST_ROOM) where
     pub falls : at (link_at inner.links k).to ≤ℤ at (link_at inner.links k).from
-    falls = let h = r.around.inner_net.links k no_link within in falls_along k (link_at inner.links k) (inner_at hot cold inner k within) h.room h.cost left
+    falls =
+        let h = r.around.inner_net.links k no_link within in
+        falls_along k (link_at inner.links k) (inner_at hot cold inner k within) h.room h.cost left
 
     stays : term (at (link_at inner.links k).from) (at (link_at inner.links k).to) (flow_on flow k) ≡ pos 0
-    stays = let h = r.around.inner_net.links k no_link within in stays_along k (link_at inner.links k) (inner_at hot cold inner k within) h.room h.cost left
+    stays =
+        let h = r.around.inner_net.links k no_link within in
+        stays_along k (link_at inner.links k) (inner_at hot cold inner k within) h.room h.cost left
 
   -- and the one from the filler to the spill
   module _ (small : most_of cold <ℤ MOST_ROOM) where
@@ -613,22 +689,26 @@ module _ {hot cold : List Part} {inner : Net} {flow potentials : List ℤ} (r : 
     pub worth_is : ((k : ℕ) → k < length inner.links → flow_on flow k <ℤ MOST_ROOM)
         → int_sum_from (λ i (q : Part). worth Hot i) 0 hot ≡ int_sum_from (λ i (q : Part). worth Cold i) 0 cold
     worth_is left =
-        let source = (ends inner).source in let sink = (ends inner).sink in
+        let source = (ends inner).source in
+        let sink = (ends inner).sink in
         let all = falls_around r at (at source) (at sink) (at filler) (at spill) in
         let inside = int_sum_from-same_each (λ k l. term (at l.from) (at l.to) (flow_on flow k)) (λ k l. pos 0) inner.links
         (λ k l there. let within = slice_get_within inner.links k l there in
         subst (λ m. term (at m.from) (at m.to) (flow_on flow k) ≡ pos 0) (get_or_from_slice_get inner.links k l no_link there) (stays k within (left k within)))
         ∙ int_sum_from-zero (λ k l. pos 0) 0 inner.links (λ k l le. refl) in
-        let given = worth Hot in let taken = worth Cold in
+        let given = worth Hot in
+        let taken = worth Cold in
         let hots = int_sum_from-same_each (λ i (q : Part). hot_fall r at (at source) (at spill) i) (λ i q. (at source -ℤ at spill) *ℤ q.most -ℤ given i) hot
         (λ i q there. hot_terms (at source) (at spill) (at (0 + i)) q.most (exchanged r Hot i) _ _ (hot_full r i q there) (exchanged_is r Hot i q there))
         ∙ int_sum_from-sub (λ i (q : Part). (at source -ℤ at spill) *ℤ q.most) (λ i q. given i) 0 hot
         ∙ ap (λ z. z -ℤ int_sum_from (λ i (q : Part). given i) 0 hot) (all_mosts (at source -ℤ at spill) hot) in
         let colds = int_sum_from-same_each (λ i (q : Part). cold_fall r at (at sink) (at filler) i) (λ i q. (at filler -ℤ at sink) *ℤ q.most +ℤ taken i) cold
         (λ i q there. cold_terms (at filler) (at sink) (at (length hot + i)) q.most (exchanged r Cold i) _ _ (cold_full r i q there)
-        (exchanged_is r Cold i q there)) ∙ int_sum_from-add (λ i (q : Part). (at filler -ℤ at sink) *ℤ q.most) (λ i q. taken i) 0 cold
+        (exchanged_is r Cold i q there))
+        ∙ int_sum_from-add (λ i (q : Part). (at filler -ℤ at sink) *ℤ q.most) (λ i q. taken i) 0 cold
         ∙ ap (λ z. z +ℤ int_sum_from (λ i (q : Part). taken i) 0 cold) (all_mosts (at filler -ℤ at sink) cold) in
-        let first = ap (λ x. term (at source) (at filler) x) (passed r) in let second = ap (λ x. term (at spill) (at sink) x) (drained r) in
+        let first = ap (λ x. term (at source) (at filler) x) (passed r) in
+        let second = ap (λ x. term (at spill) (at sink) x) (drained r) in
         worth_left (at source) (at sink) (at filler) (at spill) (most_of hot) (most_of cold) (int_sum_from (λ i (q : Part). given i) 0 hot)
         (int_sum_from (λ i (q : Part). taken i) 0 cold) _ _ _ _ _ (term (at filler) (at spill) (between r 2)) all inside hots colds first second filler_stays
 
@@ -643,8 +723,10 @@ module _ {hot cold : List Part} {inner : Net} {flow potentials : List ℤ} (r : 
   pub slack : (side : Side) (i : ℕ) (q : Part) → slice_get (parts_of side hot cold) i ≡ Some q
       → IsSlack (excess_price side q.price (price_of side i)) q.least q.most (exchanged r side i)
   slack side i q there =
-      let net = net_around hot cold inner in let link = spare_is hot cold inner side i q there in
-      let excess = excess_price side q.price (price_of side i) in let (room_is, cost_is) = spare_costs side (first_node hot cold inner side + i) q in
+      let net = net_around hot cold inner in
+      let link = spare_is hot cold inner side i q there in
+      let excess = excess_price side q.price (price_of side i) in
+      let (room_is, cost_is) = spare_costs side (first_node hot cold inner side + i) q in
       subst (IsSlack excess q.least q.most) (sym (exchanged_is r side i q there))
       (slack_from_link excess q.least q.most (spare r side i)
       (λ room. let reduced = reduced_left net flow _ _ link potentials proof (subst (λ z. spare r side i <ℤ z) (sym room_is) room) in
@@ -663,7 +745,8 @@ module _ (potentials : List ℤ) (each : All IsNodePotential potentials) (end : 
 
   price_within : (v : ℕ) → IsPartPrice (potential_at potentials v -ℤ potential_at potentials end)
   price_within v =
-      let here = node_potential v in let there = node_potential end in
+      let here = node_potential v in
+      let there = node_potential end in
       record {
         from = omega (arith, ints, here.from, here.upto, there.from, there.upto);
         upto = omega (arith, ints, here.from, here.upto, there.from, there.upto);
@@ -671,15 +754,18 @@ module _ (potentials : List ℤ) (each : All IsNodePotential potentials) (end : 
 
   prices_are : (parts : List Part) (first : ℕ) → ArePartPrices parts (prices_of potentials first (length parts) end)
   prices_are parts first =
-      let f = λ (v : ℕ). potential_at potentials v -ℤ potential_at potentials end in let long = length-map-range_with_len f first (length parts) in
+      let f = λ (v : ℕ). potential_at potentials v -ℤ potential_at potentials end in
+      let long = length-map-range_with_len f first (length parts) in
       record {
         one_each = long;
-        within = λ k d inside. subst IsPartPrice (sym (get_or-map-range_with_len f first (length parts) k (first + k) d (omega (arith, long, inside)) refl))
+        within =
+            λ k d inside. subst IsPartPrice (sym (get_or-map-range_with_len f first (length parts) k (first + k) d (omega (arith, long, inside)) refl))
             (price_within (first + k));
       }
 
   pub price_is : (parts first i : ℕ) → i < parts
-      → price_at (prices_of potentials first parts end) i ≡ potential_at potentials (first + i) -ℤ potential_at potentials end
+      → price_at (prices_of potentials first parts end) i
+      ≡ potential_at potentials (first + i) -ℤ potential_at potentials end
   price_is parts first i within =
       get_or-map-range_with_len (λ v. potential_at potentials v -ℤ potential_at potentials end) first parts i (first + i) (pos 0) within refl
 
@@ -706,13 +792,15 @@ module _ {hot cold : List Part} {inner : Net} {reach : ℕ → ℕ → Bool} {fl
   each_potential = potentials_within hot cold inner r.around potentials r.routes.bounded
 
   -- what each part exchanges
-  heat_is : (side : Side) (i : ℕ) (p : Part) → slice_get (parts_of side hot cold) i ≡ Some p → heat_at side carried.transfers i ≡ exchanged full side i
+  heat_is : (side : Side) (i : ℕ) (p : Part) → slice_get (parts_of side hot cold) i ≡ Some p
+      → heat_at side carried.transfers i ≡ exchanged full side i
   heat_is Hot a p at = r.spread.given a (slice_get_within hot a p at) ∙ ap (outflow inner.links flow) (sym (zero-add a))
   heat_is Cold b p at = r.spread.taken b (slice_get_within cold b p at)
 
   ranges : (side : Side) → KeepsRanges side (parts_of side hot cold) carried.transfers
   ranges side i p at =
-      let is = heat_is side i p at ∙ exchanged_is full side i p at in let h = spare_within full side i p at in
+      let is = heat_is side i p at ∙ exchanged_is full side i p at in
+      let h = spare_within full side i p at in
       record { from = omega (arith, ints, is, h.upto); upto = omega (arith, ints, is, h.from) }
 
   heat_flow : IsHeatFlow reach hot cold carried.transfers
@@ -729,26 +817,34 @@ module _ {hot cold : List Part} {inner : Net} {reach : ℕ → ℕ → Bool} {fl
 
   -- ---- the prices
 
-  price : (side : Side) (i : ℕ) → i < length (parts_of side hot cold) → price_at (prices side) i ≡ price_of full r.routes.proof side i
+  price : (side : Side) (i : ℕ) → i < length (parts_of side hot cold)
+      → price_at (prices side) i ≡ price_of full r.routes.proof side i
   price Hot a within = price_is potentials each_potential (ends inner).spill (length hot) 0 a within
   price Cold b within = price_is potentials each_potential (ends inner).filler (length cold) (length hot) b within
 
   -- the potential does not rise along a path, as it does not along a link that is not full
-  path_falls : (path : List Link) (u v : ℕ) → IsPath inner.links path u v → potential_at potentials v ≤ℤ potential_at potentials u
+  path_falls : (path : List Link) (u v : ℕ) → IsPath inner.links path u v
+      → potential_at potentials v ≤ℤ potential_at potentials u
   path_falls [] u v same = let here = ap (potential_at potentials) same in omega (arith, ints, here)
   path_falls (l ∷ path) u v h =
       let (k, within, is) = h.0 in
-      let here : link_at inner.links k ≡ l = get_or_default inner.links k (record { from = 0; to = 0; room = pos 0; cost = pos 0 }) l within ∙ is in
+      let here : link_at inner.links k ≡ l
+      = get_or_default inner.links k (record { from = 0; to = 0; room = pos 0; cost = pos 0 }) l within ∙ is in
       let fall = falls full r.routes.proof k within (not_full full k within) in
       let down : potential_at potentials l.to ≤ℤ potential_at potentials l.from =
       subst (λ n. potential_at potentials n.to ≤ℤ potential_at potentials n.from) here fall in
-      let from = ap (potential_at potentials) h.1 in let rest = path_falls path l.to v h.2 in omega (arith, ints, down, from, rest)
+      let from = ap (potential_at potentials) h.1 in
+      let rest = path_falls path l.to v h.2 in
+      omega (arith, ints, down, from, rest)
 
   supporting : IsSupporting reach (prices Hot) (prices Cold)
   supporting a b joined =
-      let (path, is) = r.paths.leads a b joined in let down = path_falls path a (length hot + b) is in
-      let over = filler_falls full r.routes.proof (small_cold hot cold inner r.around) in let y = price Hot a (r.paths.hot_within a b joined) in
-      let z = price Cold b (r.paths.cold_within a b joined) in let node = ap (potential_at potentials) (zero-add a) in
+      let (path, is) = r.paths.leads a b joined in
+      let down = path_falls path a (length hot + b) is in
+      let over = filler_falls full r.routes.proof (small_cold hot cold inner r.around) in
+      let y = price Hot a (r.paths.hot_within a b joined) in
+      let z = price Cold b (r.paths.cold_within a b joined) in
+      let node = ap (potential_at potentials) (zero-add a) in
       omega (arith, ints, down, over, y, z, node)
 
   slack_of : (side : Side) → AreSlack side (parts_of side hot cold) (prices side) carried.transfers
@@ -778,7 +874,8 @@ module _ {hot cold : List Part} {inner : Net} {reach : ℕ → ℕ → Bool} {fl
   }
 
   pub least_cost : IsLeastCost reach hot cold (cost_of hot cold carried.transfers)
-  least_cost = IsLeastCost-certified reach hot cold carried.transfers (prices Hot) (prices Cold) supporting heat_flow certifies
+  least_cost =
+      IsLeastCost-certified reach hot cold carried.transfers (prices Hot) (prices Cold) supporting heat_flow certifies
 
   pub has_cost : HasCost hot cold carried.transfers
   has_cost = HasCost-flow reach hot cold carried.transfers heat_flow

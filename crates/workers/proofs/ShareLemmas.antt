@@ -7,14 +7,16 @@ use Rattle.workers.proofs.Words.{div-lt_iff_lt-mul, div-mul-add, item_of, mod-eq
 use Rattle.workers.proofs.Words.{slice_get-get_or, slice_get_push, slice_get_within}
 
 -- one more of items with these numbers
-pub one_more : {X : Type 0} (IsItem : ℕ → X → Type 0) (number : ℕ → ℕ) (items : List X) (x : X) → EachIsItem (λ k y. IsItem (number k) y) items
+pub one_more : {X : Type 0} (IsItem : ℕ → X → Type 0) (number : ℕ → ℕ) (items : List X) (x : X)
+    → EachIsItem (λ k y. IsItem (number k) y) items
     → IsItem (number (length items)) x → EachIsItem (λ k y. IsItem (number k) y) (items ++ x ∷ [])
 one_more IsItem number items x each last k y at =
     ⊎_elim (λ before. each k y before) (λ (here, is). subst (λ n. IsItem (number n) y) (sym here) (subst (IsItem (number (length items))) (sym is) last))
     (slice_get_push items x k y at)
 
 -- what holds at each index holds at one more
-pub one_within : {X : Type 0} (P : ℕ → Type 0) (items : List X) (x : X) → ((j : ℕ) → j < length items → P j) → P (length items) → (j : ℕ)
+pub one_within : {X : Type 0} (P : ℕ → Type 0) (items : List X) (x : X) → ((j : ℕ) → j < length items → P j)
+    → P (length items) → (j : ℕ)
     → j < length (items ++ x ∷ []) → P j
 one_within P items x each last j there =
     let long = length-append items (x ∷ []) in
@@ -27,10 +29,12 @@ turned_back : (w p t : ℕ) → p < w → t < w → ((p + (w - t)) % w + t) % w 
 turned_back w p t place turn = ⊎_elim
     (λ before.
     let back : (p + (w - t)) % w ≡ p + (w - t) = mod-eq_of_lt {n = p + (w - t)} {m = w} (omega (arith, before, turn)) in
-    ap (λ n. (n + t) % w) back ∙ ap (λ n. n % w) {x = p + (w - t) + t} {y = 1 * w + p} (omega (arith, turn)) ∙ mod-mul-add 1 w p place)
+    ap (λ n. (n + t) % w) back ∙ ap (λ n. n % w) {x = p + (w - t) + t} {y = 1 * w + p} (omega (arith, turn))
+    ∙ mod-mul-add 1 w p place)
     (λ past.
     let back : (p + (w - t)) % w ≡ p - t =
-    ap (λ n. n % w) {x = p + (w - t)} {y = 1 * w + (p - t)} (omega (arith, past, turn)) ∙ mod-mul-add 1 w (p - t) (omega (arith, place)) in
+    ap (λ n. n % w) {x = p + (w - t)} {y = 1 * w + (p - t)} (omega (arith, past, turn))
+    ∙ mod-mul-add 1 w (p - t) (omega (arith, place)) in
     ap (λ n. (n + t) % w) back ∙ ap (λ n. n % w) {x = p - t + t} {y = p} (omega (arith, past)) ∙ mod-eq_of_lt place)
     (cases_lt p t)
 
@@ -39,11 +43,14 @@ turned_on : (w p t : ℕ) → p < w → t < w → ((p + t) % w + (w - t)) % w �
 turned_on w p t place turn = ⊎_elim
     (λ within.
     let on : (p + t) % w ≡ p + t = mod-eq_of_lt within in
-    ap (λ n. (n + (w - t)) % w) on ∙ ap (λ n. n % w) {x = p + t + (w - t)} {y = 1 * w + p} (omega (arith, turn)) ∙ mod-mul-add 1 w p place)
+    ap (λ n. (n + (w - t)) % w) on
+    ∙ ap (λ n. n % w) {x = p + t + (w - t)} {y = 1 * w + p} (omega (arith, turn)) ∙ mod-mul-add 1 w p place)
     (λ past.
     let on : (p + t) % w ≡ p + t - w =
-    ap (λ n. n % w) {x = p + t} {y = 1 * w + (p + t - w)} (omega (arith, past)) ∙ mod-mul-add 1 w (p + t - w) (omega (arith, place, turn)) in
-    ap (λ n. (n + (w - t)) % w) on ∙ ap (λ n. n % w) {x = p + t - w + (w - t)} {y = p} (omega (arith, past, turn)) ∙ mod-eq_of_lt place)
+    ap (λ n. n % w) {x = p + t} {y = 1 * w + (p + t - w)} (omega (arith, past))
+    ∙ mod-mul-add 1 w (p + t - w) (omega (arith, place, turn)) in
+    ap (λ n. (n + (w - t)) % w) on
+    ∙ ap (λ n. n % w) {x = p + t - w + (w - t)} {y = p} (omega (arith, past, turn)) ∙ mod-eq_of_lt place)
     (cases_lt (p + t) w)
 
 module _ (workers : ℕ) (some : 0 < workers) where
@@ -67,19 +74,24 @@ module _ (workers : ℕ) (some : 0 < workers) where
       ap (λ n. item / workers * workers + n) place ∙ div-add-mod' item workers
 
   -- and of no other worker
-  pub worker-is : (worker round item : ℕ) → worker < workers → item_of workers worker round ≡ item → worker ≡ worker_of workers item
+  pub worker-is : (worker round item : ℕ) → worker < workers → item_of workers worker round ≡ item
+      → worker ≡ worker_of workers item
   worker-is worker round item within same =
       let place = (worker + turn_of workers round) % workers in
-      let rest : item % workers ≡ place = ap (λ n. n % workers) (sym same) ∙ mod-mul-add round workers place (place-less worker round) in
-      let whole : item / workers ≡ round = ap (λ n. n / workers) (sym same) ∙ div-mul-add round workers place (place-less worker round) in
+      let rest : item % workers ≡ place
+      = ap (λ n. n % workers) (sym same) ∙ mod-mul-add round workers place (place-less worker round) in
+      let whole : item / workers ≡ round
+      = ap (λ n. n / workers) (sym same) ∙ div-mul-add round workers place (place-less worker round) in
       sym (ap₂ (λ r q. (r + (workers - turn_of workers q)) % workers) rest whole
       ∙ turned_on workers worker (turn_of workers round) within (turn-less round))
 
   -- an item of a later round is a later one
   pub later-item : (worker other j q : ℕ) → j < q → item_of workers worker j < item_of workers other q
   later-item worker other j q less =
-      let more = mul-le (suc j) workers q workers (omega (arith, less)) (omega arith) in let place = place-less worker j in
-      let product : suc j * workers ≡ j * workers + workers = omega arith in omega (arith, more, product, place)
+      let more = mul-le (suc j) workers q workers (omega (arith, less)) (omega arith) in
+      let place = place-less worker j in
+      let product : suc j * workers ≡ j * workers + workers = omega arith in
+      omega (arith, more, product, place)
 
   pub earlier-round : (worker j q : ℕ) → item_of workers worker j < item_of workers worker q → j < q
   earlier-round worker j q less = ⊎_elim (λ h. h) (λ past. absurd (⊎_elim
@@ -105,10 +117,12 @@ module _ (workers : ℕ) (some : 0 < workers) where
 
 module _ {X : Type 0} (IsItem : ℕ → X → Type 0) (left workers : ℕ) (some : 0 < workers) where
   -- it is that of the last round of the worker
-  last_place : (items : List X) (x : X) → AreItemsOfWorker IsItem (left + 1) workers (worker_of workers left) (items ++ x ∷ [])
+  last_place : (items : List X) (x : X)
+      → AreItemsOfWorker IsItem (left + 1) workers (worker_of workers left) (items ++ x ∷ [])
       → length items ≡ left / workers
   last_place items x of =
-      let worker = worker_of workers left in let is = item-is workers some left in
+      let worker = worker_of workers left in
+      let is = item-is workers some left in
       let long = length-append items (x ∷ []) in
       let there = (of.all (left / workers)).1 (omega (arith, is)) in
       let last = (of.all (length items)).0 (omega (arith, long)) in
@@ -116,7 +130,8 @@ module _ {X : Type 0} (IsItem : ℕ → X → Type 0) (left workers : ℕ) (some
       let upto = earlier-round workers some worker (length items) (suc (left / workers)) (omega (arith, last, next, is)) in
       omega (arith, there, long, upto)
 
-  pub last_is : (items : List X) (x : X) → AreItemsOfWorker IsItem (left + 1) workers (worker_of workers left) (items ++ x ∷ []) → IsItem left x
+  pub last_is : (items : List X) (x : X)
+      → AreItemsOfWorker IsItem (left + 1) workers (worker_of workers left) (items ++ x ∷ []) → IsItem left x
   last_is items x of =
       let place = last_place items x of in
       let here : slice_get (items ++ x ∷ []) (length items) ≡ Some x = slice_get_last items x in
@@ -127,16 +142,22 @@ module _ {X : Type 0} (IsItem : ℕ → X → Type 0) (left workers : ℕ) (some
       slice_get_last (z ∷ ys) y = slice_get_last ys y
 
   -- the worker's items without it
-  pub without_last : (items : List X) (x : X) → AreItemsOfWorker IsItem (left + 1) workers (worker_of workers left) (items ++ x ∷ [])
+  pub without_last : (items : List X) (x : X)
+      → AreItemsOfWorker IsItem (left + 1) workers (worker_of workers left) (items ++ x ∷ [])
       → AreItemsOfWorker IsItem left workers (worker_of workers left) items
   without_last items x of =
-      let worker = worker_of workers left in let place = last_place items x of in let is = item-is workers some left in
+      let worker = worker_of workers left in
+      let place = last_place items x of in
+      let is = item-is workers some left in
       record {
         each = λ j y at. of.each j y (slice_get-append items (x ∷ []) j y at);
         all =
             λ j. (
-              λ less. let more = later-item workers some worker worker j (left / workers) (omega (arith, less, place)) in omega (arith, more, is),
-              λ less. let fewer = earlier-round workers some worker j (left / workers) (omega (arith, less, is)) in omega (arith, fewer, place),
+              λ less. let more =
+                  later-item workers some worker worker j (left / workers) (omega (arith, less, place)) in
+                  omega (arith, more, is),
+              λ less. let fewer = earlier-round workers some worker j (left / workers) (omega (arith, less, is)) in
+                  omega (arith, fewer, place),
             );
       }
 
@@ -157,11 +178,14 @@ module _ {X : Type 0} (IsItem : ℕ → X → Type 0) (left workers : ℕ) (some
 -- ---- the shares of all workers
 
 -- without the last item of all
-pub next_shares : {X E : Type 0} (IsItem : ℕ → X → Type 0) (left : ℕ) (lists : List (Result (List X) E)) (items : List X) (x : X) → 0 < length lists
-    → AreItemsOfWorkers IsItem (left + 1) lists → slice_get lists (worker_of (length lists) left) ≡ Some (Ok (items ++ x ∷ []))
+pub next_shares : {X E : Type 0} (IsItem : ℕ → X → Type 0) (left : ℕ) (lists : List (Result (List X) E)) (items : List X) (x : X)
+    → 0 < length lists
+    → AreItemsOfWorkers IsItem (left + 1) lists
+    → slice_get lists (worker_of (length lists) left) ≡ Some (Ok (items ++ x ∷ []))
     → AreItemsOfWorkers IsItem left (set lists (worker_of (length lists) left) (Ok items))
 next_shares {X} {E} IsItem left lists items x some each here worker answer at =
-    let own = worker_of (length lists) left in let changed = set lists own (Ok items) in
+    let own = worker_of (length lists) left in
+    let changed = set lists own (Ok items) in
     let long : length changed ≡ length lists = length-set lists own (Ok items) in
     let within : worker < length lists = subst (λ n. worker < n) long (slice_get_within changed worker answer at) in
     let is : answer ≡ get_or changed worker answer = sym (get_or_from_slice_get changed worker answer answer at) in
@@ -180,17 +204,21 @@ next_shares {X} {E} IsItem left lists items x some each here worker answer at =
     (cases_eq worker own))
   where
     other_share : (a : Result (List X) E) → worker ≢ worker_of (length lists) left → worker < length lists
-        → IfOk a (AreItemsOfWorker IsItem (left + 1) (length lists) worker) → IfOk a (AreItemsOfWorker IsItem left (length lists) worker)
+        → IfOk a (AreItemsOfWorker IsItem (left + 1) (length lists) worker)
+        → IfOk a (AreItemsOfWorker IsItem left (length lists) worker)
     other_share (Ok ys) other within of = without_other IsItem left (length lists) some worker ys within other of
     other_share (Err e) other within of = of
 
 -- a worker whose share is not want of memory has an item left
-pub has_last : {X E : Type 0} (IsItem : ℕ → X → Type 0) (left : ℕ) (lists : List (Result (List X) E)) (share : Result (List X) E) → 0 < length lists
-    → AreItemsOfWorkers IsItem (left + 1) lists → share ≡ get_or lists (worker_of (length lists) left) share → IfOk share (λ items. 0 < length items)
+pub has_last : {X E : Type 0} (IsItem : ℕ → X → Type 0) (left : ℕ) (lists : List (Result (List X) E)) (share : Result (List X) E)
+    → 0 < length lists
+    → AreItemsOfWorkers IsItem (left + 1) lists → share ≡ get_or lists (worker_of (length lists) left) share
+    → IfOk share (λ items. 0 < length items)
 has_last IsItem left lists (Err e) some each is = tt
 has_last IsItem left lists (Ok items) some each is =
     let own = worker_of (length lists) left in
-    let here : slice_get lists own ≡ Some (Ok items) = slice_get-get_or lists own (Ok items) (worker-less (length lists) some left) ∙ ap Some (sym is) in
+    let here : slice_get lists own ≡ Some (Ok items)
+    = slice_get-get_or lists own (Ok items) (worker-less (length lists) some left) ∙ ap Some (sym is) in
     let there = ((each own (Ok items) here).all (left / length lists)).1 (let is = item-is (length lists) some left in omega (arith, is)) in
     omega (arith, there)
 
@@ -200,7 +228,9 @@ has_last IsItem left lists (Ok items) some each is =
 pub turned : {X : Type 0} (IsItem : ℕ → X → Type 0) (many : ℕ) (items : List X) → length items ≡ many
     → ((j : ℕ) (x : X) → slice_get items j ≡ Some x → IsItem (many - suc j) x) → EachIsItem IsItem (reverse items)
 turned IsItem many items long each k x at =
-    let within : k < length items = subst (λ n. k < n) (length-reverse items) (slice_get_within (reverse items) k x at) in
-    let is : get_or items (length items - 1 - k) x ≡ x = sym (get_or-reverse items k x within) ∙ get_or_from_slice_get (reverse items) k x x at in
+    let within : k < length items
+    = subst (λ n. k < n) (length-reverse items) (slice_get_within (reverse items) k x at) in
+    let is : get_or items (length items - 1 - k) x ≡ x
+    = sym (get_or-reverse items k x within) ∙ get_or_from_slice_get (reverse items) k x x at in
     subst (λ n. IsItem n x) {x = many - suc (length items - 1 - k)} {y = k} (omega (arith, long, within))
     (each (length items - 1 - k) x (slice_get-get_or items (length items - 1 - k) x (omega (arith, within)) ∙ ap Some is))

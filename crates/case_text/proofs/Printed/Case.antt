@@ -18,7 +18,8 @@ given_with k streams utilities forbids =
     record { contribution = Some k.contribution; streams = map (stream_entry k) streams; utilities = map (utility_entry k) utilities; forbids = forbids }
 
 -- an item more, where there are items before it
-entries-more : {X V : Type 0} (entry_of : X → V) (before : List X) (x : X) → map entry_of (before ++ x ∷ []) ≡ map entry_of before ++ entry_of x ∷ []
+entries-more : {X V : Type 0} (entry_of : X → V) (before : List X) (x : X)
+    → map entry_of (before ++ x ∷ []) ≡ map entry_of before ++ entry_of x ∷ []
 entries-more entry_of before x = map-append entry_of before (x ∷ [])
 
 abbrev Differ : List ℕ → List ℕ → Type 0
@@ -33,22 +34,27 @@ utility_keys k us = map-map (λ (e : List ℕ × UtilityData). e.0) (utility_ent
 -- ---- streams
 
 -- a side has room for a stream behind the ones before it
-room_before : (k : Case) (all before : List Stream) (s : Stream) (after : List Stream) → all ≡ before ++ s ∷ after → count_on s.side all ≤ MOST_STREAMS
+room_before : (k : Case) (all before : List Stream) (s : Stream) (after : List Stream)
+    → all ≡ before ++ s ∷ after → count_on s.side all ≤ MOST_STREAMS
     → count_of s.side (map (stream_entry k) before) < MOST_STREAMS
 room_before k all before s after is few =
-    let one : Stream → ℕ = λ t. cond (same_side t.side s.side) 1 0 in let own : one s ≡ 1 = ap (λ b. cond b 1 0) (own_side s.side) in
+    let one : Stream → ℕ = λ t. cond (same_side t.side s.side) 1 0 in
+    let own : one s ≡ 1 = ap (λ b. cond b 1 0) (own_side s.side) in
     let before_is = count_by-map (λ (e : List ℕ × StreamData). same_side e.1.side s.side) (stream_entry k) before in
     omega (arith, few, ap (count_on s.side) is, sum_by-append one before (s ∷ after), sum_by-cons one s after, own, before_is)
 
-stream_step : (k : Case) → IsValid k → (before : List Stream) (s : Stream) (after : List Stream) → k.streams ≡ before ++ s ∷ after
+stream_step : (k : Case) → IsValid k → (before : List Stream) (s : Stream) (after : List Stream)
+    → k.streams ≡ before ++ s ∷ after
     → Follows grammar (given_with k before [] []) (stream_row k s) (given_with k (before ++ s ∷ []) [] [])
 stream_step k valid before s after is =
-    let names : names_of k ≡ map (λ s. s.name) before ++ s.name ∷ (map (λ s. s.name) after ++ map (λ u. u.name) k.utilities) =
+    let names : names_of k ≡ map (λ s. s.name) before ++ s.name ∷ (map (λ s. s.name) after ++ map (λ u. u.name) k.utilities)
+    =
     ap (λ (ss : List Stream). map (λ s. s.name) ss ++ map (λ u. u.name) k.utilities) is
     ∙ ap (λ (ns : List (List ℕ)). ns ++ map (λ u. u.name) k.utilities) (map-append (λ (t : Stream). t.name) before (s ∷ after))
     ∙ append_assoc (map (λ (t : Stream). t.name) before) (s.name ∷ map (λ (t : Stream). t.name) after) (map (λ (u : Utility). u.name) k.utilities) in
     let new = AllPairs-seam Differ (names_of k) _ s.name _ names valid.distinct_names in
-    let keys : keys_of (map (stream_entry k) before) ++ [] ≡ map (λ s. s.name) before = append-nil _ ∙ stream_keys k before in
+    let keys : keys_of (map (stream_entry k) before) ++ [] ≡ map (λ s. s.name) before
+    = append-nil _ ∙ stream_keys k before in
     let room = room_before k k.streams before s after is (valid.streams.are_streams.few s.side) in
     let each = All-seam IsValidStream k.streams before s after is valid.streams.are_streams.each in
     let unreserved = All-seam (λ (s : Stream). IsUnreserved s.name) k.streams before s after is valid.stream_names in
@@ -57,15 +63,19 @@ stream_step k valid before s after is =
 
 -- ---- utilities
 
-utility_step : (k : Case) → IsValid k → (before : List Utility) (u : Utility) (after : List Utility) → k.utilities ≡ before ++ u ∷ after
+utility_step : (k : Case) → IsValid k → (before : List Utility) (u : Utility) (after : List Utility)
+    → k.utilities ≡ before ++ u ∷ after
     → Follows grammar (given_with k k.streams before []) (utility_row k u) (given_with k k.streams (before ++ u ∷ []) [])
 utility_step k valid before u after is =
-    let names : names_of k ≡ (map (λ s. s.name) k.streams ++ map (λ u. u.name) before) ++ u.name ∷ map (λ u. u.name) after =
+    let names : names_of k ≡ (map (λ s. s.name) k.streams ++ map (λ u. u.name) before) ++ u.name ∷ map (λ u. u.name) after
+    =
     ap (λ (us : List Utility). map (λ s. s.name) k.streams ++ map (λ u. u.name) us) is
     ∙ ap (λ (ns : List (List ℕ)). map (λ s. s.name) k.streams ++ ns) (map-append (λ (t : Utility). t.name) before (u ∷ after))
     ∙ sym (append_assoc (map (λ (s : Stream). s.name) k.streams) (map (λ (t : Utility). t.name) before) (u.name ∷ map (λ (t : Utility). t.name) after)) in
     let new = AllPairs-seam Differ (names_of k) _ u.name _ names valid.distinct_names in
-    let keys : keys_of (map (stream_entry k) k.streams) ++ keys_of (map (utility_entry k) before) ≡ map (λ s. s.name) k.streams ++ map (λ u. u.name) before =
+    let keys : keys_of (map (stream_entry k) k.streams) ++ keys_of (map (utility_entry k) before)
+    ≡ map (λ s. s.name) k.streams ++ map (λ u. u.name) before
+    =
     λ i. stream_keys k k.streams i ++ utility_keys k before i in
     let room : length (map (utility_entry k) before) < MOST_UTILITIES =
     omega (arith, length-map before (utility_entry k), length-seam k.utilities before u after is, valid.few_utilities) in
@@ -94,13 +104,15 @@ load_back load = by (int_eq load (pos 0)) refl
 
 streams_back : (k : Case) (ss : List Stream) → map (stream_of k.contribution) (map (stream_entry k) ss) ≡ ss
 streams_back k [] = refl
-streams_back k (s ∷ ss) = λ i. record s { load = load_back s.load i; contribution = own_back k s.contribution i } ∷ streams_back k ss i
+streams_back k (s ∷ ss) =
+    λ i. record s { load = load_back s.load i; contribution = own_back k s.contribution i } ∷ streams_back k ss i
 
 utilities_back : (k : Case) (us : List Utility) → map (utility_of k.contribution) (map (utility_entry k) us) ≡ us
 utilities_back k [] = refl
 utilities_back k (u ∷ us) = λ i. record u { contribution = own_back k u.contribution i } ∷ utilities_back k us i
 
-case_back : (k : Case) (forbids : List Forbid) → case_of (given_with k k.streams k.utilities forbids) ≡ record k { forbids = forbids }
+case_back : (k : Case) (forbids : List Forbid)
+    → case_of (given_with k k.streams k.utilities forbids) ≡ record k { forbids = forbids }
 case_back k forbids =
     λ i. record { contribution = k.contribution; streams = streams_back k k.streams i; utilities = utilities_back k k.utilities i; forbids = forbids }
 
@@ -130,11 +142,13 @@ found k valid forbids of s on =
       on = subst (λ c. side_of c s ≡ Some of) back on;
     }
 
-forbid_step : (k : Case) → IsValid k → (before : List Forbid) (f : Forbid) (after : List Forbid) → k.forbids ≡ before ++ f ∷ after
+forbid_step : (k : Case) → IsValid k → (before : List Forbid) (f : Forbid) (after : List Forbid)
+    → k.forbids ≡ before ++ f ∷ after
     → Follows grammar (given_with k k.streams k.utilities before) (forbid_row k f) (given_with k k.streams k.utilities (before ++ f ∷ []))
 forbid_step k valid before f after is =
     let (hot, cold) = All-seam (IsValidForbid k) k.forbids before f after is valid.forbids in
-    let room : length before < MOST_FORBIDS = omega (arith, length-seam k.forbids before f after is, valid.few_forbids) in
+    let room : length before < MOST_FORBIDS
+    = omega (arith, length-seam k.forbids before f after is, valid.few_forbids) in
     let new = AllPairs-seam (λ (g h : Forbid). g ≢ h) k.forbids before f after is valid.distinct_forbids in
     forbid_follows (given_with k k.streams k.utilities before) k f (found k valid before side.Hot f.hot hot)
     (found k valid before side.Cold f.cold cold) room new
@@ -153,13 +167,15 @@ rows_give k valid =
     (contribution_row k.contribution ∷ (map (stream_row k) k.streams ++ map (utility_row k) k.utilities)) k.forbids (forbid_step k valid) utilities
 
 -- the end is not at fault where there are a contribution and a stream
-lacks_nothing : (rows : ℕ) (given : Given) → is_some given.contribution ≡ true → 0 < length given.streams → end_fault rows given ≡ None
+lacks_nothing : (rows : ℕ) (given : Given) → is_some given.contribution ≡ true → 0 < length given.streams
+    → end_fault rows given ≡ None
 unfolding end_checks
 lacks_nothing rows given first some = grind (arith, nat_tests)
 
 pub rows_back : (k : Case) → IsValid k → IsCase (printed_rows k) k
 rows_back k valid =
-    let gives = rows_give k valid in let rows = length (printed_rows k) in
+    let gives = rows_give k valid in
+    let rows = length (printed_rows k) in
     let complete : end_fault rows (given_with k k.streams k.utilities k.forbids) ≡ None =
     lacks_nothing rows (given_with k k.streams k.utilities k.forbids) refl (omega (arith, length-map k.streams (stream_entry k), valid.streams.some)) in
     record {

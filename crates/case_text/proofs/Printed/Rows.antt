@@ -18,17 +18,20 @@ use Rattle.case_text.specs.declared.kind.Kind.TheVariants as kind
 use Rattle.stream_case.specs.declared.source.Side.TheVariants as side
 
 -- the row of the contribution comes first
-pub contribution_follows : (c : ℤ) → IsContribution c → Follows grammar nothing (contribution_row c) (with_entry nothing (entry.Contribution c))
+pub contribution_follows : (c : ℤ) → IsContribution c
+    → Follows grammar nothing (contribution_row c) (with_entry nothing (entry.Contribution c))
 unfolding checks kind_checks contribution_checks kind_of is_passed_over are_empty is_number number
 contribution_follows c range =
     let read = number_read c (contribution c range) in
-    let passes : Passes (checks nothing (contribution_row c)) = rw read (refl, (refl, (refl, (refl, (refl, (within-passes _ _ _ range, tt)))))) in
+    let passes : Passes (checks nothing (contribution_row c))
+    = rw read (refl, (refl, (refl, (refl, (refl, (within-passes _ _ _ range, tt)))))) in
     record { passes = none_fails (checks nothing (contribution_row c)) passes; next_is = rw read refl }
 
 -- ---- contributions of sources
 
 pub own : (P : ℤ → Type 0) (k : Case) (c : ℤ) → P c → IfSome (own_contribution k c) P
-own P k c holds = elim (int_eq c k.contribution) as (λ b. IfSome (if b then None else Some c) P) [ true ↦ tt | false ↦ holds ]
+own P k c holds =
+    elim (int_eq c k.contribution) as (λ b. IfSome (if b then None else Some c) P) [ true ↦ tt | false ↦ holds ]
 
 -- a row in whose seventh field a contribution is printed
 record ReadsOwn (k : Case) (c : ℤ) (row : Row) : Type 0 where
@@ -38,7 +41,8 @@ record ReadsOwn (k : Case) (c : ℤ) (row : Row) : Type 0 where
 
 reads_own : (k : Case) (c : ℤ) (row : Row) → IsContribution c → field row 6 ≡ contribution_field k c → ReadsOwn k c row
 unfolding contribution_field
-reads_own k c row range printed = let (is, read) = optional_read row 6 (own_contribution k c) (own IsPrintable k c (contribution c range)) printed in
+reads_own k c row range printed =
+    let (is, read) = optional_read row 6 (own_contribution k c) (own IsPrintable k c (contribution c range)) printed in
     record { is_number = is; read = read; range = (Decides-is_own_contribution (own_contribution k c)).1 (own IsContribution k c range) }
 
 -- ---- streams
@@ -48,7 +52,8 @@ no_load : (s : Stream) → IsSensible s → own_load s.load ≡ None
 no_load s sensible = rw sensible.load refl
 
 some_load : (s : Stream) → IsLatent s → own_load s.load ≡ Some s.load
-some_load s latent = let more = (Decides-not _ (Decides-int_eq s.load (pos 0))).1 (λ none. absurd (omega (arith, ints, latent.load.from, none))) in
+some_load s latent =
+    let more = (Decides-not _ (Decides-int_eq s.load (pos 0))).1 (λ none. absurd (omega (arith, ints, latent.load.from, none))) in
     rw (not_true _ more) refl
   where
     not_true : (b : Bool) → not b ≡ true → b ≡ false
@@ -64,7 +69,8 @@ load_printable s valid = by valid.heat
 
 -- what its row says of a stream that gives this load and this contribution
 abbrev pub data_of : Stream → Option ℤ → Option ℤ → StreamData
-data_of s load contribution = record { side = s.side; supply = s.supply; target = s.target; cp = s.cp; load = load; contribution = contribution }
+data_of s load contribution =
+    record { side = s.side; supply = s.supply; target = s.target; cp = s.cp; load = load; contribution = contribution }
 
 -- the stream passes the checks of its heat then
 record PassesHeat (s : Stream) (given : Option ℤ) : Type 0 where
@@ -92,7 +98,8 @@ unfolding is_own_load heat_checks
 latent_passes s latent = record {
   cp = within-passes _ _ _ (omega (arith, ints, latent.cp));
   load = within-passes _ _ _ latent.load;
-  heat = λ contribution. ((Decides-and _ _ (Decides-int_eq s.supply s.target) (Decides-int_eq s.cp (pos 0))).1 (latent.level, latent.cp), tt);
+  heat =
+      λ contribution. ((Decides-and _ _ (Decides-int_eq s.supply s.target) (Decides-int_eq s.cp (pos 0))).1 (latent.level, latent.cp), tt);
 }
 
 passes_heat : (s : Stream) → IsValidStream s → PassesHeat s (own_load s.load)
@@ -117,19 +124,25 @@ stream_row_kind side.Hot fields = refl
 stream_row_kind side.Cold fields = refl
 
 -- a stream of which an earlier row gave neither the name nor too many of its side
-pub stream_follows : (given : Given) (k : Case) (s : Stream) → IsValidStream s → IsUnreserved s.name → count_of s.side given.streams < MOST_STREAMS
+pub stream_follows : (given : Given) (k : Case) (s : Stream) → IsValidStream s → IsUnreserved s.name
+    → count_of s.side given.streams < MOST_STREAMS
     → All (λ other. other ≢ s.name) (keys_of given.streams ++ keys_of given.utilities)
     → Follows grammar given (stream_row k s) (with_entry given (entry.Stream s.name (stream_entry k s).1))
 unfolding checks kind_checks stream_checks stream_number_checks are_empty is_number number
 stream_follows given k s valid unreserved few new =
-    let row = stream_row k s in let is : kind_of row ≡ Some (kind.Stream s.side) = stream_row_kind s.side _ in
-    let supply = number_read s.supply (temperature s.supply valid.supply) in let target = number_read s.target (temperature s.target valid.target) in
-    let cp = number_read s.cp (stream_flow_rate s valid) in let (is_load, load) = reads_load s row valid refl in
-    let heat = passes_heat s valid in let own = reads_own k s.contribution row valid.contribution refl in
+    let row = stream_row k s in
+    let is : kind_of row ≡ Some (kind.Stream s.side) = stream_row_kind s.side _ in
+    let supply = number_read s.supply (temperature s.supply valid.supply) in
+    let target = number_read s.target (temperature s.target valid.target) in
+    let cp = number_read s.cp (stream_flow_rate s valid) in
+    let (is_load, load) = reads_load s row valid refl in
+    let heat = passes_heat s valid in
+    let own = reads_own k s.contribution row valid.contribution refl in
     let place =
     room-passes (count_on s.side (case_of given).streams) MOST_STREAMS (rw (count_on-case s.side (unwrap_or given.contribution (pos 0)) given.streams) few) in
     let free = (Decides-is_taken (case_of given) s.name).1 (rw (names_of-case given) new) in
-    let from = within-passes _ _ _ valid.supply in let to = within-passes _ _ _ valid.target in
+    let from = within-passes _ _ _ valid.supply in
+    let to = within-passes _ _ _ valid.target in
     let numbers : Passes (stream_number_checks s.side row) = rw (supply, target, cp, load, own.read)
     (refl, (refl, (refl, (is_load, (own.is_number, (from, (to, (heat.cp, (heat.load, (own.range, heat.heat _)))))))))) in
     let passes : Passes (checks given row) =
@@ -147,18 +160,27 @@ unfolding kind_of is_passed_over are_empty
 utility_row_kind side.Hot fields = refl
 utility_row_kind side.Cold fields = refl
 
-pub utility_follows : (given : Given) (k : Case) (u : Utility) → IsValidUtility u → IsRightlyNamed u → length given.utilities < MOST_UTILITIES
+pub utility_follows : (given : Given) (k : Case) (u : Utility) → IsValidUtility u → IsRightlyNamed u
+    → length given.utilities < MOST_UTILITIES
     → All (λ other. other ≢ u.name) (keys_of given.streams ++ keys_of given.utilities)
     → Follows grammar given (utility_row k u) (with_entry given (entry.Utility u.name (utility_entry k u).1))
 unfolding checks kind_checks utility_checks utility_number_checks are_empty is_number number
 utility_follows given k u valid named few new =
-    let row = utility_row k u in let is : kind_of row ≡ Some (kind.Utility u.side) = utility_row_kind u.side _ in
-    let most_range : IsHeat u.most = record { from = omega (arith, ints, valid.least.from, valid.most.from); upto = valid.most.upto } in
-    let level = number_read u.level (temperature u.level valid.level) in let least = number_read u.least (heat u.least valid.least) in
-    let most = number_read u.most (heat u.most most_range) in let each = number_read u.price (price u.price valid.price) in
-    let own = reads_own k u.contribution row valid.contribution refl in let free = (Decides-is_taken (case_of given) u.name).1 (rw (names_of-case given) new) in
-    let order = (Decides-int_le u.least u.most).1 valid.most.from in let fair = within-passes _ _ _ valid.price in
-    let placed = within-passes _ _ _ valid.level in let low = within-passes _ _ _ valid.least in let high = within-passes _ _ _ most_range in
+    let row = utility_row k u in
+    let is : kind_of row ≡ Some (kind.Utility u.side) = utility_row_kind u.side _ in
+    let most_range : IsHeat u.most
+    = record { from = omega (arith, ints, valid.least.from, valid.most.from); upto = valid.most.upto } in
+    let level = number_read u.level (temperature u.level valid.level) in
+    let least = number_read u.least (heat u.least valid.least) in
+    let most = number_read u.most (heat u.most most_range) in
+    let each = number_read u.price (price u.price valid.price) in
+    let own = reads_own k u.contribution row valid.contribution refl in
+    let free = (Decides-is_taken (case_of given) u.name).1 (rw (names_of-case given) new) in
+    let order = (Decides-int_le u.least u.most).1 valid.most.from in
+    let fair = within-passes _ _ _ valid.price in
+    let placed = within-passes _ _ _ valid.level in
+    let low = within-passes _ _ _ valid.least in
+    let high = within-passes _ _ _ most_range in
     let numbers : Passes (utility_number_checks row) = rw (level, least, most, each, own.read)
     (refl, (refl, (refl, (refl, (own.is_number, (placed, (low, (high, (fair, (own.range, (order, tt))))))))))) in
     let passes : Passes (checks given row) =
@@ -174,7 +196,8 @@ pub record IsFound (given : Given) (of : Side) (s : Source) (name : List ℕ) : 
   pub on : side_of (case_of given) s ≡ Some of
 
 pub forbid_follows : (given : Given) (k : Case) (f : Forbid) → IsFound given side.Hot f.hot (source_name k f.hot)
-    → IsFound given side.Cold f.cold (source_name k f.cold) → length given.forbids < MOST_FORBIDS → All (λ g. g ≢ f) given.forbids
+    → IsFound given side.Cold f.cold (source_name k f.cold) → length given.forbids < MOST_FORBIDS
+    → All (λ g. g ≢ f) given.forbids
     → Follows grammar given (forbid_row k f) (with_entry given (entry.Forbid f))
 unfolding checks kind_checks forbid_checks kind_of is_passed_over are_empty
 forbid_follows given k f hot cold few new =

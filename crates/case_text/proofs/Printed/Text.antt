@@ -19,7 +19,8 @@ utility_kind_field side.Cold = record { plain = refl; short = omega arith }
 
 contribution_field_printed : (k : Case) (c : ℤ) → IsContribution c → IsPrintedField (contribution_field k c)
 unfolding contribution_field
-contribution_field_printed k c range = optional_number_field (own_contribution k c) (own IsPrintable k c (contribution c range))
+contribution_field_printed k c range =
+    optional_number_field (own_contribution k c) (own IsPrintable k c (contribution c range))
 
 load_field_printed : (s : Stream) → IsValidStream s → IsPrintedField (load_field s.load)
 unfolding load_field
@@ -27,8 +28,10 @@ load_field_printed s valid = optional_number_field (own_load s.load) (load_print
 
 utility_printed : (k : Case) (u : Utility) → IsValidUtility u → IsPrintedRow (utility_row k u)
 utility_printed k u valid =
-    let most : IsHeat u.most = record { from = omega (arith, ints, valid.least.from, valid.most.from); upto = valid.most.upto } in
-    let level = number_field u.level (temperature u.level valid.level) in let least = number_field u.least (heat u.least valid.least) in
+    let most : IsHeat u.most
+    = record { from = omega (arith, ints, valid.least.from, valid.most.from); upto = valid.most.upto } in
+    let level = number_field u.level (temperature u.level valid.level) in
+    let least = number_field u.least (heat u.least valid.least) in
     let price = number_field u.price (price u.price valid.price) in
     seven_fields _ _ _ _ _ _ _ (utility_kind_field u.side) (name_field u.name valid.name) level least (number_field u.most (heat u.most most)) price
     (contribution_field_printed k u.contribution valid.contribution)
@@ -48,7 +51,8 @@ rows_printed k valid =
     let each_stream = All-weaker IsValidStream (λ s. IsPrintedRow (stream_row k s)) stream k.streams valid.streams.are_streams.each in
     let each_utility = All-weaker IsValidUtility (λ u. IsPrintedRow (utility_row k u)) (utility_printed k) k.utilities valid.utilities in
     let each_forbid = All-weaker (IsValidForbid k) (λ f. IsPrintedRow (forbid_row k f)) (forbid_printed k valid) k.forbids valid.forbids in
-    let streams = All-map IsPrintedRow (stream_row k) k.streams each_stream in let utilities = All-map IsPrintedRow (utility_row k) k.utilities each_utility in
+    let streams = All-map IsPrintedRow (stream_row k) k.streams each_stream in
+    let utilities = All-map IsPrintedRow (utility_row k) k.utilities each_utility in
     let forbids = All-map IsPrintedRow (forbid_row k) k.forbids each_forbid in
     let sources = All-append IsPrintedRow (map (stream_row k) k.streams) (map (utility_row k) k.utilities) streams utilities in
     let all = All-append IsPrintedRow (map (stream_row k) k.streams ++ map (utility_row k) k.utilities) (map (forbid_row k) k.forbids) sources forbids in

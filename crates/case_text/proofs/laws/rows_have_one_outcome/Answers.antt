@@ -2,4 +2,5 @@ use Rattle.case_text.proofs.Words.{fault_or_value, grammar, no_value, one_fault,
 use Rattle.case_text.proofs.laws.rows_have_one_outcome.Goals as goal
 
 pub returns : goal.returns
-returns c = record { some = fault_or_value grammar; fault = one_fault grammar; apart = no_value grammar; case = one_value grammar }
+returns c =
+    record { some = fault_or_value grammar; fault = one_fault grammar; apart = no_value grammar; case = one_value grammar }

@@ -6,8 +6,10 @@ use Rattle.std.proofs.Common.{List, append_assoc, length, subst, sym, ℕ, ◌++
 use Rattle.case_text.proofs.printer.print_case.Goals as goal
 
 -- the text of a case, part by part
-printed_text : (k : Case) → ((row_text (contribution_row k.contribution) ++ flat_map (λ s. row_text (stream_row k s)) k.streams)
-    ++ flat_map (λ u. row_text (utility_row k u)) k.utilities) ++ flat_map (λ f. row_text (forbid_row k f)) k.forbids ≡ rows_text (printed_rows k)
+printed_text : (k : Case)
+    → ((row_text (contribution_row k.contribution) ++ flat_map (λ s. row_text (stream_row k s)) k.streams)
+    ++ flat_map (λ u. row_text (utility_row k u)) k.utilities) ++ flat_map (λ f. row_text (forbid_row k f)) k.forbids
+    ≡ rows_text (printed_rows k)
 unfolding printed_rows
 printed_text k = simp (flat_map-append, flat_map-map, append_assoc)
 
@@ -29,7 +31,9 @@ pub returns-clause-text : goal.returns-clause-text
 returns-clause-text c = text_is c
 
 pub returns-clause-read_back : goal.returns-clause-read_back
-returns-clause-read_back c = subst (λ (t : List ℕ). IsCase (rows_of t) c.args.case.now) (sym (text_is c)) (text_back c.args.case.now c.requires)
+returns-clause-read_back c =
+    subst (λ (t : List ℕ). IsCase (rows_of t) c.args.case.now) (sym (text_is c)) (text_back c.args.case.now c.requires)
 
 pub returns-clause-short : goal.returns-clause-short
-returns-clause-short c = subst (λ (t : List ℕ). length t ≤ 2000000000) (sym (text_is c)) (text_short c.args.case.now c.requires)
+returns-clause-short c =
+    subst (λ (t : List ℕ). length t ≤ 2000000000) (sym (text_is c)) (text_short c.args.case.now c.requires)

@@ -4,13 +4,17 @@ use Rattle.certify.proofs.certificate.is_supported.Goals as goal
 
 pub loop-hot-preserved : goal.loop-hot-preserved
 loop-hot-preserved c a b less reaches =
-    let s = c.args.setting.now in let hot = c.loop-hot.hot in let prices = c.as_slice-price-items.result.now in
+    let s = c.args.setting.now in
+    let hot = c.loop-hot.hot in
+    let prices = c.as_slice-price-items.result.now in
     ⊎_elim (λ before. c.loop-hot.invariant a b before reaches) (λ past.
     let here : a ≡ hot = omega (arith, past, less) in
     let row = c.if-not-is_row_supported.ensures.0 refl b (subst (λ k. IsTrue (reach_of s k b)) here reaches) in
-    let cold = ap (λ ps. price_at ps b) c.as_slice-cold_prices.ensures in let own = ap (λ ps. price_at ps hot) c.as_slice-price-items.ensures in
+    let cold = ap (λ ps. price_at ps b) c.as_slice-cold_prices.ensures in
+    let own = ap (λ ps. price_at ps hot) c.as_slice-price-items.ensures in
     let fits : FitsSigned w64 (get_or prices hot (pos 0)) = search rules in
-    let price = to_z-of_z w64 (get_or prices hot (pos 0)) fits in let there = ap (price_at c.args.prices.now.hot) here in
+    let price = to_z-of_z w64 (get_or prices hot (pos 0)) fits in
+    let there = ap (price_at c.args.prices.now.hot) here in
     omega (arith, ints, row, cold, own, price, there)) (cases_lt a hot)
 
 pub returns : goal.returns

@@ -13,9 +13,12 @@ check_transfers-requires-clause-cold_range c =
 
 pub returns-clause-first : goal.returns-clause-first
 returns-clause-first c =
-    let s = c.args.setting.now in let hot = rw c.as_slice-hot.ensures at (c.if-not-are_prices_of.ensures.0 refl) in
-    let cold = rw c.as_slice-cold.ensures at (c.if-not-are_prices_of-2.ensures.0 refl) in let known = c.in_ok-flow.ensures.some.0 (rw c.in-Some.is refl) in
-    let transfers = rw c.in-Some.is at c.in_ok-flow.ensures.transfers in let fits : FitsSigned w128 c.args.cost = search rules in
+    let s = c.args.setting.now in
+    let hot = rw c.as_slice-hot.ensures at (c.if-not-are_prices_of.ensures.0 refl) in
+    let cold = rw c.as_slice-cold.ensures at (c.if-not-are_prices_of-2.ensures.0 refl) in
+    let known = c.in_ok-flow.ensures.some.0 (rw c.in-Some.is refl) in
+    let transfers = rw c.in-Some.is at c.in_ok-flow.ensures.transfers in
+    let fits : FitsSigned w128 c.args.cost = search rules in
     let rest = subst (λ (n : ℤ). IsFirstOf transfer_causes (HoldsOfTransfers s.case.now (hot_parts s) (cold_parts s) n c.args.uses.now c.in-Some.flow.transfers
     c.from_vec.result c.from_vec-2.result) c.check_transfers.result) (to_z-of_z w128 c.args.cost fits) c.check_transfers.ensures in
     flow_first s.case.now (hot_parts s) (cold_parts s) c.args.cost c.args.uses.now c.args.moves.now c.args.gives.now c.args.takes.now

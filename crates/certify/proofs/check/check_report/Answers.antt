@@ -4,7 +4,8 @@ use Rattle.certify.proofs.check.check_report.Goals as goal
 
 pub check_over-requires-clause-setting : goal.check_over-requires-clause-setting
 check_over-requires-clause-setting c =
-    let case = c.args.case.now in let parts = c.in_ok-parts.ensures in
+    let case = c.args.case.now in
+    let parts = c.in_ok-parts.ensures in
     record {
       complete = c.requires.complete;
       hot_sources = sources_of_parts case parts.grid Hot c.in_ok-parts.parts.hot parts.hot_parts;

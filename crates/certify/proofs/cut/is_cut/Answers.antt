@@ -40,4 +40,5 @@ module _ (c : goal.After-is_short) where
       }
 
 pub returns : goal.returns
-returns c = (cut c, λ h. c.is_short.ensures.1 (h.need ∙ sym (need c), h.offer ∙ sym (offer c), rw (need c, offer c) h.parts.short))
+returns c =
+    (cut c, λ h. c.is_short.ensures.1 (h.need ∙ sym (need c), h.offer ∙ sym (offer c), rw (need c, offer c) h.parts.short))

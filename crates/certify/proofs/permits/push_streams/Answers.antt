@@ -14,9 +14,14 @@ overflow_cast-number c = omega (
 
 pub loop-number-preserved : goal.loop-number-preserved
 loop-number-preserved c =
-    let case = c.args.case.now in let rows = c.loop-number.rows in let row = c.from_vec.result in let count = c.loop-number.invariant.count in
-    let within : c.loop-number.number < length case.streams = omega (arith, c.loop-number-test.true, c.len-number-end.ensures) in
-    let is : ArePermissions case case.forbids (of_stream c.loop-number.number) row = rw c.from_vec.ensures c.in_ok-row.ensures in
+    let case = c.args.case.now in
+    let rows = c.loop-number.rows in
+    let row = c.from_vec.result in
+    let count = c.loop-number.invariant.count in
+    let within : c.loop-number.number < length case.streams
+    = omega (arith, c.loop-number-test.true, c.len-number-end.ensures) in
+    let is : ArePermissions case case.forbids (of_stream c.loop-number.number) row
+    = rw c.from_vec.ensures c.in_ok-row.ensures in
     rw c.in_ok-push.ensures.ok (record {
       count = omega (arith, count, length-append rows (row ∷ []));
       each = push_stream case rows row c.loop-number.number within count is c.loop-number.invariant.each;

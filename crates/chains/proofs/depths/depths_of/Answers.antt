@@ -7,19 +7,22 @@ use Rattle.chains.proofs.depths.depths_of.Goals as goal
 
 pub used_above-requires-clause-hot : goal.used_above-requires-clause-hot
 used_above-requires-clause-hot c =
-    let places = c.args.places.now in let hot = c.args.parts.now.hot in
+    let places = c.args.places.now in
+    let hot = c.args.parts.now.hot in
     ranks_high places hot c.args.parts.now.cold _ hot _ c.rank_count-ranks.ensures
     (c.deref.ensures.value ∙ (c.in_ok-hot.ensures.value ∙ ap (map (rank_of places)) c.as_slice.ensures)) c.requires.hot
 
 pub used_above-requires-clause-cold : goal.used_above-requires-clause-cold
 used_above-requires-clause-cold c =
-    let places = c.args.places.now in let cold = c.args.parts.now.cold in
+    let places = c.args.places.now in
+    let cold = c.args.parts.now.cold in
     ranks_high places c.args.parts.now.hot cold _ cold _ c.rank_count-ranks.ensures
     (c.deref-2.ensures.value ∙ (c.in_ok-cold.ensures.value ∙ ap (map (rank_of places)) c.as_slice-2.ensures)) c.requires.cold
 
 pub at_ranks-requires : goal.at_ranks-requires
 at_ranks-requires c =
-    let places = c.args.places.now in let hot = c.args.parts.now.hot in
+    let places = c.args.places.now in
+    let hot = c.args.parts.now.hot in
     let each = length-map-range_with_len (used_among (c.deref.result.now ++ c.deref-2.result.now)) 0 (c.rank_count-ranks.result + 1) in
     let count : length c.deref-3.result.now ≡ rank_count places + 1
     = omega (arith, ap length c.deref-3.ensures.value, ap length c.in_ok-above.ensures, each, c.rank_count-ranks.ensures) in
@@ -28,7 +31,8 @@ at_ranks-requires c =
 
 pub at_ranks-requires-2 : goal.at_ranks-requires-2
 at_ranks-requires-2 c =
-    let places = c.args.places.now in let cold = c.args.parts.now.cold in
+    let places = c.args.places.now in
+    let cold = c.args.parts.now.cold in
     let each = length-map-range_with_len (used_among (c.deref.result.now ++ c.deref-2.result.now)) 0 (c.rank_count-ranks.result + 1) in
     let count : length c.deref-5.result.now ≡ rank_count places + 1
     = omega (arith, ap length c.deref-5.ensures.value, ap length c.in_ok-above.ensures, each, c.rank_count-ranks.ensures) in
@@ -42,13 +46,16 @@ index-requires c =
 
 pub returns : goal.returns
 returns c =
-    let places = c.args.places.now in let above = c.in_ok-above.above.items in let ranks = c.rank_count-ranks.result in
+    let places = c.args.places.now in
+    let above = c.in_ok-above.above.items in
+    let ranks = c.rank_count-ranks.result in
     let each = length-map-range_with_len (used_among (c.deref.result.now ++ c.deref-2.result.now)) 0 (ranks + 1) in
     let within : ranks < length above = omega (arith, ap length c.in_ok-above.ensures, each) in
     let ranked = map (rank_of places) in
     let table = c.in_ok-above.ensures
     ∙ ap₂ (λ rs n. map (used_among rs) (range_with_len 0 (n + 1))) (ap₂ ◌++◌ c.deref.ensures.value c.deref-2.ensures.value) c.rank_count-ranks.ensures in
-    let last = c.index.ensures ∙ (get_or_default above ranks c.index.result.now 0 within ∙ ap (λ n. get_or above n 0) c.rank_count-ranks.ensures) in
+    let last = c.index.ensures
+    ∙ (get_or_default above ranks c.index.result.now 0 within ∙ ap (λ n. get_or above n 0) c.rank_count-ranks.ensures) in
     AreDepths-read places c.args.parts.now.hot c.args.parts.now.cold above c.in_ok-hot.hot.items c.in_ok-cold.cold.items _
     (c.in_ok-hot.ensures.value ∙ ap ranked c.as_slice.ensures) (c.in_ok-cold.ensures.value ∙ ap ranked c.as_slice-2.ensures) table
     c.requires.hot c.requires.cold

@@ -9,14 +9,16 @@ overflow_add-count c = let case = c.args.case.now in
 
 pub loop-index-preserved : goal.loop-index-preserved
 loop-index-preserved c =
-    let node = λ (index : ℕ). first_node_of c.args.groups.now (source_at c.args.case.now index) in let n = c.loop-index.index in
+    let node = λ (index : ℕ). first_node_of c.args.groups.now (source_at c.args.case.now index) in
+    let n = c.loop-index.index in
     c.in_ok-push.ensures.items
     ∙ ap₂ (λ xs x. xs ++ x ∷ []) c.loop-index.invariant (c.first_node_of.ensures ∙ ap (first_node_of c.args.groups.now) c.source_at.ensures)
     ∙ sym (map-range_with_len_more node 0 n n (omega arith))
 
 pub returns : goal.returns
 returns c =
-    let node = λ (index : ℕ). first_node_of c.args.groups.now (source_at c.args.case.now index) in let case = c.args.case.now in
+    let node = λ (index : ℕ). first_node_of c.args.groups.now (source_at c.args.case.now index) in
+    let case = c.args.case.now in
     let whole : c.loop-index.index ≡ length case.streams + length case.utilities
     = omega (arith, c.loop-index-test.false, c.loop-index.auto.index-end, c.len.ensures, c.len-2.ensures) in
     c.loop-index.invariant ∙ ap (λ n. map node (range_with_len 0 n)) whole

@@ -12,7 +12,8 @@ hot_is : (c : After-deref-partners-items) → sources_in c.deref-partners-items.
 hot_is c = ap sources_in c.deref-partners-items.ensures.value ∙ c.in_ok-table.ensures.sources ∙ c.deref.ensures.value
 
 few : (c : In-loop-partners) → length c.loop-partners.groups.items ≤ MOST_STREAMS + ALL_UTILITIES
-few c = few_groups c.args.case.now c.in_ok-hot.hot.items (sources_in c.deref-partners-items.result.now) c.args.first c.args.nodes
+few c =
+    few_groups c.args.case.now c.in_ok-hot.hot.items (sources_in c.deref-partners-items.result.now) c.args.first c.args.nodes
     c.loop-partners.partners-index c.loop-partners.groups.items c.requires.complete c.in_ok-hot.ensures
     (hot_is (goal.at.In-loop-partners c).After-deref-partners-items) c.loop-partners.invariant
 
@@ -29,7 +30,9 @@ overflow_add-first_node c = let most = few (goal.at.overflow_add-first_node c).I
 
 pub sources_like-requires : goal.sources_like-requires
 sources_like-requires c =
-    let case = c.args.case.now in let i = c.loop-partners.partners-index in let p = goal.at.sources_like-requires c in
+    let case = c.args.case.now in
+    let i = c.loop-partners.partners-index in
+    let p = goal.at.sources_like-requires c in
     let each = subst (All (HasPartners case)) (sym c.deref-partners-items.ensures.value) c.in_ok-table.ensures.each in
     let whole = c.deref-then-not-stands_in_one.ensures.value in
     record {
@@ -37,17 +40,25 @@ sources_like-requires c =
       hot = subst (ListsOnce (λ s. side_of case s ≡ Some Hot))
           (sym (ap sources_in whole ∙ c.in_ok-table.ensures.sources ∙ c.deref.ensures.value)) c.in_ok-hot.ensures.listed;
       table = subst (All (HasPartners case)) (sym whole) c.in_ok-table.ensures.each;
-      first = subst (HasPartners case) (sym c.partners-item.is) (each i c.partners-item.result c.loop-partners-test.true);
+      first =
+          subst (HasPartners case) (sym c.partners-item.is) (each i c.partners-item.result c.loop-partners-test.true);
     }
 
 pub loop-partners-preserved : goal.loop-partners-preserved
 loop-partners-preserved c =
-    let case = c.args.case.now in let table = c.deref-partners-items.result.now in let hot = sources_in table in
-    let i = c.loop-partners.partners-index in let within = c.loop-partners-test.true in
-    let source_of = λ (p : Partners). p.source in let next = c.partners-item.result in let source = next.source in
+    let case = c.args.case.now in
+    let table = c.deref-partners-items.result.now in
+    let hot = sources_in table in
+    let i = c.loop-partners.partners-index in
+    let within = c.loop-partners-test.true in
+    let source_of = λ (p : Partners). p.source in
+    let next = c.partners-item.result in
+    let source = next.source in
     let in_hot : i < length hot = omega (arith, within, length-map table source_of) in
-    let is : source ≡ get_or hot i source = ap source_of c.partners-item.is ∙ sym (get_or-map source_of table i next source within) in
-    let groups = c.loop-partners.groups.items in let p = goal.at.loop-partners-preserved c in
+    let is : source ≡ get_or hot i source
+    = ap source_of c.partners-item.is ∙ sym (get_or-map source_of table i next source within) in
+    let groups = c.loop-partners.groups.items in
+    let p = goal.at.loop-partners-preserved c in
     let each = subst (All (λ s. side_of case s ≡ Some Hot)) (sym (hot_is p.After-deref-partners-items)) c.in_ok-hot.ensures.listed.each in
     let side = subst (λ s. side_of case s ≡ Some Hot) (sym is) (each i source in_hot) in
     elim c.if-not-stands_in_one.branch [
@@ -65,9 +76,13 @@ loop-partners-preserved c =
 
 pub returns-clause-groups : goal.returns-clause-groups
 returns-clause-groups c =
-    let case = c.args.case.now in let groups = c.loop-partners.groups.items in let hot = sources_in c.deref-partners-items.result.now in
-    let p = goal.at.returns-clause-groups c in let past = length-map c.deref-partners-items.result.now (λ (p : Partners). p.source) in
-    let whole = take_all c.loop-partners.partners-index hot (omega (arith, past, c.loop-partners-test.false)) ∙ hot_is p.After-deref-partners-items in
+    let case = c.args.case.now in
+    let groups = c.loop-partners.groups.items in
+    let hot = sources_in c.deref-partners-items.result.now in
+    let p = goal.at.returns-clause-groups c in
+    let past = length-map c.deref-partners-items.result.now (λ (p : Partners). p.source) in
+    let whole = take_all c.loop-partners.partners-index hot (omega (arith, past, c.loop-partners-test.false))
+    ∙ hot_is p.After-deref-partners-items in
     AreGroups-holds case c.in_ok-hot.hot.items c.in_ok-hot.ensures.listed c.args.first c.args.nodes groups
     (subst (λ hot. HoldsGroups case hot c.args.first c.args.nodes groups) whole c.loop-partners.invariant)
 

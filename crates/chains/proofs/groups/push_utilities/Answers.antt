@@ -19,5 +19,6 @@ loop-index-preserved c =
 
 pub returns : goal.returns
 returns c =
-    let whole = take_all c.loop-index.index c.as_slice-utilities.result.now c.loop-index-test.false ∙ c.as_slice-utilities.ensures in
+    let whole = take_all c.loop-index.index c.as_slice-utilities.result.now c.loop-index-test.false
+    ∙ c.as_slice-utilities.ensures in
     c.loop-index.invariant ∙ ap (λ items. c.args.sources.now.items ++ utilities_on c.args.side items) whole

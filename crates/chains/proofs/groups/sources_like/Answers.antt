@@ -8,12 +8,20 @@ use Rattle.chains.proofs.groups.sources_like.Goals as goal
 
 pub loop-partners-preserved : goal.loop-partners-preserved
 loop-partners-preserved c =
-    let table = c.args.table.now in let hot = sources_in table in let case = c.args.case.now in
-    let first = c.args.first.now in let i = c.loop-partners.partners-index in let within = c.loop-partners-test.true in
-    let next = c.partners-item.result in let source = λ (p : Partners). p.source in let same = HaveSamePartners case first.source in
-    let own : HasPartners case next = subst (HasPartners case) (sym c.partners-item.is) (c.requires.table i next within) in
+    let table = c.args.table.now in
+    let hot = sources_in table in
+    let case = c.args.case.now in
+    let first = c.args.first.now in
+    let i = c.loop-partners.partners-index in
+    let within = c.loop-partners-test.true in
+    let next = c.partners-item.result in
+    let source = λ (p : Partners). p.source in
+    let same = HaveSamePartners case first.source in
+    let own : HasPartners case next
+    = subst (HasPartners case) (sym c.partners-item.is) (c.requires.table i next within) in
     let in_hot : i < length hot = omega (arith, within, length-map table source) in
-    let is : next.source ≡ get_or hot i next.source = ap source c.partners-item.is ∙ sym (get_or-map source table i next next.source within) in
+    let is : next.source ≡ get_or hot i next.source
+    = ap source c.partners-item.is ∙ sym (get_or-map source table i next next.source within) in
     elim c.if-are_alike.branch [
       | then-are_alike+in_ok-push w ↦
           subst (KeptSoFar same hot (i + 1)) (sym (ap (λ v. v.items) w.sources-is ∙ w.in_ok-push.ensures.items))
@@ -29,6 +37,7 @@ loop-partners-preserved c =
 
 pub returns : goal.returns
 returns c =
-    let table = c.args.table.now in let past = length-map table (λ (p : Partners). p.source) in
+    let table = c.args.table.now in
+    let past = length-map table (λ (p : Partners). p.source) in
     likes-all c.args.case.now (sources_in table) c.args.first.now.source c.loop-partners.partners-index c.loop-partners.sources.items c.requires.hot
     (omega (arith, past, c.loop-partners-test.false)) c.loop-partners.invariant

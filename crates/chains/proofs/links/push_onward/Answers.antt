@@ -11,9 +11,14 @@ loop-stride-init c = refl
 
 pub loop-stride-preserved : goal.loop-stride-preserved
 loop-stride-preserved c =
-    let first = c.args.group.now.first_node in let nodes = c.args.nodes in let i = c.loop-stride.stride-index in
-    let stride = get_or STRIDES i 0 in let room = c.loop-stride.room in let within = c.loop-stride-test.true in
-    let before = c.loop-stride.links.items in let after = c.if-count-room.links.items in
+    let first = c.args.group.now.first_node in
+    let nodes = c.args.nodes in
+    let i = c.loop-stride.stride-index in
+    let stride = get_or STRIDES i 0 in
+    let room = c.loop-stride.room in
+    let within = c.loop-stride-test.true in
+    let before = c.loop-stride.links.items in
+    let after = c.if-count-room.links.items in
     let whole = c.args.links.now.items ++ onward first nodes c.args.room in
     let left = λ (n : ℕ). after ++ links_within first nodes n (drop (i + 1) STRIDES) in
     elim c.if-count-room.branch [
@@ -29,7 +34,10 @@ loop-stride-preserved c =
 
 pub returns : goal.returns
 returns c =
-    let first = c.args.group.now.first_node in let nodes = c.args.nodes in let room = c.loop-stride.room in
+    let first = c.args.group.now.first_node in
+    let nodes = c.args.nodes in
+    let room = c.loop-stride.room in
     let none = at_drop_all (links_within first nodes room) STRIDES c.loop-stride.stride-index c.loop-stride-test.false
     ∙ links_within-none first nodes room in
-    sym (append-nil c.loop-stride.links.items) ∙ ap (λ links. c.loop-stride.links.items ++ links) (sym none) ∙ c.loop-stride.invariant
+    sym (append-nil c.loop-stride.links.items) ∙ ap (λ links. c.loop-stride.links.items ++ links) (sym none)
+    ∙ c.loop-stride.invariant

@@ -3,4 +3,5 @@ use Rattle.std.proofs.Common.{map, ◌++◌, ◌≡◌}
 use Rattle.chains.proofs.links.push_stride.Given as goal
 
 abbrev pub invariant-loop-step : goal.invariant-loop-step
-invariant-loop-step l = l.links.items ≡ l.initial.links.items ++ map (stride_link l.group.first_node l.stride) (range_with_len 0 l.step)
+invariant-loop-step l =
+    l.links.items ≡ l.initial.links.items ++ map (stride_link l.group.first_node l.stride) (range_with_len 0 l.step)

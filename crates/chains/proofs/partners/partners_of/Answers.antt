@@ -6,14 +6,20 @@ use Rattle.stream_case.specs.declared.source.Source.TheVariants.{Stream as of_st
 
 pub loop-source-preserved : goal.loop-source-preserved
 loop-source-preserved c =
-    let case = c.args.case.now in let hot = c.args.hot.now in let i = c.loop-source.source-index in
-    let table = c.loop-source.table.items in let grown = c.in_ok-push.ensures.items in
+    let case = c.args.case.now in
+    let hot = c.args.hot.now in
+    let i = c.loop-source.source-index in
+    let table = c.loop-source.table.items in
+    let grown = c.in_ok-push.ensures.items in
     let source = λ (p : Partners). p.source in
     let next : Partners = record { source = get_or hot i (of_stream 0); allowed = c.in_ok-allowed.allowed } in
     record {
-      sources = ap (map source) grown ∙ map-append source table (next ∷ []) ∙ ap (λ xs. xs ++ next.source ∷ []) c.loop-source.invariant.sources
+      sources =
+          ap (map source) grown ∙ map-append source table (next ∷ [])
+          ∙ ap (λ xs. xs ++ next.source ∷ []) c.loop-source.invariant.sources
           ∙ sym (take_more hot i (of_stream 0) c.loop-source-test.true);
-      each = subst (All (HasPartners case)) (sym grown) (All-push (HasPartners case) table next c.loop-source.invariant.each c.in_ok-allowed.ensures);
+      each =
+          subst (All (HasPartners case)) (sym grown) (All-push (HasPartners case) table next c.loop-source.invariant.each c.in_ok-allowed.ensures);
     }
 
 pub returns : goal.returns

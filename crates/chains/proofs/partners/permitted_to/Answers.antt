@@ -7,7 +7,9 @@ use Rattle.stream_case.specs.declared.source.Source.TheVariants.{Stream as of_st
 
 pub returns : goal.returns
 returns c =
-    let case = c.args.case.now in let g = c.args.group.now in let sources = c.as_slice.result.now in
+    let case = c.args.case.now in
+    let g = c.args.group.now in
+    let sources = c.as_slice.result.now in
     let within : 0 < length sources = omega (arith, c.requires.group.filled, ap length c.as_slice.ensures) in
     let first = get_or sources 0 (of_stream 0) in
     let stands = subst (λ xs. Contains xs first) c.as_slice.ensures (Contains-get_or sources 0 (of_stream 0) within) in

@@ -8,7 +8,8 @@ loop-part-preserved c =
     let rank = rank_of c.args.places.now in
     let i = c.loop-part.part-index in
     let ranks = c.loop-part.ranks.items in
-    let more = ap (map rank) (take_more parts i blank c.loop-part-test.true) ∙ map-append rank (take i parts) (get_or parts i blank ∷ []) in
+    let more = ap (map rank) (take_more parts i blank c.loop-part-test.true)
+    ∙ map-append rank (take i parts) (get_or parts i blank ∷ []) in
     let grown = c.in_ok-push.ensures.items in
     record {
       value = grown ∙ (ap₂ (λ xs r. xs ++ r ∷ []) c.loop-part.invariant.value c.rank_of.ensures.value ∙ sym more);

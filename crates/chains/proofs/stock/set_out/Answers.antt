@@ -6,18 +6,27 @@ use Rattle.chains.proofs.stock.set_out.Goals as goal
 
 pub loop-index-preserved : goal.loop-index-preserved
 loop-index-preserved c =
-    let hots = c.args.hots in let links = c.args.links.now in let flow = c.args.flow.now in
-    let i = c.loop-index.index in let within = c.loop-index-test.true in let shares = c.loop-index.shares.items in
-    let ways = c.loop-index.ways.items in let before = c.loop-index.invariant in let heat = to_z w64 (of_z w64 (flow_on flow i)) in
-    let kept : heat ≡ flow_on flow i = to_z-of_z w64 (flow_on flow i) (search rules) in let from = c.requires.not_negative i within in
+    let hots = c.args.hots in
+    let links = c.args.links.now in
+    let flow = c.args.flow.now in
+    let i = c.loop-index.index in
+    let within = c.loop-index-test.true in
+    let shares = c.loop-index.shares.items in
+    let ways = c.loop-index.ways.items in
+    let before = c.loop-index.invariant in
+    let heat = to_z w64 (of_z w64 (flow_on flow i)) in
+    let kept : heat ≡ flow_on flow i = to_z-of_z w64 (flow_on flow i) (search rules) in
+    let from = c.requires.not_negative i within in
     let link = link_at links i in
     elim c.if-heat-gt0.branch [
       | then-heat-gt0+then-link-hots+in_ok-push w ↦
-          let is = ap (λ z. shares ++ record { hot = link.from; node = link.to; heat = z } ∷ []) kept in let some = w.if-heat-gt0.true in
+          let is = ap (λ z. shares ++ record { hot = link.from; node = link.to; heat = z } ∷ []) kept in
+          let some = w.if-heat-gt0.true in
           set_out_step hots links flow i _ _ _ _ (ap (λ v. v.items) w.shares-is ∙ w.in_ok-push.ensures.items ∙ is) (ap (λ v. v.items) w.ways-is)
           (HaveSetOut-share hots links flow i shares ways before within w.if-link-hots.true (omega (arith, ints, some)))
       | then-heat-gt0+else-link-hots+in_ok-push-2 w ↦
-          let is = ap (λ z. ways ++ record { from = link.from; to = link.to; left = z } ∷ []) kept in let some = w.if-heat-gt0.true in
+          let is = ap (λ z. ways ++ record { from = link.from; to = link.to; left = z } ∷ []) kept in
+          let some = w.if-heat-gt0.true in
           set_out_step hots links flow i _ _ _ _ (ap (λ v. v.items) w.shares-is) (ap (λ v. v.items) w.ways-is ∙ w.in_ok-push-2.ensures.items ∙ is)
           (HaveSetOut-way hots links flow i shares ways before within w.if-link-hots.false (omega (arith, ints, some)))
       | else-heat-gt0 w ↦ let none = w.if-heat-gt0.false in

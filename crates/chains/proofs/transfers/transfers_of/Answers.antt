@@ -9,10 +9,12 @@ abbrev no_share : Share
 no_share = record { hot = 0; node = 0; heat = pos 0 }
 
 same : (c : After-deref-share-items) → IsPermutation c.args.shares.items c.deref-share-items.result.now
-same c = subst (IsPermutation c.args.shares.items) (sym c.deref-share-items.ensures.value) c.sort_by_key.ensures.permutation
+same c =
+    subst (IsPermutation c.args.shares.items) (sym c.deref-share-items.ensures.value) c.sort_by_key.ensures.permutation
 
 -- the share that is added
-here : (c : In-loop-share) (most : ℤ) → All (λ (u : Share). held_of c.args.shares.items u.hot ≤ℤ most) c.args.shares.items
+here : (c : In-loop-share) (most : ℤ)
+    → All (λ (u : Share). held_of c.args.shares.items u.hot ≤ℤ most) c.args.shares.items
     → IsShareAt c.args.hots most c.deref-share-items.result.now c.loop-share.share-index
     (get_or c.deref-share-items.result.now c.loop-share.share-index no_share)
 here c most fits =
@@ -23,14 +25,17 @@ here c most fits =
 
 pub add_share-requires : goal.add_share-requires
 add_share-requires c =
-    let items = c.deref-share-items.result.now in let i = c.loop-share.share-index in let transfers = c.loop-share.transfers.items in
+    let items = c.deref-share-items.result.now in
+    let i = c.loop-share.share-index in
+    let transfers = c.loop-share.transfers.items in
     let at = here (goal.at.add_share-requires c).In-loop-share _ c.requires.fits in
     let fits = room_for_it c.args.hots _ items i (get_or items i no_share) at transfers transfers c.loop-share.invariant in
     record { at_cold = at.at_cold; positive = at.some; fits = fits }
 
 pub loop-share-preserved : goal.loop-share-preserved
 loop-share-preserved c =
-    let items = c.deref-share-items.result.now in let i = c.loop-share.share-index in
+    let items = c.deref-share-items.result.now in
+    let i = c.loop-share.share-index in
     AreGathered-more c.args.hots _ items i (get_or items i no_share) (here (goal.at.loop-share-preserved c).In-loop-share _ c.requires.fits)
     c.loop-share.transfers.items c.add_share.new.transfers.items c.loop-share.invariant c.in_ok-add_share.ensures
 

@@ -22,7 +22,8 @@ overlaps_of-requires-clause-cold c =
 standard : (c : goal.After-drop-pairs-2) → AreStandardParts c.args.case.now c.args.parts.now.hot c.args.parts.now.cold
 standard c = AreStandardParts-parts c.requires.complete c.requires.standard c.requires.parts
 
-spans : (c : goal.After-drop-pairs-2) → IsCornerFlow c.args.case.now c.args.parts.now.hot c.args.parts.now.cold c.from_vec.result
+spans : (c : goal.After-drop-pairs-2)
+    → IsCornerFlow c.args.case.now c.args.parts.now.hot c.args.parts.now.cold c.from_vec.result
 spans c =
     let pairs = ap (map as_pair) (c.from_vec.ensures ∙ c.in_ok-transfers.ensures ∙ ap (map as_transfer) c.as_slice.ensures.value)
     ∙ as_pair-as_transfer c.in_ok-pairs.pairs.items in
@@ -35,7 +36,8 @@ pub returns-clause-flow : goal.returns-clause-flow
 returns-clause-flow c = corner-is_flow (standard c) c.from_vec.result (spans c)
 
 pub returns-clause-few : goal.returns-clause-few
-returns-clause-few c = fewer_than_parts c.args.case.now c.args.parts.now.hot c.args.parts.now.cold c.from_vec.result (heats-not_negative (standard c) Hot)
+returns-clause-few c =
+    fewer_than_parts c.args.case.now c.args.parts.now.hot c.args.parts.now.cold c.from_vec.result (heats-not_negative (standard c) Hot)
     (heats-not_negative (standard c) Cold) (spans c)
 
 pub returns-clause-hot_heat : goal.returns-clause-hot_heat

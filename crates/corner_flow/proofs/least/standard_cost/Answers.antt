@@ -5,7 +5,8 @@ use Rattle.corner_flow.proofs.Words.{AreCaseParts, Cold, Hot, IsLeastCost, Needs
 use Rattle.std.proofs.Common.{FitsSigned, List, arith, of_z, rules, subst, sym, to_z, w64, ◌∙◌, ◌≡◌}
 use Rattle.corner_flow.proofs.least.standard_cost.Goals as goal
 
-standard : (c : goal.After-from) (hot cold : List Part) → AreCaseParts c.args.case.now hot cold → AreStandardParts c.args.case.now hot cold
+standard : (c : goal.After-from) (hot cold : List Part) → AreCaseParts c.args.case.now hot cold
+    → AreStandardParts c.args.case.now hot cold
 standard c hot cold = AreStandardParts-parts c.requires.complete c.requires.standard
 
 target_is : (c : goal.After-from) → to_z w128 (of_z w128 c.from.result) ≡ c.args.targets.hot
@@ -14,15 +15,18 @@ target_is c = let fits : FitsSigned w64 c.args.targets.hot = search rules in ome
 pub returns-clause-least : goal.returns-clause-least
 returns-clause-least c = record {
   some = some_parts c.args.case.now;
-  each = λ hot cold parts. subst (IsLeastCost (reach_between c.args.case.now hot cold) hot cold) (sym c.requires.hot_target ∙ sym (target_is c))
+  each =
+      λ hot cold parts. subst (IsLeastCost (reach_between c.args.case.now hot cold) hot cold) (sym c.requires.hot_target ∙ sym (target_is c))
       (least_cost (standard c hot cold parts));
 }
 
 pub returns-clause-hot_heat : goal.returns-clause-hot_heat
 returns-clause-hot_heat c = record {
   some = some_parts c.args.case.now;
-  each = λ hot cold parts. subst (NeedsHeat c.args.case.now hot cold Hot) (sym c.requires.hot_target) (needs_heat (standard c hot cold parts) Hot);
+  each =
+      λ hot cold parts. subst (NeedsHeat c.args.case.now hot cold Hot) (sym c.requires.hot_target) (needs_heat (standard c hot cold parts) Hot);
 }
 
 pub returns-clause-cold_heat : goal.returns-clause-cold_heat
-returns-clause-cold_heat c = record { some = some_parts c.args.case.now; each = λ hot cold parts. needs_heat (standard c hot cold parts) Cold }
+returns-clause-cold_heat c =
+    record { some = some_parts c.args.case.now; each = λ hot cold parts. needs_heat (standard c hot cold parts) Cold }

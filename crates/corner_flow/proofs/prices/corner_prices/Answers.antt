@@ -38,7 +38,8 @@ cold_prices c =
     ) at c.in_ok-cold.ensures
 
 tight : (c : goal.After-from_vec-2) → IsTightOver (low_of c) c.args.case.now.streams c.args.place
-tight c = tight_counted c.args.case.now.streams c.args.place c.args.from (standard c).valid.are_streams.each c.requires.place c.requires.from
+tight c =
+    tight_counted c.args.case.now.streams c.args.place c.args.from (standard c).valid.are_streams.each c.requires.place c.requires.from
 
 pub returns-clause-hot : goal.returns-clause-hot
 returns-clause-hot c = rw c.requires.hot_target (hot_prices c)

@@ -11,4 +11,5 @@ heat_between-requires-clause-within c =
 
 pub returns-clause-value : goal.returns-clause-value
 returns-clause-value c =
-    to_z-of_z w64 c.heat_between.result (search rules) ∙ c.heat_between.ensures.value ∙ ap (λ l. c.args.stream.now.cp *ℤ l) (omega (arith, ints, clamps))
+    to_z-of_z w64 c.heat_between.result (search rules) ∙ c.heat_between.ensures.value
+    ∙ ap (λ l. c.args.stream.now.cp *ℤ l) (omega (arith, ints, clamps))

@@ -27,8 +27,10 @@ loop-number-preserved c =
     let streams : c.len-own.result ≡ own = omega arith in
     let drawn = c.in_ok-free.ensures.lines ∙ ap (λ k. lines ++ course_lines k number c.as_slice.result.now) first
     ∙ ap (λ cs. lines ++ course_lines (length branches) number cs) same in
-    let free : c.in_ok-free.free ≡ length branches + course_branches course = omega (arith, c.in_ok-free.ensures.free, first, size) in
-    let made = c.in_ok-push_branches.ensures ∙ ap (λ k. branches ++ numbered (k - c.len-own.result) number (c.in_ok-free.free - k)) first
+    let free : c.in_ok-free.free ≡ length branches + course_branches course
+    = omega (arith, c.in_ok-free.ensures.free, first, size) in
+    let made = c.in_ok-push_branches.ensures
+    ∙ ap (λ k. branches ++ numbered (k - c.len-own.result) number (c.in_ok-free.free - k)) first
     ∙ ap (λ k. branches ++ numbered (length branches - k) number (c.in_ok-free.free - length branches)) streams in
     courses_next courses own c.args.declarations.items (own_branches case) number lines branches c.loop-number.invariant c.push_course.new.lines.items
     c.push_branches.new.branches.items course c.in_ok-free.free left drawn free made

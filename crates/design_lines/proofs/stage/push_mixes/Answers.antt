@@ -14,5 +14,6 @@ loop-index-preserved c =
     let step = mixes_more (n - i) to c.loop-index.first (c.args.behind + 1 + i) (n - (i + 1)) (c.args.behind + n + 1 + (i + 1)) (c.args.behind + 1 + (i + 1))
     (omega arith) (omega arith) (omega arith) in
     let pushed : c.push.new.self.items ≡ c.loop-index.lines.items ++ here ∷ [] = cc c.in_ok-push.ensures.items in
-    ap (λ ls. ls ++ rest) pushed ∙ append_assoc c.loop-index.lines.items (here ∷ []) rest ∙ ap (λ ls. c.loop-index.lines.items ++ ls) (sym step)
+    ap (λ ls. ls ++ rest) pushed ∙ append_assoc c.loop-index.lines.items (here ∷ []) rest
+    ∙ ap (λ ls. c.loop-index.lines.items ++ ls) (sym step)
     ∙ c.loop-index.invariant

@@ -18,7 +18,8 @@ pub add-requires-clause-fits : goal.add-requires-clause-fits
 add-requires-clause-fits c =
     let a = at (goal.at.add-requires-clause-fits c).In-loop-index in
     let inv = c.loop-index.invariant in
-    let amount : to_z w128 (of_z w128 c.from-carried.result) ≡ flow_on c.args.flow.now c.loop-index.index = omega (arith, ints) in
+    let amount : to_z w128 (of_z w128 c.from-carried.result) ≡ flow_on c.args.flow.now c.loop-index.index
+    = omega (arith, ints) in
     rw (amount, a.link) (first_fits c.args.net.now c.args.flow.now c.loop-index.surpluses c.requires.net c.requires.rooms c.loop-index.index a.below
     inv.one_each inv.surplus)
 
@@ -26,7 +27,8 @@ pub add-requires-in-loop-index-clause-fits : goal.add-requires-in-loop-index-cla
 add-requires-in-loop-index-clause-fits c =
     let a = at (goal.at.add-requires-in-loop-index-clause-fits c).In-loop-index in
     let inv = c.loop-index.invariant in
-    let amount : to_z w128 (of_z w128 c.from-carried.result) ≡ flow_on c.args.flow.now c.loop-index.index = omega (arith, ints) in
+    let amount : to_z w128 (of_z w128 c.from-carried.result) ≡ flow_on c.args.flow.now c.loop-index.index
+    = omega (arith, ints) in
     let back : to_z w128 (of_z w128 (pos 0 -ℤ to_z w128 (of_z w128 c.from-carried.result)))
     ≡ pos 0 -ℤ flow_on c.args.flow.now c.loop-index.index = omega (arith, ints) in
     rw (back, c.add.ensures, amount, a.link) (second_fits c.args.net.now c.args.flow.now c.loop-index.surpluses c.requires.net c.requires.rooms
@@ -40,11 +42,14 @@ loop-index-preserved c =
     let a = at (goal.at.loop-index-preserved c).In-loop-index in
     let inv = c.loop-index.invariant in
     let amount : to_z w128 (of_z w128 c.from-carried.result) ≡ flow_on flow k = omega (arith, ints) in
-    let back : to_z w128 (of_z w128 (pos 0 -ℤ to_z w128 (of_z w128 c.from-carried.result))) ≡ pos 0 -ℤ flow_on flow k = omega (arith, ints) in
+    let back : to_z w128 (of_z w128 (pos 0 -ℤ to_z w128 (of_z w128 c.from-carried.result))) ≡ pos 0 -ℤ flow_on flow k
+    = omega (arith, ints) in
     let within = c.requires.net.links k a.below in
     record {
       links = inv.links;
-      one_each = ap length c.add-in-loop-index.ensures ∙ (length-set _ _ _ ∙ (ap length c.add.ensures ∙ (length-set _ _ _ ∙ inv.one_each)));
+      one_each =
+          ap length c.add-in-loop-index.ensures
+          ∙ (length-set _ _ _ ∙ (ap length c.add.ensures ∙ (length-set _ _ _ ∙ inv.one_each)));
       surplus = λ v v_in.
           let before = inv.surplus v v_in in
           let step = carried c.loop-index.surpluses (link_at net.links k).from (link_at net.links k).to v (flow_on flow k)
@@ -55,8 +60,11 @@ loop-index-preserved c =
 
 pub returns : goal.returns
 returns c =
-    let end : c.loop-index.index ≡ length c.args.net.now.links = (let same = ap length c.loop-index.invariant.links in omega arith) in
+    let end : c.loop-index.index ≡ length c.args.net.now.links
+    = (let same = ap length c.loop-index.invariant.links in omega arith) in
     record {
       one_each = c.loop-index.invariant.one_each;
-      surplus = λ v within. c.loop-index.invariant.surplus v within ∙ ap (λ n. surplus_below c.args.net.now.links c.args.flow.now n v) end;
+      surplus =
+          λ v within. c.loop-index.invariant.surplus v within
+          ∙ ap (λ n. surplus_below c.args.net.now.links c.args.flow.now n v) end;
     }

@@ -19,7 +19,8 @@ term c =
     let cost : to_z w128 (of_z w128 c.from.result) ≡ (link_at c.args.net.now.links k).cost = omega (arith, ints) in
     let carried : to_z w128 (of_z w128 c.from-in-loop-index.result) ≡ flow_on c.args.flow.now k = omega (arith, ints) in
     let small = link_cost_small c.args.net.now c.args.flow.now c.requires.net c.requires.rooms k below in
-    let fits : FitsSigned w128 ((link_at c.args.net.now.links k).cost *ℤ flow_on c.args.flow.now k) = omega (arith, sizes, small) in
+    let fits : FitsSigned w128 ((link_at c.args.net.now.links k).cost *ℤ flow_on c.args.flow.now k)
+    = omega (arith, sizes, small) in
     record { below = below; is = rw (cost, carried) (to_z-of_z w128 _ fits) }
 
 -- the sum fits

@@ -15,7 +15,8 @@ returns c =
       λ balanced. (
           let due_at = subst (AreBalanced p) c.deref.ensures.value (c.are_balanced.ensures.0 balanced) in
           record {
-            routing = routing_from_surplus p.net limits p.source p.sink ends p.amount flow (c.if-not-keeps_rooms.ensures.0 refl)
+            routing =
+                routing_from_surplus p.net limits p.source p.sink ends p.amount flow (c.if-not-keeps_rooms.ensures.0 refl)
                 (λ v within. sym (is.surplus v within) ∙ (due_at v (omega arith) ∙ due_is p ends.apart v));
             proof = record { left_to_add = λ k b. (proved k b).left_to_add; flowing = λ k b. (proved k b).flowing };
           }),

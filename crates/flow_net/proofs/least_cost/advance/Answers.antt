@@ -24,7 +24,8 @@ loop-routing-smaller c =
 
 pub loop-routing-preserved : goal.loop-routing-preserved
 loop-routing-preserved c =
-    let after = c.in_ok-augment_by_levels.ensures in record { standing = after.standing; graph = after.graph; no_less = omega (arith, ints) }
+    let after = c.in_ok-augment_by_levels.ensures in
+    record { standing = after.standing; graph = after.graph; no_less = omega (arith, ints) }
 
 pub returns-then-routing-before-clause-rises : goal.returns-then-routing-before-clause-rises
 returns-then-routing-before-clause-rises c = omega (arith, ints)

@@ -7,4 +7,5 @@ pub loop-routing-smaller : goal.loop-routing-smaller
 loop-routing-smaller c = omega (arith, sizes)
 
 pub loop-routing-preserved : goal.loop-routing-preserved
-loop-routing-preserved c = record { standing = c.augment.ensures.standing; graph = c.in_ok-path.ensures.graph; no_less = omega (arith, ints) }
+loop-routing-preserved c =
+    record { standing = c.augment.ensures.standing; graph = c.in_ok-path.ensures.graph; no_less = omega (arith, ints) }

@@ -21,10 +21,13 @@ returns-then-not-branch-clause-blocked_only c = λ routable. let whole = to_z-of
 
 pub returns-clause-routed : goal.returns-clause-routed
 returns-clause-routed c =
-    let r = c.loop-routing.routing in let standing = c.loop-routing.invariant.standing in let whole : r.routed ≡ c.args.amount = omega (arith, ints) in
+    let r = c.loop-routing.routing in
+    let standing = c.loop-routing.invariant.standing in
+    let whole : r.routed ≡ c.args.amount = omega (arith, ints) in
     let routes = subst (λ z. IsRouting c.args.net.now c.args.source c.args.sink z r.flow.items) whole standing.routes in
     subst (IsLeastRouting c.args.net.now c.args.source c.args.sink c.args.amount) (sym c.from_vec-2.ensures) (record {
       routing = routes;
-      least = λ other. least_from_potentials c.args.net.now c.requires.net c.args.source c.args.sink c.requires.ends c.args.amount r.flow.items routes
+      least =
+          λ other. least_from_potentials c.args.net.now c.requires.net c.args.source c.args.sink c.requires.ends c.args.amount r.flow.items routes
           r.potentials.items other standing.proof;
     })

@@ -10,5 +10,6 @@ pub loop-y-smaller : goal.loop-y-smaller
 loop-y-smaller c = steps_left-decreases c.loop-y.x c.loop-y.y (omega arith)
 
 pub returns : goal.returns
-returns c = let is : IsGcd c.args.a c.args.b c.loop-y.x = c.loop-y.invariant _ (IsGcd-from_zero _ _ (omega arith)) in
+returns c =
+    let is : IsGcd c.args.a c.args.b c.loop-y.x = c.loop-y.invariant _ (IsGcd-from_zero _ _ (omega arith)) in
     record { divisor = is; positive = pos_of_dvd_of_pos is.1 }

@@ -6,11 +6,13 @@ use Rattle.grid.proofs.Words.{All, IsPlaced, IsPlaced-IsComplete}
 use Rattle.grid.proofs.making.parts_of.Goals as goal
 
 pub parts_on-requires-clause-utilities : goal.parts_on-requires-clause-utilities
-parts_on-requires-clause-utilities c = subst (All IsPlaced) (sym c.as_slice-utilities.ensures) (IsPlaced-IsComplete c.args.case.now c.requires.complete)
+parts_on-requires-clause-utilities c =
+    subst (All IsPlaced) (sym c.as_slice-utilities.ensures) (IsPlaced-IsComplete c.args.case.now c.requires.complete)
 
 pub parts_on-requires-clause-places : goal.parts_on-requires-clause-places
 parts_on-requires-clause-places c = rw (c.as_slice-streams.ensures, c.as_slice-utilities.ensures, c.as_slice.ensures)
     (HoldsPlaces-IsGrid c.args.case.now c.args.grid.now.places c.requires.grid)
 
 pub parts_on-requires-clause-few_places : goal.parts_on-requires-clause-few_places
-parts_on-requires-clause-few_places c = rw c.as_slice.ensures (length-grid c.args.case.now c.args.grid.now.places c.requires.complete c.requires.grid)
+parts_on-requires-clause-few_places c =
+    rw c.as_slice.ensures (length-grid c.args.case.now c.args.grid.now.places c.requires.complete c.requires.grid)

@@ -4,13 +4,16 @@ use Rattle.std.proofs.Common.{◌∙◌}
 use Rattle.grid.proofs.Words.{Cold, Hot}
 use Rattle.grid.proofs.making.parts_on.Goals as goal
 
-hot_side : (c : goal.After-from_vec-2) → IsSide c.args.streams.now c.args.utilities.now Hot c.args.places.now c.from_vec.result
+hot_side : (c : goal.After-from_vec-2)
+    → IsSide c.args.streams.now c.args.utilities.now Hot c.args.places.now c.from_vec.result
 hot_side c =
     IsSide-made c.args.streams.now c.args.utilities.now Hot c.args.places.now c.from_vec.result c.requires.streams c.requires.utilities c.requires.few_utilities
     c.requires.places c.requires.few_places (c.from_vec.ensures ∙ c.in_ok-hot.ensures)
 
-cold_side : (c : goal.After-from_vec-2) → IsSide c.args.streams.now c.args.utilities.now Cold c.args.places.now c.from_vec-2.result
-cold_side c = IsSide-made c.args.streams.now c.args.utilities.now Cold c.args.places.now c.from_vec-2.result c.requires.streams c.requires.utilities
+cold_side : (c : goal.After-from_vec-2)
+    → IsSide c.args.streams.now c.args.utilities.now Cold c.args.places.now c.from_vec-2.result
+cold_side c =
+    IsSide-made c.args.streams.now c.args.utilities.now Cold c.args.places.now c.from_vec-2.result c.requires.streams c.requires.utilities
     c.requires.few_utilities c.requires.places c.requires.few_places (c.from_vec-2.ensures ∙ c.in_ok-cold.ensures)
 
 pub invariant_of-result : goal.invariant_of-result

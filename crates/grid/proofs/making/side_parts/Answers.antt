@@ -13,9 +13,12 @@ push_streams-requires-clause-few c = omega (arith, length-AreStreams c.args.stre
 
 pub push_streams-requires-clause-order : goal.push_streams-requires-clause-order
 push_streams-requires-clause-order c =
-    let places = c.args.places.now in let i = c.loop-index.index in let high : FitsSigned w32 (get_or places i (pos 0)) = search rules in
+    let places = c.args.places.now in
+    let i = c.loop-index.index in
+    let high : FitsSigned w32 (get_or places i (pos 0)) = search rules in
     let low : FitsSigned w32 (get_or places (i + 1) (pos 0)) = search rules in
-    let falls = c.requires.falls i (i + 1) (pos 0) (omega arith) c.if-index-places.true in omega (arith, ints)
+    let falls = c.requires.falls i (i + 1) (pos 0) (omega arith) c.if-index-places.true in
+    omega (arith, ints)
 
 -- a place as it is read
 read_is : (place : ℤ) → FitsSigned w32 place → place ≡ to_z w32 (of_z w32 place)
@@ -23,11 +26,16 @@ read_is place h = sym (to_z-of_z w32 place h)
 
 pub loop-index-preserved : goal.loop-index-preserved
 loop-index-preserved c =
-    let places = c.args.places.now in let i = c.loop-index.index in let here_fits : FitsSigned w32 (get_or places i (pos 0)) = search rules in
-    let here = read_is (get_or places i (pos 0)) here_fits in let latent = c.in_ok-push_latent.ensures in let level = c.in_ok-push_utilities.ensures in
+    let places = c.args.places.now in
+    let i = c.loop-index.index in
+    let here_fits : FitsSigned w32 (get_or places i (pos 0)) = search rules in
+    let here = read_is (get_or places i (pos 0)) here_fits in
+    let latent = c.in_ok-push_latent.ensures in
+    let level = c.in_ok-push_utilities.ensures in
     elim c.if-index-places.branch [
       | then-index-places+in_ok-push_streams w ↦
-          let below_fits : FitsSigned w32 (get_or places (i + 1) (pos 0)) = search rules in let below = read_is (get_or places (i + 1) (pos 0)) below_fits in
+          let below_fits : FitsSigned w32 (get_or places (i + 1) (pos 0)) = search rules in
+          let below = read_is (get_or places (i + 1) (pos 0)) below_fits in
           made-push c.args.streams.now c.args.utilities.now c.args.side places i _ c.loop-index-test.true here c.loop-index.parts.items
           c.push_latent.new.parts.items c.push_utilities.new.parts.items latent level _ c.if-index-places.parts.items _ w.if-index-places.true below
           c.loop-index.invariant (ap (λ v. v.items) w.parts-is ∙ w.in_ok-push_streams.ensures)

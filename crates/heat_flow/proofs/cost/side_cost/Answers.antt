@@ -10,8 +10,10 @@ cost_range c =
     let index = c.part_index.result in
     let room : index < length c.args.parts.now =
     omega (arith, c.part_index.ensures, c.requires.indexes c.loop-transfer.transfer-index no_transfer c.loop-transfer-test.true) in
-    let bound = c.requires.bounded index blank room in let fits : FitsSigned w64 (get_or c.args.parts.now index blank).price = search rules in
-    let price : IsWithin MOST_PRICE (to_z w64 (of_z w64 (get_or c.args.parts.now index blank).price)) = omega (arith, ints) in
+    let bound = c.requires.bounded index blank room in
+    let fits : FitsSigned w64 (get_or c.args.parts.now index blank).price = search rules in
+    let price : IsWithin MOST_PRICE (to_z w64 (of_z w64 (get_or c.args.parts.now index blank).price))
+    = omega (arith, ints) in
     c.product-total.ensures.range MOST_PRICE price
 
 pub overflow_add-total : goal.overflow_add-total
@@ -19,8 +21,11 @@ overflow_add-total c = let cost = cost_range c in omega (arith, ints)
 
 pub loop-transfer-preserved : goal.loop-transfer-preserved
 loop-transfer-preserved c =
-    let i = c.loop-transfer.transfer-index in let parts = c.args.parts.now in let t = get_or c.args.transfers.now i no_transfer in
-    let price = (get_or parts (part_index c.args.side t) blank).price in let price_fits : FitsSigned w64 price = search rules in
+    let i = c.loop-transfer.transfer-index in
+    let parts = c.args.parts.now in
+    let t = get_or c.args.transfers.now i no_transfer in
+    let price = (get_or parts (part_index c.args.side t) blank).price in
+    let price_fits : FitsSigned w64 price = search rules in
     let heat_fits : FitsSigned w64 t.heat = search rules in
     let is : c.product-total.result ≡ price *ℤ t.heat =
     rw (c.part_index.ensures, to_z-of_z w64 price price_fits, to_z-of_z w64 t.heat heat_fits) at c.product-total.ensures.value in
@@ -30,6 +35,8 @@ loop-transfer-preserved c =
 
 pub returns-clause-value : goal.returns-clause-value
 returns-clause-value c =
-    let ts = c.args.transfers.now in let cost = λ (t : Transfer). part_price c.args.parts.now (part_index c.args.side t) *ℤ t.heat in
-    c.loop-transfer.invariant.sum ∙ ap (int_sum_from (λ i t. cost t) 0) (take_all c.loop-transfer.transfer-index ts c.loop-transfer-test.false)
+    let ts = c.args.transfers.now in
+    let cost = λ (t : Transfer). part_price c.args.parts.now (part_index c.args.side t) *ℤ t.heat in
+    c.loop-transfer.invariant.sum
+    ∙ ap (int_sum_from (λ i t. cost t) 0) (take_all c.loop-transfer.transfer-index ts c.loop-transfer-test.false)
     ∙ int_sum_from-by cost 0 ts ∙ side_cost-transfers c.args.side c.args.parts.now ts c.requires.indexes

@@ -3,7 +3,8 @@ use Rattle.heat_flow.proofs.Words.{IsCutOver, IsTrue, cut_side, need_of, offer_o
 use Rattle.std.proofs.Common.{FitsSigned, of_z, refl, rules, sym, to_z, ◌∙◌, ◌≡◌}
 use Rattle.heat_flow.proofs.cut_check.is_cut.Goals as goal
 
-own : (c : goal.After-is_short) → c.parts_of-own.result.now ≡ parts_of (cut_side c.args.cut.now.kind) c.args.parts.now.hot c.args.parts.now.cold
+own : (c : goal.After-is_short)
+    → c.parts_of-own.result.now ≡ parts_of (cut_side c.args.cut.now.kind) c.args.parts.now.hot c.args.parts.now.cold
 own c = rw c.side-side.ensures at c.parts_of-own.ensures
 
 need : (c : goal.After-is_short) → to_z w128 (of_z w128 c.need_of-need.result)
@@ -19,7 +20,8 @@ offer c =
     to_z-of_z w128 c.offer_of-offer.result fits
     ∙ rw (c.parts_of-others.ensures, c.opposite.ensures, c.side-side.ensures, c.as_slice-members.ensures) at c.offer_of-offer.ensures
 
-cut : (c : goal.After-is_short) → IsTrue c.is_short.result → IsCutOver c.args.parts.now.hot c.args.parts.now.cold c.args.reach.now c.args.cut.now
+cut : (c : goal.After-is_short) → IsTrue c.is_short.result
+    → IsCutOver c.args.parts.now.hot c.args.parts.now.cold c.args.reach.now c.args.cut.now
 cut c e =
     let short = c.is_short.ensures.0 e in
     record {

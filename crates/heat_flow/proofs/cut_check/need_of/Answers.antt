@@ -5,7 +5,8 @@ use Rattle.heat_flow.proofs.cut_check.need_of.Goals as goal
 
 pub loop-member-preserved : goal.loop-member-preserved
 loop-member-preserved c =
-    let i = c.loop-member.member-index in let fits : FitsSigned w64 c.least_at.result = search rules in
+    let i = c.loop-member.member-index in
+    let fits : FitsSigned w64 c.least_at.result = search rules in
     SumSoFar-more (λ j m. least_at c.args.parts.now m) MOST_HEAT c.args.members.now i 0 (to_z w128 c.loop-member.need-bits) c.from-need.result
     c.loop-member-test.true (omega (arith, ints)) c.loop-member.invariant
     (c.from-need.ensures ∙ to_z-of_z w64 c.least_at.result fits ∙ c.least_at.ensures.value) (omega (arith, ints))

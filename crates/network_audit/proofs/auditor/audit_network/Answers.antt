@@ -12,15 +12,19 @@ use Rattle.network_audit.specs.declared.findings.Place.TheVariants as place
 
 -- the items behind the statements, read from the tables
 abbrev behind : In_default → List Item
-behind c = stream_items c.args.case.now c.args.network.now ++ (joint_items c.args.case.now c.audit_statements.new.values c.args.joints.now
+behind c =
+    stream_items c.args.case.now c.args.network.now ++ (joint_items c.args.case.now c.audit_statements.new.values c.args.joints.now
     ++ (all_heat_items c.args.joints.now c.as_slice-utilities.result.now ++ balance_items c.args.case.now c.args.network.now))
 
-all_found : (c : In_default) → first_finding (items c.args.case.now c.args.network.now c.audit_statements.new.values (length c.args.network.now.lines))
+all_found : (c : In_default)
+    → first_finding (items c.args.case.now c.args.network.now c.audit_statements.new.values (length c.args.network.now.lines))
     ≡ first_finding (behind c)
-all_found c = found-all c.args.case.now c.args.network.now c.audit_statements.new.values c.args.joints.now c.as_slice-utilities.result.now c.requires.shape
+all_found c =
+    found-all c.args.case.now c.args.network.now c.audit_statements.new.values c.args.joints.now c.as_slice-utilities.result.now c.requires.shape
     c.requires.table c.as_slice-utilities.ensures c.in_default.ensures.1
 
-is_finding : (c : In_default) (found : Finding) → first_finding (behind c) ≡ Some found → IsFinding c.args.case.now c.args.network.now found
+is_finding : (c : In_default) (found : Finding) → first_finding (behind c) ≡ Some found
+    → IsFinding c.args.case.now c.args.network.now found
 is_finding c found some = record {
   n = length c.args.network.now.lines;
   values = c.audit_statements.new.values;
@@ -55,7 +59,8 @@ returns-in-Err-audit_exchangers c =
     ∙ found-front _ _ _ c.in-Err-audit_exchangers.ensures)
 
 pub returns-in-Err-audit_utilities : goal.returns-in-Err-audit_utilities
-returns-in-Err-audit_utilities c = is_finding (goal.at.returns-in-Err-audit_utilities c).In_default c.in-Err-audit_utilities.found
+returns-in-Err-audit_utilities c =
+    is_finding (goal.at.returns-in-Err-audit_utilities c).In_default c.in-Err-audit_utilities.found
     (found-behind _ _ c.in_default-audit_streams.ensures.0 ∙ found-behind _ _ c.in_default-audit_exchangers.ensures.0
     ∙ found-front _ _ _ c.in-Err-audit_utilities.ensures)
 
@@ -63,17 +68,27 @@ returns-in-Err-audit_utilities c = is_finding (goal.at.returns-in-Err-audit_util
 record IsBalanced (c : After-hot_target-target) : Type 0 where
   found : first_finding (behind (goal.at.After-hot_target-target c).In_default)
       ≡ first_finding (balance_steps_in place.Balance c.hot_target-target.result c.as_slice-utilities.result.now c.audit_utilities.new.heats)
-  is : balance_in c.hot_target-target.result c.as_slice-utilities.result.now c.audit_utilities.new.heats ≡ balance_of c.args.case.now c.args.network.now
+  is : balance_in c.hot_target-target.result c.as_slice-utilities.result.now c.audit_utilities.new.heats
+      ≡ balance_of c.args.case.now c.args.network.now
 
 balanced : (c : After-hot_target-target) → IsBalanced c
-balanced c = let case = c.args.case.now in let n = c.args.network.now in let heats = c.audit_utilities.new.heats in
+balanced c =
+    let case = c.args.case.now in
+    let n = c.args.network.now in
+    let heats = c.audit_utilities.new.heats in
     let are = heats-are case n heats (c.in_default-audit_utilities.ensures.1 ∙ (λ i. heats_in (c.requires.table i) (c.as_slice-utilities.ensures i))) in
-    let steps : balance_steps_in place.Balance c.hot_target-target.result c.as_slice-utilities.result.now heats ≡ balance_items case n =
+    let steps : balance_steps_in place.Balance c.hot_target-target.result c.as_slice-utilities.result.now heats
+    ≡ balance_items case n
+    =
     (λ i. balance_steps_in place.Balance (c.hot_target-target.ensures i) (c.as_slice-utilities.ensures i) heats)
     ∙ balance_items-are case n heats c.requires.shape are in record {
-      found = found-behind _ _ c.in_default-audit_streams.ensures.0 ∙ found-behind _ _ c.in_default-audit_exchangers.ensures.0
+      found =
+          found-behind _ _ c.in_default-audit_streams.ensures.0
+          ∙ found-behind _ _ c.in_default-audit_exchangers.ensures.0
           ∙ found-behind _ _ c.in_default-audit_utilities.ensures.0 ∙ ap first_finding (sym steps);
-      is = (λ i. balance_in (c.hot_target-target.ensures i) (c.as_slice-utilities.ensures i) heats) ∙ balance-is case n heats c.requires.shape are;
+      is =
+          (λ i. balance_in (c.hot_target-target.ensures i) (c.as_slice-utilities.ensures i) heats)
+          ∙ balance-is case n heats c.requires.shape are;
     }
 
 pub returns-in-Ok : goal.returns-in-Ok
@@ -86,6 +101,7 @@ returns-in-Ok c = let b = balanced (goal.at.returns-in-Ok c).After-hot_target-ta
 }
 
 pub returns-in-Err-balance_of : goal.returns-in-Err-balance_of
-returns-in-Err-balance_of c = let b = balanced (goal.at.returns-in-Err-balance_of c).After-hot_target-target in
+returns-in-Err-balance_of c =
+    let b = balanced (goal.at.returns-in-Err-balance_of c).After-hot_target-target in
     is_finding (goal.at.returns-in-Err-balance_of c).In_default (finding.TooFine place.Balance c.in-Err-balance_of.step) (b.found
     ∙ c.in-Err-balance_of.ensures place.Balance)

@@ -8,13 +8,17 @@ use Rattle.network_audit.proofs.balance.heat_on.Goals as goal
 pub loop-index-init : goal.loop-index-init
 loop-index-init c = record {
   few = omega (arith, ap (λ (s : Sum). s.steps) c.after-sum.ensures);
-  summed = subst (λ (s : Sum). IsSummed c.args.before [] s.total s.steps) (sym c.after-sum.ensures) (summed-none c.args.before);
+  summed =
+      subst (λ (s : Sum). IsSummed c.args.before [] s.total s.steps) (sym c.after-sum.ensures) (summed-none c.args.before);
 }
 
 pub returns-in_err-sum : goal.returns-in_err-sum
 unfolding heats_on_in
 returns-in_err-sum c =
-    let n = c.loop-index.index in let us = c.args.utilities.now in let u = c.index-utilities-index.result in let h = c.index-heats-index.result in
+    let n = c.loop-index.index in
+    let us = c.args.utilities.now in
+    let u = c.index-utilities-index.result in
+    let h = c.index-heats-index.result in
     let has = heat-here c.args.side c.args.heats.now us n u h c.loop-index-test.true c.requires.room c.index-utilities-index.is c.index-heats-index.is
     (sym c.is_on.ensures ∙ c.if-is_on.true) in
     let within : n < length (enumerate_from 0 us) = omega (arith, c.loop-index-test.true, length-enumerate_from 0 us) in
@@ -23,14 +27,19 @@ returns-in_err-sum c =
     (n, u) h c.loop-index.sum.total c.loop-index.sum.steps _ within has c.loop-index.invariant.summed c.in_err-sum.ensures)
 
 pub loop-index-preserved : goal.loop-index-preserved
-loop-index-preserved c = let n = c.loop-index.index in let us = c.args.utilities.now in let u = c.index-utilities-index.result in
+loop-index-preserved c =
+    let n = c.loop-index.index in
+    let us = c.args.utilities.now in
+    let u = c.index-utilities-index.result in
     let numbers = filter_map (heat_on_in c.args.side c.args.heats.now) (take (n + 1) (enumerate_from 0 us)) in
-    let within : n < length (enumerate_from 0 us) = omega (arith, c.loop-index-test.true, length-enumerate_from 0 us) in elim c.if-is_on.branch [
+    let within : n < length (enumerate_from 0 us) = omega (arith, c.loop-index-test.true, length-enumerate_from 0 us) in
+    elim c.if-is_on.branch [
       | then-is_on+in_ok-sum w ↦
           let h = w.index-heats-index.result in
           let has = heat-here c.args.side c.args.heats.now us n u h c.loop-index-test.true c.requires.room c.index-utilities-index.is w.index-heats-index.is
           (sym c.is_on.ensures ∙ w.if-is_on.true) in
-          let is : c.if-is_on.sum ≡ record { total = plus c.loop-index.sum.total h; steps = c.loop-index.sum.steps + 1 } = w.sum-is ∙ w.in_ok-sum.ensures.1 in
+          let is : c.if-is_on.sum ≡ record { total = plus c.loop-index.sum.total h; steps = c.loop-index.sum.steps + 1 }
+          = w.sum-is ∙ w.in_ok-sum.ensures.1 in
           record {
             few = omega (arith, ap (λ (s : Sum). s.steps) is, c.loop-index.invariant.few);
             summed = subst (λ (s : Sum). IsSummed c.args.before numbers s.total s.steps) (sym is)
@@ -49,8 +58,11 @@ loop-index-preserved c = let n = c.loop-index.index in let us = c.args.utilities
 
 pub returns : goal.returns
 unfolding heats_on_in
-returns c = let us = c.args.utilities.now in let f = heat_on_in c.args.side c.args.heats.now in
-    let end : length (enumerate_from 0 us) ≤ c.loop-index.index = omega (arith, c.loop-index-test.false, length-enumerate_from 0 us) in
+returns c =
+    let us = c.args.utilities.now in
+    let f = heat_on_in c.args.side c.args.heats.now in
+    let end : length (enumerate_from 0 us) ≤ c.loop-index.index
+    = omega (arith, c.loop-index-test.false, length-enumerate_from 0 us) in
     let all = sum-all f c.args.before (enumerate_from 0 us) c.loop-index.index c.loop-index.sum.total c.loop-index.sum.steps end
     c.loop-index.invariant.summed in
     let total = total-is c.args.before (filter_map f (enumerate_from 0 us)) c.loop-index.sum.total c.loop-index.sum.steps all in

@@ -9,7 +9,9 @@ loop-number-init c = found-nothing
 
 pub returns-in-Err : goal.returns-in-Err
 unfolding joint_items
-returns-in-Err c = let d = c.index-joints-number.result in let n = c.loop-number.number in
+returns-in-Err c =
+    let d = c.index-joints-number.result in
+    let n = c.loop-number.number in
     let here : first_finding (joint_items_at c.args.case.now c.args.values.now (n, d)) ≡ Some c.in-Err.found =
     ap first_finding (λ i. side_items c.args.case.now (place.Exchanger n) d.hot d.cold (sym c.ends_at-given.ensures i) (sym c.ends_at-taken.ensures i))
     ∙ c.in-Err.ensures in first-here first_finding found-append (joint_items_at c.args.case.now c.args.values.now) c.args.joints.now n d c.in-Err.found
@@ -17,7 +19,9 @@ returns-in-Err c = let d = c.index-joints-number.result in let n = c.loop-number
     (subst (λ j. first_finding (joint_items_at c.args.case.now c.args.values.now (n, j)) ≡ Some c.in-Err.found) c.index-joints-number.is here)
 
 pub loop-number-preserved : goal.loop-number-preserved
-loop-number-preserved c = let d = c.index-joints-number.result in let n = c.loop-number.number in
+loop-number-preserved c =
+    let d = c.index-joints-number.result in
+    let n = c.loop-number.number in
     let here : first_finding (joint_items_at c.args.case.now c.args.values.now (n, d)) ≡ None =
     ap first_finding (λ i. side_items c.args.case.now (place.Exchanger n) d.hot d.cold (sym c.ends_at-given.ensures i) (sym c.ends_at-taken.ensures i))
     ∙ c.in_default.ensures.0 in

@@ -6,5 +6,6 @@ use Rattle.stream_case.specs.declared.source.Source.TheVariants as source
 
 pub returns : goal.returns
 unfolding branch_side
-returns c network same = let stream = c.stream_at.ensures ∙ ap (λ bs. stream_at bs c.args.number) (sym same) in
+returns c network same =
+    let stream = c.stream_at.ensures ∙ ap (λ bs. stream_at bs c.args.number) (sym same) in
     c.unwrap_or.ensures ∙ ap (λ o. unwrap_or o side.Hot) (c.side_of.ensures ∙ ap (λ s. side_of c.args.case.now (source.Stream s)) stream)

@@ -17,17 +17,20 @@ above_all : (c : After-is_below-2) → is_below (whole (pos 1)) c.args.state.now
 above_all c = ap (λ all. is_below all c.args.state.now) (sym c.whole-all.ensures) ∙ sym c.is_below-2.ensures.value
 
 pub returns-then-is_below : goal.returns-then-is_below
-returns-then-is_below c = let low = below_none (goal.at.returns-then-is_below c).After-is_below ∙ c.if-is_below.true in
+returns-then-is_below c =
+    let low = below_none (goal.at.returns-then-is_below c).After-is_below ∙ c.if-is_below.true in
     rw c.if-not-is_latent.false (λ at. found-failed _ _ (ap not low)
     ∙ ap (λ (none : Rational). Some (finding.Failed at (reason.Overdrawn c.args.state.now none))) (sym c.whole-none.ensures))
 
 pub returns-then-is_below-2 : goal.returns-then-is_below-2
 returns-then-is_below-2 c = let at = goal.at.returns-then-is_below-2 c in
-    let low = below_none at.After-is_below ∙ c.if-is_below.false in let high = above_all at.After-is_below-2 ∙ c.if-is_below-2.true in
+    let low = below_none at.After-is_below ∙ c.if-is_below.false in
+    let high = above_all at.After-is_below-2 ∙ c.if-is_below-2.true in
     rw c.if-not-is_latent.false (λ at. found-passed _ _ (ap not low) ∙ found-failed _ _ (ap not high)
     ∙ ap (λ (all : Rational). Some (finding.Failed at (reason.Overdrawn c.args.state.now all))) (sym c.whole-all.ensures))
 
 pub returns : goal.returns
 returns c = let at = goal.at.returns c in
-    let low = below_none at.After-is_below ∙ c.if-is_below.false in let high = above_all at.After-is_below-2 ∙ c.if-is_below-2.false in
+    let low = below_none at.After-is_below ∙ c.if-is_below.false in
+    let high = above_all at.After-is_below-2 ∙ c.if-is_below-2.false in
     rw c.if-not-is_latent.false ((λ at. found-passed _ _ (ap not low) ∙ found-passed _ _ (ap not high) ∙ found-nothing), tt)

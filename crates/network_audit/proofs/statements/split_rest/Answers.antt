@@ -4,11 +4,14 @@ use Rattle.std.proofs.Common.{false, true, ◌∙◌, ◌≡◌}
 use Rattle.network_audit.proofs.statements.split_rest.Goals as goal
 
 pub returns-then-not-is_below : goal.returns-then-not-is_below
-returns-then-not-is_below c = let e : is_below c.args.cp.now c.args.from.now.cp ≡ false = cc in found-failed _ _ e
+returns-then-not-is_below c =
+    let e : is_below c.args.cp.now c.args.from.now.cp ≡ false = cc in
+    found-failed _ _ e
 
 pub returns-in_default : goal.returns-in_default
 returns-in_default c =
-    let e : is_below c.args.cp.now c.args.from.now.cp ≡ true = cc in found-passed _ _ e ∙ found-not_formed _ _ _ _ _ c.in_default.is c.minus.ensures
+    let e : is_below c.args.cp.now c.args.from.now.cp ≡ true = cc in
+    found-passed _ _ e ∙ found-not_formed _ _ _ _ _ c.in_default.is c.minus.ensures
 
 pub returns : goal.returns
 returns c = let e : is_below c.args.cp.now c.args.from.now.cp ≡ true = cc in (

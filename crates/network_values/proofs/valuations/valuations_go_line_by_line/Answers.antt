@@ -6,10 +6,12 @@ pub returns-clause-start : goal.returns-clause-start
 returns-clause-start c = valuation_start
 
 pub returns-clause-next : goal.returns-clause-next
-returns-clause-next c case network n l values shape here is room = rw add-one (valuation_more case network n values l shape here is room)
+returns-clause-next c case network n l values shape here is room =
+    rw add-one (valuation_more case network n values l shape here is room)
 
 pub returns-clause-before : goal.returns-clause-before
 returns-clause-before c case network n values shape is = valuation_less case network n values shape (rw add-one at is)
 
 pub returns-clause-room : goal.returns-clause-room
-returns-clause-room c case network n l values shape here is = (valuation_ends case network n values l shape here (rw add-one at is)).room
+returns-clause-room c case network n l values shape here is =
+    (valuation_ends case network n values l shape here (rw add-one at is)).room

@@ -9,7 +9,8 @@ returns-in_default c = at_not_formed c.args.place c.args.step _ _ _ c.in_default
 
 pub returns-then-not-is_positive : goal.returns-then-not-is_positive
 returns-then-not-is_positive c =
-    let distance = value_formed _ _ _ c.in-Some.is c.minus.ensures in let below : is_below rational_zero (minus c.args.value.now.t c.args.base.now) ≡ false =
+    let distance = value_formed _ _ _ c.in-Some.is c.minus.ensures in
+    let below : is_below rational_zero (minus c.args.value.now.t c.args.base.now) ≡ false =
     ap (is_below rational_zero) (sym distance) ∙ sym c.is_positive.ensures.value ∙ c.if-not-is_positive.true in (
       ap first_too_fine (steps-below c.args.place c.args.step c.args.value.now.cp _ below)
           ∙ after_formed c.args.place c.args.step _ _ _ _ c.in-Some.is c.minus.ensures ∙ none_of_nothing,
@@ -18,7 +19,8 @@ returns-then-not-is_positive c =
 
 pub returns-in-Some-times : goal.returns-in-Some-times
 returns-in-Some-times c =
-    let distance = value_formed _ _ _ c.in-Some.is c.minus.ensures in let above : is_below rational_zero (minus c.args.value.now.t c.args.base.now) ≡ true =
+    let distance = value_formed _ _ _ c.in-Some.is c.minus.ensures in
+    let above : is_below rational_zero (minus c.args.value.now.t c.args.base.now) ≡ true =
     ap (is_below rational_zero) (sym distance) ∙ sym c.is_positive.ensures.value ∙ c.if-not-is_positive.false in
     let gives : Gives c.times.result (times c.args.value.now.cp (minus c.args.value.now.t c.args.base.now)) =
     subst (λ d. Gives c.times.result (times c.args.value.now.cp d)) distance c.times.ensures in (
@@ -30,9 +32,11 @@ returns-in-Some-times c =
 
 pub returns-in-None : goal.returns-in-None
 returns-in-None c =
-    let distance = value_formed _ _ _ c.in-Some.is c.minus.ensures in let above : is_below rational_zero (minus c.args.value.now.t c.args.base.now) ≡ true =
+    let distance = value_formed _ _ _ c.in-Some.is c.minus.ensures in
+    let above : is_below rational_zero (minus c.args.value.now.t c.args.base.now) ≡ true =
     ap (is_below rational_zero) (sym distance) ∙ sym c.is_positive.ensures.value ∙ c.if-not-is_positive.false in
     let gives : Gives c.times.result (times c.args.value.now.cp (minus c.args.value.now.t c.args.base.now)) =
     subst (λ d. Gives c.times.result (times c.args.value.now.cp d)) distance c.times.ensures in
     ap first_too_fine (steps-above c.args.place c.args.step c.args.value.now.cp _ above)
-    ∙ after_formed c.args.place c.args.step _ _ _ _ c.in-Some.is c.minus.ensures ∙ at_not_formed c.args.place _ _ _ _ c.in-None.is gives
+    ∙ after_formed c.args.place c.args.step _ _ _ _ c.in-Some.is c.minus.ensures
+    ∙ at_not_formed c.args.place _ _ _ _ c.in-None.is gives

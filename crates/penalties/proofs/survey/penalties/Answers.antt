@@ -6,10 +6,12 @@ use Rattle.std.proofs.Common.{ap, arith, length, rules, w32, ◌∙◌, ◌≡�
 use Rattle.penalties.proofs.survey.penalties.Goals as goal
 
 pub reference_place-requires : goal.reference_place-requires
-reference_place-requires c = HasValidStreams-IsComplete c.args.case.now (known_network _ _ _ c.requires.accepted c.joints-joints.ensures.known).complete
+reference_place-requires c =
+    HasValidStreams-IsComplete c.args.case.now (known_network _ _ _ c.requires.accepted c.joints-joints.ensures.known).complete
 
 pub reference_from-requires : goal.reference_from-requires
-reference_from-requires c = HasValidStreams-IsComplete c.args.case.now (known_network _ _ _ c.requires.accepted c.joints-joints.ensures.known).complete
+reference_from-requires c =
+    HasValidStreams-IsComplete c.args.case.now (known_network _ _ _ c.requires.accepted c.joints-joints.ensures.known).complete
 
 pub invariant_of-survey : goal.invariant_of-survey
 invariant_of-survey c =
@@ -18,13 +20,17 @@ invariant_of-survey c =
 
 pub add_exchangers-requires : goal.add_exchangers-requires
 add_exchangers-requires c =
-    let network = c.args.network.now in let many : length c.joints-joints.result.now ≡ length (exchangers_of network.lines) =
+    let network = c.args.network.now in
+    let many : length c.joints-joints.result.now ≡ length (exchangers_of network.lines) =
     ap length (c.joints-joints.ensures.table ∙ ap (λ (a : Audit). joints_of a.network) c.requires.accepted.is)
-    ∙ length-joints network.branches network.lines (exchangers_of network.lines) in let fewer = few_exchangers network.lines in
-    let few = (known_network _ _ _ c.requires.accepted c.joints-joints.ensures.known).shape.few in omega (arith, many, fewer, few)
+    ∙ length-joints network.branches network.lines (exchangers_of network.lines) in
+    let fewer = few_exchangers network.lines in
+    let few = (known_network _ _ _ c.requires.accepted c.joints-joints.ensures.known).shape.few in
+    omega (arith, many, fewer, few)
 
 pub add_mixes-requires : goal.add_mixes-requires
-add_mixes-requires c = omega (arith, ap length c.as_slice.ensures, (known_network _ _ _ c.requires.accepted c.joints-joints.ensures.known).shape.few)
+add_mixes-requires c =
+    omega (arith, ap length c.as_slice.ensures, (known_network _ _ _ c.requires.accepted c.joints-joints.ensures.known).shape.few)
 
 pub returns-in-Some-clause-lists : goal.returns-in-Some-clause-lists
 returns-in-Some-clause-lists c =

@@ -5,20 +5,24 @@ use Rattle.pieces.proofs.courses.own_shares.Goals as goal
 
 pub loop-number-preserved-then-not-is_of_stream : goal.loop-number-preserved-then-not-is_of_stream
 loop-number-preserved-then-not-is_of_stream c =
-    let number = c.loop-number.number in let e = c.index-exchanges-number.result in
+    let number = c.loop-number.number in
+    let e = c.index-exchanges-number.result in
     let own = own_share c.args.side c.args.sources.now c.args.stream in
     let other : is_of_stream c.args.sources.now c.args.stream (piece_on c.args.side e) ≡ false =
-    ap (is_of_stream c.args.sources.now c.args.stream) (sym c.piece_on-index.ensures) ∙ sym c.is_of_stream.ensures ∙ c.if-not-is_of_stream.true in
+    ap (is_of_stream c.args.sources.now c.args.stream) (sym c.piece_on-index.ensures)
+    ∙ sym c.is_of_stream.ensures ∙ c.if-not-is_of_stream.true in
     c.loop-number.invariant ∙ sym (kept-skip own c.args.exchanges.now number e c.loop-number-test.true c.index-exchanges-number.is
     (ap (λ b. if b then Some (piece_on c.args.side e, share_for c.args.side (number, e)) else None) other))
 
 pub loop-number-preserved : goal.loop-number-preserved
 loop-number-preserved c =
-    let number = c.loop-number.number in let e = c.index-exchanges-number.result in
+    let number = c.loop-number.number in
+    let e = c.index-exchanges-number.result in
     let own = own_share c.args.side c.args.sources.now c.args.stream in
     let share : ℕ × Share = (piece_on c.args.side e, share_for c.args.side (number, e)) in
     let is : is_of_stream c.args.sources.now c.args.stream (piece_on c.args.side e) ≡ true =
-    ap (is_of_stream c.args.sources.now c.args.stream) (sym c.piece_on-index.ensures) ∙ sym c.is_of_stream.ensures ∙ c.if-not-is_of_stream.false in
+    ap (is_of_stream c.args.sources.now c.args.stream) (sym c.piece_on-index.ensures)
+    ∙ sym c.is_of_stream.ensures ∙ c.if-not-is_of_stream.false in
     cc c.in_ok-push.ensures.items
     ∙ (λ i. c.loop-number.invariant i ++ (c.piece_on-index.ensures i, record { exchanger = number; cp = c.size_on.ensures i }) ∷ [])
     ∙ sym (kept-more own c.args.exchanges.now number e c.loop-number-test.true c.index-exchanges-number.is share

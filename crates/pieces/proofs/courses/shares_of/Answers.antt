@@ -22,4 +22,5 @@ loop-share-preserved c =
     ∙ ap (λ o. before ++ option_to_list o) some)
 
 pub returns : goal.returns
-returns c = c.loop-share.invariant ∙ ap (filter_map (share_at c.args.index)) (take_all c.loop-share.share-index c.args.own.now c.loop-share-test.false)
+returns c =
+    c.loop-share.invariant ∙ ap (filter_map (share_at c.args.index)) (take_all c.loop-share.share-index c.args.own.now c.loop-share-test.false)

@@ -13,11 +13,15 @@ draw-requires-clause-stages c =
 
 pub draw-requires-clause-all : goal.draw-requires-clause-all
 draw-requires-clause-all c =
-    ap length (c.as_slice.ensures.value ∙ c.in_ok-courses.ensures) ∙ length-courses_of c.args.case.now c.args.hot.now c.args.cold.now c.args.exchanges.now
+    ap length (c.as_slice.ensures.value ∙ c.in_ok-courses.ensures)
+    ∙ length-courses_of c.args.case.now c.args.hot.now c.args.cold.now c.args.exchanges.now
 
 pub draw-requires-clause-fits : goal.draw-requires-clause-fits
 draw-requires-clause-fits c =
-    let case = c.args.case.now in let hot = c.args.hot.now in let cold = c.args.cold.now in let exchanges = c.args.exchanges.now in
+    let case = c.args.case.now in
+    let hot = c.args.hot.now in
+    let cold = c.args.cold.now in
+    let exchanges = c.args.exchanges.now in
     let few = few-branches case hot cold exchanges (courses-used exchanges case hot cold) in
     omega (arith, ap all_branches (c.as_slice.ensures.value ∙ c.in_ok-courses.ensures), few, c.requires.few)
 
@@ -27,8 +31,10 @@ unfolding network_of
 returns-clause-drawn c =
     let case = c.args.case.now in
     let courses = c.as_slice.ensures.value ∙ c.in_ok-courses.ensures in
-    let branches = c.in_ok-network.ensures.branches ∙ ap (λ (cs : List Course). own_branches case ++ made_branches 0 0 cs) courses in
-    let lines = c.in_ok-network.ensures.lines ∙ (λ i. c.in_ok-declarations.ensures i ++ courses_lines (length case.streams) 0 (courses i)) in
+    let branches = c.in_ok-network.ensures.branches
+    ∙ ap (λ (cs : List Course). own_branches case ++ made_branches 0 0 cs) courses in
+    let lines = c.in_ok-network.ensures.lines
+    ∙ (λ i. c.in_ok-declarations.ensures i ++ courses_lines (length case.streams) 0 (courses i)) in
     λ i. record { branches = branches i; lines = lines i }
 
 pub returns-clause-exchangers : goal.returns-clause-exchangers
@@ -43,10 +49,12 @@ returns-clause-few_lines c =
 
 pub returns-clause-balance : goal.returns-clause-balance
 returns-clause-balance c =
-    ap (balance_of c.args.case.now) (returns-clause-drawn c) ∙ balance-network_of c.args.case.now c.args.hot.now c.args.cold.now c.args.exchanges.now
+    ap (balance_of c.args.case.now) (returns-clause-drawn c)
+    ∙ balance-network_of c.args.case.now c.args.hot.now c.args.cold.now c.args.exchanges.now
 
 pub returns-clause-led : goal.returns-clause-led
 returns-clause-led c hots colds hot_is cold_is led =
-    let case = c.args.case.now in let exchanges = c.args.exchanges.now in
+    let case = c.args.case.now in
+    let exchanges = c.args.exchanges.now in
     subst (IsLedNetwork case hots colds exchanges) ((λ i. network_of case (hot_is i) (cold_is i) exchanges) ∙ sym (returns-clause-drawn c))
     (led_network case hots colds exchanges c.requires.complete c.requires.few led)

@@ -5,8 +5,10 @@ use Rattle.plants.proofs.profiles.plant_profile.Goals as goal
 
 pub returns-clause-value : goal.returns-clause-value
 returns-clause-value c =
-    let t = to_z w32 (of_z w32 c.args.t) in let look = raised c.args.direction t c.as_slice-streams.result.now in
-    let at_t = to_z-of_z w64 c.raised-at_t.result (search rules) in let at_ends = to_z-of_z w64 c.raised_by_plants-at_ends.result (search rules) in
+    let t = to_z w32 (of_z w32 c.args.t) in
+    let look = raised c.args.direction t c.as_slice-streams.result.now in
+    let at_t = to_z-of_z w64 c.raised-at_t.result (search rules) in
+    let at_ends = to_z-of_z w64 c.raised_by_plants-at_ends.result (search rules) in
     let all = to_z-of_z w64 c.raised_by_mains.result (search rules) in
     plant_profile-from c.args.direction c.args.t t c.args.site.now c.args.plant.now c.as_slice-streams.result.now c.as_slice.result.now
     c.as_slice-mains.result.now (to_z w32 (of_z w32 c.args.site.now.contribution)) _ _ _

@@ -6,7 +6,9 @@ use Rattle.plants.proofs.profiles.raised_by_ends.Goals as goal
 
 pub loop-stream-preserved : goal.loop-stream-preserved
 loop-stream-preserved c =
-    let t = to_z w32 (of_z w32 c.args.t) in let s = c.stream-item.result in let look = raised c.args.direction t c.args.streams.now in
+    let t = to_z w32 (of_z w32 c.args.t) in
+    let s = c.stream-item.result in
+    let look = raised c.args.direction t c.args.streams.now in
     let high = to_z-of_z w32 c.high_end.result (search rules) ∙ c.high_end.ensures.value in
     let low = to_z-of_z w32 c.low_end.result (search rules) ∙ c.low_end.ensures.value in
     let first = to_z-of_z w64 c.raised-greatest.result (search rules) ∙ c.raised-greatest.ensures.value

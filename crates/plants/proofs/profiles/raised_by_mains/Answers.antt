@@ -6,8 +6,10 @@ use Rattle.plants.proofs.profiles.raised_by_mains.Goals as goal
 
 pub loop-main-preserved : goal.loop-main-preserved
 loop-main-preserved c =
-    let t = to_z w32 (of_z w32 c.args.t) in let contribution = to_z w32 (of_z w32 c.args.contribution) in
-    let main = c.main-item.result in let look = raised c.args.direction t c.args.streams.now in
+    let t = to_z w32 (of_z w32 c.args.t) in
+    let contribution = to_z w32 (of_z w32 c.args.contribution) in
+    let main = c.main-item.result in
+    let look = raised c.args.direction t c.args.streams.now in
     let takes = to_z-of_z w32 c.takes_at.result (search rules) ∙ c.takes_at.ensures in
     let gives = to_z-of_z w32 c.gives_at.result (search rules) ∙ c.gives_at.ensures in
     let first = to_z-of_z w64 c.raised-greatest.result (search rules) ∙ c.raised-greatest.ensures.value

@@ -13,7 +13,8 @@ raised_by_ends-greatest-requires-clause-others c =
 
 pub loop-plant-preserved : goal.loop-plant-preserved
 loop-plant-preserved c =
-    let t = to_z w32 (of_z w32 c.args.t) in let look = raised c.args.direction t c.args.streams.now in
+    let t = to_z w32 (of_z w32 c.args.t) in
+    let look = raised c.args.direction t c.args.streams.now in
     let is = to_z-of_z w64 c.raised_by_ends-greatest.result (search rules) in
     record {
       value = is ∙ c.raised_by_ends-greatest.ensures.value

@@ -7,5 +7,6 @@ use Rattle.plants.proofs.reach.stream_plants.Goals as goal
 pub loop-index-preserved : goal.loop-index-preserved
 loop-index-preserved c =
     let i = c.loop-index.index in
-    c.in_ok-push_plant.ensures ∙ ap₂ (λ indexes (ss : List Stream). indexes ++ map (λ s. i) ss) c.loop-index.invariant c.as_slice.ensures
+    c.in_ok-push_plant.ensures
+    ∙ ap₂ (λ indexes (ss : List Stream). indexes ++ map (λ s. i) ss) c.loop-index.invariant c.as_slice.ensures
     ∙ sym (plants_from-more c.args.plants.now i c.index-plants-index.result c.loop-index-test.true c.index-plants-index.is)

@@ -19,7 +19,8 @@ pub parts_on-requires-clause-streams : goal.parts_on-requires-clause-streams
 parts_on-requires-clause-streams c = subst AreStreams (sym (streams_are c)) (AreStreams-site c.args.site.now c.requires)
 
 pub parts_on-requires-clause-utilities : goal.parts_on-requires-clause-utilities
-parts_on-requires-clause-utilities c = subst (All IsPlaced) (sym (utilities_are c)) (utilities-placed c.args.site.now c.requires)
+parts_on-requires-clause-utilities c =
+    subst (All IsPlaced) (sym (utilities_are c)) (utilities-placed c.args.site.now c.requires)
 
 pub parts_on-requires-clause-places : goal.parts_on-requires-clause-places
 parts_on-requires-clause-places c =

@@ -8,9 +8,12 @@ pub lowest-requires : goal.lowest-requires
 lowest-requires c = rw c.requires.places (some_place c.args.site.now c.requires.valid)
 
 pub overflow_sub-result : goal.overflow_sub-result
-overflow_sub-result c = let range = subst (λ places. IsShifted (least places)) (sym c.requires.places) (lowest-between c.args.site.now c.requires.valid) in
+overflow_sub-result c =
+    let range = subst (λ places. IsShifted (least places)) (sym c.requires.places) (lowest-between c.args.site.now c.requires.valid) in
     omega (arith, ints, range, c.requires.valid.contribution)
 
 pub returns : goal.returns
-returns c = let range = subst (λ places. IsShifted (least places)) (sym c.requires.places) (lowest-between c.args.site.now c.requires.valid) in
-    let value = c.lowest.ensures ∙ ap least c.requires.places in omega (arith, ints, range, value, c.requires.valid.contribution)
+returns c =
+    let range = subst (λ places. IsShifted (least places)) (sym c.requires.places) (lowest-between c.args.site.now c.requires.valid) in
+    let value = c.lowest.ensures ∙ ap least c.requires.places in
+    omega (arith, ints, range, value, c.requires.valid.contribution)

@@ -14,14 +14,19 @@ overflow_add-heat c =
 
 pub loop-stream-preserved : goal.loop-stream-preserved
 loop-stream-preserved c =
-    let t = to_z w32 (of_z w32 c.args.t) in let s = c.stream-item.result in
+    let t = to_z w32 (of_z w32 c.args.t) in
+    let s = c.stream-item.result in
     let so_far =
     sum_side-so_far c.args.side (heat_over c.args.from t) (heat_over-between c.args.from t) c.args.streams.now c.loop-stream.stream-index c.requires in
     let step = sum_side-more c.args.side (heat_over c.args.from t) c.args.streams.now c.loop-stream.stream-index s c.loop-stream-test.true c.stream-item.is in
     let term = λ (b : Bool). if b then heat_over c.args.from t s else pos 0 in
     elim c.if-is_on.branch [
-      | then-is_on w ↦ let added = ap term (sym c.is_on.ensures ∙ w.if-is_on.true) in omega (arith, ints)
-      | else-is_on w ↦ let added = ap term (sym c.is_on.ensures ∙ w.if-is_on.false) in omega (arith, ints)
+      | then-is_on w ↦
+          let added = ap term (sym c.is_on.ensures ∙ w.if-is_on.true) in
+          omega (arith, ints)
+      | else-is_on w ↦
+          let added = ap term (sym c.is_on.ensures ∙ w.if-is_on.false) in
+          omega (arith, ints)
     ]
 
 pub returns-clause-range : goal.returns-clause-range

@@ -4,4 +4,5 @@ use Rattle.std.proofs.Common.{fold, map, pos, take, ◌≡◌}
 use Rattle.problem_table.proofs.target.greatest_deficit.Given as goal
 
 abbrev pub invariant-loop-stream : goal.invariant-loop-stream
-invariant-loop-stream l = l.greatest ≡ fold int_max (pos 0) (map (deficit_over l.from l.streams) (stream_ends (take l.stream-index l.streams)))
+invariant-loop-stream l =
+    l.greatest ≡ fold int_max (pos 0) (map (deficit_over l.from l.streams) (stream_ends (take l.stream-index l.streams)))

@@ -7,4 +7,5 @@ weaker None m n more small = tt
 weaker (Some size) m n more small = omega (arith, more, small)
 
 pub returns-clause-signed : goal.returns-clause-signed
-returns-clause-signed c = weaker c.natural_of.result (10 ^ c.args.most) (10 ^ 38) (fewer_digits c.args.most 38 c.requires) c.natural_of.ensures.small
+returns-clause-signed c =
+    weaker c.natural_of.result (10 ^ c.args.most) (10 ^ 38) (fewer_digits c.args.most 38 c.requires) c.natural_of.ensures.small

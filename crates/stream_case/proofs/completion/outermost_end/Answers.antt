@@ -10,8 +10,10 @@ loop-stream-preserved c =
     let high = to_z-of_z w32 c.high_end.result (search rules) ∙ c.high_end.ensures.value in
     let low = to_z-of_z w32 c.low_end.result (search rules) ∙ c.low_end.ensures.value in
     let first =
-    to_z-of_z w32 c.outer_of-outermost.result (search rules) ∙ c.outer_of-outermost.ensures ∙ ap (outer (to_z w32 c.loop-stream.outermost-bits)) high in
-    to_z-of_z w32 c.outer_of-outermost-in-loop-stream.result (search rules) ∙ c.outer_of-outermost-in-loop-stream.ensures ∙ ap₂ outer first low
+    to_z-of_z w32 c.outer_of-outermost.result (search rules) ∙ c.outer_of-outermost.ensures
+    ∙ ap (outer (to_z w32 c.loop-stream.outermost-bits)) high in
+    to_z-of_z w32 c.outer_of-outermost-in-loop-stream.result (search rules)
+    ∙ c.outer_of-outermost-in-loop-stream.ensures ∙ ap₂ outer first low
     ∙ outer_ends-more c.args.side _ _ c.args.streams.now c.loop-stream.stream-index c.stream-item.result c.loop-stream-test.true c.stream-item.is
     c.loop-stream.invariant
 
@@ -25,4 +27,5 @@ returns-clause-value c =
     ∙ outer_ends-all c.args.side streams c.index-streams-0.result c.requires.some c.index-streams-0.is
 
 pub returns-clause-range : goal.returns-clause-range
-returns-clause-range c = subst IsShifted (sym (returns-clause-value c)) (outermost-between c.args.side c.args.streams.now c.requires.are_streams.each)
+returns-clause-range c =
+    subst IsShifted (sym (returns-clause-value c)) (outermost-between c.args.side c.args.streams.now c.requires.are_streams.each)

@@ -15,7 +15,9 @@ returns-then-not-is_ascii_digit-clause-number c = sym
     (no_digit c.args.most c.args.text.now c.loop-digit.digit-index c.loop-digit-test.true (sym c.is_ascii_digit.ensures.value ∙ c.if-not-is_ascii_digit.true))
 
 pub overflow_mul-number : goal.overflow_mul-number
-overflow_mul-number c = let s = small 37 c.args.text.now c.loop-digit.digit-index (omega arith) c.loop-digit.invariant.digits in omega (arith, s)
+overflow_mul-number c =
+    let s = small 37 c.args.text.now c.loop-digit.digit-index (omega arith) c.loop-digit.invariant.digits in
+    omega (arith, s)
 
 pub overflow_add-number : goal.overflow_add-number
 overflow_add-number c =
@@ -27,7 +29,8 @@ pub loop-digit-preserved : goal.loop-digit-preserved
 loop-digit-preserved c =
     let d = digit (get_or c.args.text.now c.loop-digit.digit-index 0) (sym c.is_ascii_digit.ensures.value ∙ c.if-not-is_ascii_digit.false) in
     record {
-      digits = digits_more 10 c.args.text.now c.loop-digit.digit-index c.loop-digit-test.true c.loop-digit.invariant.digits (omega (arith, d));
+      digits =
+          digits_more 10 c.args.text.now c.loop-digit.digit-index c.loop-digit-test.true c.loop-digit.invariant.digits (omega (arith, d));
       value = omega (arith, d, digits_value_more 10 c.args.text.now c.loop-digit.digit-index c.loop-digit-test.true);
     }
 
@@ -38,4 +41,5 @@ returns-clause-number c =
     ap Some (rw whole at c.loop-digit.invariant.value) ∙ sym read
 
 pub returns-clause-small : goal.returns-clause-small
-returns-clause-small c = omega (arith, small c.args.most c.args.text.now c.loop-digit.digit-index (omega arith) c.loop-digit.invariant.digits)
+returns-clause-small c =
+    omega (arith, small c.args.most c.args.text.now c.loop-digit.digit-index (omega arith) c.loop-digit.invariant.digits)

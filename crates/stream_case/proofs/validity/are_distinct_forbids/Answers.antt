@@ -10,4 +10,5 @@ loop-index-preserved c =
     (differ_before c.args.forbids.now c.loop-index.index _ c.loop-index-test.true new)
 
 pub returns : goal.returns
-returns c = (λ _. AllPairs-all (λ f g. f ≢ g) c.args.forbids.now c.loop-index.index c.loop-index-test.false c.loop-index.invariant, λ _. refl)
+returns c =
+    (λ _. AllPairs-all (λ f g. f ≢ g) c.args.forbids.now c.loop-index.index c.loop-index-test.false c.loop-index.invariant, λ _. refl)

@@ -11,7 +11,8 @@ pub returns : goal.returns
 returns c = (
   λ e. record {
     each = c.are_valid_streams.ensures.0 c.if-not-are_valid_streams.false;
-    few = each_side (λ side. count_on side c.args.streams.now ≤ MOST_STREAMS) (omega arith) (grind (arith, nat_tests, e));
+    few =
+        each_side (λ side. count_on side c.args.streams.now ≤ MOST_STREAMS) (omega arith) (grind (arith, nat_tests, e));
   },
   λ h. let few = h.few Cold in grind (arith, nat_tests),
 )

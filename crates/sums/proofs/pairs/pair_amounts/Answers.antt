@@ -5,9 +5,11 @@ use Rattle.sums.proofs.pairs.pair_amounts.Goals.{else-loop-first-test, then-loop
 use Rattle.sums.proofs.pairs.pair_amounts.Goals as goal
 
 -- the lesser of two numbers, as it is read
-lesser : (x y l r m : ℤ) → FitsSigned w64 l → FitsSigned w64 r → FitsSigned w64 m → l ≡ x → r ≡ y → m ≡ int_min (to_z w64 (of_z w64 l)) (to_z w64 (of_z w64 r))
+lesser : (x y l r m : ℤ) → FitsSigned w64 l → FitsSigned w64 r → FitsSigned w64 m → l ≡ x → r ≡ y
+    → m ≡ int_min (to_z w64 (of_z w64 l)) (to_z w64 (of_z w64 r))
     → to_z w64 (of_z w64 m) ≡ int_min x y
-lesser x y l r m fits_l fits_r fits_m one two min = to_z-of_z w64 m fits_m ∙ min ∙ ap₂ int_min (to_z-of_z w64 l fits_l ∙ one) (to_z-of_z w64 r fits_r ∙ two)
+lesser x y l r m fits_l fits_r fits_m one two min =
+    to_z-of_z w64 m fits_m ∙ min ∙ ap₂ int_min (to_z-of_z w64 l fits_l ∙ one) (to_z-of_z w64 r fits_r ∙ two)
 
 pub loop-first-init : goal.loop-first-init
 loop-first-init c = subst (IsWalk c.args.firsts.now c.args.seconds.now _ _) (sym c.new-pairs.ensures.items)

@@ -7,8 +7,11 @@ use Rattle.transport.proofs.cut.members_of.Goals as goal
 
 pub loop-index-preserved : goal.loop-index-preserved
 loop-index-preserved c =
-    let picked = λ (i : ℕ). is_picked c.args.kind (is_in c.args.reached.now (c.args.first + i)) in let parts = c.args.parts.now in
-    let i = c.loop-index.index in let within = c.loop-index-test.true in let old = c.loop-index.members.items in
+    let picked = λ (i : ℕ). is_picked c.args.kind (is_in c.args.reached.now (c.args.first + i)) in
+    let parts = c.args.parts.now in
+    let i = c.loop-index.index in
+    let within = c.loop-index-test.true in
+    let old = c.loop-index.members.items in
     let before = c.loop-index.invariant in
     elim c.if-is_picked.branch [
       | then-is_picked+then-part-gt0+in_ok-push w ↦

@@ -9,6 +9,7 @@ loop-hot-preserved c =
 
 pub returns : goal.returns
 returns c =
-    let r = c.args.reach.now in let all : c.loop-hot.hot ≡ r.hots = omega (arith, c.loop-hot-test.false, c.loop-hot.auto.hot-end) in
+    let r = c.args.reach.now in
+    let all : c.loop-hot.hot ≡ r.hots = omega (arith, c.loop-hot-test.false, c.loop-hot.auto.hot-end) in
     let net : List Link → Net = λ links. record { nodes = r.hots + r.colds; links = links } in
     ap net (c.from_vec.ensures ∙ c.loop-hot.invariant ∙ ap (λ n. flat_map (row_links r) (range_with_len 0 n)) all)

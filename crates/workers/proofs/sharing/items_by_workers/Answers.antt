@@ -7,7 +7,8 @@ use Rattle.workers.proofs.sharing.items_by_workers.Goals as goal
 
 pub take_last-requires : goal.take_last-requires
 take_last-requires g c =
-    let lists = c.loop-left.shares.items in let workers = c.loop-left.invariant.workers in
+    let lists = c.loop-left.shares.items in
+    let workers = c.loop-left.invariant.workers in
     let some : 0 < length lists = omega (arith, workers, c.requires.some_workers) in
     let own_worker = ap (λ n. worker_of n (c.loop-left.left - 1)) (sym workers) in
     has_last (λ k x. given.F-post g c.args.item.now k (Ok x)) (c.loop-left.left - 1) lists c.index_mut.result.now some
@@ -17,25 +18,33 @@ take_last-requires g c =
 
 pub loop-left-preserved : goal.loop-left-preserved
 loop-left-preserved g c =
-    let lists = c.loop-left.shares.items in let workers = c.loop-left.invariant.workers in
+    let lists = c.loop-left.shares.items in
+    let workers = c.loop-left.invariant.workers in
     let some : 0 < length lists = omega (arith, workers, c.requires.some_workers) in
-    let left = c.loop-left.left - 1 in let more = c.loop-left-test.true in
-    let items = c.loop-left.items.items in let x = c.in_ok-take_last.field-0 in
-    let many = c.loop-left.invariant.many in let last = c.in_ok-take_last.ensures.last in let pushed = c.in_ok-push.ensures.items in
+    let left = c.loop-left.left - 1 in
+    let more = c.loop-left-test.true in
+    let items = c.loop-left.items.items in
+    let x = c.in_ok-take_last.field-0 in
+    let many = c.loop-left.invariant.many in
+    let last = c.in_ok-take_last.ensures.last in
+    let pushed = c.in_ok-push.ensures.items in
     let long = length-append items (x ∷ []) in
     let each = subst (λ n. AreItemsOfWorkers (λ k z. given.F-post g c.args.item.now k (Ok z)) n lists) {x = c.loop-left.left} {y = left + 1}
     (omega (arith, more)) c.loop-left.invariant.shares in
-    let own : c.worker_of.result ≡ worker_of (length lists) left = c.worker_of.ensures.value ∙ ap (λ n. worker_of n left) (sym workers) in
+    let own : c.worker_of.result ≡ worker_of (length lists) left
+    = c.worker_of.ensures.value ∙ ap (λ n. worker_of n left) (sym workers) in
     let value = subst (λ n. c.index_mut.result.now ≡ get_or lists n c.index_mut.result.now) own c.index_mut.ensures.value in
     let here : slice_get lists (worker_of (length lists) left) ≡ Some (Ok (last.items ++ x ∷ [])) =
-    slice_get-get_or lists (worker_of (length lists) left) c.index_mut.result.now (worker-less (length lists) some left) ∙ ap Some (sym value ∙ last.with_it) in
+    slice_get-get_or lists (worker_of (length lists) left) c.index_mut.result.now (worker-less (length lists) some left)
+    ∙ ap Some (sym value ∙ last.with_it) in
     let is = last_is (λ k z. given.F-post g c.args.item.now k (Ok z)) left (length lists) some last.items x
     (each (worker_of (length lists) left) (Ok (last.items ++ x ∷ [])) here) in
     let next = next_shares (λ k z. given.F-post g c.args.item.now k (Ok z)) left lists last.items x some each here in
     record {
       many = ap (λ xs. left + length xs) pushed ∙ omega (arith, long, many, more);
       workers = length-set lists c.worker_of.result c.take_last.new.share ∙ workers;
-      shares = subst (λ a. AreItemsOfWorkers (λ k z. given.F-post g c.args.item.now k (Ok z)) left (set lists c.worker_of.result a)) (sym last.without_it)
+      shares =
+          subst (λ a. AreItemsOfWorkers (λ k z. given.F-post g c.args.item.now k (Ok z)) left (set lists c.worker_of.result a)) (sym last.without_it)
           (subst (λ n. AreItemsOfWorkers (λ k z. given.F-post g c.args.item.now k (Ok z)) left (set lists n (Ok last.items))) (sym own) next);
       each = λ j y there.
           ⊎_elim (λ before. c.loop-left.invariant.each j y before)

@@ -5,7 +5,8 @@ use Rattle.case_text.proofs.found.Found.source_named.Goals as goal
 use Rattle.stream_case.specs.declared.source.Source.TheVariants as source
 
 pub overflow_cast-result : goal.overflow_cast-result
-overflow_cast-result c = let within = slice_get_within c.self.inside.streams.entries c.in-Some.index _ c.in-Some.ensures.entry in
+overflow_cast-result c =
+    let within = slice_get_within c.self.inside.streams.entries c.in-Some.index _ c.in-Some.ensures.entry in
     omega (arith, few_streams c.self.inside.streams.entries c.self.inside.utilities.entries c.self.invariant, within)
 
 pub returns-in-Some : goal.returns-in-Some
@@ -15,10 +16,12 @@ returns-in-Some c = (
 )
 
 pub returns-in_err-index : goal.returns-in_err-index
-returns-in_err-index c = rw (c.from_residual.ensures, source_named-case, ← c.self.view_is, ← c.in_default.ensures.index, ← c.in_err-index.ensures.index) refl
+returns-in_err-index c =
+    rw (c.from_residual.ensures, source_named-case, ← c.self.view_is, ← c.in_default.ensures.index, ← c.in_err-index.ensures.index) refl
 
 pub returns : goal.returns
 returns c = (
   rw (source_named-case, ← c.self.view_is, ← c.in_default.ensures.index, ← c.in_ok-index.ensures.index) refl,
-  side_of-case c.args.self.now (source.Utility c.in_ok-index.index) ∙ rw (← c.self.view_is, c.in_ok-index.ensures.entry) refl,
+  side_of-case c.args.self.now (source.Utility c.in_ok-index.index)
+      ∙ rw (← c.self.view_is, c.in_ok-index.ensures.entry) refl,
 )

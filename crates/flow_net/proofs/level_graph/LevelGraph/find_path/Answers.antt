@@ -8,10 +8,16 @@ use Rattle.flow_net.proofs.level_graph.LevelGraph.find_path.Goals as goal
 
 pub loop-node-preserved-in-Some : goal.loop-node-preserved-in-Some
 loop-node-preserved-in-Some c =
-    let p = c.args.problem.now in let r = c.args.routing.now in let levels = c.last_arc.new.self.levels.items in let a = c.in-Some.arc in
-    let inv = c.loop-node.invariant in let last = c.in-Some.ensures in let grown = c.in_ok-push.ensures.items in
+    let p = c.args.problem.now in
+    let r = c.args.routing.now in
+    let levels = c.last_arc.new.self.levels.items in
+    let a = c.in-Some.arc in
+    let inv = c.loop-node.invariant in
+    let last = c.in-Some.ensures in
+    let grown = c.in_ok-push.ensures.items in
     let steps = subst (λ t. All (IsStep p r t.items) c.loop-node.path.items) (sym last.levels) inv.steps in
-    let step = IsStep-up p r levels a last.free (subst (λ t. StepsUp t.items a.tail a.head) (sym last.levels) last.steps_up) in record {
+    let step = IsStep-up p r levels a last.free (subst (λ t. StepsUp t.items a.tail a.head) (sym last.levels) last.steps_up) in
+    record {
       graph = record {
         one_level_each = ap (λ t. length t.items) last.levels ∙ inv.graph.one_level_each;
         one_cursor_each = last.cursors ∙ inv.graph.one_cursor_each;
@@ -21,7 +27,8 @@ loop-node-preserved-in-Some c =
       node_in = (arc-nodes p.net.now c.requires.standing.problem.net a last.free.residual.arc).0;
       walk = subst (λ xs. IsWalk (reverse xs) a.tail p.sink) (sym grown)
           (walk-push c.loop-node.path.items a p.sink (subst (λ v. IsWalk (reverse c.loop-node.path.items) v p.sink) (sym last.head) inv.walk));
-      steps = subst (All (IsStep p r levels)) (sym grown) (All-push (IsStep p r levels) c.loop-node.path.items a steps step);
+      steps =
+          subst (All (IsStep p r levels)) (sym grown) (All-push (IsStep p r levels) c.loop-node.path.items a steps step);
     }
 
 -- the arc that is taken off again leads from the node that is closed
@@ -33,7 +40,9 @@ record IsPopped (c : In-Some-pop) : Type 0 where
 
 popped : (c : In-Some-pop) → IsPopped c
 popped c =
-    let p = c.args.problem.now in let r = c.args.routing.now in let items = c.in-Some-pop.ensures.items in
+    let p = c.args.problem.now in
+    let r = c.args.routing.now in
+    let items = c.in-Some-pop.ensures.items in
     let steps = subst (λ t. All (IsStep p r t.items) c.loop-node.path.items) (sym c.in_default.ensures.levels) c.loop-node.invariant.steps in
     let parts = All-pop (IsStep p r c.last_arc.new.self.levels.items) c.loop-node.path.items c.pop.new.self.items (Some c.in-Some-pop.arc) items steps in
     let walk = walk-pop c.pop.new.self.items c.in-Some-pop.arc c.loop-node.node p.sink
@@ -42,7 +51,9 @@ popped c =
 
 pub loop-node-smaller : goal.loop-node-smaller
 loop-node-smaller c =
-    let levels = c.last_arc.new.self.levels.items in let a = c.in-Some-pop.arc in let at = popped c in
+    let levels = c.last_arc.new.self.levels.items in
+    let a = c.in-Some-pop.arc in
+    let at = popped c in
     let fewer = subst (λ v. level_count (set levels v None) + 1 ≡ level_count levels) at.tail
     (fewer_levels c.args.problem.now c.args.routing.now levels c.pop.new.self.items a c.args.problem.now.sink at.step) in
     let kept = subst (λ v. height_at (set levels v None) a.head ≡ height_at levels a.head) at.tail
@@ -55,7 +66,10 @@ loop-node-smaller c =
 
 pub loop-node-preserved : goal.loop-node-preserved
 loop-node-preserved c =
-    let p = c.args.problem.now in let r = c.args.routing.now in let levels = c.last_arc.new.self.levels.items in let a = c.in-Some-pop.arc in
+    let p = c.args.problem.now in
+    let r = c.args.routing.now in
+    let levels = c.last_arc.new.self.levels.items in
+    let a = c.in-Some-pop.arc in
     let inv = c.loop-node.invariant in
     let last = c.in_default.ensures in
     let at = popped c in
@@ -63,7 +77,8 @@ loop-node-preserved c =
     let each = ap (λ t. length t.items) last.levels ∙ inv.graph.one_level_each in
     let within : c.loop-node.node < length levels = omega (arith, node, each) in record {
       graph = record {
-        one_level_each = length-set levels c.loop-node.node None ∙ (ap (λ t. length t.items) last.levels ∙ inv.graph.one_level_each);
+        one_level_each =
+            length-set levels c.loop-node.node None ∙ (ap (λ t. length t.items) last.levels ∙ inv.graph.one_level_each);
         one_cursor_each = last.cursors ∙ inv.graph.one_cursor_each;
         entered = subst (λ t. All (λ v. v < p.net.now.nodes) t.items) (sym last.entered) inv.graph.entered;
         upto = heights-set levels c.loop-node.node p.net.now.nodes None within (omega arith)
@@ -77,8 +92,12 @@ loop-node-preserved c =
 
 pub returns-clause-path : goal.returns-clause-path
 returns-clause-path c =
-    let p = c.args.problem.now in let r = c.args.routing.now in let levels = c.loop-node.self.levels.items in let inv = c.loop-node.invariant in
-    let path = c.loop-node.path.items in let turned = All-permutation (IsStep p r levels) _ _ (IsPermutation-reverse path) inv.steps in
+    let p = c.args.problem.now in
+    let r = c.args.routing.now in
+    let levels = c.loop-node.self.levels.items in
+    let inv = c.loop-node.invariant in
+    let path = c.loop-node.path.items in
+    let turned = All-permutation (IsStep p r levels) _ _ (IsPermutation-reverse path) inv.steps in
     subst (IsFreePath p r) (sym c.reverse.ensures.items)
     (IsFreePath-rising p r (height_at levels) (reverse path) (subst (λ v. IsWalk (reverse path) v p.sink) c.loop-node-test.false inv.walk)
     (All-weaker (IsStep p r levels) (λ a. IsFreeArc p r a × (height_at levels a.tail < height_at levels a.head))

@@ -4,7 +4,8 @@ use Rattle.std.proofs.Common.{reverse, ◌*◌, ◌+◌, ◌<◌}
 use Rattle.flow_net.proofs.level_graph.LevelGraph.find_path.Given as goal
 
 abbrev pub decreases-loop-node : goal.decreases-loop-node
-decreases-loop-node l = (l.problem.net.now.nodes + 1) * level_count l.self.levels.items + height_at l.self.levels.items l.node
+decreases-loop-node l =
+    (l.problem.net.now.nodes + 1) * level_count l.self.levels.items + height_at l.self.levels.items l.node
 
 abbrev pub invariant-loop-node : goal.invariant-loop-node
 invariant-loop-node l = record {

@@ -3,4 +3,5 @@ use Rattle.std.proofs.Common.{length, ◌≤◌}
 use Rattle.flow_net.proofs.level_graph.LevelGraph.reach.Given as goal
 
 abbrev pub invariant-loop-way : goal.invariant-loop-way
-invariant-loop-way l = record { graph : IsLevelGraph l.problem l.self; no_fewer : length l.initial.self.entered.items ≤ length l.self.entered.items }
+invariant-loop-way l =
+    record { graph : IsLevelGraph l.problem l.self; no_fewer : length l.initial.self.entered.items ≤ length l.self.entered.items }

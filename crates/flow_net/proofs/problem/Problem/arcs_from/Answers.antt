@@ -10,9 +10,13 @@ arcs_from-requires c =
 
 pub returns-clause-arcs : goal.returns-clause-arcs
 returns-clause-arcs c =
-    let p = c.args.self.now in subst (All (λ a. IsArc p.net.now.links a × (a.tail ≡ c.args.node))) (sym c.arcs_from.ensures)
+    let p = c.args.self.now in
+    subst (All (λ a. IsArc p.net.now.links a × (a.tail ≡ c.args.node))) (sym c.arcs_from.ensures)
     (arcs_at-arcs p.net.now.nodes p.net.now.links p.adjacency c.requires.problem.adjacency c.args.node c.requires.node)
 
 pub returns-clause-complete : goal.returns-clause-complete
-returns-clause-complete c = λ a is tail. let p = c.args.self.now in subst (λ xs. Contains xs a) (sym c.arcs_from.ensures)
+returns-clause-complete c =
+    λ a is tail.
+    let p = c.args.self.now in
+    subst (λ xs. Contains xs a) (sym c.arcs_from.ensures)
     (arcs_at-complete p.net.now.nodes p.net.now.links p.adjacency c.requires.problem.adjacency c.args.node c.requires.node a is tail)

@@ -6,29 +6,47 @@ use Rattle.flow_net.proofs.routing.Routing.augment.Goals as goal
 
 pub carry-carried-requires-clause-carried : goal.carry-carried-requires-clause-carried
 carry-carried-requires-clause-carried c =
-    let links = c.args.problem.now.net.now.links in let inv = c.loop-arc.invariant in let path = c.args.path.now in let i = c.loop-arc.arc-index in
-    let k = (get_or path i no_arc).link in let is = next_arc links c.loop-arc.self.flow.items path _ i c.loop-arc-test.true inv.rooms inv.can_carry in
+    let links = c.args.problem.now.net.now.links in
+    let inv = c.loop-arc.invariant in
+    let path = c.args.path.now in
+    let i = c.loop-arc.arc-index in
+    let k = (get_or path i no_arc).link in
+    let is = next_arc links c.loop-arc.self.flow.items path _ i c.loop-arc-test.true inv.rooms inv.can_carry in
     let read = next_carried links c.loop-arc.self.flow.items path _ i c.loop-arc-test.true inv.rooms inv.can_carry c.index.result.now c.index.ensures in
-    let from = inv.rooms.not_negative k is.below in let upto = inv.rooms.upto_room k is.below in
-    let room = (c.requires.standing.problem.net.links k is.below).room.upto in record { from = omega (arith, ints); upto = omega (arith, ints) }
+    let from = inv.rooms.not_negative k is.below in
+    let upto = inv.rooms.upto_room k is.below in
+    let room = (c.requires.standing.problem.net.links k is.below).room.upto in
+    record { from = omega (arith, ints); upto = omega (arith, ints) }
 
 pub set_flow-requires-clause-link : goal.set_flow-requires-clause-link
 set_flow-requires-clause-link c =
     let inv = c.loop-arc.invariant in
-    (next_arc c.args.problem.now.net.now.links c.loop-arc.self.flow.items c.args.path.now _ c.loop-arc.arc-index c.loop-arc-test.true inv.rooms inv.can_carry).below
+    let next =
+    next_arc c.args.problem.now.net.now.links c.loop-arc.self.flow.items c.args.path.now _ c.loop-arc.arc-index
+    c.loop-arc-test.true inv.rooms inv.can_carry in
+    next.below
 
 pub loop-arc-preserved : goal.loop-arc-preserved
 loop-arc-preserved c =
-    let links = c.args.problem.now.net.now.links in let path = c.args.path.now in let m = to_z w64 (of_z w64 c.bottleneck-amount.result) in
-    let i = c.loop-arc.arc-index in let flow = c.loop-arc.self.flow.items in let within = c.loop-arc-test.true in let inv = c.loop-arc.invariant in
-    let a = get_or path i no_arc in let read = next_carried links flow path m i within inv.rooms inv.can_carry c.index.result.now c.index.ensures in
-    let from : pos 0 ≤ℤ m = omega (arith, ints) in let kept_index = to_z-of_z w64 c.index.result.now (search rules) in
+    let links = c.args.problem.now.net.now.links in
+    let path = c.args.path.now in
+    let m = to_z w64 (of_z w64 c.bottleneck-amount.result) in
+    let i = c.loop-arc.arc-index in
+    let flow = c.loop-arc.self.flow.items in
+    let within = c.loop-arc-test.true in
+    let inv = c.loop-arc.invariant in
+    let a = get_or path i no_arc in
+    let read = next_carried links flow path m i within inv.rooms inv.can_carry c.index.result.now c.index.ensures in
+    let from : pos 0 ≤ℤ m = omega (arith, ints) in
+    let kept_index = to_z-of_z w64 c.index.result.now (search rules) in
     let kept = to_z-of_z w64 c.carry-carried.result (search rules) in
     let value = kept ∙ (c.carry-carried.ensures ∙ ap (λ x. carry a x m) (kept_index ∙ read)) in
     let sent = c.set_flow.ensures.flow ∙ ap (set flow a.link) value in record {
-      rooms = subst (IsWithinRooms links) (sym sent) (next_rooms links flow path m i within inv.rooms inv.can_carry from);
+      rooms =
+          subst (IsWithinRooms links) (sym sent) (next_rooms links flow path m i within inv.rooms inv.can_carry from);
       ways = c.set_flow.ensures.ways;
-      can_carry = subst (λ f. CanCarry links f (drop (i + 1) path) m) (sym sent) (next_carries links flow path m i within inv.rooms inv.can_carry);
+      can_carry =
+          subst (λ f. CanCarry links f (drop (i + 1) path) m) (sym sent) (next_carries links flow path m i within inv.rooms inv.can_carry);
       sent = sent ∙ next_sent links flow path m i within inv.rooms inv.can_carry c.args.self.now.flow.items inv.sent;
       potentials = c.set_flow.ensures.potentials ∙ inv.potentials;
       routed = c.set_flow.ensures.routed ∙ inv.routed;
@@ -36,8 +54,12 @@ loop-arc-preserved c =
 
 pub returns-clause-standing : goal.returns-clause-standing
 returns-clause-standing c =
-    let p = c.args.problem.now in let r = c.args.self.now in let path = c.args.path.now in let m = c.bottleneck-amount.result in
-    let kept : to_z w64 (of_z w64 m) ≡ m = to_z-of_z w64 m (search rules) in let inv = c.loop-arc.invariant in
+    let p = c.args.problem.now in
+    let r = c.args.self.now in
+    let path = c.args.path.now in
+    let m = c.bottleneck-amount.result in
+    let kept : to_z w64 (of_z w64 m) ≡ m = to_z-of_z w64 m (search rules) in
+    let inv = c.loop-arc.invariant in
     let flow = inv.sent ∙ (ap (λ xs. sent_along_path r.flow.items xs (to_z w64 (of_z w64 m))) (take_all c.loop-arc.arc-index path c.loop-arc-test.false)
     ∙ ap (sent_along_path r.flow.items path) kept) in
     let opened = subst (λ f. AreWays p.net.now.links f p.adjacency.arcs.items c.loop-arc.self.ways.items) flow inv.ways in
@@ -47,5 +69,6 @@ returns-clause-standing c =
 pub returns-clause-amount : goal.returns-clause-amount
 returns-clause-amount c =
     let m = c.bottleneck-amount.result in
-    let is : m ≡ to_z w64 (of_z w64 (to_z w64 (of_z w64 c.loop-arc.self.routed) +ℤ to_z w64 (of_z w64 m))) -ℤ c.args.self.now.routed = omega (arith, ints) in
+    let is : m ≡ to_z w64 (of_z w64 (to_z w64 (of_z w64 c.loop-arc.self.routed) +ℤ to_z w64 (of_z w64 m))) -ℤ c.args.self.now.routed
+    = omega (arith, ints) in
     subst (IsBottleneck c.args.problem.now c.args.self.now c.args.path.now) is c.bottleneck-amount.ensures

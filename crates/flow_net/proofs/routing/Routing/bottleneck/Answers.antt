@@ -4,11 +4,14 @@ use Rattle.std.proofs.Common.{List, [], arith, false, inl, inr, of_z, pos, rules
 use Rattle.flow_net.proofs.routing.Routing.bottleneck.Goals as goal
 
 pub loop-arc-init : goal.loop-arc-init
-loop-arc-init c = record { some = omega (arith, ints); limited = omega (arith, ints); residual = All-nil _; reached = inl (omega (arith, ints)) }
+loop-arc-init c =
+    record { some = omega (arith, ints); limited = omega (arith, ints); residual = All-nil _; reached = inl (omega (arith, ints)) }
 
 -- the least of what the first arcs can carry and of what an arc more can
-bottleneck-more : (p : Problem) (r : Routing) (path : List Arc) (a : Arc) (before m : ℤ) → pos 0 <ℤ residual_of p.net.now.links r.flow.items a
-    → m ≡ int_min before (residual_of p.net.now.links r.flow.items a) → IsBottleneck p r path before → IsBottleneck p r (path ++ a ∷ []) m
+bottleneck-more : (p : Problem) (r : Routing) (path : List Arc) (a : Arc) (before m : ℤ)
+    → pos 0 <ℤ residual_of p.net.now.links r.flow.items a
+    → m ≡ int_min before (residual_of p.net.now.links r.flow.items a) → IsBottleneck p r path before
+    → IsBottleneck p r (path ++ a ∷ []) m
 bottleneck-more p r path a before m positive is h = record {
   some = omega (arith, ints, clamps, is);
   limited = omega (arith, ints, clamps, is);
@@ -28,9 +31,14 @@ bottleneck-more p r path a before m positive is h = record {
 
 pub loop-arc-preserved : goal.loop-arc-preserved
 loop-arc-preserved c =
-    let d : Arc = record { tail = 0; head = 0; link = 0; forward = false; cost = pos 0 } in let p = c.args.problem.now in let r = c.args.self.now in
-    let path = c.args.path.now in let i = c.loop-arc.arc-index in let within = c.loop-arc-test.true in
-    let fits = to_z-of_z w64 c.residual.result (search rules) in let kept = to_z-of_z w64 c.min-least.result (search rules) in
+    let d : Arc = record { tail = 0; head = 0; link = 0; forward = false; cost = pos 0 } in
+    let p = c.args.problem.now in
+    let r = c.args.self.now in
+    let path = c.args.path.now in
+    let i = c.loop-arc.arc-index in
+    let within = c.loop-arc-test.true in
+    let fits = to_z-of_z w64 c.residual.result (search rules) in
+    let kept = to_z-of_z w64 c.min-least.result (search rules) in
     subst (λ xs. IsBottleneck p r xs (to_z w64 (of_z w64 c.min-least.result))) (sym (take_more path i d within))
     (bottleneck-more p r (take i path) _ (to_z w64 c.loop-arc.least-bits) _ (c.requires.path.arcs i d within).residual.residual
     (kept ∙ subst (λ z. c.min-least.result ≡ int_min (to_z w64 c.loop-arc.least-bits) z) (fits ∙ c.residual.ensures) c.min-least.ensures.value)

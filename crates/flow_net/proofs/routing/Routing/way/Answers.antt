@@ -6,9 +6,12 @@ use Rattle.std.proofs.Common.{arith, subst, sym}
 use Rattle.flow_net.proofs.routing.Routing.way.Goals as goal
 
 -- what the code reads is the way of the arc
-read : (c : After-index) → IsWayOf c.args.problem.now.net.now.links c.args.self.now.flow.items (arc_by_index c.args.problem.now c.args.index) c.index.result.now
+read : (c : After-index)
+    → IsWayOf c.args.problem.now.net.now.links c.args.self.now.flow.items (arc_by_index c.args.problem.now c.args.index) c.index.result.now
 read c =
-    let p = c.args.problem.now in let r = c.args.self.now in let ways = c.requires.standing.opened in
+    let p = c.args.problem.now in
+    let r = c.args.self.now in
+    let ways = c.requires.standing.opened in
     subst (IsWayOf p.net.now.links r.flow.items (arc_by_index p c.args.index))
     (sym (get_or_read r.ways.items c.args.index c.index.result.now (omega (arith, c.requires.index, ways.one_each)) c.index.ensures no_way))
     (ways.each c.args.index c.requires.index)

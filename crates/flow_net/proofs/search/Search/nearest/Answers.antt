@@ -9,28 +9,39 @@ node_in : (c : In-Some) → (c.in-Some.node < length c.loop-node.self.labels.ite
 node_in c =
     let s = c.loop-node.self in
     let at = next-entry s.labels.items s.settled.items s.queue c.pop.new.self c.in-Some.node c.in-Some.ensures c.loop-node.invariant.queue in
-    let within = labelled_within s.labels.items c.in-Some.node at.labelled in (within, (omega arith))
+    let within = labelled_within s.labels.items c.in-Some.node at.labelled in
+    (within, (omega arith))
 
 pub index-requires : goal.index-requires
 index-requires c = let w = node_in (goal.at.index-requires c).In-Some in omega (arith, w)
 
 pub index-requires-then-not-index : goal.index-requires-then-not-index
-index-requires-then-not-index c = let w = node_in (goal.at.index-requires-then-not-index c).In-Some in omega (arith, w)
+index-requires-then-not-index c =
+    let w = node_in (goal.at.index-requires-then-not-index c).In-Some in
+    omega (arith, w)
 
 pub index_mut-requires : goal.index_mut-requires
 index_mut-requires c = let w = node_in (goal.at.index_mut-requires c).In-Some in omega (arith, w)
 
 pub returns-in-Some-index : goal.returns-in-Some-index
 returns-in-Some-index c =
-    let s = c.loop-node.self in let v = c.in-Some.node in let inv = c.loop-node.invariant in let w = node_in (goal.at.returns-in-Some-index c).In-Some in
+    let s = c.loop-node.self in
+    let v = c.in-Some.node in
+    let inv = c.loop-node.invariant in
+    let w = node_in (goal.at.returns-in-Some-index c).In-Some in
     let free = sym (get_or_read s.settled.items v c.index.result.now w.1 c.index.ensures false) ∙ c.if-not-index.true in
-    let label = sym (get_or_read s.labels.items v c.index-then-not-index.result.now w.0 c.index-then-not-index.ensures None) ∙ c.in-Some-index.is in record {
+    let label = sym (get_or_read s.labels.items v c.index-then-not-index.result.now w.0 c.index-then-not-index.ensures None)
+    ∙ c.in-Some-index.is in
+    record {
       labels = ap (λ xs. xs.items) inv.labels;
       label = ap (λ xs. label_at xs.items v) (sym inv.labels) ∙ label;
       not_before = ap (λ xs. is_in xs.items v) (sym inv.settled) ∙ free;
       settled = ap (λ xs. set xs.items v true) inv.settled;
-      queue = IsQueued-settled s.labels.items s.settled.items s.queue c.pop.new.self v c.in-Some.ensures inv.queue free w.1;
-      level = sym (ap distance_of_label label) ∙ settled-level s.labels.items s.settled.items s.queue c.pop.new.self v c.in-Some.ensures inv.queue free w.1;
+      queue =
+          IsQueued-settled s.labels.items s.settled.items s.queue c.pop.new.self v c.in-Some.ensures inv.queue free w.1;
+      level =
+          sym (ap distance_of_label label)
+          ∙ settled-level s.labels.items s.settled.items s.queue c.pop.new.self v c.in-Some.ensures inv.queue free w.1;
     }
 
 -- the queue gets shorter
@@ -45,8 +56,13 @@ loop-node-smaller-in_default-index c = shorter (goal.at.loop-node-smaller-in_def
 
 pub loop-node-preserved : goal.loop-node-preserved
 loop-node-preserved c =
-    let s = c.loop-node.self in let v = c.in-Some.node in let inv = c.loop-node.invariant in let w = node_in (goal.at.loop-node-preserved c).In-Some in
-    let stale = sym (get_or_read s.settled.items v c.index.result.now w.1 c.index.ensures false) ∙ c.if-not-index.false in record {
+    let s = c.loop-node.self in
+    let v = c.in-Some.node in
+    let inv = c.loop-node.invariant in
+    let w = node_in (goal.at.loop-node-preserved c).In-Some in
+    let stale = sym (get_or_read s.settled.items v c.index.result.now w.1 c.index.ensures false)
+    ∙ c.if-not-index.false in
+    record {
       labels = inv.labels;
       settled = inv.settled;
       queue = IsQueued-stale s.labels.items s.settled.items s.queue c.pop.new.self v c.in-Some.ensures inv.queue stale;
@@ -54,14 +70,20 @@ loop-node-preserved c =
 
 pub loop-node-preserved-in_default-index : goal.loop-node-preserved-in_default-index
 loop-node-preserved-in_default-index c =
-    let s = c.loop-node.self in let v = c.in-Some.node in let w = node_in (goal.at.loop-node-preserved-in_default-index c).In-Some in
-    let none = sym (get_or_read s.labels.items v c.index-then-not-index.result.now w.0 c.index-then-not-index.ensures None) ∙ c.in_default-index.is in
+    let s = c.loop-node.self in
+    let v = c.in-Some.node in
+    let w = node_in (goal.at.loop-node-preserved-in_default-index c).In-Some in
+    let none = sym (get_or_read s.labels.items v c.index-then-not-index.result.now w.0 c.index-then-not-index.ensures None)
+    ∙ c.in_default-index.is in
     let at = next-entry s.labels.items s.settled.items s.queue c.pop.new.self v c.in-Some.ensures c.loop-node.invariant.queue in
     absurd (false≢true (sym (ap is_some none) ∙ at.labelled))
 
 pub returns : goal.returns
 returns c =
-    let s = c.loop-node.self in let inv = c.loop-node.invariant in let empty = c.in_default.ensures in record {
+    let s = c.loop-node.self in
+    let inv = c.loop-node.invariant in
+    let empty = c.in_default.ensures in
+    record {
       labels = ap (λ xs. xs.items) inv.labels;
       settled = ap (λ xs. xs.items) inv.settled;
       queue = subst (IsQueued s.labels.items s.settled.items _) (empty.was_empty ∙ sym empty.is_empty)

@@ -5,17 +5,24 @@ use Rattle.std.proofs.Common.{Some, ap, arith, reverse, subst, sym, ◌∙◌, �
 use Rattle.flow_net.proofs.search.Search.path.Goals as goal
 
 pub last_arc-requires-clause-node : goal.last_arc-requires-clause-node
-last_arc-requires-clause-node c = let within = settled_within c.args.self.now.settled.items c.loop-arc.node c.loop-arc.invariant.settled in omega arith
+last_arc-requires-clause-node c =
+    let within = settled_within c.args.self.now.settled.items c.loop-arc.node c.loop-arc.invariant.settled in
+    omega arith
 
 pub loop-arc-smaller : goal.loop-arc-smaller
 loop-arc-smaller c =
-    let last : arc_at c.args.problem.now c.args.self.now.labels.items c.loop-arc.node ≡ Some c.in-Some.arc = sym c.last_arc.ensures ∙ c.in-Some.is in
+    let last : arc_at c.args.problem.now c.args.self.now.labels.items c.loop-arc.node ≡ Some c.in-Some.arc
+    = sym c.last_arc.ensures ∙ c.in-Some.is in
     let deep = c.requires.depth c.loop-arc.node c.in-Some.arc last in omega (arith, deep)
 
 pub loop-arc-preserved : goal.loop-arc-preserved
 loop-arc-preserved c =
-    let p = c.args.problem.now in let s = c.args.self.now in let a = c.in-Some.arc in let inv = c.loop-arc.invariant in
-    let last : arc_at p s.labels.items c.loop-arc.node ≡ Some a = sym c.last_arc.ensures ∙ c.in-Some.is in let head = c.requires.head c.loop-arc.node a last in
+    let p = c.args.problem.now in
+    let s = c.args.self.now in
+    let a = c.in-Some.arc in
+    let inv = c.loop-arc.invariant in
+    let last : arc_at p s.labels.items c.loop-arc.node ≡ Some a = sym c.last_arc.ensures ∙ c.in-Some.is in
+    let head = c.requires.head c.loop-arc.node a last in
     let grown = c.in_ok-push.ensures.items in record {
       settled = c.requires.tail_settled c.loop-arc.node a last;
       walk = subst (λ xs. IsWalk (reverse xs) a.tail p.sink) (sym grown) (walk-push c.loop-arc.path.items a p.sink

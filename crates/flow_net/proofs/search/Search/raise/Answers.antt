@@ -20,12 +20,18 @@ record IsSum (c : After-index_mut) : Type 0 where
 
 sum : (c : After-index_mut) → IsSum c
 sum c =
-    let p = c.args.problem.now in let r = c.args.routing.now in let v = c.loop-node.node in let within : v < length r.potentials.items = omega arith in
+    let p = c.args.problem.now in
+    let r = c.args.routing.now in
+    let v = c.loop-node.node in
+    let within : v < length r.potentials.items = omega arith in
     let v_in : v < p.net.now.nodes = omega arith in
     let read = get_or_read c.loop-node.routing.potentials.items v c.index_mut.result.now (omega arith) c.index_mut.ensures.value (pos 0) in
-    let left = c.loop-node.invariant.left v (omega arith) in let small = IsPotential-standing p r c.requires.standing v v_in in
-    let first : to_z w64 (of_z w64 c.index_mut.result.now) ≡ potential_at r.potentials.items v = omega (arith, sizes, read, left, small) in
-    let second = to_z-of_z w64 c.rise.result (search rules) in let is = ap₂ ◌+ℤ◌ first (second ∙ c.rise.ensures) in
+    let left = c.loop-node.invariant.left v (omega arith) in
+    let small = IsPotential-standing p r c.requires.standing v v_in in
+    let first : to_z w64 (of_z w64 c.index_mut.result.now) ≡ potential_at r.potentials.items v
+    = omega (arith, sizes, read, left, small) in
+    let second = to_z-of_z w64 c.rise.result (search rules) in
+    let is = ap₂ ◌+ℤ◌ first (second ∙ c.rise.ensures) in
     record { within = within; is = is; fits = rw is (rise_fits p r c.args.self.now c.requires.standing c.requires.arrived v v_in) }
 
 pub overflow_add-index_mut : goal.overflow_add-index_mut
@@ -33,16 +39,23 @@ overflow_add-index_mut c = (sum (goal.at.overflow_add-index_mut c).After-index_m
 
 pub loop-node-preserved : goal.loop-node-preserved
 loop-node-preserved c =
-    let r = c.args.routing.now in let v = c.loop-node.node in let inv = c.loop-node.invariant in let at = sum (goal.at.loop-node-preserved c).After-index_mut in
-    let value = to_z-of_z w64 _ at.fits ∙ at.is in let potentials = c.loop-node.routing.potentials.items in let within : v < length potentials = omega arith in
+    let r = c.args.routing.now in
+    let v = c.loop-node.node in
+    let inv = c.loop-node.invariant in
+    let at = sum (goal.at.loop-node-preserved c).After-index_mut in
+    let value = to_z-of_z w64 _ at.fits ∙ at.is in
+    let potentials = c.loop-node.routing.potentials.items in
+    let within : v < length potentials = omega arith in
     record {
       flow = inv.flow;
       ways = inv.ways;
       routed = inv.routed;
       one_each = length-set potentials v _ ∙ inv.one_each;
-      raised = set_cases potentials v _ (pos 0) within (λ u z. u < v + 1 → z ≡ potential_at r.potentials.items u +ℤ rise_of c.args.self.now u) (λ _. value)
+      raised =
+          set_cases potentials v _ (pos 0) within (λ u z. u < v + 1 → z ≡ potential_at r.potentials.items u +ℤ rise_of c.args.self.now u) (λ _. value)
           (λ u ne l. inv.raised u (omega (arith, ne, l)));
-      left = set_cases potentials v _ (pos 0) within (λ u z. v + 1 ≤ u → z ≡ potential_at r.potentials.items u) (λ l. absurd (omega (arith, l)))
+      left =
+          set_cases potentials v _ (pos 0) within (λ u z. v + 1 ≤ u → z ≡ potential_at r.potentials.items u) (λ l. absurd (omega (arith, l)))
           (λ u ne l. inv.left u (omega (arith, l)));
     }
 
@@ -61,7 +74,8 @@ returns-clause-free c = λ a last.
     inv.one_each (λ v within. inv.raised v (omega arith)) a last in record {
       residual = record {
         arc = tree.0.arc;
-        residual = subst (λ v. pos 0 <ℤ residual_of c.args.problem.now.net.now.links v.items a) (sym inv.flow) tree.0.residual;
+        residual =
+            subst (λ v. pos 0 <ℤ residual_of c.args.problem.now.net.now.links v.items a) (sym inv.flow) tree.0.residual;
       };
       free = tree.1;
     }

@@ -8,6 +8,9 @@ invariant-loop-node l = record {
   ways : l.routing.ways ≡ l.initial.routing.ways;
   routed : l.routing.routed ≡ l.initial.routing.routed;
   one_each : length l.routing.potentials.items ≡ length l.initial.routing.potentials.items;
-  raised : (v : ℕ) → v < l.node → potential_at l.routing.potentials.items v ≡ potential_at l.initial.routing.potentials.items v +ℤ rise_of l.self v;
-  left : (v : ℕ) → l.node ≤ v → potential_at l.routing.potentials.items v ≡ potential_at l.initial.routing.potentials.items v;
+  raised : (v : ℕ) → v < l.node
+      → potential_at l.routing.potentials.items v
+      ≡ potential_at l.initial.routing.potentials.items v +ℤ rise_of l.self v;
+  left : (v : ℕ) → l.node ≤ v
+      → potential_at l.routing.potentials.items v ≡ potential_at l.initial.routing.potentials.items v;
 }

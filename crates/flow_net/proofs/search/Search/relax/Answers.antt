@@ -20,23 +20,34 @@ record IsGiven (c : After-way-way) : Type 0 where
 
 given : (c : After-way-way) → IsGiven c
 given c =
-    let p = c.args.problem.now in let r = c.args.routing.now in let problem = c.requires.standing.problem in let a = arc_by_index p c.args.index in
-    let is = problem.adjacency.arcs.arcs_of c.args.index no_arc c.requires.index in let way = c.way-way.ensures in record {
+    let p = c.args.problem.now in
+    let r = c.args.routing.now in
+    let problem = c.requires.standing.problem in
+    let a = arc_by_index p c.args.index in
+    let is = problem.adjacency.arcs.arcs_of c.args.index no_arc c.requires.index in
+    let way = c.way-way.ensures in
+    record {
       is = is;
       head_in = (arc-nodes p.net.now problem.net a is).1;
-      priced = IsPriced-between p r c.requires.standing a is c.args.node c.way-way.result.head c.way-way.result.cost c.requires.tail way.head way.cost;
+      priced =
+          IsPriced-between p r c.requires.standing a is c.args.node c.way-way.result.head c.way-way.result.cost c.requires.tail way.head way.cost;
       reduced = rw (sym c.requires.tail, way.head, way.cost) refl;
     }
 
 -- whether the head of an arc is settled, as the code reads it by its way
-mark_of : (s : Search) (n : ℕ) (a : Arc) (head : ℕ) (mark : Bool) → a.head < n → head ≡ a.head → length s.settled.items ≡ n
+mark_of : (s : Search) (n : ℕ) (a : Arc) (head : ℕ) (mark : Bool) → a.head < n → head ≡ a.head
+    → length s.settled.items ≡ n
     → mark ≡ get_or s.settled.items head mark → mark ≡ is_in s.settled.items a.head
 mark_of s n a head mark within same each read =
-    get_or_read s.settled.items head mark (omega (arith, within, same, each)) read false ∙ ap (is_in s.settled.items) same
+    get_or_read s.settled.items head mark (omega (arith, within, same, each)) read false
+    ∙ ap (is_in s.settled.items) same
 
 pub returns-then-not-way : goal.returns-then-not-way
 returns-then-not-way c =
-    let p = c.args.problem.now in let r = c.args.routing.now in let s = c.args.self.now in let a = arc_by_index p c.args.index in
+    let p = c.args.problem.now in
+    let r = c.args.routing.now in
+    let s = c.args.self.now in
+    let a = arc_by_index p c.args.index in
     elim c.then-not-way.branch [
       | then-not-way-via-then-not-way w ↦
           IsRelaxed-same p r c.requires.standing s c.requires.search a c.args.label.now c.requires.at
@@ -52,7 +63,8 @@ cost_along-requires c = (given (goal.at.cost_along-requires c).After-way-way).pr
 
 -- the distance, as the code has it, is the sum, which fits
 abbrev distance_in : After-cost_along → ℤ
-distance_in c = to_z w64 (of_z w64 (to_z w64 (of_z w64 c.args.label.now.distance) +ℤ to_z w64 (of_z w64 c.cost_along.result)))
+distance_in c =
+    to_z w64 (of_z w64 (to_z w64 (of_z w64 c.args.label.now.distance) +ℤ to_z w64 (of_z w64 c.cost_along.result)))
 
 record IsSum (c : After-cost_along) : Type 0 where
   fits : FitsSigned w64 (to_z w64 (of_z w64 c.args.label.now.distance) +ℤ to_z w64 (of_z w64 c.cost_along.result))
@@ -60,8 +72,11 @@ record IsSum (c : After-cost_along) : Type 0 where
 
 sum : (c : After-cost_along) → IsSum c
 sum c =
-    let p = c.args.problem.now in let r = c.args.routing.now in let a = arc_by_index p c.args.index in
-    let arc = given (goal.at.After-cost_along c).After-way-way in let priced = IsPriced-arc p r c.requires.standing a arc.is in
+    let p = c.args.problem.now in
+    let r = c.args.routing.now in
+    let a = arc_by_index p c.args.index in
+    let arc = given (goal.at.After-cost_along c).After-way-way in
+    let priced = IsPriced-arc p r c.requires.standing a arc.is in
     let upto = (IsSmall-tail p r c.requires.standing c.args.self.now c.requires.search a c.args.label.now c.requires.at).distance in
     let from = subst (λ o. pos 0 ≤ℤ distance_of_label o) c.requires.at.label (c.requires.search.labels.risen a.tail) in
     let along : c.cost_along.result ≡ reduced_cost_of r.potentials.items a = c.cost_along.ensures ∙ arc.reduced in
@@ -71,11 +86,13 @@ pub overflow_add-distance : goal.overflow_add-distance
 overflow_add-distance c = (sum (goal.at.overflow_add-distance c).After-cost_along).fits
 
 -- what is known of the node that the way leads to holds of the arc's head
-low_at : (s : Search) (v w : ℕ) (d : ℤ) → v ≡ w → (is_labelled s.labels.items v ≡ true) × (distance_at s.labels.items v ≤ℤ d)
+low_at : (s : Search) (v w : ℕ) (d : ℤ) → v ≡ w
+    → (is_labelled s.labels.items v ≡ true) × (distance_at s.labels.items v ≤ℤ d)
     → (is_labelled s.labels.items w ≡ true) × (distance_at s.labels.items w ≤ℤ d)
 low_at s v w d e = subst (λ u. (is_labelled s.labels.items u ≡ true) × (distance_at s.labels.items u ≤ℤ d)) e
 
-lower_at : (s : Search) (v w : ℕ) (d : ℤ) → v ≡ w → (is_labelled s.labels.items v ≡ true → d <ℤ distance_at s.labels.items v)
+lower_at : (s : Search) (v w : ℕ) (d : ℤ) → v ≡ w
+    → (is_labelled s.labels.items v ≡ true → d <ℤ distance_at s.labels.items v)
     → is_labelled s.labels.items w ≡ true → d <ℤ distance_at s.labels.items w
 lower_at s v w d e = subst (λ u. is_labelled s.labels.items u ≡ true → d <ℤ distance_at s.labels.items u) e
 
@@ -89,7 +106,10 @@ is_lower-requires c =
 
 pub returns-then-not-is_lower : goal.returns-then-not-is_lower
 returns-then-not-is_lower c =
-    let p = c.args.problem.now in let r = c.args.routing.now in let s = c.args.self.now in let a = arc_by_index p c.args.index in
+    let p = c.args.problem.now in
+    let r = c.args.routing.now in
+    let s = c.args.self.now in
+    let a = arc_by_index p c.args.index in
     let d = distance_in (goal.at.returns-then-not-is_lower c).After-cost_along in
     IsRelaxed-low p r c.requires.standing s c.requires.search a c.args.label.now c.requires.at
     d (sum (goal.at.returns-then-not-is_lower c).After-cost_along).is
@@ -109,8 +129,10 @@ record IsOpen (c : Else-not-is_lower) : Type 0 where
 open_arc : (c : Else-not-is_lower) → IsOpen c
 open_arc c = record {
   residual = c.way-way.ensures.is_open.0 c.if-not-way.false;
-  free = sym (mark_of c.args.self.now c.args.problem.now.net.now.nodes (arc_by_index c.args.problem.now c.args.index) c.way-way.result.head c.index.result.now
-      (given (goal.at.Else-not-is_lower c).After-way-way).head_in c.way-way.ensures.head c.requires.search.labels.one_mark_each c.index.ensures) ∙ c.if-index.false;
+  free =
+      sym (mark_of c.args.self.now c.args.problem.now.net.now.nodes (arc_by_index c.args.problem.now c.args.index) c.way-way.result.head c.index.result.now
+      (given (goal.at.Else-not-is_lower c).After-way-way).head_in c.way-way.ensures.head c.requires.search.labels.one_mark_each c.index.ensures)
+      ∙ c.if-index.false;
 }
 
 pub enter-requires-clause-node : goal.enter-requires-clause-node
@@ -126,8 +148,13 @@ enter-requires-clause-distance c =
 
 pub returns : goal.returns
 returns c =
-    let p = c.args.problem.now in let r = c.args.routing.now in let s = c.args.self.now in let t = c.enter.new.self in let a = arc_by_index p c.args.index in
-    let d = distance_in (goal.at.returns c).After-cost_along in let to = c.way-way.ensures.head in
+    let p = c.args.problem.now in
+    let r = c.args.routing.now in
+    let s = c.args.self.now in
+    let t = c.enter.new.self in
+    let a = arc_by_index p c.args.index in
+    let d = distance_in (goal.at.returns c).After-cost_along in
+    let to = c.way-way.ensures.head in
     let o = open_arc (goal.at.returns c).Else-not-is_lower in on_ok_weaker c.enter.result
     (λ entered. IsRelaxed-entered p r c.requires.standing s c.requires.search a c.args.label.now c.requires.at
     d (sum (goal.at.returns c).After-cost_along).is o.residual o.free

@@ -7,7 +7,10 @@ use Rattle.flow_net.proofs.search.Search.run.Goals as goal
 
 pub loop-node-init : goal.loop-node-init
 loop-node-init c =
-    let p = c.args.problem.now in let r = c.args.routing.now in let s = c.args.self.now in let none = none_settled p r c.requires.standing s c.requires.fresh in
+    let p = c.args.problem.now in
+    let r = c.args.routing.now in
+    let s = c.args.self.now in
+    let none = none_settled p r c.requires.standing s c.requires.fresh in
     record {
       search = IsSearch-fresh p r c.requires.standing s c.requires.fresh;
       closed = λ a is hit. absurd (false≢true (sym (none a.tail) ∙ hit));
@@ -16,7 +19,8 @@ loop-node-init c =
 
 -- the arcs from the nodes that were settled before are closed still
 closed_before : (c : In-Some) (a : Arc) → IsArc c.args.problem.now.net.now.links a → a.tail ≢ c.in-Some.node
-    → is_in c.nearest.new.self.settled.items a.tail ≡ true → IsClosedAt c.args.problem.now c.args.routing.now c.nearest.new.self a
+    → is_in c.nearest.new.self.settled.items a.tail ≡ true
+    → IsClosedAt c.args.problem.now c.args.routing.now c.nearest.new.self a
 closed_before c a is ne hit residual =
     let inv = c.loop-node.invariant in
     let before = settled_cases c.args.problem.now c.args.routing.now c.loop-node.self c.nearest.new.self c.in-Some.node c.in-Some.label c.in-Some.ensures
@@ -35,7 +39,8 @@ scan-requires-clause-at c =
 
 pub returns-then-node-problem : goal.returns-then-node-problem
 returns-then-node-problem c =
-    let t = c.nearest.new.self in let at_sink = c.if-node-problem.true in
+    let t = c.nearest.new.self in
+    let at_sink = c.if-node-problem.true in
     let search = IsSearch-settling c.args.problem.now c.args.routing.now c.loop-node.self t c.in-Some.node c.in-Some.label c.in-Some.ensures
     c.loop-node.invariant.search in
     let at = IsAt-settling c.args.problem.now c.args.routing.now c.loop-node.self t c.in-Some.node c.in-Some.label c.in-Some.ensures
@@ -43,14 +48,21 @@ returns-then-node-problem c =
     record {
       search = search;
       sink_settled = subst (λ v. is_in t.settled.items v ≡ true) at_sink at.settled;
-      level = subst (λ v. distance_at t.labels.items v ≡ t.queue.level) at_sink (ap distance_of_label at.label ∙ at.level);
-      closed = λ a is hit ne. closed_before (goal.at.returns-then-node-problem c).In-Some a is (λ e. ne (e ∙ at_sink)) hit;
+      level =
+          subst (λ v. distance_at t.labels.items v ≡ t.queue.level) at_sink (ap distance_of_label at.label ∙ at.level);
+      closed =
+          λ a is hit ne. closed_before (goal.at.returns-then-node-problem c).In-Some a is (λ e. ne (e ∙ at_sink)) hit;
     }
 
 pub loop-node-preserved : goal.loop-node-preserved
 loop-node-preserved c =
-    let p = c.args.problem.now in let r = c.args.routing.now in let t = c.nearest.new.self in let v = c.in-Some.node in
-    let inv = c.loop-node.invariant in let scan = c.in_ok-scan.ensures in record {
+    let p = c.args.problem.now in
+    let r = c.args.routing.now in
+    let t = c.nearest.new.self in
+    let v = c.in-Some.node in
+    let inv = c.loop-node.invariant in
+    let scan = c.in_ok-scan.ensures in
+    record {
       search = scan.search;
       closed = λ a is hit. elim (cases_eq a.tail v) [
         | inl e ↦ scan.closed a is e
@@ -64,7 +76,9 @@ loop-node-preserved c =
 
 pub returns : goal.returns
 returns c =
-    let drained = c.in_default.ensures in let inv = c.loop-node.invariant in record {
+    let drained = c.in_default.ensures in
+    let inv = c.loop-node.invariant in
+    record {
       labels = rw (drained.labels, drained.settled) inv.search.labels;
       all_settled = all_settled-drained c.loop-node.self c.nearest.new.self drained;
       closed = λ a is hit residual. subst (λ labels. IsClosed c.args.routing.now labels a) (sym drained.labels)

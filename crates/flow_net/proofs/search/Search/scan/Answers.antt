@@ -4,7 +4,8 @@ use Rattle.std.proofs.Common.{ap, arith, inl, inr, subst, sym, ◌∙◌}
 use Rattle.flow_net.proofs.search.Search.scan.Goals as goal
 
 pub loop-index-init : goal.loop-index-init
-loop-index-init c = record { search = c.requires.search; improves = Improves-refl c.args.self.now; closed = λ k low high. absurd (omega (arith, low, high)) }
+loop-index-init c =
+    record { search = c.requires.search; improves = Improves-refl c.args.self.now; closed = λ k low high. absurd (omega (arith, low, high)) }
 
 pub relax-requires-clause-tail : goal.relax-requires-clause-tail
 relax-requires-clause-tail c = c.range_from-first.ensures.tails c.loop-index.index (omega arith) (omega arith)
@@ -16,9 +17,14 @@ relax-requires-clause-at c =
 
 pub loop-index-preserved : goal.loop-index-preserved
 loop-index-preserved c =
-    let p = c.args.problem.now in let r = c.args.routing.now in let s = c.loop-index.self in let t = c.relax.new.self in
-    let inv = c.loop-index.invariant in let after = c.in_ok-relax.ensures in
-    let at = IsAt-improves c.args.self.now s c.args.node c.args.label.now inv.improves c.requires.at in record {
+    let p = c.args.problem.now in
+    let r = c.args.routing.now in
+    let s = c.loop-index.self in
+    let t = c.relax.new.self in
+    let inv = c.loop-index.invariant in
+    let after = c.in_ok-relax.ensures in
+    let at = IsAt-improves c.args.self.now s c.args.node c.args.label.now inv.improves c.requires.at in
+    record {
       search = after.search;
       improves = Improves-trans c.args.self.now s t inv.improves after.improves;
       closed = λ k low high. elim (cases_eq k c.loop-index.index) [

@@ -6,7 +6,8 @@ use Rattle.fractions.proofs.fraction.Frac.over.Goals as goal
 
 pub returns-then-num-eq0-clause-value : goal.returns-then-num-eq0-clause-value
 returns-then-num-eq0-clause-value c some =
-    let fits : SFits w128 c.num.result = search rules in absurd (some (zero_from_num c.args.other.now (omega (arith, ints))))
+    let fits : SFits w128 c.num.result = search rules in
+    absurd (some (zero_from_num c.args.other.now (omega (arith, ints))))
 
 pub returns-in_err-times-clause-value : goal.returns-in_err-times-clause-value
 unfolding over
@@ -15,4 +16,5 @@ returns-in_err-times-clause-value c some =
 
 pub returns-clause-value : goal.returns-clause-value
 unfolding over
-returns-clause-value c some = rw (c.in_ok-times.ensures.product, c.reciprocal.ensures, c.terms.ensures, c.terms-2.ensures) at c.within_limits.ensures
+returns-clause-value c some =
+    rw (c.in_ok-times.ensures.product, c.reciprocal.ensures, c.terms.ensures, c.terms-2.ensures) at c.within_limits.ensures

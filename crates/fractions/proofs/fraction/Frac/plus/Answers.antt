@@ -4,6 +4,8 @@ use Rattle.fractions.proofs.fraction.Frac.plus.Goals as goal
 
 pub returns : goal.returns
 unfolding plus
-returns c = let one : SFits w128 c.cross.result = search rules in let two : SFits w128 c.cross-2.result = search rules in
+returns c =
+    let one : SFits w128 c.cross.result = search rules in
+    let two : SFits w128 c.cross-2.result = search rules in
     let both : SFits w128 (c.cross.result +ℤ c.cross-2.result) = search rules in
     rw (c.cross.ensures.value, c.cross-2.ensures.value) at (simp to_z-of_z at c.over_both.ensures)

@@ -5,14 +5,18 @@ use Rattle.penalties.proofs.heights.Survey.absorbed.Goals as goal
 
 pub returns-in-Utility : goal.returns-in-Utility
 returns-in-Utility c =
-    let s = c.args.self.now in let joint = c.args.joint.now in (
-      ap (λ of. first_too_fine (absorbed_steps (seen_height s) (seen_steps s) c.args.place of joint.taken)) c.in-Utility.is ∙ none_of_nothing,
+    let s = c.args.self.now in
+    let joint = c.args.joint.now in (
+      ap (λ of. first_too_fine (absorbed_steps (seen_height s) (seen_steps s) c.args.place of joint.taken)) c.in-Utility.is
+          ∙ none_of_nothing,
       c.whole.ensures ∙ sym (ap (λ of. absorbed_by (seen_height s) of joint.taken) c.in-Utility.is),
     )
 
 pub returns-in-None : goal.returns-in-None
 returns-in-None c =
-    let s = c.args.self.now in let joint = c.args.joint.now in (
-      ap₂ (λ of pass. first_too_fine (absorbed_steps (seen_height s) (seen_steps s) c.args.place of pass)) c.in_default.is c.in-None.is ∙ none_of_nothing,
+    let s = c.args.self.now in
+    let joint = c.args.joint.now in (
+      ap₂ (λ of pass. first_too_fine (absorbed_steps (seen_height s) (seen_steps s) c.args.place of pass)) c.in_default.is c.in-None.is
+          ∙ none_of_nothing,
       c.whole-in-None.ensures ∙ sym (ap₂ (λ of pass. absorbed_by (seen_height s) of pass) c.in_default.is c.in-None.is),
     )

@@ -11,16 +11,21 @@ loop-number-init c = (none_of_nothing, sym (append-nil c.args.list.now.items))
 pub returns-in-Err : goal.returns-in-Err
 unfolding all_joint_steps
 returns-in-Err c =
-    let n = c.loop-number.number in let steps = joint_steps (seen_height c.args.self.now) (seen_steps c.args.self.now) in
+    let n = c.loop-number.number in
+    let steps = joint_steps (seen_height c.args.self.now) (seen_steps c.args.self.now) in
     first-here first_too_fine steps-append steps c.args.joints.now n c.index-joints-number.result _ c.loop-number-test.true c.loop-number.invariant.0
     (subst (λ j. first_too_fine (steps (n, j)) ≡ Some (c.in-Err.found.place, c.in-Err.found.step)) c.index-joints-number.is c.in-Err.ensures)
 
 pub loop-number-preserved : goal.loop-number-preserved
 loop-number-preserved c =
-    let d = c.index-joints-number.result in let n = c.loop-number.number in let height = seen_height c.args.self.now in
-    let steps = joint_steps height (seen_steps c.args.self.now) in let row : Penalty = record { place = place.Exchanger n; value = c.in-Ok.value } in
+    let d = c.index-joints-number.result in
+    let n = c.loop-number.number in
+    let height = seen_height c.args.self.now in
+    let steps = joint_steps height (seen_steps c.args.self.now) in
+    let row : Penalty = record { place = place.Exchanger n; value = c.in-Ok.value } in
     let same : row ≡ joint_row height (n, get_or c.args.joints.now n d) =
-    (λ i. record { place = place.Exchanger n; value = c.in-Ok.ensures.1 i }) ∙ ap (λ j. joint_row height (n, j)) c.index-joints-number.is in (
+    (λ i. record { place = place.Exchanger n; value = c.in-Ok.ensures.1 i })
+    ∙ ap (λ j. joint_row height (n, j)) c.index-joints-number.is in (
       first-more first_too_fine steps-append steps c.args.joints.now n d c.loop-number-test.true c.loop-number.invariant.0
           (subst (λ j. first_too_fine (steps (n, j)) ≡ None) c.index-joints-number.is c.in-Ok.ensures.0),
       c.in_ok-push-in-Ok.ensures.items ∙ ap (λ p. c.loop-number.list.items ++ p ∷ []) same

@@ -12,18 +12,23 @@ loop-index-init c = (none_of_nothing, sym (append-nil c.args.list.now.items))
 pub returns-in-Err : goal.returns-in-Err
 unfolding all_mix_steps
 returns-in-Err c =
-    let d = c.index-lines-index.result in let steps = line_steps (seen_height c.args.self.now) (seen_steps c.args.self.now) in
+    let d = c.index-lines-index.result in
+    let steps = line_steps (seen_height c.args.self.now) (seen_steps c.args.self.now) in
     first-here first_too_fine steps-append steps c.args.lines.now c.loop-index.index d _ c.loop-index-test.true c.loop-index.invariant.0
     (ap (λ l. first_too_fine (steps (c.loop-index.index, l))) (sym c.index-lines-index.is ∙ c.in-Mix.is) ∙ c.in-Err.ensures)
 
 pub loop-index-preserved : goal.loop-index-preserved
 loop-index-preserved c =
-    let d = c.index-lines-index.result in let n = c.loop-index.index in let lines = c.args.lines.now in let height = seen_height c.args.self.now in
+    let d = c.index-lines-index.result in
+    let n = c.loop-index.index in
+    let lines = c.args.lines.now in
+    let height = seen_height c.args.self.now in
     let steps = line_steps height (seen_steps c.args.self.now) in
     let more = filtered-more lines n d c.loop-index-test.true (mix_row height) c.loop-index.list.items c.args.list.now.items c.loop-index.invariant.1 in
     elim c.match-line.branch [
       | in-Mix+in-Ok+in_ok-push-in-Ok w ↦
-          let at = sym c.index-lines-index.is ∙ w.in-Mix.is in let same = ap (λ l. filter_map (mix_row height) ((n, l) ∷ [])) at in (
+          let at = sym c.index-lines-index.is ∙ w.in-Mix.is in
+          let same = ap (λ l. filter_map (mix_row height) ((n, l) ∷ [])) at in (
             first-more first_too_fine steps-append steps lines n d c.loop-index-test.true c.loop-index.invariant.0
                 (ap (λ l. first_too_fine (steps (n, l))) at ∙ w.in-Ok.ensures.0),
             ap (λ v. v.items) w.list-is ∙ w.in_ok-push-in-Ok.ensures.items
@@ -31,12 +36,14 @@ loop-index-preserved c =
                 w.in-Ok.ensures.1 ∙ ap (λ rows. c.loop-index.list.items ++ rows) (sym same) ∙ more,
           )
       | in_default w ↦
-          let at = c.index-lines-index.is in let none : filter_map (mix_row height) ((n, get_or lines n d) ∷ []) ≡ [] =
+          let at = c.index-lines-index.is in
+          let none : filter_map (mix_row height) ((n, get_or lines n d) ∷ []) ≡ [] =
           ap (λ l. filter_map (mix_row height) ((n, l) ∷ [])) (sym at) ∙ no_row height n d w.in_default.not-Mix in (
             first-more first_too_fine steps-append steps lines n d c.loop-index-test.true c.loop-index.invariant.0
                 (ap (λ l. first_too_fine (steps (n, l))) (sym at) ∙ ap first_too_fine (no_steps height (seen_steps c.args.self.now) n d w.in_default.not-Mix)
                 ∙ none_of_nothing),
-            ap (λ v. v.items) w.list-is ∙ sym (append-nil c.loop-index.list.items) ∙ ap (λ rows. c.loop-index.list.items ++ rows) (sym none) ∙ more,
+            ap (λ v. v.items) w.list-is ∙ sym (append-nil c.loop-index.list.items)
+                ∙ ap (λ rows. c.loop-index.list.items ++ rows) (sym none) ∙ more,
           )
     ]
 

@@ -3,5 +3,6 @@ use Rattle.std.proofs.Common.{None, take, ◌++◌, ◌≡◌}
 use Rattle.penalties.proofs.heights.Survey.add_mixes.Given as goal
 
 abbrev pub invariant-loop-index : goal.invariant-loop-index
-invariant-loop-index l = (first_too_fine (items_of (line_steps (seen_height l.self) (seen_steps l.self)) l.lines l.index) ≡ None)
+invariant-loop-index l =
+    (first_too_fine (items_of (line_steps (seen_height l.self) (seen_steps l.self)) l.lines l.index) ≡ None)
     × (l.list.items ≡ l.initial.list.items ++ filter_map (mix_row (seen_height l.self)) (enumerate_from 0 (take l.index l.lines)))

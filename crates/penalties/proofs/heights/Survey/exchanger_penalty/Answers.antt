@@ -10,7 +10,9 @@ returns-in_err-absorbed c = handed_on _ _ _ _ c.from_residual-in_err-absorbed.en
     (first_behind _ _ c.in_ok-released.ensures.0 ∙ first_front _ _ _ c.in_err-absorbed.ensures)
 
 pub returns-in-Some : goal.returns-in-Some
-returns-in-Some c = difference_formed _ _ _ _ _ _ _ _ _ c.in_ok-released.ensures c.in_ok-absorbed.ensures c.minus.ensures _ c.in-Some.is
+returns-in-Some c =
+    difference_formed _ _ _ _ _ _ _ _ _ c.in_ok-released.ensures c.in_ok-absorbed.ensures c.minus.ensures _ c.in-Some.is
 
 pub returns-in-None : goal.returns-in-None
-returns-in-None c = difference_not_formed _ _ _ _ _ _ _ _ _ c.in_ok-released.ensures c.in_ok-absorbed.ensures c.minus.ensures c.in-None.is
+returns-in-None c =
+    difference_not_formed _ _ _ _ _ _ _ _ _ c.in_ok-released.ensures c.in_ok-absorbed.ensures c.minus.ensures c.in-None.is

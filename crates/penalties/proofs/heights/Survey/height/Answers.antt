@@ -12,16 +12,21 @@ returns-in_default c =
 
 pub level_of-requires : goal.level_of-requires
 level_of-requires c =
-    let s = c.args.self.now in all_at (λ s. IsShifted (shifted s.side s.supply s.contribution)) s.case.now.streams _ c.in-Some.stream.now s.levels
+    let s = c.args.self.now in
+    all_at (λ s. IsShifted (shifted s.side s.supply s.contribution)) s.case.now.streams _ c.in-Some.stream.now s.levels
     (sym c.get.ensures ∙ ap option_copied c.in-Some.is)
 
 pub returns-then-is_latent : goal.returns-then-is_latent
 returns-then-is_latent c =
-    let s = c.args.self.now in let stream = c.in-Some.stream.now in let r = c.latent_height.result in
+    let s = c.args.self.now in
+    let stream = c.in-Some.stream.now in
+    let r = c.latent_height.result in
     let value = value_at (values_of s.auditor.now) c.args.branch in
     let at = stream_read s c.args.branch _ _ (Some stream) c.as_slice.ensures c.stream_at-stream.ensures
-    (sym (ap option_copied c.in-Some.is) ∙ c.get.ensures) in let level = to_z-of_z w32 c.level_of.result (search rules) ∙ c.level_of.ensures in
-    let counts = c.counts_above-counts.ensures ∙ ap₂ (counts_above s.from_itself) (to_z-of_z w32 s.reference (search rules)) level in
+    (sym (ap option_copied c.in-Some.is) ∙ c.get.ensures) in
+    let level = to_z-of_z w32 c.level_of.result (search rules) ∙ c.level_of.ensures in
+    let counts = c.counts_above-counts.ensures
+    ∙ ap₂ (counts_above s.from_itself) (to_z-of_z w32 s.reference (search rules)) level in
     let answers = subst (λ b. LevelAnswers b c.args.place c.args.step value r) counts
     (subst (λ v. LevelAnswers c.counts_above-counts.result c.args.place c.args.step v r) c.value-value.ensures c.latent_height.ensures) in
     answers-seen s c.args.place c.args.step c.args.branch (Some stream) r at
@@ -29,7 +34,9 @@ returns-then-is_latent c =
 
 pub returns : goal.returns
 returns c =
-    let s = c.args.self.now in let stream = c.in-Some.stream.now in let r = c.sensible_height.result in
+    let s = c.args.self.now in
+    let stream = c.in-Some.stream.now in
+    let r = c.sensible_height.result in
     let value = value_at (values_of s.auditor.now) c.args.branch in
     let at = stream_read s c.args.branch _ _ (Some stream) c.as_slice.ensures c.stream_at-stream.ensures
     (sym (ap option_copied c.in-Some.is) ∙ c.get.ensures) in

@@ -20,7 +20,9 @@ both : (c : After-plus) → Gives c.plus.result (plus (seen_height c.args.self.n
 both c = subst (Gives c.plus.result) (ap₂ plus c.in_ok-one.ensures.1 c.in_ok-other.ensures.1) c.plus.ensures
 
 pub returns-in_default : goal.returns-in_default
-returns-in_default c = first_behind _ _ c.in_ok-one.ensures.0 ∙ first_behind _ _ c.in_ok-other.ensures.0 ∙ first_behind _ _ c.in_ok-mixed.ensures.0
+returns-in_default c =
+    first_behind _ _ c.in_ok-one.ensures.0 ∙ first_behind _ _ c.in_ok-other.ensures.0
+    ∙ first_behind _ _ c.in_ok-mixed.ensures.0
     ∙ at_not_formed c.args.place 7 _ _ _ c.in_default.is (both (goal.at.returns-in_default c).After-plus)
 
 -- behind all steps before the last the penalty is left
@@ -33,8 +35,11 @@ left : (c : After-minus)
     → IsLeft (minus (plus (seen_height c.args.self.now c.args.first) (seen_height c.args.self.now c.args.second)) (seen_height c.args.self.now c.args.to)) c
 left c =
     let sum = both (goal.at.After-minus c).After-plus in record {
-      gives = subst (Gives c.minus.result) (ap₂ minus (value_formed _ _ _ c.in-Some.is sum) c.in_ok-mixed.ensures.1) c.minus.ensures;
-      found = first_behind _ _ c.in_ok-one.ensures.0 ∙ first_behind _ _ c.in_ok-other.ensures.0 ∙ first_behind _ _ c.in_ok-mixed.ensures.0
+      gives =
+          subst (Gives c.minus.result) (ap₂ minus (value_formed _ _ _ c.in-Some.is sum) c.in_ok-mixed.ensures.1) c.minus.ensures;
+      found =
+          first_behind _ _ c.in_ok-one.ensures.0 ∙ first_behind _ _ c.in_ok-other.ensures.0
+          ∙ first_behind _ _ c.in_ok-mixed.ensures.0
           ∙ after_formed c.args.place 7 _ _ _ _ c.in-Some.is sum;
     }
 
@@ -43,4 +48,6 @@ returns-in-Some-minus c = let l = left (goal.at.returns-in-Some-minus c).After-m
     (l.found ∙ after_formed c.args.place 8 _ _ _ _ c.in-Some-minus.is l.gives ∙ none_of_nothing, value_formed _ _ _ c.in-Some-minus.is l.gives)
 
 pub returns-in-None : goal.returns-in-None
-returns-in-None c = let l = left (goal.at.returns-in-None c).After-minus in l.found ∙ at_not_formed c.args.place 8 _ _ _ c.in-None.is l.gives
+returns-in-None c =
+    let l = left (goal.at.returns-in-None c).After-minus in
+    l.found ∙ at_not_formed c.args.place 8 _ _ _ c.in-None.is l.gives

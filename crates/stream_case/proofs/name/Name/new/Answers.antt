@@ -4,4 +4,5 @@ use Rattle.stream_case.proofs.NameLemmas.{IsStored-made}
 use Rattle.stream_case.proofs.name.Name.new.Goals as goal
 
 pub invariant_of-result : goal.invariant_of-result
-invariant_of-result c = IsStored-made c.args.bytes.now c.copy_from_slice.new.self c.copy_from_slice.ensures.after (search rules)
+invariant_of-result c =
+    IsStored-made c.args.bytes.now c.copy_from_slice.new.self c.copy_from_slice.ensures.after (search rules)

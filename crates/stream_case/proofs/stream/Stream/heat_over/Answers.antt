@@ -5,4 +5,6 @@ use Rattle.stream_case.proofs.HeatLemmas.{heat_over-between}
 use Rattle.stream_case.proofs.stream.Stream.heat_over.Goals as goal
 
 pub returns-clause-range : goal.returns-clause-range
-returns-clause-range c = let range = heat_over-between c.args.from (to_z w32 (of_z w32 c.args.t)) c.args.self.now c.requires in omega (arith, ints)
+returns-clause-range c =
+    let range = heat_over-between c.args.from (to_z w32 (of_z w32 c.args.t)) c.args.self.now c.requires in
+    omega (arith, ints)
