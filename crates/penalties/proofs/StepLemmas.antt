@@ -12,7 +12,7 @@ use Rattle.penalties.proofs.Words.{zero-plus}
 use Rattle.std.proofs.Common.{All, Bool, Err, IsErrAnd, List, None, Ok, Option, Result, Some, [], ap, append_assoc, ap₂, false, get_or, length, map, refl}
 use Rattle.std.proofs.Common.{subst, sym, take, true, ℕ, ℤ, ◌++◌, ◌+◌, ◌<◌, ◌↔◌, ◌∙◌, ◌∷◌, ◌≡◌}
 use Rattle.penalties.proofs.SurveyLemmas.{rows-joints, steps-joints}
-use Rattle.network_audit.proofs.ValidLemmas.{faultless_values}
+use Rattle.network_audit.proofs.VerdictLemmas.{faultless_values}
 use Rattle.networks.specs.declared.network.Line.TheVariants as line
 use Rattle.penalties.specs.declared.list.PenaltyList.TheVariants as list
 

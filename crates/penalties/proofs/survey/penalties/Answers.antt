@@ -1,4 +1,4 @@
-use Rattle.network_audit.proofs.ValidLemmas.{known_network}
+use Rattle.network_audit.proofs.VerdictLemmas.{known_network}
 use Rattle.penalties.proofs.Words.{AreStreams-IsComplete, Audit, HasValidStreams-IsComplete, exchangers_of, few_exchangers, joints_of, length-joints, to_z-of_z}
 use Rattle.penalties.proofs.StepLemmas.{all_listed, found_none, found_some, listed_not_negative, listed_sum, reference_view, too_fine_first, too_fine_later}
 use Rattle.penalties.proofs.SurveyLemmas.{supplies_shifted}
