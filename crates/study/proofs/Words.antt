@@ -58,7 +58,8 @@ pub use Rattle.study.specs.CostRange.{IsCost}
 pub use Rattle.study.specs.Draws.{draw, next_state, state_after}
 pub use Rattle.study.specs.Plan.{IsSweepPlan, contribution_at, has_row}
 pub use Rattle.study.specs.Priced.{HasNoFlowAt, IsLeastCostAt, price_of, priced, priced_part, prices_with}
-pub use Rattle.study.specs.Row.{OneRow, case_with, stream_with, utility_with, with_contribution}
+pub use Rattle.stream_case.specs.Stream.{stream_with}
+pub use Rattle.study.specs.Row.{OneRow, case_with, utility_with, with_contribution}
 pub use Rattle.study.specs.Sample.{drawn_forbids, drawn_high, drawn_low, drawn_stream, drawn_streams, least_temperature, pair_of, sample, stream_name}
 pub use Rattle.study.specs.SampleRow.{OneSampleRow, completed_sample}
 pub use Rattle.study.specs.Segments.{AreSegments, IsCostFunction, IsSegment, on_line}

@@ -15,7 +15,7 @@ use Rattle.std.specs.List.{cons_option}
 use Rattle.std.specs.Prelude.{fold, slice_set}
 use Rattle.std.specs.Str.{bytes_eq}
 use Rattle.stream_case.proofs.CompleteLemmas.{IsPlaced-IsComplete}
-use Rattle.stream_case.specs.Case.{IsComplete}
+use Rattle.stream_case.specs.Case.{IsComplete, utility_named}
 use Rattle.stream_case.specs.Limits.{IsPrice}
 use Rattle.stream_case.specs.Utility.{IsPlaced}
 use Rattle.stream_case.specs.declared.case.Case.{Case}
@@ -23,7 +23,7 @@ use Rattle.stream_case.specs.declared.utility.Utility.{Utility}
 use Rattle.study_text.specs.Entries.{IsKnown}
 use Rattle.study_text.specs.Given.{count_items, is_item, items_of, prices_by, study_of}
 use Rattle.study_text.specs.Outcome.{IsStudyOf, IsStudyOutcome, grammar}
-use Rattle.study_text.specs.Rows.{entries_in, entry_by, entry_in, kind_of, next, utility_in, utility_named}
+use Rattle.study_text.specs.Rows.{entries_in, entry_by, entry_in, kind_of, next, utility_in}
 use Rattle.study_text.specs.Study.{AreCasePrices, IsItem, IsSpan, IsStudy, case_prices}
 use Rattle.study_text.specs.declared.entry.Entry.{Entry}
 use Rattle.study_text.specs.declared.fault.StudyWhy.{StudyWhy}
