@@ -2,6 +2,5 @@ pub mod NoCut
 pub mod PartBounds
 pub mod SampleLemmas
 pub mod SpanLemmas
-pub mod StudyAccepted
 pub mod SweepLemmas
 pub mod Words

@@ -11,11 +11,6 @@ pub mod Sample
 pub mod SampleRow
 pub mod Segments
 pub mod Spans
-pub mod Study
-pub mod StudyAccepted
-pub mod StudyChecks
-pub mod StudyEntries
-pub mod StudyOutcome
-pub mod StudyRows
+pub mod StudyAnswers
 pub mod Supplied
 pub mod Sweep

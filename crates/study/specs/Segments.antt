@@ -3,7 +3,7 @@ use Rattle.std.specs.Prelude.{◌≡◌, ◌≢◌, ℕ, ℤ, pos, ◌+ℤ◌, �
 use Rattle.stream_case.specs.Limits.{IsBetween}
 use Rattle.stream_case.specs.declared.case.Case.{Case}
 use Rattle.study.specs.Priced.{IsLeastCostAt, prices_with}
-use Rattle.study.specs.declared.study_item.Segment.{Segment}
+use Rattle.study.specs.declared.study_answer.Segment.{Segment}
 
 -- f gives the least cost of the case at each price of utility number i from `from` to `to`
 abbrev pub IsCostFunction : Case → ℕ → ℤ → ℤ → (ℤ → ℤ) → Type 0

@@ -7,7 +7,7 @@ use Rattle.study.specs.CostRange.{IsCost, most_cost}
 use Rattle.study.specs.Priced.{HasNoFlowAt, IsLeastCostAt, prices_with}
 use Rattle.study.specs.Segments.{on_line}
 use Rattle.study.specs.declared.lines.Line.{Line}
-use Rattle.study.specs.declared.study_item.Segment.{Segment}
+use Rattle.study.specs.declared.study_answer.Segment.{Segment}
 
 -- the least cost of the case with the price p of utility number i
 abbrev pub CostsWith : Case → ℕ → ℤ → ℤ → Type 0

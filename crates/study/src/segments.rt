@@ -9,7 +9,7 @@ ghost use Rattle.study.specs.Study.{AreSpanSegments, IsSpan};
 use crate::cost_curve::{CostCurve, Point};
 use crate::lines::{Line, line_at, next_price};
 use crate::priced::PricedCase;
-use crate::study_item::Segment;
+use crate::study_answer::Segment;
 use std::alloc::{AllocError, Global};
 use stream_case::Items;
 
