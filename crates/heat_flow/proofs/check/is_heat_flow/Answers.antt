@@ -1,8 +1,8 @@
 use Rattle.std.proofs.Common.{refl}
-use Rattle.certify.proofs.certificate.is_flow.Goals as goal
+use Rattle.heat_flow.proofs.check.is_heat_flow.Goals as goal
 
 pub returns-then-keeps_ranges : goal.returns-then-keeps_ranges
-returns-then-keeps_ranges c =
+returns-then-keeps_ranges g c =
     let all = c.if-not-are_transfers.ensures.0 refl in (
       λ e. record {
         positive = λ k d within. (all k d within).positive;

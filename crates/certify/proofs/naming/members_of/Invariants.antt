@@ -1,6 +1,6 @@
 use Rattle.certify.proofs.Words.{All, IsTrue, filter_map, index_of, is_some}
 use Rattle.std.proofs.Common.{take, ◌≡◌}
-use Rattle.certify.proofs.cut.members_of.Given as goal
+use Rattle.certify.proofs.naming.members_of.Given as goal
 
 abbrev pub invariant-loop-span : goal.invariant-loop-span
 invariant-loop-span l = record {

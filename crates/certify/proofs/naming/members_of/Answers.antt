@@ -1,7 +1,7 @@
 use Rattle.certify.proofs.Moves.{one_more_given, one_more_known}
 use Rattle.certify.proofs.Words.{index_of}
 use Rattle.std.proofs.Common.{sym, ◌∙◌}
-use Rattle.certify.proofs.cut.members_of.Goals as goal
+use Rattle.certify.proofs.naming.members_of.Goals as goal
 
 pub loop-span-preserved : goal.loop-span-preserved
 loop-span-preserved c =
