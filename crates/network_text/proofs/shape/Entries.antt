@@ -104,14 +104,14 @@ undeclared_each given name none k d within same =
 joined_by : (stream : ℕ) (o : Option Exchanger) → has_stream stream o ≡ true
     → (e : Exchanger) × (o ≡ Some e) × Joins e stream
 joined_by stream None has = cc has
-joined_by stream (Some e) has = (e, refl, by (or_cases (same_source e.hot own) (same_source e.cold own) has))
+joined_by stream (Some e) has =
+    let hot = same_source e.hot (source.Stream stream) in
+    let cold = same_source e.cold (source.Stream stream) in
+    (e, refl, by (or_cases hot cold has))
   where
-    abbrev own : Source
-    own = source.Stream stream
-
-    by : (same_source e.hot own ≡ true) ⊎ (same_source e.cold own ≡ true) → Joins e stream
-    by (inl hot) = inl (same_source-true e.hot own hot)
-    by (inr cold) = inr (same_source-true e.cold own cold)
+    by : (same_source e.hot (source.Stream stream) ≡ true) ⊎ (same_source e.cold (source.Stream stream) ≡ true) → Joins e stream
+    by (inl hot) = inl (same_source-true e.hot (source.Stream stream) hot)
+    by (inr cold) = inr (same_source-true e.cold (source.Stream stream) cold)
 
 -- an exchanger that a branch of the stream may pass
 pub joined : (given : Network) (exchanger stream : ℕ) → joins_stream given exchanger stream ≡ true → (e : Exchanger)
