@@ -12,7 +12,8 @@ use crate::report::{Checked, Moved, NoWhy, Priced, Report, Span, Used};
 use crate::uses::are_uses_of;
 use grid::case_parts;
 use heat_flow::{
-    Cut, CutKind, Flow, Prices, are_supporting, cost_of, is_cut_of, is_heat_flow, parts_of, value_of,
+    Cut, CutKind, Flow, Prices, are_supporting, cost_of, is_cut_of, is_heat_flow, parts_of,
+    value_of,
 };
 use std::alloc::{AllocError, Global};
 use stream_case::{Case, Items};
