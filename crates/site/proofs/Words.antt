@@ -27,7 +27,7 @@ unfoldable pub use Rattle.rows.proofs.Words.{rows_of}
 pub use Rattle.rows.specs.Rows.{Row}
 pub use Rattle.rows.specs.Text.{rows_text}
 pub use Rattle.rows.specs.declared.fault.RowFault.{RowFault}
-pub use Rattle.site.specs.Answers.{HaveFewStreams}
+pub use Rattle.site.specs.Additions.{HaveFewStreams}
 unfoldable pub use Rattle.site.specs.Checks.{end_checks, is_among, is_reserved}
 pub use Rattle.site.specs.Given.{Given, entry_by, main_in, nothing, plant_with, site_of, stream_in, with_entry, with_stream}
 pub use Rattle.stream_case.specs.Stream.{stream_with}

@@ -1,6 +1,6 @@
 pub mod Given
 pub mod Checks
 pub mod Outcome
-pub mod Answers
+pub mod Additions
 pub mod Printed
 pub mod Target

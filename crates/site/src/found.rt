@@ -5,7 +5,7 @@ ghost use Rattle.std.specs.List.{list_any};
 ghost use Rattle.first_fault.specs.Checks.{Checked};
 ghost use Rattle.stream_case.specs.Stream.{count_on, stream_with};
 ghost use Rattle.plants.specs.Site.{streams_of};
-ghost use Rattle.site.specs.Answers.{HaveFewStreams, IsFresh, TakesMemory};
+ghost use Rattle.site.specs.Additions.{HaveFewStreams, IsFresh, TakesMemory};
 ghost use Rattle.site.specs.Checks.{end_checks, is_among, is_main, is_plant, is_stream};
 ghost use Rattle.site.specs.Given.{nothing, plant_with, site_with, with_entry};
 
@@ -25,7 +25,7 @@ pub struct Found {
 }
 
 impl Model for Found {
-    ghost use Rattle.site.specs.Answers.{HaveFewStreams};
+    ghost use Rattle.site.specs.Additions.{HaveFewStreams};
     ghost use Rattle.site.specs.Given.{Given};
 
     ghost Value = { Given };

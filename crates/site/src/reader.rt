@@ -8,7 +8,7 @@ ghost use Rattle.first_fault.specs.Outcome.{SoundBefore, given_by};
 ghost use Rattle.plants.specs.Site.{IsValidSite};
 ghost use Rattle.site.specs.Given.{entry_in, nothing};
 ghost use Rattle.site.specs.Checks.{checks};
-ghost use Rattle.site.specs.Answers.{IsFresh};
+ghost use Rattle.site.specs.Additions.{IsFresh};
 ghost use Rattle.site.specs.Outcome.{IsOutcome, grammar};
 
 use crate::contribution_row::contribution_entry;

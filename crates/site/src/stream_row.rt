@@ -4,7 +4,7 @@ ghost use Rattle.std.specs.Prelude.{◌≡◌, IfOk};
 ghost use Rattle.csv.specs.Records.{fields_of};
 ghost use Rattle.first_fault.specs.Checks.{Checked};
 ghost use Rattle.rows.specs.Fields.{field};
-ghost use Rattle.site.specs.Answers.{IsFresh};
+ghost use Rattle.site.specs.Additions.{IsFresh};
 ghost use Rattle.site.specs.Checks.{is_reserved, stream_checks, stream_number_checks};
 ghost use Rattle.site.specs.Given.{stream_in};
 
