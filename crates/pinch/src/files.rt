@@ -12,7 +12,7 @@ ghost use Rattle.pinch.specs.Prices.{study_file};
 ghost use Rattle.pinch.specs.Report.{report_file};
 ghost use Rattle.pinch.specs.Site.{site_file};
 ghost use Rattle.pinch.specs.Stop.{IfEarly, IfNoMemory};
-ghost use Rattle.plants.specs.Site.{IsValidSite};
+ghost use Rattle.site_text.specs.Site.{IsValidSite};
 ghost use Rattle.study_text.specs.Study.{IsStudy};
 
 use crate::stop::Stop;
