@@ -1,6 +1,6 @@
 -- The shape of the network so far, and what an entry adds to it.
 use Rattle.network_text.proofs.Words.{All-from_recursion, All-nil, AreExchangers, AreMadeBeforeUse, AreMadeInOrder, AreNamed, ArePassedWhenDeclared}
-use Rattle.network_text.proofs.Words.{AreUsedOnce, Branch, Case, Decides-is_below, Decides-is_within_limits, Entry, Exchanger, ForSome, HasPositiveSize}
+use Rattle.network_text.proofs.Words.{AreUsedOnce, Branch, Case, Decides-is_below, Entry, Exchanger, ForSome, HasPositiveSize}
 use Rattle.network_text.proofs.Words.{IsAnyName, IsExchanger, IsFresh, IsOfOneStream, IsPositive, IsWithinLimits, Joins, Kind, Network, Passage, Passes}
 use Rattle.network_text.proofs.Words.{PassesDeclared, Rational, Side, Source, Statement, all_pairs_push, and_parts, bounded_within, branch_at, branch_named}
 use Rattle.network_text.proofs.Words.{bytes_decides, checks, cond_some, end_checks, end_entry, entry_by, entry_in, eqb-false, exchanger_at, exchanger_checks}
@@ -106,7 +106,7 @@ joined_by : (stream : ℕ) (o : Option Exchanger) → has_stream stream o ≡ tr
 joined_by stream None has = cc has
 joined_by stream (Some e) has = (e, refl, by (or_cases (same_source e.hot own) (same_source e.cold own) has))
   where
-    own : Source
+    abbrev own : Source
     own = source.Stream stream
 
     by : (same_source e.hot own ≡ true) ⊎ (same_source e.cold own ≡ true) → Joins e stream

@@ -42,6 +42,7 @@ returns c =
     (sym (ap option_copied c.in-Some.is) ∙ c.get.ensures) in
     let base = c.base_of-base.ensures ∙ ap (λ t. base_of t stream) (to_z-of_z w32 s.reference.place (search rules)) in
     let answers = subst (λ b. AnswersOn s.reference.from_itself (Sensible b) c.args.place c.args.step value r) base
-    (subst (λ v. AnswersOn s.reference.from_itself (Sensible c.base_of-base.result) c.args.place c.args.step v r) c.value-value.ensures c.sensible_height.ensures) in
+    (subst (λ v. AnswersOn s.reference.from_itself (Sensible c.base_of-base.result) c.args.place c.args.step v r)
+    c.value-value.ensures c.sensible_height.ensures) in
     answers-seen s c.args.place c.args.step c.args.branch (Some stream) r at
     (answers-sensible (view_of s) stream c.args.place c.args.step value r (sym c.is_latent.ensures.value ∙ c.if-is_latent.false) answers)

@@ -1,23 +1,13 @@
--- What a report says, and what is shown of it.
+-- What `certify` shows of a report.
 use Rattle.std.specs.Prelude.{◌≡◌, ℤ, Option, Some, None}
-use Rattle.first_fault.specs.Outcome.{IsOutcome}
-use Rattle.statements.specs.Statements.{statements_of}
 use Rattle.stream_case.specs.declared.case.Case.{Case}
 use Rattle.certify.specs.Answers.{IsAnswer, Proves}
-use Rattle.certify.specs.Outcome.{grammar}
-use Rattle.certify.specs.declared.fault.ReportWhy.{ReportWhy}
 use Rattle.certify.specs.declared.report.Checked.{Checked}
 use Rattle.certify.specs.declared.report.Checked.TheVariants.{Yes, No}
 use Rattle.certify.specs.declared.report.Report.{Report}
 use Rattle.certify.specs.declared.report.Report.TheVariants as report
-use Rattle.reports.specs.declared.shown.FileRole.TheVariants.{Report as ReportFile}
 use Rattle.reports.specs.declared.shown.Shown.{Shown}
-use Rattle.reports.specs.declared.shown.Shown.TheVariants.{BadReport, Certified, NotCertified}
-use Rattle.pinch.specs.Format.{Format}
-
--- reports, by the grammar of reports
-abbrev pub report_file : Format Report ReportWhy
-report_file = record { role = ReportFile; Gives = λ bytes. IsOutcome grammar (statements_of bytes); bad = BadReport }
+use Rattle.reports.specs.declared.shown.Shown.TheVariants.{Certified, NotCertified}
 
 -- the cost that a report of a heat flow gives; a report of a cut gives none
 abbrev pub cost_in : Report → Option ℤ

@@ -1,7 +1,7 @@
 -- A network that is the text of a design is accepted with the balance of the design.
-use Rattle.pinch.proofs.Words.{AcceptsDesign, Answer, Answered, Answers, AuditsDesign, Balance, Case, Command, EndsIn, Holds, HoldsDesign, IsAccepted, IsAuditOf}
+use Rattle.pinch.proofs.Words.{AcceptsDesign, Answer, Answered, Answers, AnswersDesign, AuditsDesign, Balance, Case, Command, EndsIn, Holds, HoldsDesign, IsAccepted, IsAuditOf}
 use Rattle.pinch.proofs.Words.{IsNetwork, IsShownNetwork, IsStandard, IsTightDesign, IsVerdict, IsVerticalAnswer, IsWithinCounts, Network, Parts, Request, Rose}
-use Rattle.pinch.proofs.Words.{ShelfState, Shown, Shows, ShowsCommand, ShowsDesign, ShowsDesignOf, ShowsVerdict, case_file, completed, file, network_file}
+use Rattle.pinch.proofs.Words.{ShelfState, Shown, Shows, ShowsCommand, ShowsDesignOf, ShowsVerdict, case_file, completed, file, network_file}
 use Rattle.pinch.proofs.Words.{one_verdict, rational_zero, reading_of, ready, statements_of, status_of, text}
 use Rattle.pinch.proofs.Complete.{no_later_fault, of_held}
 use Rattle.pinch.proofs.Formats.{lawful_case, lawful_network}
@@ -31,8 +31,8 @@ of_answer c parts (answer.Least flow prices cost) design counts is = record {
 of_answer c parts (answer.Stuck cut) design counts is = absurd (subst IsWithinCounts is counts)
 
 of_design : (c : Case) (design : Shown) → IsWithinCounts design
-    → ShowsDesign c design ⊎ IsVerticalAnswer (completed c) design → IsDrawn (completed c) design
-of_design c design counts (inl is) = of_answer (completed c) is.parts is.answer design counts is.shows
+    → AnswersDesign c design ⊎ IsVerticalAnswer c design → IsDrawn c design
+of_design c design counts (inl is) = of_answer c is.parts is.answer design counts is.shows
 of_design c design counts (inr is) =
     record { network = is.network; balance = is.balance; shows = is.shows; tight = λ standard. is.tight }
 
@@ -69,10 +69,10 @@ pub audited : (command : Option Command) (old new : ShelfState) (shown : Shown)
     → AuditsDesign command old.files design → (Rose old.faults new.faults → ⊥) → AcceptsDesign design shown
 unfolding reading_of EndsIn
 audited (Some (command.Audit case network)) old new shown is design held no_fault =
-    of_held case_file lawful_case case old new is.end no_fault (HoldsDesign old.files network design) _ (AcceptsDesign design shown) held
+    of_held case_file lawful_case case old new is.end no_fault (λ c. HoldsDesign old.files network design (completed c)) _ (AcceptsDesign design shown) held
     (λ mid c keeps then ends.
     let later = no_later_fault old mid new keeps no_fault in
-    of_text (completed c) network mid new is.end design shown later (of_design c design then.counts then.drawn)
+    of_text (completed c) network mid new is.end design shown later (of_design (completed c) design then.counts then.drawn)
     then.counts (subst (λ files. Holds files network (text design)) (sym keeps.files) then.file) ends is.shows) is.reads
 audited other old new shown is design held no_fault = absurd held
 

@@ -1,17 +1,15 @@
 -- A report that is the text of a proof is answered with yes.
 use Rattle.case_text.proofs.Accepted.{case-is_valid}
-use Rattle.pinch.proofs.Words.{Answer, Answered, Answers, AnswersFlow, AreCaseParts, Case, Checked, ChecksProof, Command, EndsIn, Holds, HoldsOfCut}
-use Rattle.pinch.proofs.Words.{HoldsOfFlow, HoldsProof, HoldsText, IsAnswer, IsAnswerOver, IsCaseAnswer, IsCheckOf, IsComplete, IsFirstOf, IsProofOf, No, NoWhy}
-use Rattle.pinch.proofs.Words.{Part, Parts, Report, Request, Rose, ShelfState, Shown, Shows, ShowsCommand, Yes, case_file, completed, cut_causes, file}
-use Rattle.pinch.proofs.Words.{flow_causes, proofs-pass, reach_between, reading_of, ready, report_file, rows_of, shown_answer, shown_check, status_of, text}
+use Rattle.pinch.proofs.Words.{Answered, Answers, Case, Checked, ChecksProof, Command, EndsIn, Holds, HoldsOfCut}
+use Rattle.pinch.proofs.Words.{HoldsOfFlow, HoldsProof, HoldsText, IsAnswer, IsAnswerOver, IsCheckOf, IsComplete, IsFirstOf, No, NoWhy}
+use Rattle.pinch.proofs.Words.{Part, Report, Request, Rose, ShelfState, Shown, Shows, ShowsCommand, Yes, case_file, completed, cut_causes, file}
+use Rattle.pinch.proofs.Words.{flow_causes, proofs-pass, reading_of, ready, report_file, rows_of, shown_check, status_of, text}
 use Rattle.pinch.proofs.Complete.{no_later_fault, of_held}
 use Rattle.pinch.proofs.Formats.{lawful_case, lawful_report}
 use Rattle.std.proofs.Common.{List, Ok, Option, Result, Some, [], ap, inl, inr, refl, subst, sym, ℕ, ◌∙◌, ◌∷◌, ◌≡◌}
 use Rattle.certify.specs.declared.report.Report.TheVariants as report
 use Rattle.pinch.specs.declared.command.Command.TheVariants as command
 use Rattle.pinch.specs.declared.request.Request.TheVariants as request
-use Rattle.transport.specs.Answer.{IsAnswer as IsFlowAnswer}
-use Rattle.transport.specs.declared.answer.Answer.TheVariants as answer
 
 -- ---- a report has one answer
 
@@ -73,20 +71,3 @@ certified (Some (command.Certify case report)) old new shown is proof no_fault =
     reads_yes (completed c) report mid new is.end shown (no_later_fault old mid new keeps no_fault) then.0
     (subst (λ files. HoldsProof files report (completed c)) (sym keeps.files) then.1) ends is.shows) is.reads
 certified other old new shown is proof no_fault = absurd proof
-
--- ---- what `flow` shows
-
-answer_proof : (c : Case) (parts : Parts) (a : Answer) → AreCaseParts c parts.hot parts.cold
-    → IsFlowAnswer (reach_between c parts.hot parts.cold) parts.hot parts.cold a → IsProofOf c (shown_answer c parts a)
-answer_proof c parts (answer.Least flow prices cost) are is = (refl, are, is.certified)
-answer_proof c parts (answer.Stuck cut) are is = (refl, are, is.cut)
-
-pub answered : (c : Case) (parts : Parts) (a : Answer) (shown : Shown) → IsCaseAnswer c parts a
-    → shown ≡ shown_answer c parts a → AnswersFlow c shown
-answered c parts a shown is_answer is = record {
-  parts = parts;
-  answer = a;
-  is_answer = is_answer;
-  is = is;
-  proof = subst (IsProofOf c) (sym is) (answer_proof c parts a is_answer.parts_are is_answer.answers);
-}

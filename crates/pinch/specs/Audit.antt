@@ -1,13 +1,9 @@
--- What a network file says for a case, and what is shown of its audit.
+-- What `audit` shows of a network.
 use Rattle.std.specs.Prelude.{◌≡◌, ℤ, All}
-use Rattle.first_fault.specs.Outcome.{IsOutcome}
 use Rattle.stream_case.specs.declared.case.Case.{Case}
 use Rattle.fractions.specs.Rationals.{IsAtMost, rational_zero, whole}
 use Rattle.heat_flow.specs.Certificate.{IsLeastCostOf}
 use Rattle.problem_table.specs.Deficit.{IsReferencePlace}
-use Rattle.network_text.specs.Outcome.{grammar}
-use Rattle.statements.specs.Statements.{statements_of}
-use Rattle.network_text.specs.declared.fault.NetWhy.{NetWhy}
 use Rattle.networks.specs.declared.network.Network.{Network}
 use Rattle.network_audit.specs.Audit.{IfAccepted, SaysExactly}
 use Rattle.network_audit.specs.Findings.{IsVerdict}
@@ -17,14 +13,8 @@ use Rattle.network_audit.specs.declared.verdict.Verdict.{Verdict}
 use Rattle.network_audit.specs.declared.verdict.Verdict.TheVariants as verdict
 use Rattle.penalties.specs.Answers.{IfListed, IsNotNegative, ListsPenalties, sum_of}
 use Rattle.penalties.specs.declared.list.PenaltyList.{PenaltyList}
-use Rattle.reports.specs.declared.shown.FileRole.TheVariants.{Network as NetworkFile}
 use Rattle.reports.specs.declared.shown.Shown.{Shown}
-use Rattle.reports.specs.declared.shown.Shown.TheVariants.{Accepted, Rejected, TooFine, BadNetwork}
-use Rattle.pinch.specs.Format.{Format}
-
--- network files, by the grammar of networks of a completed case
-abbrev pub network_file : Case → Format Network NetWhy
-network_file case = record { role = NetworkFile; Gives = λ bytes. IsOutcome (grammar case) (statements_of bytes); bad = BadNetwork }
+use Rattle.reports.specs.declared.shown.Shown.TheVariants.{Accepted, Rejected, TooFine}
 
 -- a network that is accepted is shown with its balance, the floor, the reference place of its case, and its penalties. The case has a heat flow, and
 -- the floor is the least cost of one: the network costs no less. The penalties, unless they are too fine, are not negative, and together they are the

@@ -6,7 +6,7 @@ use Rattle.pinch_outside.specs.Shelf.{NamedFile}
 use Rattle.reports.specs.Proofs.{IsProofOf}
 use Rattle.reports.specs.Text.{text}
 use Rattle.reports.specs.declared.shown.Shown.{Shown}
-use Rattle.pinch.specs.Case.{case_file}
+use Rattle.pinch.specs.Formats.{case_file}
 use Rattle.pinch.specs.Complete.{Holds, HoldsText}
 use Rattle.pinch.specs.declared.command.Command.{Command}
 use Rattle.pinch.specs.declared.command.Command.TheVariants.{Certify}
