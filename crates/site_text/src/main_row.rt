@@ -9,8 +9,8 @@ ghost use Rattle.site_text.specs.Given.{main_in};
 use crate::entry::Entry;
 use crate::fault::SiteWhy;
 use crate::given::Given;
-use csv::ByteRecord;
 use crate::site::Main;
+use csv::ByteRecord;
 use rows::{are_empty, name_in, number_in, temperature};
 use stream_case::MOST_MAINS;
 

@@ -9,8 +9,8 @@ ghost use Rattle.site_text.specs.Checks.{plant_checks};
 use crate::entry::Entry;
 use crate::fault::SiteWhy;
 use crate::given::Given;
-use csv::ByteRecord;
 use crate::limits::MOST_PLANTS;
+use csv::ByteRecord;
 use rows::{are_empty, name_in};
 
 /// What a row of that kind gives.

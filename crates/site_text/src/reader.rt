@@ -18,9 +18,9 @@ use crate::given::Given;
 use crate::kind::{Kind, kind_of};
 use crate::main_row::main_entry;
 use crate::plant_row::plant_entry;
+use crate::site::Site;
 use crate::stream_row::stream_entry;
 use csv::ByteRecord;
-use crate::site::Site;
 use rows::Rows;
 use std::alloc::Global;
 

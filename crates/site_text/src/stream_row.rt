@@ -11,8 +11,8 @@ ghost use Rattle.site_text.specs.Given.{stream_in};
 use crate::entry::Entry;
 use crate::fault::SiteWhy;
 use crate::given::Given;
-use csv::ByteRecord;
 use crate::limits::MOST_SIDE_STREAMS;
+use csv::ByteRecord;
 use rows::{are_empty, flow_rate, name_in, number_in, temperature};
 use stream_case::{Name, Side, Stream};
 
