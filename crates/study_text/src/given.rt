@@ -8,10 +8,9 @@ ghost use Rattle.study_text.specs.Entries.{IsKnown};
 ghost use Rattle.study_text.specs.Checks.{end_checks};
 ghost use Rattle.study_text.specs.Given.{count_items, has_scenario, is_price_of, is_priced, is_scenario_named, prices_by, study_of};
 
-use crate::study::case_prices;
 use crate::entry::Entry;
 use crate::fault::StudyWhy;
-use crate::study::{Study, StudyItem};
+use crate::study::{Study, StudyItem, case_prices};
 use std::alloc::{AllocError, Global};
 use std::marker::Model;
 use stream_case::{Case, Items, Name};

@@ -12,12 +12,12 @@ ghost use Rattle.study_text.specs.Given.{study_of};
 ghost use Rattle.study_text.specs.Outcome.{IsStudyOutcome, grammar};
 ghost use Rattle.study_text.specs.Rows.{entries_in, entry_in};
 
-use crate::given::Given;
 use crate::entry::Entry;
 use crate::fault::{StudyFault, StudyWhy};
-use crate::study::Study;
+use crate::given::Given;
 use crate::kind::{Kind, kind_of};
 use crate::row::{price_entry, scenario_entry, span_entry};
+use crate::study::Study;
 use csv::ByteRecord;
 use rows::Rows;
 use std::alloc::{AllocError, Global};

@@ -10,10 +10,10 @@ ghost use Rattle.study_text.specs.Checks.{known_utility, price_checks, scenario_
 ghost use Rattle.study_text.specs.Rows.{price_in, scenario_in, span_in, utility_in};
 ghost use Rattle.study_text.specs.declared.limits.TheConstants.{MOST_SPAN};
 
-use crate::limits::{MOST_ITEMS, MOST_SPAN};
-use crate::given::Given;
 use crate::entry::Entry;
 use crate::fault::StudyWhy;
+use crate::given::Given;
+use crate::limits::{MOST_ITEMS, MOST_SPAN};
 use csv::ByteRecord;
 use rows::{are_empty, field, name_in, number_in, price};
 use stream_case::Case;
@@ -57,11 +57,7 @@ pub(crate) fn scenario_entry(earlier: &Given, row: &ByteRecord) -> Result<Entry,
 
 /// What a row says that gives the last scenario a price.
 #[tactic(auto, unfolding(crate::specs::Checks::price_checks))]
-pub(crate) fn price_entry(
-    case: &Case,
-    earlier: &Given,
-    row: &ByteRecord,
-) -> Result<Entry, StudyWhy>
+pub(crate) fn price_entry(case: &Case, earlier: &Given, row: &ByteRecord) -> Result<Entry, StudyWhy>
     requires { IsComplete case.now }
     ensures { Checked (price_checks case.now earlier.now (fields_of row.now)) (λ e.
         e ≡ price_in case.now (fields_of row.now)) result }
@@ -113,11 +109,7 @@ fn span_prices(row: &ByteRecord) -> Result<(i64, i64), StudyWhy>
 
 /// What a row says that asks for a span.
 #[tactic(auto, unfolding(crate::specs::Checks::span_checks))]
-pub(crate) fn span_entry(
-    case: &Case,
-    earlier: &Given,
-    row: &ByteRecord,
-) -> Result<Entry, StudyWhy>
+pub(crate) fn span_entry(case: &Case, earlier: &Given, row: &ByteRecord) -> Result<Entry, StudyWhy>
     requires { IsComplete case.now }
     ensures { Checked (span_checks case.now earlier.now (fields_of row.now)) (λ e.
         e ≡ span_in case.now (fields_of row.now)) result }
