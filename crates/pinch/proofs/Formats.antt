@@ -5,7 +5,7 @@ use Rattle.pinch.proofs.Plain.{is_plain}
 use Rattle.std.proofs.Common.{Err, List, Ok, Result, ap, refl, sym, true, ℕ, ◌∙◌, ◌≡◌}
 use Rattle.certify.specs.Outcome as report
 use Rattle.network_text.specs.Outcome as network
-use Rattle.site.specs.Outcome as site
+use Rattle.site_text.specs.Outcome as site
 use Rattle.study_text.specs.Outcome as study
 
 pub record IsLawful {Value Cause : Type 0} (format : Format Value Cause) : Type 0 where

@@ -67,10 +67,10 @@ pub use Rattle.pinch_outside.specs.Faults.{Rose}
 pub use Rattle.pinch_outside.specs.Shelf.{IsFile, IsFileAbove, IsWhole, KeepsFiles, NamedFile, ShelfState}
 pub use Rattle.pinch_outside.specs.Sink.{AppendsFront}
 pub use Rattle.pinch_outside.specs.declared.limits.TheConstants.{MAX_FILE}
-pub use Rattle.plants.specs.Profiles.{sink_profile, source_profile}
-pub use Rattle.plants.specs.Site.{streams_of}
-pub use Rattle.plants.specs.Table.{boiler, cooling, site_utilities}
-pub use Rattle.plants.specs.declared.table.SiteTable.{SiteTable}
+pub use Rattle.site.specs.Profiles.{sink_profile, source_profile}
+pub use Rattle.site_text.specs.Site.{streams_of}
+pub use Rattle.site.specs.Table.{boiler, cooling, site_utilities}
+pub use Rattle.site.specs.declared.table.SiteTable.{SiteTable}
 pub use Rattle.problem_table.specs.Deficit.{hot_target}
 pub use Rattle.reports.proofs.DesignText.{design-statements}
 pub use Rattle.reports.proofs.ProofTexts.{proofs-pass}

@@ -2,7 +2,7 @@
 use Rattle.std.specs.Prelude.{◌≡◌, Option, Result, Ok, Err}
 use Rattle.stream_case.specs.Case.{IsComplete, IsStandard, IsValid}
 use Rattle.stream_case.specs.Stream.{AreSensible}
-use Rattle.plants.specs.Site.{IsValidSite}
+use Rattle.site_text.specs.Site.{IsValidSite}
 use Rattle.networks.specs.Shape.{HasShape}
 use Rattle.certify.specs.Answers.{HasPartPrices}
 use Rattle.study_text.specs.Study.{IsStudy}

@@ -12,9 +12,9 @@ use Rattle.networks.specs.declared.network.Network.{Network}
 use Rattle.certify.specs.Outcome as report_text
 use Rattle.certify.specs.declared.fault.ReportWhy.{ReportWhy}
 use Rattle.certify.specs.declared.report.Report.{Report}
-use Rattle.site.specs.Outcome as site_text
-use Rattle.site.specs.declared.fault.SiteWhy.{SiteWhy}
-use Rattle.plants.specs.declared.site.Site.{Site}
+use Rattle.site_text.specs.Outcome as site_text
+use Rattle.site_text.specs.declared.fault.SiteWhy.{SiteWhy}
+use Rattle.site_text.specs.declared.site.Site.{Site}
 use Rattle.study_text.specs.Outcome as study_text
 use Rattle.study_text.specs.declared.fault.StudyWhy.{StudyWhy}
 use Rattle.study_text.specs.declared.study.Study.{Study}

@@ -5,11 +5,11 @@ use Rattle.heat_flow.specs.declared.flow.Transfer.{Transfer}
 use Rattle.heat_flow.specs.Flow.{IsHeatFlow}
 use Rattle.transport.specs.Answer.{IfLeast}
 use Rattle.transport.specs.declared.answer.Answer.{Answer}
-use Rattle.plants.specs.Profiles.{sink_profile, source_profile}
-use Rattle.plants.specs.Reach.{reach_between}
-use Rattle.plants.specs.SiteTable.{IsSiteTable}
-use Rattle.plants.specs.declared.site.Site.{Site}
-use Rattle.plants.specs.declared.table.SiteTable.{SiteTable}
+use Rattle.site.specs.Profiles.{sink_profile, source_profile}
+use Rattle.site.specs.Reach.{reach_between}
+use Rattle.site.specs.SiteTable.{IsSiteTable}
+use Rattle.site_text.specs.declared.site.Site.{Site}
+use Rattle.site.specs.declared.table.SiteTable.{SiteTable}
 use Rattle.site.specs.Target.{IsSiteTarget}
 use Rattle.reports.specs.Site.{boiler_heat}
 use Rattle.reports.specs.declared.shown.Shown.{Shown}

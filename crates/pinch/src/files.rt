@@ -8,7 +8,7 @@ ghost use Rattle.pinch_outside.specs.declared.limits.TheConstants.{MAX_FILE};
 ghost use Rattle.pinch.specs.Files.{NoFile, NoText, ReadsText};
 ghost use Rattle.pinch.specs.Formats.{case_file, network_file, report_file, site_file, study_file};
 ghost use Rattle.pinch.specs.Stop.{IfEarly, IfNoMemory};
-ghost use Rattle.plants.specs.Site.{IsValidSite};
+ghost use Rattle.site_text.specs.Site.{IsValidSite};
 ghost use Rattle.study_text.specs.Study.{IsStudy};
 
 use crate::stop::Stop;
