@@ -18,8 +18,7 @@ use networks::Network;
 use reports::Shown;
 use std::alloc::{AllocError, Global};
 use stream_case::{Case, complete};
-use study::case_answer;
-use transport::Answer;
+use transport::{Answer, case_answer};
 
 /// A network of the completed case that realises a heat flow of least cost, or a cut where there
 /// is no heat flow.

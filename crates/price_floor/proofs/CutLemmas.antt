@@ -1,16 +1,19 @@
 -- Beside a valid network no cut stands: its members would have to use more than the parts that meet them can.
 use Rattle.fractions.proofs.Comparisons.{at_most_from_minus_turned, at_most_from_same, at_most_trans}
-use Rattle.price_floor.proofs.Words.{AllPairs, Any-from_list_any, AreCaseParts, Case, HasShape, IsAtMost, IsComplete, IsSupporting, IsValidNetwork, Network}
-use Rattle.price_floor.proofs.Words.{NoCutStands, Part, Rational, Side, UsesAreOrdered, at_most-enumerated, both_reach, cases_lt, enumerate_from, eqb-true}
-use Rattle.price_floor.proofs.Words.{get_or-map-range_with_len, int_sum_by, ints, left_of, list_any, list_any-from_Any, minus, minus-plus, minus-self}
-use Rattle.price_floor.proofs.Words.{minus-zero, option_map_or, pos, price_at, range_with_len, rational_sum_by, rational_sum_by-minus, rational_sum_by-same}
-use Rattle.price_floor.proofs.Words.{rational_sum_by-whole, rational_sum_by-zero, rational_zero, reach_between, slice_get_past, slice_get_within, sum-enumerate}
-use Rattle.price_floor.proofs.Words.{sum-enumerated, sum_over_used, times, times-one, times_comm, use_worth, used_heat, whole, whole-minus, worth_of_uses}
-use Rattle.price_floor.proofs.Words.{zero-times, ℤ, ◌-ℤ◌, ◌<ℤ◌, ◌≤ℤ◌}
+use Rattle.price_floor.proofs.Words.{AllPairs, Any-from_list_any, AreCaseParts, Case, HasShape, IsAtMost, IsComplete}
+use Rattle.price_floor.proofs.Words.{IsSupporting, IsValidNetwork, Network, NoCutStands, Part, Rational, Side}
+use Rattle.price_floor.proofs.Words.{UsesAreOrdered, at_most-enumerated, both_reach, cases_lt, enumerate_from, eqb-true}
+use Rattle.price_floor.proofs.Words.{get_or-map-range_with_len, int_sum_by, ints, left_of, list_any, list_any-from_Any}
+use Rattle.price_floor.proofs.Words.{minus, minus-plus, minus-self, minus-zero, option_map_or, pos, price_at}
+use Rattle.price_floor.proofs.Words.{range_with_len, rational_sum_by, rational_sum_by-minus, rational_sum_by-same}
+use Rattle.price_floor.proofs.Words.{rational_sum_by-whole, rational_sum_by-zero, rational_zero, reach_between}
+use Rattle.price_floor.proofs.Words.{slice_get_past, slice_get_within, sum-enumerate, sum-enumerated, sum_over_used}
+use Rattle.price_floor.proofs.Words.{times, times-one, times_comm, use_worth, used_heat, whole, whole-minus}
+use Rattle.price_floor.proofs.Words.{worth_of_uses, zero-times, ℤ, ◌-ℤ◌, ◌<ℤ◌, ◌≤ℤ◌}
 use Rattle.heat_flow.specs.Cuts.{cut_side, joins, least_at, meets, need_of, offer_of, opposite, parts_of}
 use Rattle.price_floor.proofs.FloorLemmas.{IsUsedWithin, minus-times, uses-within, whole-int_sum_from}
-use Rattle.std.proofs.Common.{All, Bool, List, None, Option, Some, ap, arith, false, get_or, if◌then◌else◌, length, map, refl, slice_get, subst, subst₂, sym}
-use Rattle.std.proofs.Common.{true, ℕ, ⊎_elim, ◌<◌, ◌==◌, ◌∙◌, ◌≡◌}
+use Rattle.std.proofs.Common.{All, Bool, List, None, Option, Some, ap, arith, false, get_or, if◌then◌else◌, length, map}
+use Rattle.std.proofs.Common.{refl, slice_get, subst, subst₂, sym, true, ℕ, ⊎_elim, ◌<◌, ◌==◌, ◌∙◌, ◌≡◌}
 use Rattle.stream_case.specs.declared.source.Side.TheVariants as side
 
 -- ---- prices that are made for each index
@@ -34,8 +37,11 @@ worth-listed network f parts =
     (λ i p at. ap (λ c. times (whole c) (used_heat network p)) (price-listed f (length parts) i (slice_get_within parts i p at)))
 
 -- prices below 0
-use-turned : (network : Network) (f : ℕ → ℤ) (parts : List Part) → use_at network (λ a. pos 0 -ℤ f a) parts ≡ minus rational_zero (use_at network f parts)
-use-turned network f parts = let es = enumerate_from 0 parts in let term = λ (e : ℕ × Part). times (whole (f e.0)) (used_heat network e.1) in
+use-turned : (network : Network) (f : ℕ → ℤ) (parts : List Part)
+    → use_at network (λ a. pos 0 -ℤ f a) parts ≡ minus rational_zero (use_at network f parts)
+use-turned network f parts =
+    let es = enumerate_from 0 parts in
+    let term = λ (e : ℕ × Part). times (whole (f e.0)) (used_heat network e.1) in
     rational_sum_by-same (λ (e : ℕ × Part). times (whole (pos 0 -ℤ f e.0)) (used_heat network e.1)) (λ e. minus rational_zero (term e)) es
     (λ k d inside. let e = get_or es k d in turned (f e.0) (used_heat network e.1))
     ∙ rational_sum_by-minus (λ (e : ℕ × Part). rational_zero) term es
@@ -106,7 +112,8 @@ module _ (uses : UsesAreOrdered) (case : Case) (network : Network) (hot cold : L
     where
       supporting : IsSupporting reach (listed (λ a. pos 0 -ℤ own a) (length hot)) (listed (λ b. pos 0 -ℤ met side.Hot b) (length cold))
       supporting a b reached = let within = reach-within case hot cold a b reached in
-          let less = one_if-le (is_member members a) (meets side.Hot reach members b) (meets-member side.Hot reach members a b reached) in
+          let less =
+              one_if-le (is_member members a) (meets side.Hot reach members b) (meets-member side.Hot reach members a b reached) in
           subst₂ (λ p q. p ≤ℤ q) (sym (price-listed (λ j. pos 0 -ℤ met side.Hot j) (length cold) b within.1))
           (sym (price-listed (λ i. pos 0 -ℤ own i) (length hot) a within.0)) (omega (arith, ints, less))
 
@@ -153,7 +160,8 @@ need-at_most network parts members used ordered needing =
         → IsAtMost (taken i) (times (whole (one_if (is_member members i))) (used_heat network p))
     each i p at = by (is_member members i)
       where
-        by : (b : Bool) → IsAtMost (minus (least i) (if b then rational_zero else least i)) (times (whole (one_if b)) (used_heat network p))
+        by : (b : Bool)
+            → IsAtMost (minus (least i) (if b then rational_zero else least i)) (times (whole (one_if b)) (used_heat network p))
         by true =
             subst₂ IsAtMost (ap (λ o. whole (option_map_or (λ (q : Part). q.least) o (pos 0))) (sym at) ∙ sym (minus-zero (least i)))
             (sym (times_comm (whole (pos 1)) (used_heat network p) ∙ times-one (used_heat network p))) (used i p at).least

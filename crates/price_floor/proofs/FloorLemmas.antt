@@ -1,17 +1,22 @@
 -- No valid network costs less than the value of supporting prices: each part costs at least its value beyond what its use is worth.
-use Rattle.fractions.proofs.Comparisons.{at_most-plus_plus, at_most-ratio, at_most-times_left, at_most-whole, at_most_from_ratio, at_most_refl, at_most_trans}
-use Rattle.fractions.proofs.Comparisons.{times-turned}
-use Rattle.price_floor.proofs.Words.{All-contains, All-head, All-tail, AllPairs, AllPairs-head, AllPairs-tail, AreCaseParts, AreParts, Case, Contains}
-use Rattle.price_floor.proofs.Words.{Contains-cons, IsAtMost, IsInRange, IsPartOf, IsValidNetwork, Network, NoNetworkCostsLess, Part, Rational, Side, Source}
-use Rattle.price_floor.proofs.Words.{UsesAreOrdered, Utility, all_at, at_most-enumerated, by_four, cases_eq, clamps, comes_before, comes_before_source, cost_of}
-use Rattle.price_floor.proofs.Words.{enumerate_from, excess_price, false_from_ne_true, heat_price, heat_with, int_sum_from, ints, least_product, minus, negsuc}
-use Rattle.price_floor.proofs.Words.{one_denominator, own_side, plus, plus-times, plus-zero, pos, price_at, rational_sum_by, rational_sum_by-minus}
-use Rattle.price_floor.proofs.Words.{rational_sum_by-plus, rational_sum_by-same, rational_sum_by-swap, rational_sum_by-zero, rational_zero, same_Some}
-use Rattle.price_floor.proofs.Words.{same_side, same_side-true, same_source, same_source-same, same_source-true, side_value, slice_get_within, sum-enumerated}
-use Rattle.price_floor.proofs.Words.{sum-items, sum-picked, times, times-minus, times_comm, true≢false, use_worth, used_heat, utility_part, value_of, whole}
-use Rattle.price_floor.proofs.Words.{whole-minus, whole-plus, whole-times, worth_of_uses, zero-plus, zero-times, ℤ, ◌*ℤ◌, ◌+ℤ◌, ◌-ℤ◌}
-use Rattle.std.proofs.Common.{All, Bool, List, Some, [], ap, ap₂, arith, false, get_or, if◌then◌else◌, inl, inr, ne_eqb, refl, slice_get, subst, subst₂, suc}
-use Rattle.std.proofs.Common.{sym, true, ℕ, ⊎_elim, ◌+◌, ◌==◌, ◌∙◌, ◌∷◌, ◌≡◌}
+use Rattle.fractions.proofs.Comparisons.{at_most-plus_plus, at_most-ratio, at_most-times_left, at_most-whole}
+use Rattle.fractions.proofs.Comparisons.{at_most_from_ratio, at_most_refl, at_most_trans, times-turned}
+use Rattle.price_floor.proofs.Words.{All-contains, All-head, All-tail, AllPairs, AllPairs-head, AllPairs-tail}
+use Rattle.price_floor.proofs.Words.{AreCaseParts, AreParts, Case, Contains, Contains-cons, IsAtMost, IsInRange}
+use Rattle.price_floor.proofs.Words.{IsPartOf, IsValidNetwork, Network, NoNetworkCostsLess, Part, Rational, Side}
+use Rattle.price_floor.proofs.Words.{Source, UsesAreOrdered, Utility, all_at, at_most-enumerated, by_four, cases_eq}
+use Rattle.price_floor.proofs.Words.{clamps, comes_before, comes_before_source, cost_of, enumerate_from, excess_price}
+use Rattle.price_floor.proofs.Words.{false_from_ne_true, heat_price, heat_with, int_sum_from, ints, least_product}
+use Rattle.price_floor.proofs.Words.{minus, negsuc, one_denominator, own_side, plus, plus-times, plus-zero, pos}
+use Rattle.price_floor.proofs.Words.{price_at, rational_sum_by, rational_sum_by-minus, rational_sum_by-plus}
+use Rattle.price_floor.proofs.Words.{rational_sum_by-same, rational_sum_by-swap, rational_sum_by-zero, rational_zero}
+use Rattle.price_floor.proofs.Words.{same_Some, same_side, same_side-true, same_source, same_source-same}
+use Rattle.price_floor.proofs.Words.{same_source-true, side_value, slice_get_within, sum-enumerated, sum-items}
+use Rattle.price_floor.proofs.Words.{sum-picked, times, times-minus, times_comm, true≢false, use_worth, used_heat}
+use Rattle.price_floor.proofs.Words.{utility_part, value_of, whole, whole-minus, whole-plus, whole-times, worth_of_uses}
+use Rattle.price_floor.proofs.Words.{zero-plus, zero-times, ℤ, ◌*ℤ◌, ◌+ℤ◌, ◌-ℤ◌}
+use Rattle.std.proofs.Common.{All, Bool, List, Some, [], ap, ap₂, arith, false, get_or, if◌then◌else◌, inl, inr, ne_eqb}
+use Rattle.std.proofs.Common.{refl, slice_get, subst, subst₂, suc, sym, true, ℕ, ⊎_elim, ◌+◌, ◌==◌, ◌∙◌, ◌∷◌, ◌≡◌}
 use Rattle.stream_case.specs.declared.source.Side.TheVariants as side
 use Rattle.stream_case.specs.declared.source.Source.TheVariants as source
 
@@ -252,8 +257,10 @@ less_on_both = by_four _ (λ n m l k d some h. let x = at_most_from_ratio k l d 
 
 pub no_network-costs_less : UsesAreOrdered → NoNetworkCostsLess
 no_network-costs_less uses case network hot cold y z complete shape valid parts supporting =
-    let given = side_value-at_most network side.Hot hot y (uses-within case network parts.grid side.Hot hot valid parts.hot_parts) in
-    let taken = side_value-at_most network side.Cold cold z (uses-within case network parts.grid side.Cold cold valid parts.cold_parts) in
+    let given =
+        side_value-at_most network side.Hot hot y (uses-within case network parts.grid side.Hot hot valid parts.hot_parts) in
+    let taken =
+        side_value-at_most network side.Cold cold z (uses-within case network parts.grid side.Cold cold valid parts.cold_parts) in
     let ordered = uses case network hot cold y z complete shape valid parts supporting in
     let hot_cost = rational_sum_by (part_cost network) hot in
     let cold_cost = rational_sum_by (part_cost network) cold in

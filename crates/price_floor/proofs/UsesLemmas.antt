@@ -1,18 +1,26 @@
 -- What a network uses of the parts of its case is ordered at prices that support the heat flows.
 use Rattle.fractions.proofs.Comparisons.{at_most-plus_plus, at_most-times, at_most-whole, at_most_refl, at_most_trans}
-use Rattle.price_floor.proofs.Words.{All-contains, All-slice_get, All-weaker, AreParts, AreParts-made, AreStreams-IsComplete, Case, HasShape, HoldsPlaces}
-use Rattle.price_floor.proofs.Words.{HoldsPlaces-IsGrid, IsAtMost, IsBounded-part, IsComplete, IsGrid, IsOnPlaces, IsPartOf, IsPlaced, IsPlaced-IsComplete}
-use Rattle.price_floor.proofs.Words.{IsSourceOf, IsSourceOf-side, IsSupporting, IsValidNetwork, IsValidStream, ListsFalling-unique, Network, Part, Rational}
-use Rattle.price_floor.proofs.Words.{Side, Source, StepPrices, Stream, UsesAreOrdered, Utility, View, at_most-enumerated, both_reach, branch_worth, clamps}
-use Rattle.price_floor.proofs.Words.{cold_worth, enumerate_from, exchangers_of, heat_with, high_end, holds_ends, hot_worth, int_min, ints, low_end, minus}
-use Rattle.price_floor.proofs.Words.{parts_on_grid, places_of, plus, plus-minus, plus_assoc, plus_comm, pos, price_at, price_steps, rational_sum_by}
-use Rattle.price_floor.proofs.Words.{rational_sum_by-minus, rational_zero, reach_between, side_of_part, stream_loss, sum-enumerated, sum-items, times}
-use Rattle.price_floor.proofs.Words.{use_worth, used_by, used_heat, views_of, whole, worth_of_uses, ℤ, ◌<ℤ◌, ◌≤ℤ◌}
-use Rattle.price_floor.proofs.NetworkWorth.{duties_of, duty_worth, duty_worth-by, stream_worth-is, utility_worth-is, worths_ordered}
-use Rattle.price_floor.proofs.StepsOfParts.{HasEnds, cold_price, hot_price, leaves_own, own_view, own_worth, part_worth, some_lowest, step-part}
-use Rattle.price_floor.proofs.StepsOfParts.{steps_are_ordered, steps_fall, sum-by_source, views-fall}
-use Rattle.std.proofs.Common.{All, AllPairs, Contains, List, Some, [], ap, ap₂, arith, inl, inr, is_some, refl, slice_get, subst, suc, sym, zero, ℕ, ◌∙◌, ◌∷◌}
-use Rattle.std.proofs.Common.{◌≡◌}
+use Rattle.price_floor.proofs.Words.{All-contains, All-slice_get, All-weaker, AreParts, AreParts-made}
+use Rattle.price_floor.proofs.Words.{AreStreams-IsComplete, Case, HasShape, HoldsPlaces, HoldsPlaces-IsGrid, IsAtMost}
+use Rattle.price_floor.proofs.Words.{IsBounded-part, IsComplete, IsGrid, IsOnPlaces, IsPartOf, IsPlaced}
+use Rattle.price_floor.proofs.Words.{IsPlaced-IsComplete, IsSourceOf, IsSourceOf-side, IsSupporting, IsValidNetwork}
+use Rattle.price_floor.proofs.Words.{IsValidStream, ListsFalling-unique, Network, Part, Rational, Side, Source}
+use Rattle.price_floor.proofs.Words.{StepPrices, Stream, Tariff, UsesAreOrdered, Utility, View, at_most-enumerated}
+use Rattle.price_floor.proofs.Words.{both_reach, branch_worth, clamps, cold_worth, enumerate_from, exchangers_of}
+use Rattle.price_floor.proofs.Words.{heat_with, high_end, holds_ends, hot_worth, int_min, ints, low_end, minus}
+use Rattle.price_floor.proofs.Words.{parts_on_grid, places_of, plus, plus-minus, plus_assoc, plus_comm, pos, price_at}
+use Rattle.price_floor.proofs.Words.{price_steps, rational_sum_by, rational_sum_by-minus, rational_zero, reach_between}
+use Rattle.price_floor.proofs.Words.{side_of_part, stream_loss, sum-enumerated, sum-items, tariff_of, times, use_worth}
+use Rattle.price_floor.proofs.Words.{used_by, used_heat, views_of, whole, worth_of_uses, ℤ, ◌<ℤ◌, ◌≤ℤ◌}
+use Rattle.price_floor.proofs.UtilityWorth.{duties_of, duty_worth, duty_worth-by, utility_worth-is}
+use Rattle.price_floor.proofs.StreamWorth.{stream_worth-is}
+use Rattle.price_floor.proofs.NetworkWorth.{worths_ordered}
+use Rattle.price_floor.proofs.ViewLemmas.{HasEnds, leaves_own, own_view, some_lowest, views-fall}
+use Rattle.price_floor.proofs.PriceSteps.{cold_price, hot_price, steps_are_ordered, steps_fall}
+use Rattle.price_floor.proofs.SourceSums.{own_worth, part_worth, sum-by_source}
+use Rattle.price_floor.proofs.StepLemmas.{step-part}
+use Rattle.std.proofs.Common.{All, AllPairs, Contains, List, Some, [], ap, ap₂, arith, inl, inr, is_some, refl}
+use Rattle.std.proofs.Common.{slice_get, subst, suc, sym, zero, ℕ, ◌∙◌, ◌∷◌, ◌≡◌}
 use Rattle.stream_case.specs.declared.source.Side.TheVariants as side
 use Rattle.stream_case.specs.declared.source.Source.TheVariants as source
 
@@ -44,8 +52,11 @@ module _ (case : Case) (network : Network) (hot cold : List Part) (y z : List �
   abbrev prices : Side → Source → StepPrices
   prices = price_steps case (least_price y) z cold
 
+  abbrev tariff : Tariff
+  tariff = tariff_of case (least_price y) z cold grid
+
   abbrev worth : Side → Part → Rational
-  worth = part_worth (least_price y) (views_of grid) (price_steps case (least_price y) z cold) network
+  worth = part_worth tariff network
 
   falls : AllPairs (λ a b. b <ℤ a) grid
   falls = is_grid.ordered
@@ -100,11 +111,11 @@ module _ (case : Case) (network : Network) (hot cold : List Part) (y z : List �
   -- the parts of the streams, and the duties of the utilities
   abbrev of_streams : Side → List Part → Rational
   of_streams on parts =
-      rational_sum_by (λ (e : ℕ × Stream). rational_sum_by (own_worth least views prices network on (source.Stream e.0)) parts) (enumerate_from 0 case.streams)
+      rational_sum_by (λ (e : ℕ × Stream). rational_sum_by (own_worth tariff network on (source.Stream e.0)) parts) (enumerate_from 0 case.streams)
 
   abbrev of_utilities : Side → Rational
   of_utilities on =
-      rational_sum_by (duty_worth case network valid.values least views prices on) (enumerate_from 0 (exchangers_of network.lines))
+      rational_sum_by (duty_worth case network valid.values tariff on) (enumerate_from 0 (exchangers_of network.lines))
 
   -- by streams and by utilities
   side_sum : (on : Side) (parts : List Part) → AreParts case.streams case.utilities grid on parts
@@ -113,26 +124,27 @@ module _ (case : Case) (network : Network) (hot cold : List Part) (y z : List �
       sum-by_source case (λ (p : Part). p.source) (worth on) parts (All-weaker (IsPartOf case.streams case.utilities grid on) (λ p. IsSourceOf case p.source)
       (λ p is. IsSourceOf-side case p.source (ap is_some (side_of_part case grid on p is))) parts are.each)
       ∙ ap (plus (of_streams on parts))
-      (sum-enumerated (λ (e : ℕ × Utility). rational_sum_by (own_worth least views prices network on (source.Utility e.0)) parts)
-      (λ e. duties_of case network valid.values least views prices on e.0) case.utilities
-      (λ k u at. utility_worth-is case network valid.values least views prices on k u at shape grid parts are)
-      ∙ sym (duty_worth-by case network valid.values least views prices on shape))
+      (sum-enumerated (λ (e : ℕ × Utility). rational_sum_by (own_worth tariff network on (source.Utility e.0)) parts)
+      (λ e. duties_of case network valid.values tariff on e.0) case.utilities
+      (λ k u at. utility_worth-is case network valid.values tariff on k u at shape grid parts are)
+      ∙ sym (duty_worth-by case network valid.values tariff on shape))
 
   -- the streams lose what the parts of the hot ones are worth, less what those of the cold ones are worth
-  streams_lose : rational_sum_by (stream_loss (branch_worth case least views prices)) (enumerate_from 0 case.streams)
+  streams_lose : rational_sum_by (stream_loss (branch_worth case tariff)) (enumerate_from 0 case.streams)
       ≡ minus (of_streams side.Hot hot) (of_streams side.Cold cold)
   streams_lose =
-      let hots = λ (e : ℕ × Stream). rational_sum_by (own_worth least views prices network side.Hot (source.Stream e.0)) hot in
-      let colds = λ (e : ℕ × Stream). rational_sum_by (own_worth least views prices network side.Cold (source.Stream e.0)) cold in
-      sum-enumerated (stream_loss (branch_worth case least views prices)) (λ e. minus (hots e) (colds e)) case.streams one
+      let hots = λ (e : ℕ × Stream). rational_sum_by (own_worth tariff network side.Hot (source.Stream e.0)) hot in
+      let colds = λ (e : ℕ × Stream). rational_sum_by (own_worth tariff network side.Cold (source.Stream e.0)) cold in
+      sum-enumerated (stream_loss (branch_worth case tariff)) (λ e. minus (hots e) (colds e)) case.streams one
       ∙ rational_sum_by-minus hots colds (enumerate_from 0 case.streams)
     where
       one : (i : ℕ) (s : Stream) → slice_get case.streams i ≡ Some s
-          → stream_loss (branch_worth case least views prices) (i, s)
-          ≡ minus (rational_sum_by (own_worth least views prices network side.Hot (source.Stream i)) hot)
-          (rational_sum_by (own_worth least views prices network side.Cold (source.Stream i)) cold)
+          → stream_loss (branch_worth case tariff) (i, s)
+          ≡ minus (rational_sum_by (own_worth tariff network side.Hot (source.Stream i)) hot)
+          (rational_sum_by (own_worth tariff network side.Cold (source.Stream i)) cold)
       one i s at =
-          let ends = All-slice_get (λ (r : Stream). Contains grid (high_end r) × Contains grid (low_end r)) case.streams i s
+          let ends =
+              All-slice_get (λ (r : Stream). Contains grid (high_end r) × Contains grid (low_end r)) case.streams i s
           (holds_ends case.streams case.utilities grid holds) at in
           let (lowest, low) = some_lowest grid (low_end s) falls ends.1 in
           let under = All-contains (λ x. lowest ≤ℤ x) grid (low_end s) low.each ends.1 in
@@ -152,16 +164,17 @@ module _ (case : Case) (network : Network) (hot cold : List Part) (y z : List �
   sides_ordered : IsAtMost (rational_sum_by (worth side.Cold) cold) (rational_sum_by (worth side.Hot) hot)
   sides_ordered =
       let es = exchangers_of network.lines in
-      let takes = sum-enumerated (cold_worth case network valid.values least views prices)
-      (duty_worth case network valid.values least views prices side.Cold) es (λ n e at. refl) in
+      let takes = sum-enumerated (cold_worth case network valid.values tariff)
+      (duty_worth case network valid.values tariff side.Cold) es (λ n e at. refl) in
       let gives =
-      sum-enumerated (hot_worth case network valid.values least views prices)
-      (duty_worth case network valid.values least views prices side.Hot) es (λ n e at. refl) in
+      sum-enumerated (hot_worth case network valid.values tariff)
+      (duty_worth case network valid.values tariff side.Hot) es (λ n e at. refl) in
       let h =
-      worths_ordered case network valid.values least views prices shape valid.valuation valid.ended valid.approaches valid.permitted
+      worths_ordered case network valid.values tariff shape valid.valuation valid.ended valid.approaches valid.permitted
       (views-fall grid falls) (steps_are_ordered case least z cold grid falls cold_ends) in
-      let both = subst (λ c. IsAtMost c (plus (minus (of_streams side.Hot hot) (of_streams side.Cold cold)) (of_utilities side.Hot))) takes
-      (subst (IsAtMost (rational_sum_by (cold_worth case network valid.values least views prices) (enumerate_from 0 es))) (ap₂ plus streams_lose gives) h) in
+      let both =
+          subst (λ c. IsAtMost c (plus (minus (of_streams side.Hot hot) (of_streams side.Cold cold)) (of_utilities side.Hot))) takes
+      (subst (IsAtMost (rational_sum_by (cold_worth case network valid.values tariff) (enumerate_from 0 es))) (ap₂ plus streams_lose gives) h) in
       subst (λ w. IsAtMost w (rational_sum_by (worth side.Hot) hot)) (sym (side_sum side.Cold cold cold_parts))
       (subst (IsAtMost (plus (of_streams side.Cold cold) (of_utilities side.Cold))) (sym (side_sum side.Hot hot hot_parts))
       (moved_over (of_streams side.Hot hot) (of_streams side.Cold cold) (of_utilities side.Cold) (of_utilities side.Hot) both))
@@ -184,7 +197,8 @@ module _ (case : Case) (network : Network) (hot cold : List Part) (y z : List �
 pub uses_ordered : UsesAreOrdered
 uses_ordered case network hot cold y z complete shape valid parts supporting =
     let on = parts_on_grid case hot cold parts in
-    let same = ListsFalling-unique (Contains (places_of case.streams case.utilities)) parts.grid on.grid parts.is_grid on.is_grid in
+    let same =
+        ListsFalling-unique (Contains (places_of case.streams case.utilities)) parts.grid on.grid parts.is_grid on.is_grid in
     uses_on_grid case network hot cold y z complete shape valid on.grid on.is_grid
     (subst (λ g. AreParts case.streams case.utilities g side.Hot hot) same parts.hot_parts)
     (subst (λ g. AreParts case.streams case.utilities g side.Cold cold) same parts.cold_parts)

@@ -2,8 +2,8 @@
 use Rattle.std.specs.Prelude.{◌≡◌, ◌⊎◌, ℕ, ◌<◌, ◌≤◌, ℤ, pos, ◌+ℤ◌, ◌-ℤ◌, ◌≤ℤ◌, ◌<ℤ◌, List, [], length, All, Some, slice_get}
 use Rattle.stream_case.specs.Limits.{IsBetween, IsPrice}
 use Rattle.stream_case.specs.declared.case.Case.{Case}
-use Rattle.study.specs.Priced.{HasNoFlowAt, IsCostAt, IsLeastCostAt, prices_with}
-use Rattle.study.specs.Segments.{AreSegments, IsCostFunction}
+use Rattle.study.specs.Priced.{HasNoFlowAt, IsCostAt, prices_with}
+use Rattle.study.specs.Segments.{AreSegments, CostsWith}
 use Rattle.study.specs.declared.limits.TheConstants.{MOST_ITEMS, MOST_SPAN}
 use Rattle.study.specs.declared.study_item.Segment.{Segment}
 use Rattle.study.specs.declared.study_item.Study.{Study}
@@ -41,7 +41,7 @@ pub record IsStudy (c : Case) (study : Study) : Type 0 where
 -- the segments of the least cost over the span, or none where the case has no heat flow at any of its prices
 abbrev pub AreSpanSegments : Case → ℕ → ℤ → ℤ → List Segment → Type 0
 AreSpanSegments c i from to segments =
-    ((f : ℤ → ℤ) × IsCostFunction c i from to f × AreSegments f from to segments)
+    AreSegments c i to from (to +ℤ pos 1) segments
     ⊎ ((segments ≡ []) × ((p : ℤ) → IsBetween from to p → HasNoFlowAt c (prices_with c i p)))
 
 -- the least cost of a scenario, and the segments of a span
@@ -66,4 +66,7 @@ OneAnswer c = (study : Study) (answers others : List StudyAnswer) → IsStudy c 
 
 -- the least cost never rises more behind a price of a utility than before it
 abbrev pub RisesFall : Case → Type 0
-RisesFall c = (i : ℕ) (p first middle last : ℤ) → i < length c.utilities → IsLeastCostAt c (prices_with c i p) first → IsLeastCostAt c (prices_with c i (p +ℤ pos 1)) middle → IsLeastCostAt c (prices_with c i (p +ℤ pos 2)) last → (last -ℤ middle) ≤ℤ (middle -ℤ first)
+RisesFall c =
+    (i : ℕ) (p first middle last : ℤ) → i < length c.utilities
+    → CostsWith c i p first → CostsWith c i (p +ℤ pos 1) middle → CostsWith c i (p +ℤ pos 2) last
+    → (last -ℤ middle) ≤ℤ (middle -ℤ first)

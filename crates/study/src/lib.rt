@@ -7,9 +7,7 @@
 //! ask, or which row is at fault and why.
 #![tactic(auto)]
 
-mod answer;
 mod contribution;
-mod cost;
 mod cost_curve;
 mod generator;
 mod limits;
@@ -29,11 +27,8 @@ mod study_kind;
 mod study_laws;
 mod study_reader;
 mod study_row;
-mod supplied;
 mod sweeps;
 
-pub use answer::case_answer;
-pub use cost::least_cost;
 pub use limits::{
     FLOW_RATES, FORBID_CHANCE, LEAST_HOT_TEMPERATURE, LONGEST_STEP, MODULUS, MOST_ITEMS, MOST_ROWS,
     MOST_SAMPLE_NUMBER, MOST_SAMPLE_STREAMS, MOST_SPAN, MOST_WORKERS, MULTIPLIER,

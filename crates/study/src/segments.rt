@@ -3,7 +3,8 @@ ghost use Rattle.std.specs.Prelude.{◌≡◌, ◌<◌, pos, ◌+ℤ◌, ◌≤�
 ghost use Rattle.stream_case.specs.Limits.{IsPrice};
 ghost use Rattle.study.specs.CostCurve.{IsCostCurve, IsPointOf};
 ghost use Rattle.study.specs.PricedCase.{IsPricedCase};
-ghost use Rattle.study.specs.Spans.{AreCostSegments, IsCostSegment, IsLine, IsLineEnd};
+ghost use Rattle.study.specs.Segments.{IsSegment};
+ghost use Rattle.study.specs.Lines.{IsLine, IsLineEnd};
 ghost use Rattle.study.specs.Study.{AreSpanSegments, IsSpan};
 
 use crate::cost_curve::{CostCurve, Point};
@@ -106,7 +107,7 @@ fn segment_from(
     requires order { first.price ≤ℤ to }
     requires last { IsPrice to }
     ensures from { IfOk result (λ segment. segment.from ≡ first.price) }
-    ensures segment { IfOk result (IsCostSegment curve.now.priced.case.now curve.now.utility to) }
+    ensures segment { IfOk result (IsSegment curve.now.priced.case.now curve.now.utility to) }
     ensures ahead { All (IsPointOf curve.now) ahead.new.items }
 {
     if first.price == to {

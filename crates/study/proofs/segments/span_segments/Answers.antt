@@ -1,7 +1,7 @@
 use Rattle.std.proofs.Common.{FitsSigned, [], inr, of_z, rules, subst, sym, to_z, w64, ◌++◌, ◌∷◌}
 use Rattle.std.proofs.lemmas.List.Elements.{All-nil}
 use Rattle.study.proofs.Words.{All, All-push, CostsWith, IsCost, IsPoint, IsPrice, Point, to_z-of_z, w128}
-use Rattle.study.proofs.SpanLemmas.{has_flow, no_flow-moves}
+use Rattle.study.proofs.LeastCosts.{has_flow, no_flow-moves}
 use Rattle.study.proofs.segments.span_segments.Goals as goal
 
 pub known_segments-requires-clause-curve : goal.known_segments-requires-clause-curve

@@ -1,8 +1,9 @@
-use Rattle.study.proofs.Words.{Bool, Case, HasNoFlow, HoldsOfParts-some, IsCaseNet, IsCaseNet-alike, IsCost, IsLeastCost, IsLeastCostAt, Part}
-use Rattle.study.proofs.Words.{length-map, priced, priced_part, reach_between, to_z-of_z, w128, ℤ}
+use Rattle.study.proofs.Words.{Bool, Case, HasNoFlow, HoldsOfParts-some, IsCaseNet, IsCaseNet-alike, IsCost}
+use Rattle.study.proofs.Words.{IsLeastCost, IsLeastCostAt, Part, length-map, priced, priced_part, reach_between}
+use Rattle.study.proofs.Words.{to_z-of_z, w128, ℤ}
 use Rattle.std.proofs.Common.{FitsSigned, List, rules, subst, subst₂, sym, ℕ, ◌≡◌}
 use Rattle.study.proofs.PartBounds.{least_within}
-use Rattle.study.proofs.SpanLemmas.{reach-priced}
+use Rattle.study.proofs.PricedFlows.{reach-priced}
 use Rattle.study.proofs.priced.PricedCase.cost_at.Goals as goal
 
 pub answer-requires : goal.answer-requires
