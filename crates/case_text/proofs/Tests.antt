@@ -1,7 +1,7 @@
 -- What the tests of the checks decide.
 use Rattle.case_text.proofs.Words.{Case, Decides-and, Decides-like, Decides-neither, Decides-none, Decides-not, Forbid, Given, IsUnreserved, Side, Source}
-use Rattle.case_text.proofs.Words.{bytes_decides, bytes_eq, case_of, codes, is_forbidden, is_on, is_reserved, is_reserved_from, is_source, is_taken, names_of}
-use Rattle.case_text.proofs.Words.{own_side, same_side-true, same_source, same_source-same, same_source-true, side_of, source_at, source_named}
+use Rattle.case_text.proofs.Words.{bytes_decides, bytes_eq, case_of, codes, is_forbidden, is_reserved, is_reserved_from, is_source, is_taken, names_of}
+use Rattle.case_text.proofs.Words.{is_side-true, own_side, same_source, same_source-same, same_source-true, side_of, source_at, source_named}
 use Rattle.std.proofs.Common.{All, Decides, List, None, Option, Some, ap, not, refl, sym, true, ℕ, ◌&&◌, ◌∙◌, ◌≡◌, ◌≢◌}
 use Rattle.stream_case.specs.declared.source.Side.TheVariants as side
 
@@ -38,14 +38,10 @@ pub source_on : (of : Side) (given : Given) (name : List ℕ) → is_source of (
 unfolding is_source
 source_on of given name is = by (source_named (case_of given) name) refl
   where
-    on_side : (o : Option Side) → is_on of o ≡ true → o ≡ Some of
-    on_side None e = cc e
-    on_side (Some other) e = ap Some (sym (same_side-true of other e))
-
     by : (o : Option Source) → source_named (case_of given) name ≡ o
         → side_of (case_of given) (source_at given name) ≡ Some of
     by None named = cc (rw named at is)
-    by (Some s) named = rw named (on_side (side_of (case_of given) s) (rw named at is))
+    by (Some s) named = rw named (is_side-true of (side_of (case_of given) s) (rw named at is))
 
 pub is_source-named : (of : Side) (c : Case) (name : List ℕ) (s : Source) → source_named c name ≡ Some s
     → side_of c s ≡ Some of → is_source of c name ≡ true

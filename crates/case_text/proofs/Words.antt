@@ -1,6 +1,6 @@
 -- The words and lemmas from elsewhere that the proofs of this crate speak in, passed on from one place. Declares nothing.
 pub use Rattle.case_text.specs.Answers.{HasFewSources}
-unfoldable pub use Rattle.case_text.specs.Checks.{end_checks, is_on, is_reserved, is_reserved_from, is_source, is_taken}
+unfoldable pub use Rattle.case_text.specs.Checks.{end_checks, is_reserved, is_reserved_from, is_source, is_taken}
 pub use Rattle.case_text.specs.Given.{Given, case_of, entry_by, nothing, source_at, stream_data, stream_of, utility_data, utility_of, with_entry}
 pub use Rattle.case_text.specs.Outcome.{IsCase, IsOutcome, end_fault, grammar}
 pub use Rattle.case_text.specs.Printed.{forbid_row, own_contribution, own_load, stream_row, utility_kind, utility_row}
@@ -19,7 +19,7 @@ pub use Rattle.first_fault.specs.Outcome.{given_by}
 pub use Rattle.indexmap.proofs.CallerLemmas.{insert_entry-new}
 pub use Rattle.rows.proofs.PrintedNumbers.{IsPrintable, contribution, heat, load, number_read, optional_read, price, stream_flow_rate, temperature}
 pub use Rattle.rows.proofs.Seams.{All-seam, AllPairs-seam, length-seam}
-pub use Rattle.rows.proofs.Streams.{no_contribution, one_more_on, passed-latent, passed-sensible, range_of, stream-is_valid}
+pub use Rattle.rows.proofs.Streams.{passed-latent, passed-sensible, stream-is_valid}
 pub use Rattle.rows.proofs.Tests.{Decides-int_le, Decides-is_own_contribution, Decides-neither, Decides-none, passed-room, passed-within, room-passes}
 pub use Rattle.rows.proofs.Tests.{within-passes}
 pub use Rattle.rows.proofs.Words.{All-back, AllPairs-across, Decides-is_right_way, Decides-not, IsHeat, contribution_row, list_any, passed-name, stream_kind}
@@ -41,11 +41,12 @@ pub use Rattle.std.proofs.lemmas.Option.{slice_get-map, slice_get_within}
 pub use Rattle.std.proofs.lemmas.Simd.{map-map}
 pub use Rattle.std.specs.List.{flat_map}
 pub use Rattle.std.specs.Map.{keys_of, lookup}
-pub use Rattle.stream_case.proofs.CaseLemmas.{IsName-source_name, IsSourceOf-side, count_on-add, length-AreStreams, source_named-source_name}
+pub use Rattle.stream_case.proofs.CaseLemmas.{IsName-source_name, IsSourceOf-side, count_on-add, length-AreStreams, no_contribution, one_more_on, range_of}
+pub use Rattle.stream_case.proofs.CaseLemmas.{source_named-source_name}
 pub use Rattle.stream_case.proofs.DistinctLemmas.{AllPairs-back, AllPairs-front}
 pub use Rattle.stream_case.proofs.ListLemmas.{All-front, none_there, position-map}
 pub use Rattle.stream_case.proofs.NameTests.{name-passes}
-pub use Rattle.stream_case.proofs.SourceLemmas.{own_side, same_side-true, same_source-same, same_source-true}
+pub use Rattle.stream_case.proofs.SourceLemmas.{is_side-true, own_side, same_source-same, same_source-true}
 pub use Rattle.stream_case.proofs.Words.{All-append, All-cons, All-map, All-nil, All-weaker, Decides-and, Decides-int_eq, Decides-like, IsContribution}
 pub use Rattle.stream_case.proofs.Words.{IsLatent, IsName, IsRightWay, IsSensible, IsValidStream, IsValidUtility, all_pairs_push, append-nil, bytes_decides}
 pub use Rattle.stream_case.proofs.Words.{bytes_eq, codes, count_on, int_eq, ints, length-map, map-append, names_of, nat_tests, same_side, same_source, side_of}

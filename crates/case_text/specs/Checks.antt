@@ -1,5 +1,5 @@
 -- The checks of a row, in their order. A check is a sentence on the row and on what the rows before it gave.
-use Rattle.std.specs.Prelude.{ℕ, pos, Bool, false, not, ◌==◌, ◌&&◌, ◌||◌, List, [], ◌∷◌, length, Option, Some, None, is_some, is_none, if◌then◌else◌, nat_lt, int_le, option_and_then, codes}
+use Rattle.std.specs.Prelude.{ℕ, pos, Bool, not, ◌==◌, ◌&&◌, ◌||◌, List, [], ◌∷◌, length, Option, Some, None, is_some, is_none, if◌then◌else◌, nat_lt, int_le, option_and_then, codes}
 use Rattle.std.specs.List.{list_any}
 use Rattle.std.specs.Ordering.{int_eq}
 use Rattle.std.specs.Str.{bytes_eq}
@@ -7,7 +7,7 @@ use Rattle.rows.specs.Rows.{Row}
 use Rattle.first_fault.specs.Checks.{Check}
 use Rattle.stream_case.specs.Case.{is_forbidden, names_of, side_of, source_named}
 use Rattle.stream_case.specs.Name.{is_name}
-use Rattle.stream_case.specs.Source.{is_right_way, same_side}
+use Rattle.stream_case.specs.Source.{is_right_way, is_side}
 use Rattle.stream_case.specs.Stream.{count_on}
 use Rattle.stream_case.specs.declared.case.Case.{Case}
 use Rattle.stream_case.specs.declared.limits.TheConstants.{MOST_FORBIDS, MOST_STREAMS, MOST_UTILITIES}
@@ -40,13 +40,9 @@ is_taken earlier name = list_any (bytes_eq name) (names_of earlier)
 
 -- ---- sources
 
-abbrev pub is_on : Side → Option Side → Bool
-is_on of None = false
-is_on of (Some other) = same_side of other
-
 -- a source of the case so far, on this side, has this name
 unfoldable pub is_source : Side → Case → List ℕ → Bool
-is_source of earlier name = is_on of (option_and_then (side_of earlier) (source_named earlier name))
+is_source of earlier name = is_side of (option_and_then (side_of earlier) (source_named earlier name))
 
 -- ---- the checks of each kind of row
 

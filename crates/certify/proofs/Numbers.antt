@@ -1,12 +1,12 @@
 -- Printed numbers are plain fields, and pass the checks of the grammar.
 use Rattle.certify.proofs.Words.{IsPlainField, IsWithin, MOST_AMOUNT, MOST_COST, MOST_DIGITS, MOST_LEVEL, and_from, int_le-from, ints, is_within, number}
-use Rattle.certify.proofs.Words.{number-back, number_in, number_plain, signed_decimal}
+use Rattle.certify.proofs.Words.{integer_in, integer_read, number_plain, signed_decimal}
 use Rattle.std.proofs.Common.{ap, arith, is_some, negsuc, pos, true, unsigned_abs, unwrap_or, ℤ, ◌<◌, ◌^◌, ◌≡◌}
 
 -- a number whose text is read as itself, and is in range
 pub record IsNumber (most z : ℤ) : Type 0 where
   pub plain : IsPlainField (signed_decimal z)
-  pub some : is_some (number_in MOST_DIGITS (signed_decimal z)) ≡ true
+  pub some : is_some (integer_in MOST_DIGITS (signed_decimal z)) ≡ true
   pub value : number (signed_decimal z) ≡ z
   pub within : is_within most (number (signed_decimal z)) ≡ true
 
@@ -28,7 +28,7 @@ unfolding number
 as_number most z within wide =
     let small = short z wide in
     let smaller : unsigned_abs z < 10 ^ 64 = omega (arith, small) in
-    let back = number-back MOST_DIGITS z (omega arith) small smaller in
+    let back = integer_read MOST_DIGITS z (record { some = omega arith; readable = omega arith; short = small }) in
     let value = ap (λ o. unwrap_or o (pos 0)) back in
     record { plain = number_plain z smaller; some = ap is_some back; value = value; within = in_range most z _ value within }
 

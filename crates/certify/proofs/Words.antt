@@ -60,10 +60,11 @@ pub use Rattle.heat_flow.specs.declared.flow.Transfer.{Transfer}
 pub use Rattle.indexmap.specs.IndexMap.{IndexMap, Updates}
 pub use Rattle.sha2.specs.Hashers.{Holds256}
 pub use Rattle.statements.proofs.NextLine.{nothing_left, passed_over, statement_next}
-pub use Rattle.statements.proofs.PlainNumbers.{number-back, number_plain}
+pub use Rattle.statements.proofs.PlainNumbers.{number_plain}
 pub use Rattle.statements.proofs.Words.{IsPlainField, IsPlainStatement, Statement, position_or_len, signed_decimal}
 unfoldable pub use Rattle.statements.proofs.Words.{statements_of}
-unfoldable pub use Rattle.statements.specs.Numbers.{number_in}
+pub use Rattle.stream_case.proofs.DigitLemmas.{integer_read}
+unfoldable pub use Rattle.stream_case.specs.Digits.{integer_in}
 pub use Rattle.statements.specs.Statements.{field}
 pub use Rattle.std.proofs.Math.ListN.{get_or-append}
 pub use Rattle.std.proofs.Math.Seq.{get_or-append_seam}

@@ -2,7 +2,7 @@
 use Rattle.std.specs.Prelude.{ℕ, ◌+◌, ℤ, neg_ℤ, int_le, Bool, ◌&&◌, ◌==◌, List, [], ◌∷◌, length, Option, Some, None, is_some}
 use Rattle.first_fault.specs.Checks.{Check, in_turn}
 use Rattle.stream_case.specs.Name.{is_name}
-use Rattle.statements.specs.Numbers.{number_in}
+use Rattle.stream_case.specs.Digits.{integer_in}
 use Rattle.statements.specs.Statements.{Statement, field}
 use Rattle.certify.specs.Given.{admits, cut_kind_in, field_count, kind_of, number}
 use Rattle.certify.specs.declared.draft.Draft.{Draft}
@@ -26,7 +26,7 @@ is_within most n = int_le (neg_ℤ most) n && int_le n most
 
 abbrev pub number_checks : ℤ → List ℕ → List (Check ReportWhy)
 number_checks most text =
-    (is_some (number_in MOST_DIGITS text), why.BadNumber)
+    (is_some (integer_in MOST_DIGITS text), why.BadNumber)
     ∷ (is_within most (number text), why.OutOfRange)
     ∷ []
 

@@ -3,7 +3,7 @@ use Rattle.std.specs.Prelude.{ℕ, ◌+◌, ℤ, pos, Bool, true, false, ◌==�
 use Rattle.std.specs.Str.{bytes_eq}
 use Rattle.heat_flow.specs.declared.cut.CutKind.{CutKind}
 use Rattle.heat_flow.specs.declared.cut.CutKind.TheVariants as cut
-use Rattle.statements.specs.Numbers.{number_in}
+use Rattle.stream_case.specs.Digits.{integer_in}
 use Rattle.statements.specs.Statements.{Statement, field}
 use Rattle.certify.specs.declared.draft.Draft.{Draft}
 use Rattle.certify.specs.declared.draft.Draft.TheVariants as draft
@@ -59,7 +59,7 @@ cut_kind word = unwrap_or (cut_kind_in word) cut.Demand
 
 -- the number that a field spells; 0 where it spells none
 unfoldable pub number : List ℕ → ℤ
-number text = unwrap_or (number_in MOST_DIGITS text) (pos 0)
+number text = unwrap_or (integer_in MOST_DIGITS text) (pos 0)
 
 -- the part that three fields from this one on name
 unfoldable pub span_at : Statement → ℕ → Span

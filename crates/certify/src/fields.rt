@@ -12,8 +12,8 @@ use crate::kind::cut_kind_of;
 use crate::limits::{MOST_AMOUNT, MOST_COST, MOST_DIGITS, MOST_LEVEL};
 use crate::report::Span;
 use heat_flow::CutKind;
-use statements::{Statement, number_of};
-use stream_case::Name;
+use statements::Statement;
+use stream_case::{Name, integer_of};
 
 /// The kind of cut that a field names.
 #[tactic(auto, unfolding(crate::specs::Given::cut_kind))]
@@ -37,7 +37,7 @@ fn number(field: &[u8], most: i128) -> Result<i128, ReportWhy>
     ensures { Checked (number_checks most field.now) (λ n.
         (n ≡ number field.now) × IsBetween (neg_ℤ most) most n) result }
 {
-    let Some(n) = number_of(field, MOST_DIGITS) else {
+    let Some(n) = integer_of(field, MOST_DIGITS) else {
         return Err(ReportWhy::BadNumber);
     };
     if n < -most || most < n {

@@ -3,7 +3,7 @@ use Rattle.corner_flow.proofs.HeatLemmas.{above, above_falls, from_stream, from_
 use Rattle.corner_flow.proofs.SideLemmas.{AreStandardParts, IsStandardPart, unit_price}
 use Rattle.corner_flow.proofs.Words.{*ℤ-zero, All, All-map, Case, Cold, Contains, CountsFromItself, Decides-int_eq, Hot, IsBetween, IsPartPrice, zero_times}
 use Rattle.corner_flow.proofs.Words.{IsReferencePlace, IsSupporting, IsTightOver, IsValidStream, Part, Side, Stream, and_cases, by_lt_z, cases_Bool, clamps}
-use Rattle.corner_flow.proofs.Words.{corner_price, counts_above, counts_low, deficit_above, deficit_from, excess_price, excess_price-*ℤ, false≢true, has_level}
+use Rattle.corner_flow.proofs.Words.{corner_price, counts_above, counts_low, deficit_above, deficit_from, excess_price, excess_price-*ℤ, false≢true, has_level_at}
 use Rattle.corner_flow.proofs.Words.{heat_over, high_end, hot_target, if_zero, if◌then◌else◌, int_eq, int_le-false, int_le-from, int_lt, int_lt-false}
 use Rattle.corner_flow.proofs.Words.{int_lt-from, int_min, int_sum_by, int_sum_by-zero, int_sum_from-by, int_sum_from-excess, int_sum_from-same_each}
 use Rattle.corner_flow.proofs.Words.{int_sum_from-zero, ints, is_level_at, is_stream, least_product, load-between, load_over, none_any, part_over, parts_of}
@@ -144,7 +144,7 @@ same_heat place s h e =
         (λ most. let less = strictly (high_end s) place most differ in int_le-false place (high_end s) less ∙ sym (int_lt-false place (high_end s) most)) in
         ap (λ b. if b then s.load else pos 0) same
 
-same_deficit : (place : ℤ) (streams : List Stream) → All IsValidStream streams → has_level streams place ≡ false
+same_deficit : (place : ℤ) (streams : List Stream) → All IsValidStream streams → has_level_at place streams ≡ false
     → deficit_from streams place ≡ deficit_above streams place
 same_deficit place streams valid none =
     let others = none_any (is_level_at place) streams none in
@@ -158,15 +158,15 @@ pub tight_counted : (streams : List Stream) (place : ℤ) (from : Bool) → All 
     → from ≡ true ↔ CountsFromItself streams place → IsTightOver (counts_low streams from place) streams place
 tight_counted streams place true valid reference counts =
     ⊎_elim (λ e. absurd (counts.0 refl e)) (λ e. e) reference.at.tight
-tight_counted streams place false valid reference counts = by_level (has_level streams place) refl
+tight_counted streams place false valid reference counts = by_level (has_level_at place streams) refl
   where
     above_is : deficit_above streams place ≡ hot_target streams
     above_is = ⊎_elim (λ e. (Decides-int_eq (deficit_above streams place) (hot_target streams)).0 e)
         (λ e. absurd (false≢true (counts.1 (λ same. false≢true (sym e ∙ (Decides-int_eq (deficit_above streams place) (hot_target streams)).1 same)))))
         (cases_Bool (int_eq (deficit_above streams place) (hot_target streams)))
 
-    by_level : (b : Bool) → has_level streams place ≡ b
-        → IsTightOver (false || not (has_level streams place)) streams place
+    by_level : (b : Bool) → has_level_at place streams ≡ b
+        → IsTightOver (false || not (has_level_at place streams)) streams place
     by_level true e = subst (λ (x : Bool). IsTightOver (not x) streams place) (sym e) above_is
     by_level false e =
         subst (λ (x : Bool). IsTightOver (not x) streams place) (sym e) (same_deficit place streams valid e ∙ above_is)

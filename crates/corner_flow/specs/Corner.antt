@@ -1,12 +1,11 @@
 -- The corner flow of a standard case, and prices that prove it least.
 use Rattle.std.specs.Prelude.{◌≡◌, ◌↔◌, ℕ, Bool, IsTrue, not, ◌||◌, ℤ, pos, ◌≤ℤ◌, List, map, Some, slice_get, if◌then◌else◌, All}
-use Rattle.std.specs.List.{list_any}
 use Rattle.std.specs.Ordering.{int_eq}
 use Rattle.stream_case.specs.declared.source.Side.{Side}
 use Rattle.stream_case.specs.declared.source.Side.TheVariants.{Hot}
 use Rattle.stream_case.specs.declared.case.Case.{Case}
 use Rattle.stream_case.specs.declared.stream.Stream.{Stream}
-use Rattle.stream_case.specs.Stream.{is_level_at}
+use Rattle.stream_case.specs.Stream.{has_level_at}
 use Rattle.sums.specs.declared.pairs.Pair.{Pair}
 use Rattle.sums.specs.Spans.{ListsOverlaps}
 use Rattle.problem_table.specs.Deficit.{hot_target, cold_target, IsPinch, IsReferencePlace, IsTightOver, CountsFromItself}
@@ -40,14 +39,10 @@ abbrev pub IsCornerFlow : Case → List Part → List Part → List Transfer →
 IsCornerFlow c hot cold transfers =
     ListsOverlaps (heats_of (hot_target c.streams) hot) (heats_of (cold_target c.streams) cold) (map as_pair transfers)
 
--- a latent stream stands at this place
-abbrev pub has_level : List Stream → ℤ → Bool
-has_level streams place = list_any (is_level_at place) streams
-
 -- parts stand above the reference place with their low where it counts from itself and where no latent stream stands at it;
 -- else with their high
 abbrev pub counts_low : List Stream → Bool → ℤ → Bool
-counts_low streams from place = from || not (has_level streams place)
+counts_low streams from_itself place = from_itself || not (has_level_at place streams)
 
 -- where the hot target is 0 every price is 0; else it is 1 for a part that stands above the reference place, and 0 for the others
 abbrev pub corner_price : ℤ → Bool → ℤ → Part → ℤ

@@ -2,34 +2,18 @@
 ghost use Rattle.std.specs.Prelude.{◌≡◌, ◌↔◌, map, All, IfOk, IsTrue};
 ghost use Rattle.stream_case.specs.Case.{IsComplete, IsStandard};
 ghost use Rattle.stream_case.specs.Limits.{IsPartPrice};
-ghost use Rattle.stream_case.specs.Stream.{IsValidStream, is_level_at};
+ghost use Rattle.stream_case.specs.Stream.{IsValidStream};
 ghost use Rattle.problem_table.specs.Deficit.{hot_target, cold_target, IsReferencePlace, CountsFromItself};
 ghost use Rattle.grid.specs.Part.{stands_above, AreCaseParts};
 ghost use Rattle.heat_flow.specs.Prices.{IsSupporting, value_of};
 ghost use Rattle.heat_flow.specs.Reach.{reach_between};
-ghost use Rattle.corner_flow.specs.Corner.{has_level, counts_low, corner_price};
+ghost use Rattle.corner_flow.specs.Corner.{counts_low, corner_price};
 
 use grid::{Part, Parts};
 use heat_flow::Prices;
 use problem_table::Target;
 use std::alloc::{AllocError, Global};
-use stream_case::{Case, Items, Stream, counts_above};
-
-/// Whether a stream is latent and stands at a place.
-fn is_level_at(stream: &Stream, place: i32) -> bool
-    requires { IsValidStream stream.now }
-    ensures { result ≡ is_level_at place stream.now }
-{
-    stream.load > 0 && stream.high_end() == place
-}
-
-/// Whether a latent stream stands at a place.
-fn has_level(streams: &[Stream], place: i32) -> bool
-    requires { All IsValidStream streams.now }
-    ensures { result ≡ has_level streams.now place }
-{
-    streams.iter().any(|stream| is_level_at(stream, place))
-}
+use stream_case::{Case, Items, Stream, counts_above, has_level_at};
 
 /// Whether parts stand above the reference place with their low, as they do where it counts from
 /// itself and where no latent stream stands at it; else they do with their high.
@@ -37,7 +21,7 @@ fn counts_low(streams: &[Stream], from: bool, place: i32) -> bool
     requires { All IsValidStream streams.now }
     ensures { result ≡ counts_low streams.now from place }
 {
-    from || !has_level(streams, place)
+    from || !has_level_at(streams, place)
 }
 
 /// Whether a part stands above a place, with its low or with its high.

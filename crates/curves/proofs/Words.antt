@@ -12,7 +12,7 @@ pub use Rattle.std.specs.List.{list_any}
 pub use Rattle.stream_case.proofs.HeatLemmas.{HasLength-sensible, heat-between}
 pub use Rattle.stream_case.specs.Limits.{IsLength, IsSensibleHeat, IsStreamHeat, IsStreamsHeat}
 pub use Rattle.stream_case.specs.Source.{is_hot, same_side}
-pub use Rattle.stream_case.specs.Stream.{IsLatent, IsSensible, IsValidStream, counts_above, higher_temperature, is_level_at, lower_temperature}
+pub use Rattle.stream_case.specs.Stream.{IsLatent, IsSensible, IsValidStream, counts_above, has_level_at, higher_temperature, lower_temperature}
 pub use Rattle.stream_case.specs.declared.source.Side.{Side}
 pub use Rattle.stream_case.specs.declared.source.Side.TheVariants.{Cold, Hot}
 pub use Rattle.stream_case.specs.declared.stream.Stream.{Stream}

@@ -7,7 +7,7 @@ use Rattle.sums.specs.Pairing.{cons_if}
 use Rattle.stream_case.specs.declared.source.Side.{Side}
 use Rattle.stream_case.specs.declared.stream.Stream.{Stream}
 use Rattle.stream_case.specs.Source.{same_side}
-use Rattle.stream_case.specs.Stream.{is_latent, is_level_at, stream_ends}
+use Rattle.stream_case.specs.Stream.{has_level_at, is_latent, stream_ends}
 use Rattle.problem_table.specs.Deficit.{deficit_above, deficit_from, hot_target}
 use Rattle.curves.specs.declared.point.Point.{Point}
 use Rattle.problem_table.specs.Sides.{sum_side}
@@ -31,7 +31,7 @@ side_points side streams t =
 -- latent there, the hot target less the deficit from it
 abbrev pub grand_points : List Stream → ℤ → List Point
 grand_points streams t =
-    one_or_two (list_any (is_level_at t) streams) (hot_target streams -ℤ deficit_above streams t) (hot_target streams -ℤ deficit_from streams t) t
+    one_or_two (has_level_at t streams) (hot_target streams -ℤ deficit_above streams t) (hot_target streams -ℤ deficit_from streams t) t
 
 -- the points at the temperatures that meet P, each temperature once and in this order
 pub record IsCurve (before : ℤ → ℤ → Type 0) (P : ℤ → Type 0) (points_at : ℤ → List Point) (curve : List Point) : Type 0 where

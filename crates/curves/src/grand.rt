@@ -1,13 +1,12 @@
 //! The grand composite curve.
-ghost use Rattle.std.specs.Prelude.{◌≡◌, All, IfOk};
-ghost use Rattle.std.specs.List.{list_any};
-ghost use Rattle.stream_case.specs.Stream.{AreStreams, IsValidStream, is_level_at};
+ghost use Rattle.std.specs.Prelude.{IfOk};
+ghost use Rattle.stream_case.specs.Stream.{AreStreams};
 ghost use Rattle.curves.specs.Curve.{IsGrandCurve};
 
 use crate::point::Point;
 use problem_table::{deficit_above, deficit_from, targets};
 use std::alloc::{AllocError, Global};
-use stream_case::{Case, Items, Stream, stream_ends};
+use stream_case::{Case, Items, has_level_at, stream_ends};
 use sums::falling;
 
 /// The grand composite curve: for each shifted stream end, falling and each once, the hot
@@ -33,20 +32,4 @@ pub fn grand_curve(alloc: Global, case: &Case) -> Result<Items<Point>, AllocErro
         }
     }
     Ok(points)
-}
-
-// Whether a stream is latent and has the shifted level `t`.
-fn is_level_at(stream: &Stream, t: i32) -> bool
-    requires { IsValidStream stream.now }
-    ensures { result ≡ is_level_at t stream.now }
-{
-    stream.is_latent() && stream.high_end() == t
-}
-
-// Whether some stream is and has.
-fn has_level_at(streams: &[Stream], t: i32) -> bool
-    requires { All IsValidStream streams.now }
-    ensures { result ≡ list_any (is_level_at t) streams.now }
-{
-    streams.iter().any(|stream| is_level_at(stream, t))
 }

@@ -5,7 +5,7 @@ pub use Rattle.fractions.specs.LowestForms.{ratio-den, ratio-den_le, ratio-num, 
 pub use Rattle.fractions.specs.Order.{cmp-scale, rational_ranks}
 pub use Rattle.fractions.specs.Rationals.{Gives, IsAtMost, IsBelow, IsWithinLimits, Rational, SameValue, fraction_text, is_below, is_within_limits}
 pub use Rattle.fractions.specs.Rationals.{rational_one, rational_sum, rational_sum_by, rational_zero, whole}
-unfoldable pub use Rattle.fractions.specs.Rationals.{lowest_form, minus, over, plus, ratio, rational_cmp, reciprocal, times}
+unfoldable pub use Rattle.fractions.specs.Rationals.{bounded_ratio, lowest_form, minus, over, plus, ratio, rational_cmp, reciprocal, times}
 pub use Rattle.std.proofs.Math.IntN.{*ℤ-zero, *ℤ_comm}
 pub use Rattle.std.proofs.Math.Nat.{div-add-mod, eq-zero-or-pos, mod-eq_of_lt, mul-le-mul_left, mul-one, mul-pos, mul_comm, pos_of_dvd_of_pos}
 pub use Rattle.std.proofs.lemmas.Bool.{cases_eq, cases_lt, false_from_ne_true}
@@ -14,6 +14,7 @@ pub use Rattle.std.proofs.lemmas.Int.{by_lt_z, ints, to_z-of_z}
 pub use Rattle.std.proofs.lemmas.List.Folds.{list_any_at, list_any_none}
 pub use Rattle.std.proofs.lemmas.Nat.{le-div}
 pub use Rattle.std.proofs.lemmas.Nat.Gcd.{IsGcd-from_mod, IsGcd-from_zero}
+pub use Rattle.std.proofs.lemmas.Option.{cond_some}
 pub use Rattle.std.specs.Bool.{beq}
 pub use Rattle.std.specs.Int.{IsGcd, w128, w64}
 pub use Rattle.std.specs.Int.Digits.{digits_of}

@@ -1,5 +1,5 @@
 -- Rationals of any size, in lowest form: the sums, products and order that bounded fractions answer.
-use Rattle.std.specs.Prelude.{◌≡◌, ℕ, zero, suc, ◌*◌, ◌/◌, ◌^◌, ◌<◌, ◌≤◌, ℤ, pos, ◌+ℤ◌, ◌-ℤ◌, ◌*ℤ◌, ◌<ℤ◌, ◌≤ℤ◌, unsigned_abs, int_lt, Bool, ◌&&◌, nat_le, List, [], ◌∷◌, ◌++◌, Option, IsSome, IfSome, ◌↔◌, if◌then◌else◌, ◌==◌}
+use Rattle.std.specs.Prelude.{◌≡◌, ℕ, zero, suc, ◌*◌, ◌/◌, ◌^◌, ◌<◌, ◌≤◌, ℤ, pos, ◌+ℤ◌, ◌-ℤ◌, ◌*ℤ◌, ◌<ℤ◌, ◌≤ℤ◌, unsigned_abs, int_lt, Bool, ◌&&◌, nat_le, List, [], ◌∷◌, ◌++◌, Option, Some, None, IsSome, IfSome, ◌↔◌, if◌then◌else◌, ◌==◌}
 use Rattle.std.specs.Fmt.{decimal, signed_decimal}
 use Rattle.std.specs.Ordering.{int_cmp, int_eq, is_lt}
 use Rattle.std.specs.declared.cmp.Ordering.{Ordering}
@@ -105,6 +105,11 @@ pub record IsWithinLimits (a : Rational) : Type 0 where
 
 abbrev pub is_within_limits : Rational → Bool
 is_within_limits a = nat_le a.den (2 ^ 48) && nat_le (unsigned_abs a.num) (2 ^ 76)
+
+-- the fraction n/d: d is not 0, and the lowest form is within the limits
+unfoldable pub bounded_ratio : ℤ → ℕ → Option Rational
+bounded_ratio n zero = None
+bounded_ratio n (suc d) = if is_within_limits (ratio n (suc d)) then Some (ratio n (suc d)) else None
 
 -- the call gives a: a fraction of just this value, and none exactly where a is outside the limits
 pub record Gives (result : Option Rational) (a : Rational) : Type 0 where

@@ -4,7 +4,7 @@
 ghost use Rattle.std.specs.Prelude.{◌≡◌, ◌≢◌, ◌↔◌, ◌+◌, ◌*◌, ◌<◌, ◌≤◌, ◌^◌, ℕ, pos, ◌+ℤ◌, ◌-ℤ◌, ◌*ℤ◌, unsigned_abs, MatchBool};
 ghost use Rattle.std.specs.Ordering.{MatchOrdering};
 ghost use Rattle.fractions.specs.Integers.{signed};
-ghost use Rattle.fractions.specs.Rationals.{Gives, IsAtMost, IsBelow, IsWithinLimits, is_below, minus, over, plus, ratio, rational_cmp, rational_zero, times, whole};
+ghost use Rattle.fractions.specs.Rationals.{Gives, IsAtMost, IsBelow, IsWithinLimits, bounded_ratio, is_below, minus, over, plus, ratio, rational_cmp, rational_zero, times, whole};
 
 use crate::terms::LowestTerms;
 use std::cmp::Ordering;
@@ -73,6 +73,7 @@ impl Frac {
     pub fn from_parts(num: i128, den: u128) -> Option<Frac>
         ensures zero { den ≡ 0 → result ≡ None }
         ensures value { 0 < den → Gives result (ratio num den) }
+        ensures bounded { result ≡ bounded_ratio num den }
     {
         if den == 0 {
             return None;

@@ -1,5 +1,8 @@
 pub mod HeatLemmas
+pub mod PickedParts
+pub mod SourceTests
 pub mod MakingLemmas
+pub mod MakingSteps
 pub mod OnGridLemmas
 pub mod PartsExist
 pub mod PlaceLemmas

@@ -21,8 +21,10 @@ module _ (c : Case) (places : List ℤ) (side : Side) where
           → ((p.high ≡ p.low) × Contains places p.high) ⊎ IsInterval places p.high p.low
       ends_of (inl interval) = inr interval
       ends_of (inr (latent, same)) =
-          let held = (All-slice_get (λ (x : Stream). Contains places (high_end x) × Contains places (low_end x)) c.streams i s
-          (holds_ends c.streams c.utilities places (HoldsPlaces-IsGrid c places grid)) h.stream).0 in
+          let held_places = HoldsPlaces-IsGrid c places grid in
+          let ends = holds_ends c.streams c.utilities places held_places in
+          let held = (All-slice_get (λ (x : Stream).
+          Contains places (high_end x) × Contains places (low_end x)) c.streams i s ends h.stream).0 in
           let level = level-latent s latent in
           let from = h.from in
           let upto = h.upto in
@@ -33,14 +35,20 @@ module _ (c : Case) (places : List ℤ) (side : Side) where
       let low : p.low ≡ shifted_level u = ap (λ (q : Part). q.low) h.is in
       let level = All-slice_get (λ (v : Utility). Contains places (shifted_level v)) c.utilities i u
       (holds_levels c.streams c.utilities places (HoldsPlaces-IsGrid c places grid)) h.utility in
-      record { source = side_of_part p (inr (i, u, h)); ends = inl (high ∙ sym low, subst (Contains places) (sym high) level) }
+      record {
+        source = side_of_part p (inr (i, u, h));
+        ends = inl (high ∙ sym low, subst (Contains places) (sym high) level);
+      }
 
 pub parts_on_grid : (c : Case) (hot cold : List Part) → AreCaseParts c hot cold → AreOnGrid c hot cold
 parts_on_grid c hot cold h = record {
   grid = h.grid;
   is_grid = h.is_grid;
   hot_parts =
-      All-weaker (IsPartOf c.streams c.utilities h.grid Hot) (IsOnPlaces c h.grid Hot) (part_on_places c h.grid Hot h.is_grid) hot h.hot_parts.each;
+      let on_places = part_on_places c h.grid Hot h.is_grid in
+      All-weaker (IsPartOf c.streams c.utilities h.grid Hot) (IsOnPlaces c h.grid Hot) on_places hot h.hot_parts.each;
   cold_parts =
-      All-weaker (IsPartOf c.streams c.utilities h.grid Cold) (IsOnPlaces c h.grid Cold) (part_on_places c h.grid Cold h.is_grid) cold h.cold_parts.each;
+      let on_places = part_on_places c h.grid Cold h.is_grid in
+      All-weaker (IsPartOf c.streams c.utilities h.grid Cold)
+      (IsOnPlaces c h.grid Cold) on_places cold h.cold_parts.each;
 }

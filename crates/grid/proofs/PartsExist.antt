@@ -13,8 +13,9 @@ Contains-filter : {X : Type 0} (p : X → Bool) (xs : List X) (x : X) → p x �
     → Contains (filter p xs) x
 Contains-filter p [] x h found = found
 Contains-filter p (y ∷ ys) x h found =
-    ⊎_elim (λ e. subst (λ b. Contains (cond b (y ∷ filter p ys) (filter p ys)) x) (sym (ap p e ∙ h)) (0, omega arith, e))
-    (λ later. one_more (p y) y (filter p ys) x (Contains-filter p ys x h later)) (Contains-cons y ys x found)
+    ⊎_elim (λ e.
+    subst (λ b. Contains (cond b (y ∷ filter p ys) (filter p ys)) x) (sym (ap p e ∙ h)) (0, omega arith, e)) (λ later.
+    one_more (p y) y (filter p ys) x (Contains-filter p ys x h later)) (Contains-cons y ys x found)
 
 -- a number in its place among falling ones
 abbrev among : ℤ → List ℤ → List ℤ
@@ -26,24 +27,35 @@ ListsFalling-among x xs ys h =
     let falls = λ (a b : ℤ). b <ℤ a in
     let high = λ (y : ℤ). int_lt x y in
     let low = λ (y : ℤ). int_lt y x in
-    let above = All-weaker (λ y. high y ≡ true) (λ y. x <ℤ y) (λ y e. omega (arith, ints)) (filter high ys) (filter_passes high ys) in
-    let below = All-weaker (λ y. low y ≡ true) (λ y. y <ℤ x) (λ y e. omega (arith, ints)) (filter low ys) (filter_passes low ys) in
+    let above = All-weaker (λ y. high y ≡ true) (λ y. x <ℤ y) (λ y e. omega (arith, ints)) (filter high ys)
+    (filter_passes high ys) in
+    let below =
+    All-weaker (λ y. low y ≡ true) (λ y. y <ℤ x) (λ y e. omega (arith, ints)) (filter low ys) (filter_passes low ys) in
     let each = All-weaker (Contains xs) (Contains (x ∷ xs)) (Contains-append_right (x ∷ []) xs) ys h.each in
     record {
-      ordered = AllPairs-append falls (filter high ys) (x ∷ filter low ys) (AllPairs-filter falls high ys h.ordered)
-          (AllPairs-cons falls x (filter low ys) below (AllPairs-filter falls low ys h.ordered))
-          (All-weaker (λ y. x <ℤ y) (λ y. All (λ z. z <ℤ y) (x ∷ filter low ys)) (λ y more. All-cons (λ z. z <ℤ y) x (filter low ys) more
-          (All-weaker (λ z. z <ℤ x) (λ z. z <ℤ y) (λ z less. omega (arith, ints)) (filter low ys) below)) (filter high ys) above);
+      ordered =
+          let low_ordered = AllPairs-cons falls x (filter low ys) below (AllPairs-filter falls low ys h.ordered) in
+          let above_rest = All-weaker (λ y. x <ℤ y) (λ y. All (λ z. z <ℤ y) (x ∷ filter low ys)) (λ y more.
+          let below_each =
+          All-weaker (λ z. z <ℤ x) (λ z. z <ℤ y) (λ z less. omega (arith, ints)) (filter low ys) below in
+          All-cons (λ z. z <ℤ y) x (filter low ys) more below_each) (filter high ys) above in
+          AllPairs-append falls (filter high ys) (x ∷ filter low ys)
+          (AllPairs-filter falls high ys h.ordered) low_ordered above_rest;
       each =
-          All-append (Contains (x ∷ xs)) (filter high ys) (x ∷ filter low ys) (All-filter high (Contains (x ∷ xs)) ys each)
-          (All-cons (Contains (x ∷ xs)) x (filter low ys) (0, omega arith, refl) (All-filter low (Contains (x ∷ xs)) ys each));
+          let high_kept = All-filter high (Contains (x ∷ xs)) ys each in
+          let low_kept = All-cons (Contains (x ∷ xs)) x (filter low ys) (0, omega arith, refl)
+          (All-filter low (Contains (x ∷ xs)) ys each) in
+          All-append (Contains (x ∷ xs)) (filter high ys) (x ∷ filter low ys) high_kept low_kept;
       every = λ y found.
           let here = λ (e : x ≡ y). Contains-append_right (filter high ys) (x ∷ filter low ys) y (0, omega arith, e) in
           ⊎_elim here (λ later.
           let old = h.every y later in
-          by_lt_z x y (λ more. Contains-append_left (filter high ys) (x ∷ filter low ys) y (Contains-filter high ys y (grind (arith, ints)) old)) (λ most.
-          by_lt_z y x (λ less. Contains-append_right (filter high ys) (x ∷ filter low ys) y
-          (Contains-append_right (x ∷ []) (filter low ys) y (Contains-filter low ys y (grind (arith, ints)) old))) (λ same. here (omega (arith, ints)))))
+          by_lt_z x y (λ more.
+          let in_high = Contains-filter high ys y (grind (arith, ints)) old in
+          Contains-append_left (filter high ys) (x ∷ filter low ys) y in_high) (λ most. by_lt_z y x (λ less.
+          let in_low =
+          Contains-append_right (x ∷ []) (filter low ys) y (Contains-filter low ys y (grind (arith, ints)) old) in
+          Contains-append_right (filter high ys) (x ∷ filter low ys) y in_low) (λ same. here (omega (arith, ints)))))
           (Contains-cons x xs y found);
     }
 
@@ -71,6 +83,7 @@ pub one_side : (c : Case) (places others : List ℤ) (side : Side) (parts more :
     → IsGrid c others
     → AreParts c.streams c.utilities places side parts → AreParts c.streams c.utilities others side more → parts ≡ more
 one_side c places others side parts more grid other are are_more =
+    let same_places = ListsFalling-unique (Contains (places_of c.streams c.utilities)) places others grid other in
     AreParts-made c.streams c.utilities side places parts (HoldsPlaces-IsGrid c places grid) are
-    ∙ ap (made_parts c.streams c.utilities side) (ListsFalling-unique (Contains (places_of c.streams c.utilities)) places others grid other)
+    ∙ ap (made_parts c.streams c.utilities side) same_places
     ∙ sym (AreParts-made c.streams c.utilities side others more (HoldsPlaces-IsGrid c others other) are_more)

@@ -7,7 +7,9 @@ pub interval_falls : (grid : List ℤ) (high low : ℤ) → AllPairs (λ a b. b 
 interval_falls grid high low falls h =
     let within = slice_get_within grid (h.index + 1) low h.to in
     let fall = falls h.index (h.index + 1) low (omega arith) within in
-    subst₂ (λ a b. b <ℤ a) (get_or_from_slice_get grid h.index high low h.from) (get_or_from_slice_get grid (h.index + 1) low low h.to) fall
+    let is_high = get_or_from_slice_get grid h.index high low h.from in
+    let is_low = get_or_from_slice_get grid (h.index + 1) low low h.to in
+    subst₂ (λ a b. b <ℤ a) is_high is_low fall
 
 pub interval_ends : (grid : List ℤ) (high low : ℤ) → IsInterval grid high low → Contains grid high × Contains grid low
 interval_ends grid high low h = (
@@ -25,11 +27,16 @@ interval_below grid high low x falls h (k, within, is) less =
     let is_low = get_or_from_slice_get grid (h.index + 1) low x h.to in
     ⊎_elim (λ early.
     ⊎_elim (λ e. let same : x ≡ high = sym is ∙ ap (λ n. get_or grid n x) e ∙ is_high in absurd (omega (arith, ints)))
-    (λ other. let fall = falls k h.index x (omega (arith, other)) from in absurd (omega (arith, ints))) (cases_eq k h.index)) (λ late.
-    ⊎_elim (λ e. let same : x ≡ low = sym is ∙ ap (λ n. get_or grid n x) e ∙ is_low in omega (arith, ints))
-    (λ other. let fall = falls (h.index + 1) k x (omega (arith, other)) within in omega (arith, ints)) (cases_eq k (h.index + 1))) (cases_lt k (h.index + 1))
+    (λ other. let fall = falls k h.index x (omega (arith, other)) from in absurd (omega (arith, ints)))
+    (cases_eq k h.index))
+    (λ late.
+    ⊎_elim (λ e. let same : x ≡ low = sym is ∙ ap (λ n. get_or grid n x) e ∙ is_low in omega (arith, ints)) (λ other.
+    let fall = falls (h.index + 1) k x (omega (arith, other)) within in
+    omega (arith, ints)) (cases_eq k (h.index + 1)))
+    (cases_lt k (h.index + 1))
 
 pub interval_above : (grid : List ℤ) (high low x : ℤ) → AllPairs (λ a b. b <ℤ a) grid
     → IsInterval grid high low → Contains grid x → low <ℤ x → high ≤ℤ x
 interval_above grid high low x falls h at more =
-    by_lt_z x high (λ less. let below = interval_below grid high low x falls h at less in absurd (omega (arith, ints))) (λ most. most)
+    by_lt_z x high (λ less. let below = interval_below grid high low x falls h at less in absurd (omega (arith, ints)))
+    (λ most. most)

@@ -1,5 +1,5 @@
 -- Sums over the parts that are made are sums over utilities and streams: what each adds at the places, one after another.
-use Rattle.grid.proofs.MakingLemmas.{covers-latent, is_here-true, stands_at-from, stands_at-true}
+use Rattle.grid.proofs.SourceTests.{covers-latent, is_here-true, stands_at-from, stands_at-true}
 use Rattle.grid.proofs.Words.{All, All-contains, All-head, All-tail, All-weaker, AllPairs, AllPairs-head, AllPairs-tail, Contains, Contains-cons}
 use Rattle.grid.proofs.Words.{Decides-int_eq, IsLatent, Part, Side, Stream, Utility, and_from, and_left, and_right, cases_Bool, cons_if, covers}
 use Rattle.grid.proofs.Words.{false_from_ne_true, high_end, if◌then◌else◌, int_eq, int_le, int_sum_by, int_sum_by-add, int_sum_by-append, int_sum_by-zero}
@@ -41,7 +41,8 @@ stream_run v side s (g ∷ places) = interval_run v side s g places +ℤ stream_
 
 module _ (f : Part → ℤ) (v : ℤ → ℤ → Stream → ℤ) (w : Utility → ℤ)
     (of_streams : (high low : ℤ) (i : ℕ) (s : Stream) → f (stream_part high low i s) ≡ v high low s)
-    (of_utilities : (i : ℕ) (u : Utility) → f (utility_part i u) ≡ w u) (streams : List Stream) (utilities : List Utility) (side : Side) where
+    (of_utilities : (i : ℕ) (u : Utility) → f (utility_part i u) ≡ w u) (streams : List Stream)
+    (utilities : List Utility) (side : Side) where
   sum-interval : (g : ℤ) (places : List ℤ)
       → int_sum_by f (interval_parts streams utilities side g places)
       ≡ int_sum_by (λ s. interval_run v side s g places) streams
@@ -51,7 +52,8 @@ module _ (f : Part → ℤ) (v : ℤ → ℤ → Stream → ℤ) (w : Utility �
 
   -- a sum over parts, exchanged
   pub sum-made : (places : List ℤ) → int_sum_by f (made_parts streams utilities side places)
-      ≡ int_sum_by (λ u. level_run w side u places) utilities +ℤ int_sum_by (λ s. latent_run v side s places +ℤ stream_run v side s places) streams
+      ≡ int_sum_by (λ u. level_run w side u places) utilities +ℤ int_sum_by (λ s.
+      latent_run v side s places +ℤ stream_run v side s places) streams
   sum-made [] =
       let none = int_sum_by-zero (λ u. pos 0) utilities (λ k d within. refl) in
       let nothing = int_sum_by-zero (λ s. pos 0) streams (λ k d within. refl) in
@@ -68,12 +70,14 @@ module _ (f : Part → ℤ) (v : ℤ → ℤ → Stream → ℤ) (w : Utility �
       let levels = sum-picked f (is_here side g) utility_part w 0 utilities of_utilities in
       let intervals = sum-interval g places in
       let later = sum-made places in
-      let all_levels = int_sum_by-add (λ u. if is_here side g u then w u else pos 0) (λ u. level_run w side u places) utilities in
+      let all_levels =
+      int_sum_by-add (λ u. if is_here side g u then w u else pos 0) (λ u. level_run w side u places) utilities in
       let at_place = λ (s : Stream). if stands_at side g s then v g g s else pos 0 in
       let latent_runs = λ (s : Stream). latent_run v side s places in
       let intervals_here = λ (s : Stream). interval_run v side s g places in
       let stream_runs = λ (s : Stream). stream_run v side s places in
-      let all_streams = int_sum_by-add (λ s. at_place s +ℤ latent_runs s) (λ s. intervals_here s +ℤ stream_runs s) streams in
+      let all_streams =
+      int_sum_by-add (λ s. at_place s +ℤ latent_runs s) (λ s. intervals_here s +ℤ stream_runs s) streams in
       let all_latents = int_sum_by-add at_place latent_runs streams in
       let all_intervals = int_sum_by-add intervals_here stream_runs streams in
       let all_later = int_sum_by-add latent_runs stream_runs streams in omega (arith, ints)
@@ -118,26 +122,34 @@ level_run-is w side u places falls found =
     let test = λ (g : ℤ). is_here side g u in
     ⊎_elim (λ same.
     let here : test (shifted_level u) ≡ true =
-    and_from (same_side u.side side) (int_eq (shifted_level u) (shifted_level u)) same ((Decides-int_eq (shifted_level u) (shifted_level u)).1 refl) in
-    passed_run-one test (λ g. w u) (shifted_level u) places here (λ g passes. sym (is_here-true side g u passes).level) falls found
-    ∙ sym (ap (λ b. if b then w u else pos 0) same)) (λ other.
-    passed_run-none test (λ g. w u) places (none_pass test places (λ g. and_left (same_side u.side side) (int_eq (shifted_level u) g) other))
-    ∙ sym (ap (λ b. if b then w u else pos 0) other)) (cases_Bool (same_side u.side side))
+    and_from (same_side u.side side) (int_eq (shifted_level u) (shifted_level u)) same
+    ((Decides-int_eq (shifted_level u) (shifted_level u)).1 refl) in
+    passed_run-one test (λ g. w u) (shifted_level u) places here (λ g passes.
+    sym (is_here-true side g u passes).level) falls found
+    ∙ sym (ap (λ b. if b then w u else pos 0) same))
+    (λ other.
+    passed_run-none test (λ g. w u) places
+    (none_pass test places (λ g. and_left (same_side u.side side) (int_eq (shifted_level u) g) other))
+    ∙ sym (ap (λ b. if b then w u else pos 0) other))
+    (cases_Bool (same_side u.side side))
 
 pub latent_run-is : (v : ℤ → ℤ → Stream → ℤ) (side : Side) (s : Stream) (places : List ℤ) → IsLatent s
     → same_side s.side side ≡ true
     → AllPairs (λ a b. b <ℤ a) places → Contains places (high_end s)
     → latent_run v side s places ≡ v (high_end s) (high_end s) s
 latent_run-is v side s places latent same falls found =
-    passed_run-one (λ g. stands_at side g s) (λ g. v g g s) (high_end s) places
-    (stands_at-from side (high_end s) s (same_side-true s.side side same) latent refl) (λ g passes. sym (stands_at-true side g s passes).high) falls found
+    let stands = stands_at-from side (high_end s) s (same_side-true s.side side same) latent refl in
+    passed_run-one (λ g. stands_at side g s) (λ g. v g g s) (high_end s) places stands (λ g passes.
+    sym (stands_at-true side g s passes).high) falls found
 
 -- no other stream has a part at a place
 pub latent_run-none : (v : ℤ → ℤ → Stream → ℤ) (side : Side) (s : Stream) (places : List ℤ)
     → has_latent_heat s ≡ false → latent_run v side s places ≡ pos 0
 latent_run-none v side s places sensible =
-    passed_run-none (λ g. stands_at side g s) (λ g. v g g s) places (none_pass (λ g. stands_at side g s) places
-    (λ g. and_right (same_side s.side side) (has_latent_heat s && int_eq (high_end s) g) (and_left (has_latent_heat s) (int_eq (high_end s) g) sensible)))
+    passed_run-none (λ g. stands_at side g s) (λ g. v g g s) places
+    (none_pass (λ g. stands_at side g s) places (λ g.
+    and_right (same_side s.side side) (has_latent_heat s && int_eq (high_end s) g)
+    (and_left (has_latent_heat s) (int_eq (high_end s) g) sensible)))
 
 -- and a latent one has none on an interval
 pub stream_run-latent : (v : ℤ → ℤ → Stream → ℤ) (side : Side) (s : Stream) (places : List ℤ) → IsLatent s
@@ -146,10 +158,12 @@ pub stream_run-latent : (v : ℤ → ℤ → Stream → ℤ) (side : Side) (s : 
 stream_run-latent v side s [] latent falls = refl
 stream_run-latent v side s (g ∷ []) latent falls = refl
 stream_run-latent v side s (g ∷ low ∷ places) latent falls =
-    let rest = stream_run-latent v side s (low ∷ places) latent (AllPairs-tail (λ a b. b <ℤ a) g (low ∷ places) falls) in
+    let rest_falls = AllPairs-tail (λ a b. b <ℤ a) g (low ∷ places) falls in
+    let rest = stream_run-latent v side s (low ∷ places) latent rest_falls in
     let lower = AllPairs-head (λ a b. b <ℤ a) g (low ∷ places) falls in
+    let not_covered = covers-latent side g low s latent (All-head (λ z. z <ℤ g) low places lower) in
     let term : (if covers side g low s then v g low s else pos 0) ≡ pos 0 =
-    ap (λ b. if b then v g low s else pos 0) (covers-latent side g low s latent (All-head (λ z. z <ℤ g) low places lower)) in
+    ap (λ b. if b then v g low s else pos 0) not_covered in
     omega (arith, ints)
 
 -- ---- a stream of the other side has no part
@@ -161,12 +175,15 @@ stream_run-other v side s [] other = refl
 stream_run-other v side s (g ∷ []) other = refl
 stream_run-other v side s (g ∷ low ∷ places) other =
     let rest = stream_run-other v side s (low ∷ places) other in
+    let other_side = and_left (same_side s.side side) (int_le (low_end s) low && int_le g (high_end s)) other in
     let term : (if covers side g low s then v g low s else pos 0) ≡ pos 0 =
-    ap (λ b. if b then v g low s else pos 0) (and_left (same_side s.side side) (int_le (low_end s) low && int_le g (high_end s)) other) in
+    ap (λ b. if b then v g low s else pos 0) other_side in
     omega (arith, ints)
 
 pub latent_run-other : (v : ℤ → ℤ → Stream → ℤ) (side : Side) (s : Stream) (places : List ℤ)
     → same_side s.side side ≡ false
     → latent_run v side s places ≡ pos 0
-latent_run-other v side s places other = passed_run-none (λ g. stands_at side g s) (λ g. v g g s) places
-    (none_pass (λ g. stands_at side g s) places (λ g. and_left (same_side s.side side) (has_latent_heat s && int_eq (high_end s) g) other))
+latent_run-other v side s places other =
+    let none_stand = none_pass (λ g. stands_at side g s) places (λ g.
+    and_left (same_side s.side side) (has_latent_heat s && int_eq (high_end s) g) other) in
+    passed_run-none (λ g. stands_at side g s) (λ g. v g g s) places none_stand

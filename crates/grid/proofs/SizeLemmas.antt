@@ -1,5 +1,6 @@
 -- How many places a grid has, how many parts a side has, and what each part keeps.
-use Rattle.grid.proofs.MakingLemmas.{holds_levels, has_latent_heat-true, made_parts-AreParts}
+use Rattle.grid.proofs.SourceTests.{has_latent_heat-true}
+use Rattle.grid.proofs.MakingLemmas.{holds_levels, made_parts-AreParts}
 use Rattle.grid.proofs.PlaceLemmas.{interval_falls}
 use Rattle.grid.proofs.RunLemmas.{latent_run, latent_run-none, latent_run-other, level_run, level_run-is, stream_run, stream_run-latent, stream_run-other}
 use Rattle.grid.proofs.RunLemmas.{sum-made}
@@ -54,7 +55,8 @@ latent_run-at_most side s (g ∷ places) =
 
 -- a stream has parts at places or on intervals
 runs-at_most : (side : Side) (places : List ℤ) → AllPairs (λ a b. b <ℤ a) places → (s : Stream)
-    → (latent_run (λ high low x. pos 1) side s places +ℤ stream_run (λ high low x. pos 1) side s places) ≤ℤ pos (length places)
+    → (latent_run (λ high low x. pos 1) side s places +ℤ stream_run (λ high low x. pos 1) side s places)
+    ≤ℤ pos (length places)
 runs-at_most side places falls s = ⊎_elim (λ latent.
     let none = stream_run-latent (λ high low x. pos 1) side s places (has_latent_heat-true s latent) falls in
     let most = latent_run-at_most side s places in
@@ -87,24 +89,29 @@ sum-at_most side f m (s ∷ ss) most none =
     let first = none s other in
     let product = ap (λ n. m * n) total in omega (arith, ints)) (cases_Bool (same_side s.side side))
 
-module _ (streams : List Stream) (utilities : List Utility) (side : Side) (places : List ℤ) (holds : HoldsPlaces streams utilities places) where
+module _ (streams : List Stream) (utilities : List Utility) (side : Side) (places : List ℤ)
+    (holds : HoldsPlaces streams utilities places) where
   -- each stream of the side has at most one part at each place, and each utility one
-  pub length-made : length (made_parts streams utilities side places) ≤ length places * count_on side streams + length utilities
+  pub length-made : length (made_parts streams utilities side places) ≤ length places * count_on side streams
+      + length utilities
   length-made =
       let count = one_each (made_parts streams utilities side places) in
-      let exchanged = sum-made (λ p. pos 1) (λ high low s. pos 1) (λ u. pos 1) (λ high low i s. refl) (λ i u. refl) streams utilities side places in
+      let exchanged = sum-made (λ p. pos 1) (λ high low s. pos 1) (λ u. pos 1) (λ high low i s. refl)
+      (λ i u. refl) streams utilities side places in
       let levels = int_sum_by-at_most (λ u. level_run (λ v. pos 1) side u places) 1 utilities
       (λ k d within. one_level (get_or utilities k d) (holds_levels streams utilities places holds k d within)) in
       let runs =
-      sum-at_most side (λ s. latent_run (λ high low x. pos 1) side s places +ℤ stream_run (λ high low x. pos 1) side s places) (length places) streams
-      (runs-at_most side places holds.falls) (runs-other side places) in
+      sum-at_most side (λ s.
+      latent_run (λ high low x. pos 1) side s places +ℤ stream_run (λ high low x. pos 1) side s places)
+      (length places) streams (runs-at_most side places holds.falls) (runs-other side places) in
       omega (arith, ints)
     where
       one_level : (u : Utility) → Contains places (shifted_level u) → level_run (λ v. pos 1) side u places ≤ℤ pos 1
       one_level u found =
           let is = level_run-is (λ v. pos 1) side u places holds.falls found in
-          ⊎_elim (λ same. let here = ap (λ b. if b then pos 1 else pos 0) same in omega (arith, ints))
-          (λ other. let here = ap (λ b. if b then pos 1 else pos 0) other in omega (arith, ints)) (cases_Bool (same_side u.side side))
+          ⊎_elim (λ same. let here = ap (λ b. if b then pos 1 else pos 0) same in omega (arith, ints)) (λ other.
+          let here = ap (λ b. if b then pos 1 else pos 0) other in
+          omega (arith, ints)) (cases_Bool (same_side u.side side))
 
   -- so a side has few
   pub length-made-few : AreStreams streams → length utilities ≤ ALL_UTILITIES → length places ≤ MOST_PLACES
@@ -132,16 +139,23 @@ piece_heat-between high low s valid length =
 IsBounded-stream : (high low : ℤ) (i : ℕ) (s : Stream) → IsHeat (piece_heat high low s)
     → IsBounded (stream_part high low i s)
 IsBounded-stream high low i s heat =
-    record { least = record { from = heat.from; upto = omega (arith, ints) }; most = omega (arith, ints); price = omega (arith, ints); free = λ j e. refl }
+    record {
+      least = record { from = heat.from; upto = omega (arith, ints) };
+      most = omega (arith, ints);
+      price = omega (arith, ints);
+      free = λ j e. refl;
+    }
 
 IsBounded-utility : (i : ℕ) (u : Utility) → IsPlaced u → IsBounded (utility_part i u)
 IsBounded-utility i u h = record { least = h.least; most = h.most; price = h.price; free = λ j e. absurd (cc) }
 
-module _ (streams : List Stream) (utilities : List Utility) (side : Side) (places : List ℤ) (valid : All IsValidStream streams)
-    (placed : All IsPlaced utilities) (holds : HoldsPlaces streams utilities places) where
+module _ (streams : List Stream) (utilities : List Utility) (side : Side) (places : List ℤ)
+    (valid : All IsValidStream streams) (placed : All IsPlaced utilities)
+    (holds : HoldsPlaces streams utilities places) where
   pub IsBounded-part : (p : Part) → IsPartOf streams utilities places side p → IsBounded p
   IsBounded-part p (inl (i, s, h)) =
-      let own = All-contains IsValidStream streams s valid (i, slice_get_within streams i s h.stream, get_or_from_slice_get streams i s s h.stream) in
+      let own = All-contains IsValidStream streams s valid
+      (i, slice_get_within streams i s h.stream, get_or_from_slice_get streams i s s h.stream) in
       let length = IsLength-covered s p.high p.low own (order h.piece) h.from h.upto in
       subst IsBounded (sym h.is) (IsBounded-stream p.high p.low i s (piece_heat-between p.high p.low s own length))
     where
@@ -151,11 +165,13 @@ module _ (streams : List Stream) (utilities : List Utility) (side : Side) (place
           omega (arith, ints)
       order (inr (latent, same)) = omega (arith, ints)
   IsBounded-part p (inr (i, u, h)) =
-      let own = All-contains IsPlaced utilities u placed (i, slice_get_within utilities i u h.utility, get_or_from_slice_get utilities i u u h.utility) in
+      let own = All-contains IsPlaced utilities u placed
+      (i, slice_get_within utilities i u h.utility, get_or_from_slice_get utilities i u u h.utility) in
       subst IsBounded (sym h.is) (IsBounded-utility i u own)
 
 -- what a list of parts that was made for a side is
-pub record IsSide (streams : List Stream) (utilities : List Utility) (side : Side) (places : List ℤ) (parts : List Part) : Type 0 where
+pub record IsSide (streams : List Stream) (utilities : List Utility) (side : Side) (places : List ℤ)
+    (parts : List Part) : Type 0 where
   pub are_parts : AreParts streams utilities places side parts
   pub few : length parts ≤ MOST_PARTS
   pub bounded : All IsBounded parts
@@ -171,6 +187,7 @@ IsSide-made streams utilities side places parts are_streams placed few_utilities
       are_parts = made;
       few = length-made-few streams utilities side places holds are_streams few_utilities few_places;
       bounded =
-          All-weaker (IsPartOf streams utilities places side) IsBounded (IsBounded-part streams utilities side places are_streams.each placed holds)
+          let bounded = IsBounded-part streams utilities side places are_streams.each placed holds in
+          All-weaker (IsPartOf streams utilities places side) IsBounded bounded
           (made_parts streams utilities side places) made.each;
     })

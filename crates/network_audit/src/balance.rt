@@ -15,13 +15,6 @@ use fractions::Frac;
 use problem_table::{Target, targets};
 use stream_case::{Case, Side, Utility};
 
-/// Whether a utility is on this side.
-fn is_on(utility: &Utility, side: Side) -> bool
-    ensures { result ≡ same_side utility.now.side side }
-{
-    utility.side == side
-}
-
 /// The heats in W of the utilities on a side, added up, where so many steps were taken before; or
 /// the number of the step that is too fine.
 fn heat_on(side: Side, utilities: &[Utility], heats: &[Frac], before: u32) -> Result<Sum, u32>
@@ -37,7 +30,7 @@ fn heat_on(side: Side, utilities: &[Utility], heats: &[Frac], before: u32) -> Re
 {
     let mut sum = Sum::after(before);
     for (index, utility) in utilities.iter().enumerate() {
-        if is_on(utility, side) {
+        if utility.is_on(side) {
             sum = sum.plus(&heats[index])?;
         }
     }

@@ -1,5 +1,4 @@
 pub mod NameTests
-pub mod Bounds
 pub mod Missing
 pub mod shape
 pub mod Reading

@@ -5,7 +5,7 @@ pub use Rattle.first_fault.proofs.Reading.{Reads, end_here, fault_here, none_rea
 pub use Rattle.first_fault.proofs.Steps.{Follows, Give, all_give_at, given_has, nothing_gives}
 pub use Rattle.first_fault.specs.Checks.{first_failing}
 pub use Rattle.fractions.proofs.Comparisons.{Decides-is_below, positive-is, positive_num}
-pub use Rattle.fractions.proofs.Limits.{Decides-is_within_limits, Gives-is}
+pub use Rattle.fractions.proofs.Limits.{bounded_back, bounded_within}
 pub use Rattle.fractions.specs.LowestForms.{ratio-self}
 pub use Rattle.fractions.specs.Rationals.{Gives, IsWithinLimits, Rational, fraction_text, is_below, is_within_limits, rational_zero}
 unfoldable pub use Rattle.fractions.specs.Rationals.{ratio}
@@ -13,11 +13,11 @@ pub use Rattle.indexmap.proofs.CallerLemmas.{insert_entry-new}
 pub use Rattle.indexmap.specs.IndexMap.{IndexMap, insert_entry}
 pub use Rattle.network_text.specs.Building.{IsFresh, IsTracked, named_branch, named_sides, own_entry}
 unfoldable pub use Rattle.network_text.specs.Building.{own_entries}
-pub use Rattle.network_text.specs.Checks.{has_stream, is_free_side, is_missed, is_side, is_stream, is_used, misses_side}
-unfoldable pub use Rattle.network_text.specs.Checks.{checks, end_checks, exchanger_checks, exchanger_field_checks, first_missing, fraction_checks, is_on}
+pub use Rattle.network_text.specs.Checks.{has_stream, is_free_side, is_missed, is_used, misses_side}
+unfoldable pub use Rattle.network_text.specs.Checks.{checks, end_checks, exchanger_checks, exchanger_field_checks, first_missing, fraction_checks}
 unfoldable pub use Rattle.network_text.specs.Checks.{is_passed, joins_stream, kind_checks, misses_pass, mix_checks, mixed_checks, new_branch_checks}
 unfoldable pub use Rattle.network_text.specs.Checks.{new_exchanger_checks, pass_checks, passed_checks, source_checks, split_checks, used_branch_checks}
-unfoldable pub use Rattle.network_text.specs.Fractions.{bounded_ratio, denominator_in, fraction, fraction_in, is_slash, ratio_of}
+unfoldable pub use Rattle.network_text.specs.Fractions.{denominator_in, fraction, fraction_in, is_slash, ratio_of}
 pub use Rattle.network_text.specs.Given.{branch_of, branches_in, end_entry, entry_by, exchanger_entry, first_stream, kind_of, mix_entry, next, pass_entry}
 pub use Rattle.network_text.specs.Given.{split_entry, with_any}
 unfoldable pub use Rattle.network_text.specs.Given.{branch_at, branch_named, entry_in, exchanger_at, exchanger_named, source_at, start, with_entry}
@@ -47,7 +47,6 @@ pub use Rattle.networks.specs.declared.network.Network.{Network}
 pub use Rattle.networks.specs.declared.network.Passage.{Passage}
 pub use Rattle.statements.proofs.PlainStatements.{name_plain, plain_statement, statements-back, word_plain}
 pub use Rattle.statements.proofs.Positions.{index_within, is_some-position, none_any, position-some}
-unfoldable pub use Rattle.statements.specs.Numbers.{number_in}
 pub use Rattle.statements.specs.Statements.{IsPlainField, IsPlainStatement, IsVisible, Statement, field, statement_text}
 unfoldable pub use Rattle.statements.specs.Statements.{fields_text, statements_of}
 pub use Rattle.std.proofs.Math.Bool.{or-true}
@@ -73,11 +72,14 @@ pub use Rattle.std.specs.Map.{keys_of}
 pub use Rattle.std.specs.Option.{ForSome, option_to_list}
 pub use Rattle.stream_case.proofs.CaseLemmas.{IsName-source_name, IsSourceOf-side, length-AreStreams, source_named-source_name}
 pub use Rattle.stream_case.proofs.CompleteLemmas.{StaysValid, StaysValid-IsComplete}
-pub use Rattle.stream_case.proofs.DigitLemmas.{natural_read}
+pub use Rattle.stream_case.proofs.DigitLemmas.{integer_read, natural_read}
+unfoldable pub use Rattle.stream_case.specs.Digits.{integer_in}
 pub use Rattle.stream_case.proofs.DistinctLemmas.{AllPairs-across, AllPairs-back, AllPairs-before, AllPairs-front, no_place_of, other_name, place_of}
 pub use Rattle.stream_case.proofs.ListLemmas.{none_there, slice_get-append}
 pub use Rattle.stream_case.proofs.NameTests.{name-passes, passed-name}
-pub use Rattle.stream_case.proofs.SourceLemmas.{own_side, same_side-true}
+pub use Rattle.stream_case.proofs.SourceLemmas.{is_on-true, own_side, same_source-same, same_source-true}
+unfoldable pub use Rattle.stream_case.specs.Case.{is_on}
+pub use Rattle.stream_case.specs.Source.{same_source}
 pub use Rattle.stream_case.specs.Case.{IsComplete, IsSourceOf, side_of, source_name}
 unfoldable pub use Rattle.stream_case.specs.Case.{source_named}
 unfoldable pub use Rattle.stream_case.specs.Digits.{natural_in}

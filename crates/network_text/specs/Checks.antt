@@ -3,12 +3,11 @@ use Rattle.std.specs.Prelude.{ℕ, Bool, false, not, ◌==◌, ◌&&◌, ◌||�
 use Rattle.std.specs.List.{list_any, range_with_len}
 use Rattle.std.specs.Str.{bytes_eq}
 use Rattle.stream_case.specs.declared.case.Case.{Case}
-use Rattle.stream_case.specs.declared.source.Side.{Side}
 use Rattle.stream_case.specs.declared.source.Side.TheVariants as side
 use Rattle.stream_case.specs.declared.source.Source.{Source}
 use Rattle.stream_case.specs.declared.source.Source.TheVariants as source
-use Rattle.stream_case.specs.Case.{side_of, source_named}
-use Rattle.stream_case.specs.Source.{same_side}
+use Rattle.stream_case.specs.Case.{is_on, source_named}
+use Rattle.stream_case.specs.Source.{same_source}
 use Rattle.stream_case.specs.Name.{is_name}
 use Rattle.fractions.specs.Rationals.{is_below, rational_zero}
 use Rattle.first_fault.specs.Checks.{Check, in_turn}
@@ -61,14 +60,6 @@ new_exchanger_checks given name =
     ∷ (not (is_some (exchanger_named given name)), why.SameName)
     ∷ []
 
-abbrev pub is_side : Side → Option Side → Bool
-is_side of None = false
-is_side of (Some other) = same_side of other
-
--- the source is on a side
-unfoldable pub is_on : Case → Side → Source → Bool
-is_on case of s = is_side of (side_of case s)
-
 unfoldable pub source_checks : Case → List ℕ → List ℕ → List (Check NetWhy)
 source_checks case hot cold =
     (is_some (source_named case hot) && is_some (source_named case cold), why.UnknownName)
@@ -77,13 +68,9 @@ source_checks case hot cold =
 
 -- ---- a pass through an exchanger
 
-abbrev pub is_stream : ℕ → Source → Bool
-is_stream stream (source.Stream i) = i == stream
-is_stream stream (source.Utility i) = false
-
 abbrev pub has_stream : ℕ → Option Exchanger → Bool
 has_stream stream None = false
-has_stream stream (Some exchanger) = is_stream stream exchanger.hot || is_stream stream exchanger.cold
+has_stream stream (Some exchanger) = same_source exchanger.hot (source.Stream stream) || same_source exchanger.cold (source.Stream stream)
 
 -- the exchanger with this number has a side of the stream
 unfoldable pub joins_stream : Network → ℕ → ℕ → Bool

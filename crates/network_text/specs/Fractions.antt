@@ -1,9 +1,8 @@
 -- Fraction texts: an optional `-`, a number, and optionally `/` and a number. A number has 1 to MOST_DIGITS digits.
-use Rattle.std.specs.Prelude.{ℕ, zero, suc, ℤ, Bool, List, Option, Some, None, unwrap_or, ◌==◌, if◌then◌else◌}
+use Rattle.std.specs.Prelude.{ℕ, ℤ, Bool, List, Option, Some, None, unwrap_or, ◌==◌, if◌then◌else◌}
 use Rattle.std.specs.List.{after_first, before_first, list_any}
-use Rattle.stream_case.specs.Digits.{natural_in}
-use Rattle.statements.specs.Numbers.{number_in}
-use Rattle.fractions.specs.Rationals.{Rational, is_within_limits, ratio, rational_zero}
+use Rattle.stream_case.specs.Digits.{integer_in, natural_in}
+use Rattle.fractions.specs.Rationals.{Rational, bounded_ratio, rational_zero}
 use Rattle.network_text.specs.declared.limits.TheConstants.{MOST_DIGITS}
 
 -- `/`
@@ -14,11 +13,6 @@ is_slash b = b == 47
 unfoldable pub denominator_in : List ℕ → Option ℕ
 denominator_in text = if list_any is_slash text then natural_in MOST_DIGITS (after_first is_slash text) else Some 1
 
--- the fraction n/d: d is not 0, and the lowest form is within the limits
-unfoldable pub bounded_ratio : ℤ → ℕ → Option Rational
-bounded_ratio n zero = None
-bounded_ratio n (suc d) = if is_within_limits (ratio n (suc d)) then Some (ratio n (suc d)) else None
-
 abbrev pub ratio_of : Option ℤ → Option ℕ → Option Rational
 ratio_of (Some n) (Some d) = bounded_ratio n d
 ratio_of (Some n) None = None
@@ -26,7 +20,7 @@ ratio_of None d = None
 
 -- the fraction that a text spells, if it is a fraction text of a fraction
 unfoldable pub fraction_in : List ℕ → Option Rational
-fraction_in text = ratio_of (number_in MOST_DIGITS (before_first is_slash text)) (denominator_in text)
+fraction_in text = ratio_of (integer_in MOST_DIGITS (before_first is_slash text)) (denominator_in text)
 
 -- the same, or 0 where there is none
 unfoldable pub fraction : List ℕ → Rational

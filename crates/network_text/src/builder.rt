@@ -8,7 +8,7 @@ ghost use Rattle.std.specs.Str.{bytes_eq};
 ghost use Rattle.stream_case.specs.Case.{IsComplete};
 ghost use Rattle.networks.specs.Lines.{exchanger_of, exchangers_of, members, passage_of, same_passage, stream_at, uses};
 ghost use Rattle.network_text.specs.Given.{branch_named, exchanger_named, first_stream, start, with_entry};
-ghost use Rattle.network_text.specs.Checks.{first_missing, is_free_side, is_missed, is_passed, is_stream, is_used, joins_stream, misses_side};
+ghost use Rattle.network_text.specs.Checks.{first_missing, is_free_side, is_missed, is_passed, is_used, joins_stream, misses_side};
 ghost use Rattle.network_text.specs.Building.{IsFresh, named_branch, named_sides, own_entries};
 
 use crate::entry::Entry;
@@ -25,16 +25,6 @@ use stream_case::{ALL_STREAMS, Case, Items, Name, Source, Stream};
 pub struct Sides {
     pub hot: Source,
     pub cold: Source,
-}
-
-/// Whether a source is the stream with this index.
-fn is_stream(source: Source, stream: u32) -> bool
-    ensures { result ≡ is_stream stream source }
-{
-    match source {
-        Source::Stream(index) => index == stream,
-        Source::Utility(_) => false,
-    }
 }
 
 /// The branch with this name and stream.
@@ -325,7 +315,7 @@ impl NetworkBuilder {
         ensures { result ≡ joins_stream self.now exchanger stream }
     {
         match self.exchangers.get_index(exchanger as usize) {
-            Some((_, sides)) => is_stream(sides.hot, stream) || is_stream(sides.cold, stream),
+            Some((_, sides)) => sides.hot.is_stream(stream) || sides.cold.is_stream(stream),
             None => false,
         }
     }

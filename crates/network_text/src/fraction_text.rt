@@ -3,14 +3,13 @@
 ghost use Rattle.std.specs.Prelude.{◌≡◌, position};
 ghost use Rattle.std.specs.List.{before_first};
 ghost use Rattle.first_fault.specs.Checks.{Checked};
-ghost use Rattle.network_text.specs.Fractions.{bounded_ratio, denominator_in, fraction, fraction_in, is_slash};
+ghost use Rattle.network_text.specs.Fractions.{denominator_in, fraction, fraction_in, is_slash};
 ghost use Rattle.network_text.specs.Checks.{fraction_checks};
 
 use crate::fault::NetWhy;
 use crate::limits::MOST_DIGITS;
 use fractions::Frac;
-use statements::number_of;
-use stream_case::natural_of;
+use stream_case::{integer_of, natural_of};
 
 /// The index of the first `/`.
 fn slash_in(text: &[u8]) -> Option<usize>
@@ -46,15 +45,8 @@ fn denominator_of(text: &[u8]) -> Option<u128>
 pub fn fraction_of(text: &[u8]) -> Option<Frac>
     ensures { result ≡ fraction_in text.now }
 {
-    let numerator = number_of(before_slash(text), MOST_DIGITS)?;
+    let numerator = integer_of(before_slash(text), MOST_DIGITS)?;
     let denominator = denominator_of(text)?;
-    bounded(numerator, denominator)
-}
-
-/// The fraction of a numerator and a denominator.
-fn bounded(numerator: i128, denominator: u128) -> Option<Frac>
-    ensures { result ≡ bounded_ratio numerator denominator }
-{
     Frac::from_parts(numerator, denominator)
 }
 

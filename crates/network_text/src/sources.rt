@@ -4,7 +4,7 @@ ghost use Rattle.std.specs.Prelude.{◌≡◌, is_some, IfSome};
 ghost use Rattle.stream_case.specs.Case.{IsComplete, source_named};
 ghost use Rattle.first_fault.specs.Checks.{Checked};
 ghost use Rattle.network_text.specs.Given.{source_at};
-ghost use Rattle.network_text.specs.Checks.{is_on, source_checks};
+ghost use Rattle.network_text.specs.Checks.{source_checks};
 
 use crate::builder::Sides;
 use crate::fault::NetWhy;
@@ -18,14 +18,6 @@ fn known_source(case: &Case, name: &[u8]) -> Option<Source>
     ensures value { IfSome result (λ source. source ≡ source_at case.now name.now) }
 {
     case.source_named(name)
-}
-
-/// Whether a source is on a side.
-#[tactic(auto, unfolding(crate::specs::Checks::is_on))]
-fn is_on(case: &Case, side: Side, source: Source) -> bool
-    ensures { result ≡ is_on case.now side source }
-{
-    case.side_of(source) == Some(side)
 }
 
 /// The hot and the cold source of an exchanger.
@@ -42,10 +34,10 @@ pub fn hot_and_cold(case: &Case, hot: &[u8], cold: &[u8]) -> Result<Sides, NetWh
     let Some(cold) = known_source(case, cold) else {
         return Err(NetWhy::UnknownName);
     };
-    if !is_on(case, Side::Hot, hot) {
+    if !case.is_on(Side::Hot, hot) {
         return Err(NetWhy::WrongSide);
     }
-    if !is_on(case, Side::Cold, cold) {
+    if !case.is_on(Side::Cold, cold) {
         return Err(NetWhy::WrongSide);
     }
     Ok(Sides { hot, cold })

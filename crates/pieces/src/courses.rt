@@ -11,22 +11,12 @@ use design_lines::{Course, Share};
 use std::alloc::{AllocError, Global};
 use stream_case::{Case, Items, Side, Source};
 
-/// Whether a source is the stream with a number.
-fn is_stream(source: Source, stream: u32) -> bool
-    ensures { result ≡ same_source source (of_stream stream) }
-{
-    match source {
-        Source::Stream(index) => index == stream,
-        Source::Utility(_) => false,
-    }
-}
-
 /// Whether the piece at an index is one of the stream.
 fn is_of_stream(sources: &[Source], stream: u32, index: u32) -> bool
     ensures { result ≡ is_of_stream sources.now stream index }
 {
     match sources.get(index as usize) {
-        Some(source) => is_stream(*source, stream),
+        Some(source) => source.is_stream(stream),
         None => false,
     }
 }
@@ -88,7 +78,7 @@ fn course_of(
     let own = own_shares(alloc, side, stream, sources, exchanges)?;
     let mut stages = Vec::new(alloc);
     for (index, source) in sources.iter().enumerate() {
-        if !is_stream(*source, stream) {
+        if !source.is_stream(stream) {
             continue;
         }
         let shares = shares_of(alloc, index as u32, own.as_slice())?;

@@ -1,8 +1,8 @@
 -- Numbers as they are printed.
 use Rattle.rows.proofs.Words.{IsBetween, IsContribution, IsFlowRate, IsHeat, IsLoad, IsPrice, IsTemperature, IsValidStream, MOST_DIGITS, Row, Stream}
-use Rattle.rows.proofs.Words.{cp-between, decimal, decimal_is_IsNumeral, digit_at, field, ints, is_number, is_number_or_empty, length-decimal-le, nat_tests}
-use Rattle.rows.proofs.Words.{natural_in, natural_read, negative, number, number_in, optional_field, optional_number, signed_decimal}
-use Rattle.std.proofs.Common.{IfSome, List, None, Option, Some, [], ap, arith, false, get_or, length, neg_ℤ, negsuc, option_map, pos, refl, suc, true, ℕ, ℤ}
+use Rattle.rows.proofs.Words.{IsOfDigits, cp-between, field, integer_in, integer_read, ints, is_number, is_number_or_empty, length-decimal-le, nat_tests}
+use Rattle.rows.proofs.Words.{natural_in, number, number_in, optional_field, optional_number, signed_decimal}
+use Rattle.std.proofs.Common.{IfSome, List, None, Option, Some, [], arith, false, length, neg_ℤ, negsuc, pos, refl, suc, true, ℕ, ℤ}
 use Rattle.std.proofs.Common.{◌+◌, ◌-◌, ◌<◌, ◌==◌, ◌^◌, ◌∷◌, ◌≡◌, ◌≤◌}
 
 -- numbers of a number text
@@ -41,20 +41,17 @@ number_short (negsuc n) small =
     let least : suc n < 10 ^ MOST_DIGITS = omega (arith, ints, small.from) in
     omega (arith, length-decimal-le MOST_DIGITS (suc n) (omega arith) least (omega (arith, least)))
 
+of_digits : (z : ℤ) → IsPrintable z → IsOfDigits MOST_DIGITS z
+of_digits (pos n) small =
+    record { some = omega arith; readable = omega arith; short = omega (arith, ints, small.upto) }
+of_digits (negsuc n) small =
+    record { some = omega arith; readable = omega arith; short = omega (arith, ints, small.from) }
+
 pub number_read : (z : ℤ) → IsPrintable z → number_in (signed_decimal z) ≡ Some z
-unfolding number_in
-number_read (pos n) small =
-    let least : n < 10 ^ MOST_DIGITS = omega (arith, ints, small.upto) in
-    let numeral = decimal_is_IsNumeral n (omega (arith, least)) in
-    let digit = digit_at (decimal n) 0 numeral.0.1 numeral.0.0 in
-    let plain : (get_or (decimal n) 0 0 == 45) ≡ false = grind (arith, nat_tests, digit) in
-    rw plain (ap (option_map pos) (natural_read MOST_DIGITS n (omega arith) least (omega (arith, least))))
-number_read (negsuc n) small =
-    let least : suc n < 10 ^ MOST_DIGITS = omega (arith, ints, small.from) in
-    ap (option_map negative) (natural_read MOST_DIGITS (suc n) (omega arith) least (omega (arith, least)))
+number_read z small = integer_read MOST_DIGITS z (of_digits z small)
 
 number_long : (text : List ℕ) (z : ℤ) → number_in text ≡ Some z → (length text == 0) ≡ false
-unfolding number_in natural_in
+unfolding integer_in natural_in
 number_long [] z read = cc read
 number_long (b ∷ bs) z read = grind (arith, nat_tests)
 

@@ -11,7 +11,7 @@ pub use Rattle.csv.specs.declared.parser.Terminator.{Terminator}
 pub use Rattle.csv.specs.declared.reader.Headers.{Headers}
 pub use Rattle.csv.specs.declared.reader.Reader.{Reader}
 unfoldable pub use Rattle.rows.specs.Fields.{field, is_number, is_number_or_empty, number, optional_number}
-unfoldable pub use Rattle.rows.specs.Numbers.{is_flow_rate, is_load, is_own_contribution, is_temperature, is_within, negative, number_in}
+unfoldable pub use Rattle.rows.specs.Numbers.{is_flow_rate, is_load, is_own_contribution, is_temperature, is_within, number_in}
 pub use Rattle.rows.specs.Printed.{contribution_row, optional_field, stream_kind, stream_row}
 unfoldable pub use Rattle.rows.specs.Rows.{Row, rows_of}
 unfoldable pub use Rattle.rows.specs.Text.{fields_text, row_text, rows_text}
@@ -25,7 +25,7 @@ pub use Rattle.std.proofs.lemmas.Str.Parse.{digit_at}
 pub use Rattle.std.specs.Fmt.{signed_decimal}
 pub use Rattle.std.specs.List.{list_any}
 pub use Rattle.std.specs.Prelude.{int_le}
-pub use Rattle.stream_case.proofs.DigitLemmas.{natural_read}
+pub use Rattle.stream_case.proofs.DigitLemmas.{integer_read}
 pub use Rattle.stream_case.proofs.DistinctLemmas.{AllPairs-across}
 pub use Rattle.stream_case.proofs.HeatLemmas.{cp-between}
 pub use Rattle.stream_case.proofs.ListLemmas.{All-back}
@@ -35,7 +35,8 @@ pub use Rattle.stream_case.proofs.SourceLemmas.{Decides-is_right_way}
 pub use Rattle.stream_case.proofs.Words.{All-cons, All-from_recursion, All-head, All-tail, All-weaker, Decides-and, Decides-like, IsBetween, IsContribution}
 pub use Rattle.stream_case.proofs.Words.{IsLatent, IsName, IsSensible, IsTemperature, IsValidStream, bytes_decides, bytes_eq, codes, decimal, get_or_default}
 pub use Rattle.stream_case.proofs.Words.{ints, is_name_byte, is_right_way, nat_tests, same_side}
-unfoldable pub use Rattle.stream_case.proofs.Words.{is_name, natural_in}
+pub use Rattle.stream_case.proofs.Words.{IsOfDigits}
+unfoldable pub use Rattle.stream_case.proofs.Words.{integer_in, is_name, natural_in}
 pub use Rattle.stream_case.specs.Limits.{IsFlowRate, IsHeat, IsLoad, IsPrice}
 pub use Rattle.stream_case.specs.declared.limits.TheConstants.{MOST_CONTRIBUTION}
 pub use Rattle.stream_case.specs.declared.source.Side.{Side}

@@ -1,15 +1,12 @@
 -- The number texts of the files: an optional `-`, and then 1 to 13 digits; and numbers within their limits.
-use Rattle.std.specs.Prelude.{ℕ, ℤ, pos, List, drop, Option, Some, None, option_map, Bool, true, ◌==◌, ◌&&◌, if◌then◌else◌, int_le, slice_index, neg_ℤ}
-use Rattle.stream_case.specs.Digits.{natural_in}
+use Rattle.std.specs.Prelude.{ℕ, ℤ, pos, List, Option, Some, None, Bool, true, ◌&&◌, int_le, neg_ℤ}
+use Rattle.stream_case.specs.Digits.{integer_in}
 use Rattle.stream_case.specs.declared.limits.TheConstants.{HIGHEST_TEMPERATURE, LOWEST_TEMPERATURE, MOST_CONTRIBUTION, MOST_CP, MOST_HEAT, MOST_LOAD, MOST_PRICE}
 use Rattle.rows.specs.declared.numbers.TheConstants.{MOST_DIGITS}
 
-abbrev pub negative : ℕ → ℤ
-negative n = neg_ℤ (pos n)
-
--- the number that a text spells, if it is a number text: 45 is `-`
-unfoldable pub number_in : List ℕ → Option ℤ
-number_in text = if slice_index text 0 == 45 then option_map negative (natural_in MOST_DIGITS (drop 1 text)) else option_map pos (natural_in MOST_DIGITS text)
+-- the number that a text spells, if it is a number text
+abbrev pub number_in : List ℕ → Option ℤ
+number_in text = integer_in MOST_DIGITS text
 
 -- ---- limits
 

@@ -6,7 +6,7 @@ ghost use Rattle.rows.specs.Numbers.{is_contribution, is_flow_rate, is_flow_rate
 
 use stream_case::{
     HIGHEST_TEMPERATURE, LOWEST_TEMPERATURE, MOST_CONTRIBUTION, MOST_CP, MOST_HEAT, MOST_LOAD,
-    MOST_PRICE, natural_of,
+    MOST_PRICE, integer_of,
 };
 
 /// The most digits of a number text.
@@ -14,15 +14,10 @@ const MOST_DIGITS: usize = 13;
 
 /// The number that a field spells, if it is a number text: an optional `-` and then 1 to 13
 /// ASCII digits (this project's rule).
-#[tactic(auto, unfolding(crate::specs::Numbers::number_in))]
 pub fn number_of(field: &[u8]) -> Option<i64>
     ensures { result ≡ number_in field.now }
 {
-    if !field.is_empty() && field[0] == b'-' {
-        natural_of(&field[1..], MOST_DIGITS).map(|n| -(n as i64))
-    } else {
-        natural_of(field, MOST_DIGITS).map(|n| n as i64)
-    }
+    integer_of(field, MOST_DIGITS).map(|number| number as i64)
 }
 
 /// A number, if it lies from `low` to `high`.

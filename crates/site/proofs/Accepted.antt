@@ -3,8 +3,9 @@ use Rattle.site.proofs.Words.{All-map, All-nil, All-push, All-weaker, AreDistinc
 use Rattle.site.proofs.Words.{IsSite, IsTemperature, IsUnreserved, IsValidSite, IsValidStream, Kind, MOST_MAINS, MOST_SIDE_STREAMS, Main, Passes, Plant, Row}
 use Rattle.site.proofs.Words.{RowFault, Side, Site, SiteWhy, Stream, all_pairs_push, append-nil, count_on, end_checks, end_fault, entry_by, given_by, given_has}
 use Rattle.site.proofs.Words.{grammar, is_among, is_name, is_reserved, kind_of, length-map, main_in, map-append, nat_tests, nothing, passed-name, passed-room}
-use Rattle.site.proofs.Words.{passed-within, plant_with, site_of, stream_in, streams_of, with_contribution, with_entry}
-use Rattle.rows.proofs.Streams.{no_contribution, passed-sensible, range_of, stream-is_valid}
+use Rattle.site.proofs.Words.{passed-within, plant_with, site_of, stream_in, streams_of, stream_with, with_entry}
+use Rattle.rows.proofs.Streams.{passed-sensible, stream-is_valid}
+use Rattle.stream_case.proofs.CaseLemmas.{no_contribution, range_of}
 use Rattle.rows.specs.Fields.{field, number}
 use Rattle.site.proofs.Plants.{count_on-with, few_with_stream, length-with_stream, named-with_stream, names-with_stream, plant_names-with, stream_names-with}
 use Rattle.site.proofs.Plants.{streams_of-plant, streams_of-plant_with, streams_of-with_stream}
@@ -17,8 +18,8 @@ use Rattle.site.specs.declared.kind.Kind.TheVariants as kind
 
 -- a stream of a valid site, whatever its contribution
 record StreamFits (s : Stream) : Type 0 where
-  valid : (contribution : ℤ) → IsContribution contribution → IsValidStream (with_contribution contribution s)
-  sensible : (contribution : ℤ) → IsSensible (with_contribution contribution s)
+  valid : (contribution : ℤ) → IsContribution contribution → IsValidStream (stream_with contribution s)
+  sensible : (contribution : ℤ) → IsSensible (stream_with contribution s)
   name : IsUnreserved s.name
 
 record StreamsFit (streams : List Stream) : Type 0 where
@@ -93,9 +94,9 @@ stream_fits : (of : Side) (row : Row) → is_name (field row 1) ≡ true → not
     → StreamFits (stream_in of row)
 unfolding stream_number_checks
 stream_fits of row name unreserved (_, (_, (_, (supply, (target, (cp, (way, _))))))) = record {
-  valid = λ contribution range. stream-is_valid (with_contribution contribution (stream_in of row)) name supply target
-      (inl (passed-sensible (with_contribution contribution (stream_in of row)) cp refl way)) range;
-  sensible = λ contribution. passed-sensible (with_contribution contribution (stream_in of row)) cp refl way;
+  valid = λ contribution range. stream-is_valid (stream_with contribution (stream_in of row)) name supply target
+      (inl (passed-sensible (stream_with contribution (stream_in of row)) cp refl way)) range;
+  sensible = λ contribution. passed-sensible (stream_with contribution (stream_in of row)) cp refl way;
   name = (Decides-is_reserved (field row 1)).0 unreserved;
 }
 
@@ -180,13 +181,13 @@ site_valid given fits whole =
       mains =
           record { some = whole.mains; names = fits.mains.names; levels = fits.mains.levels; distinct = fits.mains.distinct; few = fits.mains.few };
       streams = rw (streams_of-plant_with c given.plants) (record {
-        some = rw (length-map streams (with_contribution c)) whole.streams;
-        each = All-map IsValidStream (with_contribution c) streams
-            (All-weaker StreamFits (λ s. IsValidStream (with_contribution c s)) (λ s fit. fit.valid c range) streams fits.streams.each);
-        sensible = All-map IsSensible (with_contribution c) streams
-            (All-weaker StreamFits (λ s. IsSensible (with_contribution c s)) (λ s fit. fit.sensible c) streams fits.streams.each);
-        contributions = All-map (λ (s : Stream). s.contribution ≡ c) (with_contribution c) streams (λ k d inside. refl);
-        names = All-map (λ (s : Stream). IsUnreserved s.name) (with_contribution c) streams
+        some = rw (length-map streams (stream_with c)) whole.streams;
+        each = All-map IsValidStream (stream_with c) streams
+            (All-weaker StreamFits (λ s. IsValidStream (stream_with c s)) (λ s fit. fit.valid c range) streams fits.streams.each);
+        sensible = All-map IsSensible (stream_with c) streams
+            (All-weaker StreamFits (λ s. IsSensible (stream_with c s)) (λ s fit. fit.sensible c) streams fits.streams.each);
+        contributions = All-map (λ (s : Stream). s.contribution ≡ c) (stream_with c) streams (λ k d inside. refl);
+        names = All-map (λ (s : Stream). IsUnreserved s.name) (stream_with c) streams
             (All-weaker StreamFits (λ s. IsUnreserved s.name) (λ s fit. fit.name) streams fits.streams.each);
         distinct = rw (stream_names-with c streams) fits.streams.distinct;
         few = λ of. rw (count_on-with of c streams) (fits.streams.few of);

@@ -1,8 +1,8 @@
 -- The plants so far, with one plant or one stream more, and with a contribution.
 use Rattle.site.proofs.Words.{All, All-cons, All-head, All-nil, All-tail, HaveFewStreams, IsName, MOST_SIDE_STREAMS, Plant, Side, Stream, append-nil, bytes_eq}
 use Rattle.site.proofs.Words.{count_by-map, count_on, count_on-append, flat_map-append, is_among, length-map, list_any, list_any-append, map-append, map-map}
-use Rattle.site.proofs.Words.{nat_tests, plant_with, same_side, set, streams_of, streams_of-more, sum_by_push, take-append-drop, with_contribution, with_stream}
-use Rattle.rows.proofs.Streams.{one_more_on}
+use Rattle.site.proofs.Words.{nat_tests, plant_with, same_side, set, streams_of, streams_of-more, sum_by_push, take-append-drop, stream_with, with_stream}
+use Rattle.stream_case.proofs.CaseLemmas.{one_more_on}
 use Rattle.std.proofs.Common.{List, [], ap, append_assoc, arith, cond, drop, get_or, length, length-append, map, not, refl, suc, sym, take, zero, ℕ, ℤ, ◌++◌}
 use Rattle.std.proofs.Common.{◌+◌, ◌<◌, ◌==◌, ◌||◌, ◌∙◌, ◌∷◌, ◌≡◌, ◌≤◌}
 
@@ -57,23 +57,23 @@ streams_of-plant plants plant =
 -- ---- a contribution
 
 pub streams_of-plant_with : (c : ℤ) (plants : List Plant)
-    → streams_of (map (plant_with c) plants) ≡ map (with_contribution c) (streams_of plants)
+    → streams_of (map (plant_with c) plants) ≡ map (stream_with c) (streams_of plants)
 streams_of-plant_with c [] = refl
 streams_of-plant_with c (plant ∷ plants) =
-    ap (λ ss. map (with_contribution c) plant.streams ++ ss) (streams_of-plant_with c plants)
-    ∙ sym (map-append (with_contribution c) plant.streams (streams_of plants))
+    ap (λ ss. map (stream_with c) plant.streams ++ ss) (streams_of-plant_with c plants)
+    ∙ sym (map-append (stream_with c) plant.streams (streams_of plants))
 
 pub plant_names-with : (c : ℤ) (plants : List Plant)
     → map (λ p. p.name) (map (plant_with c) plants) ≡ map (λ p. p.name) plants
 plant_names-with c plants = map-map (λ (p : Plant). p.name) (plant_with c) plants
 
 pub stream_names-with : (c : ℤ) (streams : List Stream)
-    → map (λ s. s.name) (map (with_contribution c) streams) ≡ map (λ s. s.name) streams
-stream_names-with c streams = map-map (λ (s : Stream). s.name) (with_contribution c) streams
+    → map (λ s. s.name) (map (stream_with c) streams) ≡ map (λ s. s.name) streams
+stream_names-with c streams = map-map (λ (s : Stream). s.name) (stream_with c) streams
 
 pub count_on-with : (of : Side) (c : ℤ) (streams : List Stream)
-    → count_on of (map (with_contribution c) streams) ≡ count_on of streams
-count_on-with of c streams = count_by-map (λ (s : Stream). same_side s.side of) (with_contribution c) streams
+    → count_on of (map (stream_with c) streams) ≡ count_on of streams
+count_on-with of c streams = count_by-map (λ (s : Stream). same_side s.side of) (stream_with c) streams
 
 -- ---- names and streams of all plants
 

@@ -2,7 +2,7 @@
 use Rattle.site.proofs.Words.{Decides-is_right_way, Follows, Given, IsContribution, IsName, IsSensible, IsTemperature, IsUnreserved, IsValidStream, MOST_MAINS}
 use Rattle.site.proofs.Words.{MOST_PLANTS, MOST_SIDE_STREAMS, Main, Passes, Plant, Row, Side, Stream, contribution, contribution_row, count_on, flow_rate}
 use Rattle.site.proofs.Words.{grammar, kind_of, main_row, name-passes, nat_tests, none_fails, nothing, number_read, plant_row, room-passes, stream_kind}
-use Rattle.site.proofs.Words.{stream_row, streams_of, temperature, with_contribution, with_entry, within-passes}
+use Rattle.site.proofs.Words.{stream_row, streams_of, temperature, stream_with, with_entry, within-passes}
 use Rattle.rows.specs.Fields.{are_empty, is_number, is_passed_over, number}
 use Rattle.site.proofs.Tests.{Decides-is_among, Decides-is_reserved}
 use Rattle.site.specs.Checks.{checks, contribution_checks, kind_checks, main_checks, plant_checks, stream_checks, stream_number_checks}
@@ -56,7 +56,7 @@ pub stream_follows : (given : Given) (s : Stream) → IsValidStream s → IsSens
     → 0 < length given.plants
     → count_on s.side (streams_of given.plants) < MOST_SIDE_STREAMS
     → All (λ other. other ≢ s.name) (map (λ t. t.name) (streams_of given.plants))
-    → Follows grammar given (stream_row [] [] s) (with_entry given (entry.Stream (with_contribution (pos 0) s)))
+    → Follows grammar given (stream_row [] [] s) (with_entry given (entry.Stream (stream_with (pos 0) s)))
 unfolding checks kind_checks stream_checks stream_number_checks are_empty is_number number
 stream_follows given s valid sensible unreserved some few new =
     let no_load = sensible.load in

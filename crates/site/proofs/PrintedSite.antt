@@ -3,7 +3,7 @@ use Rattle.site.proofs.Words.{All-back, All-head, All-plants, All-seam, All-tail
 use Rattle.site.proofs.Words.{IsTemperature, IsUnreserved, IsValidSite, IsValidStream, MOST_MAINS, MOST_PLANTS, MOST_SIDE_STREAMS, Main, Plant, Site, Stream}
 use Rattle.site.proofs.Words.{all_give, append-nil, append_snoc, contribution_row, count_on, end_checks, end_fault, flat_map, flat_map-append, grammar}
 use Rattle.site.proofs.Words.{length-map, length-seam, main_row, map-append, nat_tests, nothing, nothing_gives, one_more_gives, own_side, plant_row, plant_rows}
-use Rattle.site.proofs.Words.{plant_with, printed_rows, same_side, site_of, stream_row, streams_of, sum_by-append, sum_by-cons, with_contribution}
+use Rattle.site.proofs.Words.{plant_with, printed_rows, same_side, site_of, stream_row, streams_of, sum_by-append, sum_by-cons, stream_with}
 use Rattle.site.proofs.Plants.{count_on-with, plant_names-with, stream_names-with, streams_of-plant, streams_of-plant_with, with_stream-last}
 use Rattle.site.proofs.PrintedRows.{contribution_follows, main_follows, plant_follows, stream_follows}
 use Rattle.std.proofs.Common.{All, AllPairs, Bool, List, None, Some, [], ap, append_assoc, arith, cond, is_some, length, length-append, map, pos, refl, subst}
@@ -24,7 +24,7 @@ abbrev bare : Plant → Plant
 bare = plant_with (pos 0)
 
 abbrev bare_with : Plant → List Stream → Plant
-bare_with plant streams = record { name = plant.name; streams = map (with_contribution (pos 0)) streams }
+bare_with plant streams = record { name = plant.name; streams = map (stream_with (pos 0)) streams }
 
 abbrev given_with : Site → List Main → List Plant → Given
 given_with site mains plants = record { contribution = Some site.contribution; plants = plants; mains = mains }
@@ -58,11 +58,11 @@ module _ (site : Site) (valid : IsValidSite site) where
   -- the streams so far: those of the plants before, and some of the plant's own
   streams_before : (before : List Plant) (plant : Plant) (done : List Stream)
       → streams_of (map bare before ++ bare_with plant done ∷ [])
-      ≡ map (with_contribution (pos 0)) (streams_of before ++ done)
+      ≡ map (stream_with (pos 0)) (streams_of before ++ done)
   streams_before before plant done =
       streams_of-plant (map bare before) (bare_with plant done)
-      ∙ ap (λ ss. ss ++ map (with_contribution (pos 0)) done) (streams_of-plant_with (pos 0) before)
-      ∙ sym (map-append (with_contribution (pos 0)) (streams_of before) done)
+      ∙ ap (λ ss. ss ++ map (stream_with (pos 0)) done) (streams_of-plant_with (pos 0) before)
+      ∙ sym (map-append (stream_with (pos 0)) (streams_of before) done)
 
   stream_step : (before : List Plant) (plant : Plant) (after : List Plant) → site.plants ≡ before ++ plant ∷ after
       → (done : List Stream) (s : Stream) (left : List Stream) → plant.streams ≡ done ++ s ∷ left
@@ -99,8 +99,8 @@ module _ (site : Site) (valid : IsValidSite site) where
       (All-seam (λ (t : Stream). IsUnreserved t.name) (streams_of site.plants) so_far s (left ++ streams_of after) all valid.streams.names) some room free in
       let next : map bare before ++ bare_with plant (done ++ s ∷ []) ∷ [] ≡ _
       = ap (λ ss. map bare before ++ record { name = plant.name; streams = ss } ∷ [])
-      (map-append (with_contribution (pos 0)) done (s ∷ []))
-      ∙ sym (with_stream-last (with_contribution (pos 0) s) (map bare before) (bare_with plant done)) in
+      (map-append (stream_with (pos 0)) done (s ∷ []))
+      ∙ sym (with_stream-last (stream_with (pos 0) s) (map bare before) (bare_with plant done)) in
       subst (λ ps. Follows grammar given (stream_row [] [] s) (given_with site site.mains ps)) (sym next) follows
 
   -- ---- all rows
@@ -145,7 +145,7 @@ module _ (site : Site) (valid : IsValidSite site) where
 
 -- the contribution comes back
 streams_back : (c : ℤ) (ss : List Stream) → All (λ s. s.contribution ≡ c) ss
-    → map (with_contribution c) (map (with_contribution (pos 0)) ss) ≡ ss
+    → map (stream_with c) (map (stream_with (pos 0)) ss) ≡ ss
 streams_back c [] same = refl
 streams_back c (s ∷ ss) same =
     let here = sym (All-head (λ (t : Stream). t.contribution ≡ c) s ss same) in
@@ -179,7 +179,7 @@ rows_back site valid =
     let rows = length (printed_rows site) in
     let given = given_with site site.mains (map bare site.plants) in
     let some : 0 < length (streams_of (map bare site.plants)) =
-    rw (streams_of-plant_with (pos 0) site.plants, length-map (streams_of site.plants) (with_contribution (pos 0))) valid.streams.some in
+    rw (streams_of-plant_with (pos 0) site.plants, length-map (streams_of site.plants) (stream_with (pos 0))) valid.streams.some in
     let complete : end_fault rows given ≡ None = lacks_nothing rows given refl valid.mains.some some in
     record {
       sound = gives.sound;

@@ -29,7 +29,8 @@ pub use Rattle.rows.specs.Text.{rows_text}
 pub use Rattle.rows.specs.declared.fault.RowFault.{RowFault}
 pub use Rattle.site.specs.Answers.{HaveFewStreams}
 unfoldable pub use Rattle.site.specs.Checks.{end_checks, is_among, is_reserved}
-pub use Rattle.site.specs.Given.{Given, entry_by, main_in, nothing, plant_with, site_of, stream_in, with_contribution, with_entry, with_stream}
+pub use Rattle.site.specs.Given.{Given, entry_by, main_in, nothing, plant_with, site_of, stream_in, with_entry, with_stream}
+pub use Rattle.stream_case.specs.Stream.{stream_with}
 unfoldable pub use Rattle.site.specs.Given.{kind_of}
 pub use Rattle.site.specs.Outcome.{IsOutcome, IsSite, end_fault, grammar}
 unfoldable pub use Rattle.site.specs.Printed.{main_row, plant_row, plant_rows, printed_rows}

@@ -2,6 +2,7 @@
 use Rattle.std.specs.Prelude.{ℕ, ℤ, pos, List, [], ◌∷◌, ◌++◌, map, Option, Some, None, unwrap_or, if◌then◌else◌, codes}
 use Rattle.std.specs.Str.{bytes_eq}
 use Rattle.rows.specs.Rows.{Row}
+use Rattle.stream_case.specs.Stream.{sensible_stream, stream_with}
 use Rattle.stream_case.specs.declared.source.Side.{Side}
 use Rattle.stream_case.specs.declared.source.Side.TheVariants as side
 use Rattle.stream_case.specs.declared.stream.Stream.{Stream}
@@ -25,11 +26,8 @@ nothing = record { contribution = None; plants = []; mains = [] }
 
 -- ---- the site that is made of it
 
-abbrev pub with_contribution : ℤ → Stream → Stream
-with_contribution contribution s = record s { contribution = contribution }
-
 abbrev pub plant_with : ℤ → Plant → Plant
-plant_with contribution plant = record { name = plant.name; streams = map (with_contribution contribution) plant.streams }
+plant_with contribution plant = record { name = plant.name; streams = map (stream_with contribution) plant.streams }
 
 -- each stream has the contribution
 abbrev pub site_with : ℤ → Given → Site
@@ -60,7 +58,7 @@ abbrev pub main_in : Row → Main
 main_in row = record { name = field row 1; level = number row 2 }
 
 abbrev pub stream_in : Side → Row → Stream
-stream_in of row = record { name = field row 1; side = of; supply = number row 2; target = number row 3; cp = number row 4; load = pos 0; contribution = pos 0 }
+stream_in of row = sensible_stream (field row 1) of (number row 2) (number row 3) (number row 4) (pos 0)
 
 abbrev pub entry_by : Option Kind → Row → Entry
 entry_by None row = entry.Nothing

@@ -3,18 +3,18 @@
 ghost use Rattle.std.specs.Prelude.{◌≡◌, ◌==◌, Some, length, map, not, is_some, IfOk, OnErr, OnOk};
 ghost use Rattle.std.specs.List.{list_any};
 ghost use Rattle.first_fault.specs.Checks.{Checked};
-ghost use Rattle.stream_case.specs.Stream.{count_on};
+ghost use Rattle.stream_case.specs.Stream.{count_on, stream_with};
 ghost use Rattle.plants.specs.Site.{streams_of};
 ghost use Rattle.site.specs.Answers.{HaveFewStreams, IsFresh, TakesMemory};
 ghost use Rattle.site.specs.Checks.{end_checks, is_among, is_main, is_plant, is_stream};
-ghost use Rattle.site.specs.Given.{nothing, plant_with, site_with, with_contribution, with_entry};
+ghost use Rattle.site.specs.Given.{nothing, plant_with, site_with, with_entry};
 
 use crate::entry::Entry;
 use crate::fault::SiteWhy;
 use plants::{Main, Plant, Site};
 use std::alloc::{AllocError, Global};
 use std::marker::Model;
-use stream_case::{Items, Name, Side, Stream};
+use stream_case::{Items, Name, Side, Stream, count_on};
 
 /// What the rows read so far gave.
 #[derive(Drop)]
@@ -33,13 +33,6 @@ impl Model for Found {
     ghost view = { λ f. record { contribution = f.contribution; plants = f.plants.items; mains = f.mains.items } };
 
     ghost invariant = { λ f. HaveFewStreams f.plants.items };
-}
-
-/// How many of these streams are on a side.
-fn count_on(side: Side, streams: &[Stream]) -> usize
-    ensures { result ≡ count_on side streams.now }
-{
-    streams.iter().filter(|stream| stream.is_on(side)).count()
 }
 
 /// How many streams of these plants are on a side.
@@ -79,27 +72,17 @@ fn have_streams(plants: &[Plant]) -> bool
     plants.iter().any(|plant| plant.streams.len() != 0)
 }
 
-/// The stream with this contribution.
-fn with_contribution(contribution: i32, stream: &Stream) -> Stream
-    ensures { result ≡ with_contribution contribution stream.now }
-{
-    Stream {
-        contribution,
-        ..*stream
-    }
-}
-
 /// The streams, with this contribution in each.
 fn streams_with(
     alloc: Global,
     contribution: i32,
     streams: &[Stream],
 ) -> Result<Vec<Stream>, AllocError>
-    ensures { IfOk result (λ made. made.items ≡ map (with_contribution contribution) streams.now) }
+    ensures { IfOk result (λ made. made.items ≡ map (stream_with contribution) streams.now) }
 {
     streams
         .iter()
-        .map(|stream| with_contribution(contribution, stream))
+        .map(|stream| stream.with_contribution(contribution))
         .collect(alloc)
 }
 

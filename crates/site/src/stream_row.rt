@@ -40,15 +40,7 @@ fn stream_of(name: Name, side: Side, row: &ByteRecord) -> Result<Stream, SiteWhy
     if !side.is_right_way(supply, target) {
         return Err(SiteWhy::WrongWay);
     }
-    Ok(Stream {
-        name,
-        side,
-        supply,
-        target,
-        cp,
-        load: 0,
-        contribution: 0,
-    })
+    Ok(Stream::sensible(name, side, supply, target, cp, 0))
 }
 
 /// What a row of that kind gives.

@@ -1,15 +1,6 @@
--- Printed whole numbers are plain fields, and are read as themselves.
-use Rattle.statements.specs.Numbers.{negative, number_in}
-use Rattle.statements.proofs.Words.{All-cons, All-weaker, IsPlainField, IsVisible, decimal_is_IsNumeral_wide, digit_at, get_or_default, nat_tests, natural_read}
-use Rattle.statements.proofs.Words.{pow-le-pow_right, signed_decimal}
-use Rattle.std.proofs.Common.{All, List, Some, ap, arith, decimal, false, get_or, length, negsuc, option_map, pos, subst, suc, unsigned_abs, ℕ, ℤ, ◌<◌, ◌==◌}
-use Rattle.std.proofs.Common.{◌^◌, ◌≡◌, ◌≢◌, ◌≤◌}
-
--- a number of so many digits is below that power of ten
-pub fewer_digits : (few most : ℕ) → few ≤ most → 10 ^ few ≤ 10 ^ most
-fewer_digits few most less = pow-le-pow_right (omega arith) less
-
--- ---- the bytes of a number
+-- Printed whole numbers are plain fields.
+use Rattle.statements.proofs.Words.{All-cons, All-weaker, IsPlainField, IsVisible, decimal_is_IsNumeral_wide, digit_at, get_or_default, signed_decimal}
+use Rattle.std.proofs.Common.{All, List, arith, decimal, length, negsuc, pos, subst, suc, unsigned_abs, ℕ, ℤ, ◌<◌, ◌^◌, ◌≢◌, ◌≤◌}
 
 -- a byte of a number without a sign
 abbrev IsDigit : ℕ → Type 0
@@ -50,15 +41,3 @@ bytes_visible text bytes = All-weaker IsNumberByte IsVisible (λ b byte. omega (
 pub number_plain : (z : ℤ) → unsigned_abs z < 10 ^ 64 → IsPlainField (signed_decimal z)
 number_plain z short =
     record { some = signed_some z short; visible = bytes_visible (signed_decimal z) (signed_bytes z short) }
-
--- ---- read back
-
-pub number-back : (most : ℕ) (z : ℤ) → 0 < most → unsigned_abs z < 10 ^ most → unsigned_abs z < 10 ^ 64
-    → number_in most (signed_decimal z) ≡ Some z
-unfolding number_in
-number-back most (pos n) some small short =
-    let digit = decimal_digits n (omega (arith, short)) 0 0 (decimal_some n (omega (arith, short))) in
-    let plain : (get_or (decimal n) 0 0 == 45) ≡ false = grind (arith, nat_tests, digit) in
-    rw plain (ap (option_map pos) (natural_read most n some (omega (arith, small)) (omega (arith, short))))
-number-back most (negsuc n) some small short =
-    ap (option_map negative) (natural_read most (suc n) some (omega (arith, small)) (omega (arith, short)))

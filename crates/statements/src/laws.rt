@@ -3,7 +3,7 @@
 ghost use Rattle.std.specs.Prelude.{◌≡◌, ◌<◌, ◌≤◌, ◌^◌, ℕ, ℤ, List, All, Some, unsigned_abs};
 ghost use Rattle.std.specs.Fmt.{signed_decimal};
 ghost use Rattle.std.specs.List.{flat_map};
-ghost use Rattle.statements.specs.Numbers.{IsOfDigits, number_in};
+ghost use Rattle.stream_case.specs.Digits.{IsOfDigits, integer_in};
 ghost use Rattle.statements.specs.Statements.{IsPlainField, IsPlainStatement, Statement, statement_text, statements_of};
 
 /// Statements of plain fields are read from their lines as themselves.
@@ -16,5 +16,5 @@ pub fn plain_statements_are_read_again()
 pub fn printed_numbers_are_read_again()
     ensures plain { (most : ℕ) (z : ℤ) → IsOfDigits most z → IsPlainField (signed_decimal z) }
     ensures again { (most : ℕ) (z : ℤ) → IsOfDigits most z →
-        number_in most (signed_decimal z) ≡ Some z }
+        integer_in most (signed_decimal z) ≡ Some z }
 {}

@@ -6,9 +6,7 @@
 #![tactic(auto)]
 
 mod laws;
-mod number;
 mod statement;
 
 pub use laws::{plain_statements_are_read_again, printed_numbers_are_read_again};
-pub use number::number_of;
 pub use statement::{Statement, first_line};

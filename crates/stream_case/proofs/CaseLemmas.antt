@@ -1,7 +1,8 @@
--- How many streams there are, and the sources of a case.
-use Rattle.std.proofs.Common.{List, Some, [], ap, arith, cond, false, get_or, length, map, refl, slice_get, subst, suc, sym, zero, ℕ, ◌++◌, ◌+◌, ◌<◌, ◌∙◌, ◌∷◌}
-use Rattle.std.proofs.Common.{◌≡◌, ◌≢◌, ◌≤◌}
-use Rattle.stream_case.proofs.Words.{ALL_STREAMS, All, AreStreams, Case, Cold, Hot, IsName, IsSourceOf, Side, Source, Stream, Utility, bytes_eq, count_on}
+-- How many streams there are, the contributions, and the sources of a case.
+use Rattle.std.proofs.Common.{IfSome, List, None, Option, Some, [], ap, arith, cond, false, get_or, length, map, pos, refl, slice_get, subst, suc, sym}
+use Rattle.std.proofs.Common.{unwrap_or, zero, ℕ, ℤ, ◌++◌, ◌+◌, ◌<◌, ◌∙◌, ◌∷◌, ◌≡◌, ◌≢◌, ◌≤◌}
+use Rattle.stream_case.proofs.Words.{ALL_STREAMS, All, AreStreams, Case, Cold, Hot, IsContribution, IsName, IsSourceOf, Side, Source, Stream, Utility}
+use Rattle.stream_case.proofs.Words.{bytes_eq, count_on}
 use Rattle.stream_case.proofs.Words.{false_from_ne_true, false≢true, get_or-append-add, get_or_append_left, length-append, length-map, names_of, option_map}
 use Rattle.stream_case.proofs.Words.{option_map_or, same_Some, same_side, same_source, side_of, source_name, source_named, sum_by-append, sum_by-cons}
 use Rattle.std.specs.Prelude.{AllPairs, IsSome}
@@ -36,6 +37,26 @@ count_on-append side xs ys = sum_by-append (λ (s : Stream). cond (same_side s.s
 
 pub length-AreStreams : (streams : List Stream) → AreStreams streams → length streams ≤ ALL_STREAMS
 length-AreStreams streams h = omega (arith, count_on-add streams, h.few Hot, h.few Cold)
+
+-- one stream more on a side that has room
+pub one_more_on : (own : Side) (count : Side → ℕ) (most : ℕ) → ((of : Side) → count of ≤ most)
+    → count own < most → (of : Side)
+    → count of + cond (same_side own of) 1 0 ≤ most
+one_more_on Hot count most few room Hot = omega (arith, room)
+one_more_on Hot count most few room Cold = omega (arith, few Cold)
+one_more_on Cold count most few room Hot = omega (arith, few Hot)
+one_more_on Cold count most few room Cold = omega (arith, room)
+
+-- ---- contributions
+
+pub no_contribution : IsContribution (pos 0)
+no_contribution = omega arith
+
+-- the contribution that is given, or the one that stands for it
+pub range_of : (o : Option ℤ) (otherwise : ℤ) → IfSome o IsContribution → IsContribution otherwise
+    → IsContribution (unwrap_or o otherwise)
+range_of None otherwise fits range = range
+range_of (Some c) otherwise fits range = fits
 
 -- ---- sources
 

@@ -1,6 +1,7 @@
 -- The tests of sides and of sources.
-use Rattle.std.proofs.Common.{Decides, ap, arith, refl, true, ◌≡◌}
-use Rattle.stream_case.proofs.Words.{Cold, Hot, IsRightWay, Side, Source, eq-eqb, eqb-true, ints, is_right_way, same_side, same_source, ℤ}
+use Rattle.std.proofs.Common.{Decides, None, Option, Some, ap, arith, refl, sym, true, ◌≡◌}
+use Rattle.stream_case.proofs.Words.{Case, Cold, Hot, IsRightWay, Side, Source, eq-eqb, eqb-true, ints, is_on, is_right_way, is_side, same_side, same_source}
+use Rattle.stream_case.proofs.Words.{side_of, ℤ}
 use Rattle.stream_case.specs.declared.source.Source.TheVariants.{Stream as of_stream, Utility as of_utility}
 
 -- what holds of both sides holds of each
@@ -17,6 +18,14 @@ same_side-true Hot Hot e = refl
 same_side-true Hot Cold e = cc
 same_side-true Cold Hot e = cc
 same_side-true Cold Cold e = refl
+
+pub is_side-true : (of : Side) (o : Option Side) → is_side of o ≡ true → o ≡ Some of
+is_side-true of None e = cc
+is_side-true of (Some other) e = ap Some (sym (same_side-true of other e))
+
+pub is_on-true : (c : Case) (of : Side) (source : Source) → is_on c of source ≡ true → side_of c source ≡ Some of
+unfolding is_on
+is_on-true c of source e = is_side-true of (side_of c source) e
 
 pub Decides-is_right_way : (side : Side) (supply target : ℤ)
     → Decides (is_right_way side supply target) (IsRightWay side supply target)

@@ -26,13 +26,14 @@ pub use Rattle.std.specs.Result.{IsOk, MatchResult}
 pub use Rattle.std.specs.Str.{IsUtf8, all_ascii_digits, bytes_eq}
 pub use Rattle.std.specs.Str.Parse.{AllDigits, digits_value}
 pub use Rattle.stream_case.specs.Case.{IsSourceOf, IsStandard, names_of, outer_of, outermost, side_of, source_name, standard_utility, with_utilities}
-unfoldable pub use Rattle.stream_case.specs.Case.{source_named}
-unfoldable pub use Rattle.stream_case.specs.Digits.{natural_in}
+unfoldable pub use Rattle.stream_case.specs.Case.{is_on, source_named}
+pub use Rattle.stream_case.specs.Digits.{IsOfDigits}
+unfoldable pub use Rattle.stream_case.specs.Digits.{integer_in, natural_in, negative}
 pub use Rattle.stream_case.specs.Limits.{IsBetween, IsContribution, IsLength, IsLevel, IsSensibleHeat, IsShifted, IsStreamHeat, IsTemperature}
 pub use Rattle.stream_case.specs.Name.{IsAnyName, IsDottedName, IsName, IsStored, is_name_byte}
 unfoldable pub use Rattle.stream_case.specs.Name.{is_name}
 pub use Rattle.stream_case.specs.Shift.{shifted}
-pub use Rattle.stream_case.specs.Source.{IsRightWay, is_hot, is_right_way, same_side, same_source}
+pub use Rattle.stream_case.specs.Source.{IsRightWay, is_hot, is_right_way, is_side, same_side, same_source}
 pub use Rattle.stream_case.specs.Stream.{AreStreams, HasValidStreams, IsLatent, IsSensible, IsValidStream, count_on, high_end, low_end, stream_ends}
 pub use Rattle.stream_case.specs.Utility.{IsPlaced, IsValidUtility, shifted_level}
 pub use Rattle.stream_case.specs.contracts.source.Side.{the_type}

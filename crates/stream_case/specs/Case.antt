@@ -14,7 +14,7 @@ use Rattle.stream_case.specs.declared.case.Forbid.{Forbid}
 use Rattle.stream_case.specs.declared.case.Case.{Case}
 use Rattle.stream_case.specs.declared.limits.TheConstants.{MOST_UTILITIES, MOST_FORBIDS, MOST_HEAT}
 use Rattle.stream_case.specs.Limits.{IsContribution}
-use Rattle.stream_case.specs.Source.{same_side, same_source}
+use Rattle.stream_case.specs.Source.{is_side, same_side, same_source}
 use Rattle.stream_case.specs.Stream.{stream_ends, HasValidStreams}
 use Rattle.stream_case.specs.Utility.{IsValidUtility}
 
@@ -33,10 +33,21 @@ side_among streams utilities (of_utility i) = option_map (λ u. u.side) (slice_g
 abbrev pub side_of : Case → Source → Option Side
 side_of c source = side_among c.streams c.utilities source
 
+-- the source is on the side
+unfoldable pub is_on : Case → Side → Source → Bool
+is_on c of source = is_side of (side_of c source)
+
 -- the name of a source of the case; nothing where it has no such source
 abbrev pub source_name : Case → Source → List ℕ
 source_name c (of_stream i) = option_map_or (λ s. s.name) (slice_get c.streams i) []
 source_name c (of_utility i) = option_map_or (λ u. u.name) (slice_get c.utilities i) []
+
+-- the index of the first stream with a name, and of the first utility
+abbrev pub stream_named : Case → List ℕ → Option ℕ
+stream_named c name = position (λ s. bytes_eq name s.name) c.streams
+
+abbrev pub utility_named : Case → List ℕ → Option ℕ
+utility_named c name = position (λ u. bytes_eq name u.name) c.utilities
 
 -- the source that was found at an index among the streams, or else at one among the utilities
 abbrev pub first_source : Option ℕ → Option ℕ → Option Source
@@ -46,7 +57,7 @@ first_source None None = None
 
 -- the source of the case with a name
 unfoldable pub source_named : Case → List ℕ → Option Source
-source_named c name = first_source (position (λ s. bytes_eq name s.name) c.streams) (position (λ u. bytes_eq name u.name) c.utilities)
+source_named c name = first_source (stream_named c name) (utility_named c name)
 
 -- the names of its streams, then those of its utilities
 abbrev pub names_of : Case → List (List ℕ)

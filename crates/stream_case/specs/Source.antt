@@ -1,5 +1,5 @@
 -- The two sides, and sources that are one.
-use Rattle.std.specs.Prelude.{ℤ, ◌<ℤ◌, int_lt, Bool, true, false, ◌==◌}
+use Rattle.std.specs.Prelude.{ℤ, ◌<ℤ◌, int_lt, Bool, true, false, ◌==◌, Option, Some, None}
 use Rattle.stream_case.specs.declared.source.Side.{Side}
 use Rattle.stream_case.specs.declared.source.Side.TheVariants.{Hot, Cold}
 use Rattle.stream_case.specs.declared.source.Source.{Source}
@@ -14,6 +14,11 @@ same_side Hot Hot = true
 same_side Hot Cold = false
 same_side Cold Hot = false
 same_side Cold Cold = true
+
+-- the known side is this one
+abbrev pub is_side : Side → Option Side → Bool
+is_side of None = false
+is_side of (Some other) = same_side of other
 
 -- a hot stream falls from its supply to its target, and a cold one rises
 abbrev pub IsRightWay : Side → ℤ → ℤ → Type 0

@@ -1,6 +1,7 @@
 -- The ranges of a stream, its heat, and valid streams.
 use Rattle.std.specs.Prelude.{ℕ, ◌≡◌, ◌<◌, ◌≤◌, ◌⊎◌, ℤ, pos, ◌+ℤ◌, ◌-ℤ◌, ◌*ℤ◌, int_le, int_lt, Bool, true, false, ◌&&◌, List, [], ◌∷◌, length, count_by, All, if◌then◌else◌}
 use Rattle.std.specs.Int.{int_max}
+use Rattle.std.specs.List.{list_any}
 use Rattle.std.specs.Ordering.{int_eq}
 use Rattle.stream_case.specs.declared.source.Side.{Side}
 use Rattle.stream_case.specs.declared.stream.Stream.{Stream}
@@ -9,6 +10,16 @@ use Rattle.stream_case.specs.Limits.{IsTemperature, IsContribution, IsFlowRate, 
 use Rattle.stream_case.specs.Name.{IsName}
 use Rattle.stream_case.specs.Shift.{shifted}
 use Rattle.stream_case.specs.Source.{is_hot, same_side, IsRightWay}
+
+-- ---- streams that are made
+
+-- a stream of sensible heat: it has no load
+abbrev pub sensible_stream : List ℕ → Side → ℤ → ℤ → ℤ → ℤ → Stream
+sensible_stream name side supply target cp contribution = record { name = name; side = side; supply = supply; target = target; cp = cp; load = pos 0; contribution = contribution }
+
+-- the stream with this contribution
+abbrev pub stream_with : ℤ → Stream → Stream
+stream_with contribution s = record s { contribution = contribution }
 
 -- ---- ranges
 
@@ -56,11 +67,11 @@ counts_above true place level = int_le place level
 
 -- the load of a stream whose level counts as above t, and 0 of any other; the level is the high end, as a latent stream has but one
 abbrev pub load_over : Bool → ℤ → Stream → ℤ
-load_over from t s = if counts_above from t (high_end s) then s.load else pos 0
+load_over from_itself t s = if counts_above from_itself t (high_end s) then s.load else pos 0
 
 -- its heat over the shifted temperature t, which counts from itself or not
 abbrev pub heat_over : Bool → ℤ → Stream → ℤ
-heat_over from t s = sensible_above t s +ℤ load_over from t s
+heat_over from_itself t s = sensible_above t s +ℤ load_over from_itself t s
 
 -- its heat above the shifted temperature t
 abbrev pub heat_above : ℤ → Stream → ℤ
@@ -103,6 +114,10 @@ is_latent s = int_lt (pos 0) s.load
 -- it is latent at this shifted level
 abbrev pub is_level_at : ℤ → Stream → Bool
 is_level_at level s = is_latent s && int_eq (high_end s) level
+
+-- some stream is
+abbrev pub has_level_at : ℤ → List Stream → Bool
+has_level_at level streams = list_any (is_level_at level) streams
 
 -- no stream is latent
 abbrev pub AreSensible : List Stream → Type 0

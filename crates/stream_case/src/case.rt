@@ -1,7 +1,6 @@
 //! A case: the streams, the utilities, and the matches that are forbidden.
-ghost use Rattle.std.specs.Prelude.{◌≡◌, ◌<◌, ◌^◌, length, position};
-ghost use Rattle.std.specs.Str.{bytes_eq};
-ghost use Rattle.stream_case.specs.Case.{IsSourceOf, side_among, side_of, source_name, source_named, is_forbidden};
+ghost use Rattle.std.specs.Prelude.{◌≡◌, ◌<◌, ◌^◌, length};
+ghost use Rattle.stream_case.specs.Case.{IsSourceOf, is_forbidden, is_on, side_among, side_of, source_name, source_named, stream_named, utility_named};
 
 use crate::items::Items;
 use crate::name::Name;
@@ -35,6 +34,14 @@ impl Case {
         side_among(self.streams.as_slice(), self.utilities.as_slice(), source)
     }
 
+    /// Whether a source of the case is on this side.
+    #[tactic(auto, unfolding(crate::specs::Case::is_on))]
+    pub fn is_on(&self, side: Side, source: Source) -> bool
+        ensures { result ≡ is_on self.now side source }
+    {
+        self.side_of(source) == Some(side)
+    }
+
     /// The name of a source of the case.
     pub fn name_of(&self, source: Source) -> Name
         requires { IsSourceOf self.now source }
@@ -54,13 +61,31 @@ impl Case {
         requires few_utilities { length self.now.utilities < 2 ^ 32 }
         ensures { result ≡ source_named self.now name.now }
     {
-        if let Some(index) = stream_index(self.streams.as_slice(), name) {
+        if let Some(index) = self.stream_named(name) {
             return Some(Source::Stream(index as u32));
         }
-        let Some(index) = utility_index(self.utilities.as_slice(), name) else {
-            return None;
-        };
+        let index = self.utility_named(name)?;
         Some(Source::Utility(index as u32))
+    }
+
+    /// The index of the first stream with this name, if the case has one.
+    fn stream_named(&self, name: &[u8]) -> Option<usize>
+        ensures { result ≡ stream_named self.now name.now }
+    {
+        self.streams
+            .as_slice()
+            .iter()
+            .position(|stream| name == stream.name.as_bytes())
+    }
+
+    /// The index of the first utility with this name, if the case has one.
+    pub fn utility_named(&self, name: &[u8]) -> Option<usize>
+        ensures { result ≡ utility_named self.now name.now }
+    {
+        self.utilities
+            .as_slice()
+            .iter()
+            .position(|utility| name == utility.name.as_bytes())
     }
 
     /// Whether a hot and a cold source are a forbidden match.
@@ -82,22 +107,4 @@ pub(crate) fn side_among(streams: &[Stream], utilities: &[Utility], source: Sour
         Source::Stream(index) => streams.get(index as usize).map(|stream| stream.side),
         Source::Utility(index) => utilities.get(index as usize).map(|utility| utility.side),
     }
-}
-
-/// The index of the first stream with this name.
-fn stream_index(streams: &[Stream], name: &[u8]) -> Option<usize>
-    ensures { result ≡ position (λ s. bytes_eq name.now s.name) streams.now }
-{
-    streams
-        .iter()
-        .position(|stream| name == stream.name.as_bytes())
-}
-
-/// The index of the first utility with this name.
-fn utility_index(utilities: &[Utility], name: &[u8]) -> Option<usize>
-    ensures { result ≡ position (λ u. bytes_eq name.now u.name) utilities.now }
-{
-    utilities
-        .iter()
-        .position(|utility| name == utility.name.as_bytes())
 }

@@ -72,7 +72,7 @@ fn standard_utility(side: Side, case: &Case) -> Utility
 fn has_utility(side: Side, utilities: &[Utility]) -> bool
     ensures { result ≡ has_utility side utilities.now }
 {
-    utilities.iter().any(|utility| utility.side == side)
+    utilities.iter().any(|utility| utility.is_on(side))
 }
 
 /// Appends the standard utility of a side, if the case gives none there; else it takes no memory.

@@ -19,7 +19,7 @@ mod validity;
 
 pub use case::{Case, Forbid};
 pub use completion::{complete, is_complete, is_standard};
-pub use digits::natural_of;
+pub use digits::{integer_of, natural_of};
 pub use ends::stream_ends;
 pub use items::Items;
 pub use limits::{
@@ -31,6 +31,6 @@ pub use limits::{
 };
 pub use name::Name;
 pub use source::{Side, Source};
-pub use stream::{Stream, counts_above, has_latent, shifted};
+pub use stream::{Stream, count_on, counts_above, has_latent, has_level_at, shifted};
 pub use utility::Utility;
 pub use validity::is_valid;

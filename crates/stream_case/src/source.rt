@@ -30,3 +30,17 @@ pub enum Source {
     Stream(u32),
     Utility(u32),
 }
+
+impl Source {
+    ghost use Rattle.stream_case.specs.Source.{same_source};
+
+    /// Whether it is the stream with this index.
+    pub fn is_stream(self, index: u32) -> bool
+        ensures { result ≡ same_source self (Source.Stream index) }
+    {
+        match self {
+            Source::Stream(own) => own == index,
+            Source::Utility(_) => false,
+        }
+    }
+}

@@ -3,7 +3,7 @@ ghost use Rattle.std.specs.Prelude.{◌≡◌, ◌↔◌, ◌≤ℤ◌, ◌-ℤ�
 ghost use Rattle.stream_case.specs.declared.limits.TheConstants.{MOST_CP};
 ghost use Rattle.stream_case.specs.Limits.{IsBetween, IsLength, IsSensibleHeat, IsShifted, IsStreamHeat};
 ghost use Rattle.stream_case.specs.Shift.{shifted};
-ghost use Rattle.stream_case.specs.Stream.{counts_above, AreSensible, IsLatent, IsValidStream};
+ghost use Rattle.stream_case.specs.Stream.{counts_above, count_on, has_level_at, AreSensible, IsLatent, IsValidStream};
 
 use crate::name::Name;
 use crate::source::Side;
@@ -29,7 +29,39 @@ pub struct Stream {
 
 impl Stream {
     ghost use Rattle.stream_case.specs.Source.{same_side};
-    ghost use Rattle.stream_case.specs.Stream.{lower_temperature, higher_temperature, high_end, low_end, heat_between, sensible_above, load_over, heat_over, heat_above, heat_from, is_latent, IsLatent, IsValidStream};
+    ghost use Rattle.stream_case.specs.Stream.{sensible_stream, stream_with, lower_temperature, higher_temperature, high_end, low_end, heat_between, sensible_above, load_over, heat_over, heat_above, heat_from, is_latent, is_level_at, IsLatent, IsValidStream};
+
+    /// A stream of sensible heat: it has no load.
+    pub fn sensible(
+        name: Name,
+        side: Side,
+        supply: i32,
+        target: i32,
+        cp: i64,
+        contribution: i32,
+    ) -> Stream
+        ensures { result ≡ sensible_stream name side supply target cp contribution }
+    {
+        Stream {
+            name,
+            side,
+            supply,
+            target,
+            cp,
+            load: 0,
+            contribution,
+        }
+    }
+
+    /// The stream with this contribution, in tenths of °C.
+    pub fn with_contribution(&self, contribution: i32) -> Stream
+        ensures { result ≡ stream_with contribution self.now }
+    {
+        Stream {
+            contribution,
+            ..*self
+        }
+    }
 
     /// Whether the stream is on this side.
     pub fn is_on(&self, side: Side) -> bool
@@ -84,6 +116,14 @@ impl Stream {
         self.load > 0
     }
 
+    /// Whether the stream is latent and has the shifted level `t`, in tenths of °C.
+    pub fn is_level_at(&self, t: i32) -> bool
+        requires { IsValidStream self.now }
+        ensures { result ≡ is_level_at t self.now }
+    {
+        self.is_latent() && self.high_end() == t
+    }
+
     /// The sensible heat in watts that the stream gives or takes between two temperatures of its
     /// range, in tenths of °C, both actual or both shifted.
     pub fn heat_between(&self, high: i32, low: i32) -> i64
@@ -116,12 +156,12 @@ impl Stream {
 
     /// The heat in watts that the stream gives or takes from the shifted temperature `t` on, or
     /// above it only, in tenths of °C.
-    pub fn heat_over(&self, from: bool, t: i32) -> i64
+    pub fn heat_over(&self, from_itself: bool, t: i32) -> i64
         requires { IsValidStream self.now }
-        ensures value { result ≡ heat_over from t self.now }
+        ensures value { result ≡ heat_over from_itself t self.now }
         ensures range { IsStreamHeat result }
     {
-        self.sensible_above(t) + self.load_over(from, t)
+        self.sensible_above(t) + self.load_over(from_itself, t)
     }
 
     // The sensible heat above `t`.
@@ -135,12 +175,12 @@ impl Stream {
     }
 
     // The load, if the level counts as above `t`.
-    fn load_over(&self, from: bool, t: i32) -> i64
+    fn load_over(&self, from_itself: bool, t: i32) -> i64
         requires { IsValidStream self.now }
-        ensures value { result ≡ load_over from t self.now }
+        ensures value { result ≡ load_over from_itself t self.now }
         ensures range { IsStreamHeat result }
     {
-        if counts_above(from, t, self.high_end()) {
+        if counts_above(from_itself, t, self.high_end()) {
             self.load
         } else {
             0
@@ -157,12 +197,31 @@ pub fn has_latent(streams: &[Stream]) -> bool
     streams.iter().any(|stream| stream.is_latent())
 }
 
+/// Whether some stream is latent and has the shifted level `t`, in tenths of °C.
+pub fn has_level_at(streams: &[Stream], t: i32) -> bool
+    requires { All IsValidStream streams.now }
+    ensures { result ≡ has_level_at t streams.now }
+{
+    streams.iter().any(|stream| stream.is_level_at(t))
+}
+
+/// How many of these streams are on a side.
+pub fn count_on(side: Side, streams: &[Stream]) -> usize
+    ensures { result ≡ count_on side streams.now }
+{
+    streams.iter().filter(|stream| stream.is_on(side)).count()
+}
+
 /// Whether a level counts as above a place on the shifted scale, in tenths of °C: above a lower
 /// one, and above an equal one where the place counts from itself.
-pub fn counts_above(from: bool, place: i32, level: i32) -> bool
-    ensures { result ≡ counts_above from place level }
+pub fn counts_above(from_itself: bool, place: i32, level: i32) -> bool
+    ensures { result ≡ counts_above from_itself place level }
 {
-    if from { place <= level } else { place < level }
+    if from_itself {
+        place <= level
+    } else {
+        place < level
+    }
 }
 
 /// The heat in watts of a heat-capacity flow in 10 W/K over a temperature difference in tenths

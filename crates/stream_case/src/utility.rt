@@ -24,7 +24,15 @@ pub struct Utility {
 }
 
 impl Utility {
+    ghost use Rattle.stream_case.specs.Source.{same_side};
     ghost use Rattle.stream_case.specs.Utility.{shifted_level};
+
+    /// Whether the utility is on this side.
+    pub fn is_on(&self, side: Side) -> bool
+        ensures { result ≡ same_side self.now.side side }
+    {
+        self.side == side
+    }
 
     /// The level on the shifted scale, in tenths of °C.
     pub fn shifted_level(&self) -> i32

@@ -1,7 +1,7 @@
 //! Tests of a valid case.
 ghost use Rattle.std.specs.Prelude.{◌≡◌, ◌≢◌, ◌↔◌, ◌⊎◌, ◌≤◌, ◌<◌, IsTrue, All, AllPairs, Contains, [], length, ℕ, slice_index_or};
 ghost use Rattle.stream_case.specs.Name.{IsName};
-ghost use Rattle.stream_case.specs.Stream.{count_on, IsSensible, IsLatent, IsValidStream, AreStreams, HasValidStreams};
+ghost use Rattle.stream_case.specs.Stream.{IsSensible, IsLatent, IsValidStream, AreStreams, HasValidStreams};
 ghost use Rattle.stream_case.specs.Utility.{IsValidUtility};
 ghost use Rattle.stream_case.specs.Limits.{IsBetween, IsTemperature, IsContribution};
 ghost use Rattle.stream_case.specs.Case.{IsUnreserved, IsRightlyNamed, IsValidForbid, IsValid, with_utilities, names_of};
@@ -13,7 +13,7 @@ use crate::limits::{
 };
 use crate::name::Name;
 use crate::source::Side;
-use crate::stream::Stream;
+use crate::stream::{Stream, count_on};
 use crate::utility::Utility;
 
 fn is_between(low: i64, high: i64, x: i64) -> bool
@@ -108,12 +108,6 @@ fn is_valid_utility(utility: &Utility) -> bool
     is_contribution(utility.contribution)
 }
 
-fn count_on(streams: &[Stream], side: Side) -> usize
-    ensures { result ≡ count_on side streams.now }
-{
-    streams.iter().filter(|stream| stream.side == side).count()
-}
-
 fn are_valid_streams(streams: &[Stream]) -> bool
     ensures { IsTrue result ↔ All IsValidStream streams.now }
 {
@@ -126,10 +120,10 @@ fn are_streams(streams: &[Stream]) -> bool
     if !are_valid_streams(streams) {
         return false;
     }
-    if count_on(streams, Side::Hot) > MOST_STREAMS {
+    if count_on(Side::Hot, streams) > MOST_STREAMS {
         return false;
     }
-    count_on(streams, Side::Cold) <= MOST_STREAMS
+    count_on(Side::Cold, streams) <= MOST_STREAMS
 }
 
 fn has_valid_streams(streams: &[Stream]) -> bool

@@ -70,7 +70,8 @@ pub use Rattle.study.specs.CostRange.{IsCost}
 pub use Rattle.study.specs.Draws.{draw, next_state, state_after}
 pub use Rattle.study.specs.Plan.{IsSweepPlan, contribution_at, has_row}
 pub use Rattle.study.specs.Priced.{HasNoFlowAt, IsLeastCostAt, case_prices, price_of, priced, priced_part, prices_with}
-pub use Rattle.study.specs.Row.{OneRow, case_with, stream_with, utility_with, with_contribution}
+pub use Rattle.stream_case.specs.Stream.{stream_with}
+pub use Rattle.study.specs.Row.{OneRow, case_with, utility_with, with_contribution}
 pub use Rattle.study.specs.Sample.{drawn_forbids, drawn_high, drawn_low, drawn_stream, drawn_streams, least_temperature, pair_of, sample, stream_name}
 pub use Rattle.study.specs.SampleRow.{OneSampleRow, completed_sample}
 pub use Rattle.study.specs.Segments.{AreSegments, CostsWith, IsSegment, on_line}
@@ -79,7 +80,8 @@ pub use Rattle.study.specs.Study.{AreCasePrices, AreSpanSegments, IsItem, IsItem
 pub use Rattle.study.specs.StudyAccepted.{IsKnown, IsOwn}
 pub use Rattle.study.specs.StudyEntries.{count_items, has_scenario, is_item, is_price_of, is_priced, is_scenario, items_of, prices_by, study_of}
 pub use Rattle.study.specs.StudyOutcome.{IsStudyOf, IsStudyOutcome, grammar}
-unfoldable pub use Rattle.study.specs.StudyRows.{entries_in, entry_by, entry_in, kind_of, next, utility_in, utility_named}
+unfoldable pub use Rattle.study.specs.StudyRows.{entries_in, entry_by, entry_in, kind_of, next, utility_in}
+pub use Rattle.stream_case.specs.Case.{utility_named}
 pub use Rattle.study.specs.Sweep.{AreRows, OneSweep}
 pub use Rattle.study.specs.declared.cost_curve.Point.{Point}
 pub use Rattle.study.specs.declared.limits.TheConstants.{FORBID_CHANCE, MOST_ITEMS, MOST_ROWS, MOST_SAMPLE_STREAMS, SAMPLE_CONTRIBUTION}

@@ -1,6 +1,6 @@
 -- A row of a sweep.
 use Rattle.std.specs.Prelude.{◌≡◌, ℤ, map}
-use Rattle.stream_case.specs.declared.stream.Stream.{Stream}
+use Rattle.stream_case.specs.Stream.{stream_with}
 use Rattle.stream_case.specs.declared.utility.Utility.{Utility}
 use Rattle.stream_case.specs.declared.case.Case.{Case}
 use Rattle.stream_case.specs.Case.{completed}
@@ -8,10 +8,7 @@ use Rattle.problem_table.specs.Deficit.{hot_target, cold_target}
 use Rattle.study.specs.declared.row.SweepRow.{SweepRow}
 use Rattle.study.specs.Cost.{IsCostOf}
 
--- sources with this contribution
-abbrev pub stream_with : ℤ → Stream → Stream
-stream_with contribution s = record s { contribution = contribution }
-
+-- the utility with this contribution
 abbrev pub utility_with : ℤ → Utility → Utility
 utility_with contribution u = record u { contribution = contribution }
 

@@ -5,6 +5,7 @@ use Rattle.std.specs.List.{range_with_len}
 use Rattle.stream_case.specs.declared.source.Side.{Side}
 use Rattle.stream_case.specs.declared.source.Side.TheVariants.{Hot, Cold}
 use Rattle.stream_case.specs.declared.source.Source.TheVariants.{Stream as of_stream}
+use Rattle.stream_case.specs.Stream.{sensible_stream}
 use Rattle.stream_case.specs.declared.stream.Stream.{Stream}
 use Rattle.stream_case.specs.declared.case.Forbid.{Forbid}
 use Rattle.stream_case.specs.declared.case.Case.{Case}
@@ -37,8 +38,8 @@ drawn_flow_rate x = 1 + draw x 2 FLOW_RATES
 
 -- the stream of a side that these draws make
 abbrev pub drawn_stream : Side → ℕ → ℕ → Stream
-drawn_stream Hot x number = record { name = stream_name Hot number; side = Hot; supply = pos (drawn_high Hot x); target = pos (drawn_low Hot x); cp = pos (drawn_flow_rate x); load = pos 0; contribution = SAMPLE_CONTRIBUTION }
-drawn_stream Cold x number = record { name = stream_name Cold number; side = Cold; supply = pos (drawn_low Cold x); target = pos (drawn_high Cold x); cp = pos (drawn_flow_rate x); load = pos 0; contribution = SAMPLE_CONTRIBUTION }
+drawn_stream Hot x number = sensible_stream (stream_name Hot number) Hot (pos (drawn_high Hot x)) (pos (drawn_low Hot x)) (pos (drawn_flow_rate x)) SAMPLE_CONTRIBUTION
+drawn_stream Cold x number = sensible_stream (stream_name Cold number) Cold (pos (drawn_low Cold x)) (pos (drawn_high Cold x)) (pos (drawn_flow_rate x)) SAMPLE_CONTRIBUTION
 
 -- so many streams of a side, with three draws each, numbered from 1
 abbrev pub drawn_streams : Side → ℕ → ℕ → List Stream

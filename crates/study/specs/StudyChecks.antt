@@ -5,10 +5,11 @@ use Rattle.first_fault.specs.Checks.{Check}
 use Rattle.rows.specs.Fields.{are_empty, field, is_number, number}
 use Rattle.rows.specs.Numbers.{is_price}
 use Rattle.rows.specs.Rows.{Row}
+use Rattle.stream_case.specs.Case.{utility_named}
 use Rattle.stream_case.specs.Name.{is_name}
 use Rattle.stream_case.specs.declared.case.Case.{Case}
 use Rattle.study.specs.StudyEntries.{count_items, has_scenario, is_priced, is_scenario_named}
-use Rattle.study.specs.StudyRows.{kind_of, utility_in, utility_named}
+use Rattle.study.specs.StudyRows.{kind_of, utility_in}
 use Rattle.study.specs.declared.limits.TheConstants.{MOST_ITEMS, MOST_SPAN}
 use Rattle.study.specs.declared.study_entry.Entry.{Entry}
 use Rattle.study.specs.declared.study_fault.StudyWhy.{StudyWhy}

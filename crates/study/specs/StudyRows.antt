@@ -1,8 +1,9 @@
 -- The kind of a row of a study file, and what the row says.
-use Rattle.std.specs.Prelude.{ℕ, List, ◌++◌, filter_map, Option, Some, None, option_to_list, unwrap_or, position, if◌then◌else◌, codes}
+use Rattle.std.specs.Prelude.{ℕ, List, ◌++◌, filter_map, Option, Some, None, option_to_list, unwrap_or, if◌then◌else◌, codes}
 use Rattle.std.specs.Str.{bytes_eq}
 use Rattle.rows.specs.Fields.{field, is_passed_over, number}
 use Rattle.rows.specs.Rows.{Row}
+use Rattle.stream_case.specs.Case.{utility_named}
 use Rattle.stream_case.specs.declared.case.Case.{Case}
 use Rattle.study.specs.declared.study_entry.Entry.{Entry}
 use Rattle.study.specs.declared.study_entry.Entry.TheVariants as entry
@@ -24,11 +25,7 @@ kind_of row = if is_passed_over row then Some kind.PassedOver else kind_in (fiel
 
 -- ---- the utility of a row
 
--- the index of the utility of the case with a name
-abbrev pub utility_named : Case → List ℕ → Option ℕ
-utility_named c name = position (λ u. bytes_eq name u.name) c.utilities
-
--- that of the utility which a row names; 0 where there is none
+-- the index of the utility of the case which a row names; 0 where there is none
 unfoldable pub utility_in : Case → Row → ℕ
 utility_in c row = unwrap_or (utility_named c (field row 1)) 0
 

@@ -1,6 +1,7 @@
 //! A case with another contribution.
 ghost use Rattle.std.specs.Prelude.{◌≡◌, map, IfOk};
-ghost use Rattle.study.specs.Row.{stream_with, utility_with, with_contribution};
+ghost use Rattle.stream_case.specs.Stream.{stream_with};
+ghost use Rattle.study.specs.Row.{utility_with, with_contribution};
 
 use std::alloc::{AllocError, Global};
 use stream_case::{Case, Items, Stream, Utility};
@@ -14,10 +15,7 @@ fn streams_with(
 {
     streams
         .iter()
-        .map(|stream| Stream {
-            contribution,
-            ..*stream
-        })
+        .map(|stream| stream.with_contribution(contribution))
         .collect(alloc)
 }
 

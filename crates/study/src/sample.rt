@@ -59,15 +59,14 @@ fn draw_stream(
         Side::Hot => (high, low),
         Side::Cold => (low, high),
     };
-    Ok(Stream {
-        name: stream_name(alloc, side, number)?,
+    Ok(Stream::sensible(
+        stream_name(alloc, side, number)?,
         side,
-        supply: supply as i32,
-        target: target as i32,
-        cp: i64::from(cp),
-        load: 0,
-        contribution: SAMPLE_CONTRIBUTION,
-    })
+        supply as i32,
+        target as i32,
+        i64::from(cp),
+        SAMPLE_CONTRIBUTION,
+    ))
 }
 
 /// Appends so many streams of this side.

@@ -1,14 +1,13 @@
 //! The rows of each kind of a study file.
 
-ghost use Rattle.std.specs.Prelude.{◌≡◌, [], ◌∷◌, ◌-ℤ◌, int_lt, not, position};
-ghost use Rattle.std.specs.Str.{bytes_eq};
+ghost use Rattle.std.specs.Prelude.{◌≡◌, [], ◌∷◌, ◌-ℤ◌, int_lt, not};
 ghost use Rattle.csv.specs.Records.{fields_of};
 ghost use Rattle.first_fault.specs.Checks.{Checked};
 ghost use Rattle.rows.specs.Fields.{number};
-ghost use Rattle.stream_case.specs.Case.{IsComplete};
+ghost use Rattle.stream_case.specs.Case.{IsComplete, utility_named};
 ghost use Rattle.stream_case.specs.Limits.{IsPrice};
 ghost use Rattle.study.specs.StudyChecks.{known_utility, price_checks, scenario_checks, span_checks, span_number_checks};
-ghost use Rattle.study.specs.StudyRows.{price_in, scenario_in, span_in, utility_in, utility_named};
+ghost use Rattle.study.specs.StudyRows.{price_in, scenario_in, span_in, utility_in};
 ghost use Rattle.study.specs.declared.limits.TheConstants.{MOST_SPAN};
 
 use crate::limits::{MOST_ITEMS, MOST_SPAN};
@@ -17,24 +16,14 @@ use crate::study_entry::Entry;
 use crate::study_fault::StudyWhy;
 use csv::ByteRecord;
 use rows::{are_empty, field, name_in, number_in, price};
-use stream_case::{Case, Utility};
-
-/// The index of the first of these utilities with this name.
-fn index_of(utilities: &[Utility], name: &[u8]) -> Option<usize>
-    ensures { result ≡ position (λ u. bytes_eq name.now u.name) utilities.now }
-{
-    utilities
-        .iter()
-        .position(|utility| name == utility.name.as_bytes())
-}
+use stream_case::Case;
 
 /// The index of the utility of the case with this name.
 fn utility_named(case: &Case, name: &[u8]) -> Option<u32>
     requires { IsComplete case.now }
     ensures { result ≡ utility_named case.now name.now }
 {
-    let index = index_of(case.utilities.as_slice(), name)?;
-    Some(index as u32)
+    Some(case.utility_named(name)? as u32)
 }
 
 /// The index of the utility of the case that a row names.

@@ -71,13 +71,6 @@ fn utility_range(streams: &[Stream], side: Side, targets: Target) -> (i64, i64)
     }
 }
 
-/// Whether a utility is on a side.
-fn is_on(utility: &Utility, side: Side) -> bool
-    ensures { result ≡ same_side utility.now.side side }
-{
-    utility.side == side
-}
-
 /// Appends the span of the utility of a side.
 fn push_utilities(
     spans: &mut Vec<Span>,
@@ -95,7 +88,7 @@ fn push_utilities(
 {
     let (from, to) = utility_range(case.streams.as_slice(), side, targets);
     for (number, utility) in case.utilities.as_slice().iter().enumerate() {
-        if !is_on(utility, side) {
+        if !utility.is_on(side) {
             continue;
         }
         spans.push(Span {

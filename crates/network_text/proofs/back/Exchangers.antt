@@ -4,9 +4,9 @@ use Rattle.network_text.proofs.Words.{Branch, Case, Entry, Exchanger, HasShape, 
 use Rattle.network_text.proofs.Words.{MOST_STATEMENTS, Network, Passage, Rational, Source, StaysValid, all_made, and_from, append-nil, append_assoc, branch_at}
 use Rattle.network_text.proofs.Words.{branch_name, branch_named, branch_of, count_by-cons, declared_parts, exchanger_at, exchanger_name, exchanger_named}
 use Rattle.network_text.proofs.Words.{exchanger_names, exchangers_of, first_stream, get_or-map, get_or_append_left, get_or_default, get_or_from_slice_get}
-use Rattle.network_text.proofs.Words.{has_stream, is_branch_name, is_free_side, is_passed, is_stream, is_used, joins_stream, list_any, list_any_none}
+use Rattle.network_text.proofs.Words.{has_stream, is_branch_name, is_free_side, is_passed, is_used, joins_stream, list_any, list_any_none}
 use Rattle.network_text.proofs.Words.{made_before, made_by, made_no_more, makes, map-map, members, names_of, nat_tests, none_counted, or_right, own_branches}
-use Rattle.network_text.proofs.Words.{own_exchanger, passages_of, passages_of-front, passed_parts, passes, same_passage, slice_get-append, slice_get_within}
+use Rattle.network_text.proofs.Words.{own_exchanger, passages_of, passages_of-front, passed_parts, passes, same_passage, same_source, same_source-same, slice_get-append, slice_get_within}
 use Rattle.network_text.proofs.Words.{stream_at, stream_at-get_or, stream_at-take, sum_by-append, take-map, take_all, used_before, used_by, used_parts, uses}
 use Rattle.network_text.proofs.Words.{with_entry}
 use Rattle.std.proofs.Common.{All, AllPairs, List, Some, [], ap, arith, bytes_eq, cond, count_by, drop, false, get_or, inl, inr, is_some, length, length-append}
@@ -263,13 +263,13 @@ distinct_exchangers case network are =
 
 joined : (e : Exchanger) (stream : ℕ) → Joins e stream → has_stream stream (Some e) ≡ true
 joined e stream (inl hot) =
-    let own : (stream == stream) ≡ true = grind (arith, nat_tests) in
-    let first : is_stream stream e.hot ≡ true = ap (is_stream stream) hot ∙ own in
+    let own = same_source-same (source.Stream stream) in
+    let first : same_source e.hot (source.Stream stream) ≡ true = rw hot own in
     rw first refl
 joined e stream (inr cold) =
-    let own : (stream == stream) ≡ true = grind (arith, nat_tests) in
-    let second : is_stream stream e.cold ≡ true = ap (is_stream stream) cold ∙ own in
-    or_right (is_stream stream e.hot) (is_stream stream e.cold) second
+    let own = same_source-same (source.Stream stream) in
+    let second : same_source e.cold (source.Stream stream) ≡ true = rw cold own in
+    or_right (same_source e.hot (source.Stream stream)) (same_source e.cold (source.Stream stream)) second
 
 -- how many exchangers the lines before an index declare
 abbrev declared_before : Network → ℕ → ℕ

@@ -1,9 +1,9 @@
 -- Names, words and fractions are plain fields, and a printed fraction is read as itself.
 use Rattle.network_text.proofs.Words.{All-append, All-cons, All-weaker, Decides-is_within_limits, IsAnyName, IsPlainField, IsVisible, IsWithinLimits}
-use Rattle.network_text.proofs.Words.{MOST_DIGITS, Rational, after_first, before_first, bounded_ratio, denominator_in, fraction_in, fraction_text}
+use Rattle.network_text.proofs.Words.{MOST_DIGITS, Rational, after_first, before_first, bounded_back, denominator_in, fraction_in, fraction_text}
 use Rattle.network_text.proofs.Words.{get_or_append_left, get_or_at, is_slash, list_any, list_any-append, list_any_none, name_plain, nat_tests, natural_in}
-use Rattle.network_text.proofs.Words.{natural_read, number_in, or-true, position_or_len, position_or_len_is, ratio, ratio-self, signed_decimal}
-use Rattle.statements.proofs.PlainNumbers.{IsNumberByte, bytes_visible, decimal_bytes, number-back, signed_bytes, signed_some}
+use Rattle.network_text.proofs.Words.{natural_read, integer_in, integer_read, or-true, position_or_len, position_or_len_is, ratio, ratio-self, signed_decimal}
+use Rattle.statements.proofs.PlainNumbers.{IsNumberByte, bytes_visible, decimal_bytes, signed_bytes, signed_some}
 use Rattle.std.proofs.Common.{All, Bool, List, Some, [], ap, append_assoc, arith, decimal, drop, drop_at, false, if◌then◌else◌, inl, inr, length, length-append}
 use Rattle.std.proofs.Common.{refl, suc, sym, take, take_all, take_at, true, unsigned_abs, zero, ℕ, ◌++◌, ◌+◌, ◌<◌, ◌==◌, ◌^◌, ◌∙◌, ◌∷◌, ◌≡◌}
 
@@ -21,8 +21,9 @@ any_name_plain (b ∷ bs) (inr is) =
 short : (a : Rational) → IsWithinLimits a → unsigned_abs a.num < 10 ^ 64
 short a within = omega (arith, within.num)
 
-numerator_read : (a : Rational) → IsWithinLimits a → number_in MOST_DIGITS (signed_decimal a.num) ≡ Some a.num
-numerator_read a within = number-back MOST_DIGITS a.num (omega arith) (omega (arith, within.num)) (short a within)
+numerator_read : (a : Rational) → IsWithinLimits a → integer_in MOST_DIGITS (signed_decimal a.num) ≡ Some a.num
+numerator_read a within =
+    integer_read MOST_DIGITS a.num (record { some = omega arith; readable = omega arith; short = omega (arith, within.num) })
 
 no_slash : (text : List ℕ) → All IsNumberByte text → All (λ b. is_slash b ≡ false) text
 no_slash text bytes =
@@ -51,14 +52,6 @@ all_before : (text : List ℕ) → All (λ b. is_slash b ≡ false) text → bef
 all_before text none =
     let nowhere = position_or_len_is is_slash text (length text) 0 (omega arith) (λ k early. none k 0 early) (λ within. absurd (omega (arith, within))) in
     ap (λ n. take n text) nowhere ∙ take_all (length text) text (omega arith)
-
-bounded_back : (a : Rational) → IsWithinLimits a → (d : ℕ) → a.den ≡ d → bounded_ratio a.num d ≡ Some a
-unfolding bounded_ratio
-bounded_back a within zero none = absurd (omega (arith, none, a.positive))
-bounded_back a within (suc d) some =
-    let same : ratio a.num (suc d) ≡ a = ap (ratio a.num) (sym some) ∙ ratio-self a in
-    let fits = (Decides-is_within_limits a).1 within in
-    rw (same, fits) refl
 
 denominator_read : (front : List ℕ) (d : ℕ) → All (λ b. is_slash b ≡ false) front → d < 10 ^ MOST_DIGITS
     → denominator_in (front ++ 47 ∷ decimal d) ≡ Some d

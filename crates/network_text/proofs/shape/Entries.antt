@@ -2,14 +2,14 @@
 use Rattle.network_text.proofs.Words.{All-from_recursion, All-nil, AreExchangers, AreMadeBeforeUse, AreMadeInOrder, AreNamed, ArePassedWhenDeclared}
 use Rattle.network_text.proofs.Words.{AreUsedOnce, Branch, Case, Decides-is_below, Decides-is_within_limits, Entry, Exchanger, ForSome, HasPositiveSize}
 use Rattle.network_text.proofs.Words.{IsAnyName, IsExchanger, IsFresh, IsOfOneStream, IsPositive, IsWithinLimits, Joins, Kind, Network, Passage, Passes}
-use Rattle.network_text.proofs.Words.{PassesDeclared, Rational, Side, Source, Statement, all_pairs_push, and_parts, bounded_ratio, branch_at, branch_named}
+use Rattle.network_text.proofs.Words.{PassesDeclared, Rational, Side, Source, Statement, all_pairs_push, and_parts, bounded_within, branch_at, branch_named}
 use Rattle.network_text.proofs.Words.{bytes_decides, checks, cond_some, end_checks, end_entry, entry_by, entry_in, eqb-false, exchanger_at, exchanger_checks}
 use Rattle.network_text.proofs.Words.{exchanger_entry, exchanger_field_checks, exchanger_named, exchanger_of, exchangers_of, false≢true, field, first_stream}
-use Rattle.network_text.proofs.Words.{fraction, fraction_checks, fraction_in, get_or-map, has_stream, index_within, is_below, is_on, is_passed, is_side}
-use Rattle.network_text.proofs.Words.{is_some-position, is_stream, is_used, is_within_limits, joins_stream, kind_checks, kind_of, length-map, makes, members}
+use Rattle.network_text.proofs.Words.{fraction, fraction_checks, fraction_in, get_or-map, has_stream, index_within, is_below, is_on, is_on-true, is_passed}
+use Rattle.network_text.proofs.Words.{is_some-position, is_used, is_within_limits, joins_stream, kind_checks, kind_of, length-map, makes, members}
 use Rattle.network_text.proofs.Words.{mix_checks, mix_entry, mixed_checks, names_of, nat_tests, new_branch_checks, new_exchanger_checks, none_any, not-true}
 use Rattle.network_text.proofs.Words.{or_cases, pass_checks, pass_entry, passed-name, passed_checks, passes, positive_num, range_with_len, ratio, ratio_of}
-use Rattle.network_text.proofs.Words.{rational_zero, same_Some, same_side-true, side_of, source_at, source_checks, split_checks, split_entry, stream_at}
+use Rattle.network_text.proofs.Words.{rational_zero, same_Some, same_source, same_source-true, side_of, source_at, source_checks, split_checks, split_entry, stream_at}
 use Rattle.network_text.proofs.Words.{two_pushed, used_branch_checks, used_by, uses}
 use Rattle.std.proofs.Common.{All, AllPairs, List, None, Option, Some, [], ap, append-nil, arith, bytes_eq, eqb-true, false, get_or, inl, inr, is_some, length}
 use Rattle.std.proofs.Common.{map, not, position, refl, slice_get, subst, suc, sym, true, unwrap_or, zero, ℕ, ℤ, ◌++◌, ◌<◌, ◌==◌, ◌∙◌, ◌∷◌, ◌≡◌, ◌≢◌, ◌≤◌, ◌⊎◌}
@@ -70,13 +70,6 @@ new_each given name none = none_named (names_of given.branches) name (not-true _
 
 -- ---- fractions
 
-bounded_within : (n : ℤ) (d : ℕ) (r : Rational) → bounded_ratio n d ≡ Some r → IsWithinLimits r
-unfolding bounded_ratio
-bounded_within n zero r is = cc is
-bounded_within n (suc d) r is =
-    let parts = cond_some (is_within_limits (ratio n (suc d))) (ratio n (suc d)) r is in
-    subst IsWithinLimits parts.1 ((Decides-is_within_limits (ratio n (suc d))).0 parts.0)
-
 ratio_within : (n : Option ℤ) (d : Option ℕ) (r : Rational) → ratio_of n d ≡ Some r → IsWithinLimits r
 ratio_within (Some n) (Some d) r is = bounded_within n d r is
 ratio_within (Some n) None r is = cc is
@@ -98,16 +91,6 @@ fraction_sound text some positive = record {
   within = fraction_within text some;
 }
 
--- ---- sources
-
-sided : (of : Side) (o : Option Side) → is_side of o ≡ true → o ≡ Some of
-sided of None is = cc is
-sided of (Some other) is = ap Some (sym (same_side-true of other is))
-
-pub on_side : (case : Case) (of : Side) (s : Source) → is_on case of s ≡ true → side_of case s ≡ Some of
-unfolding is_on
-on_side case of s on = sided of (side_of case s) on
-
 -- ---- exchangers
 
 pub undeclared_each : (given : Network) (name : List ℕ) → not (is_some (exchanger_named given name)) ≡ true
@@ -118,18 +101,17 @@ undeclared_each given name none k d within same =
     let at = get_or-map (λ (e : Exchanger). e.name) all k d [] within in
     none_named (map (λ (e : Exchanger). e.name) all) name (not-true _ none) k [] (omega (arith, within, length-map all (λ (e : Exchanger). e.name))) (at ∙ same)
 
-stream_is : (stream : ℕ) (s : Source) → is_stream stream s ≡ true → s ≡ source.Stream stream
-stream_is stream (source.Stream i) is = ap source.Stream (eqb-true i stream is)
-stream_is stream (source.Utility i) is = cc is
-
 joined_by : (stream : ℕ) (o : Option Exchanger) → has_stream stream o ≡ true
     → (e : Exchanger) × (o ≡ Some e) × Joins e stream
 joined_by stream None has = cc has
-joined_by stream (Some e) has = (e, refl, by (or_cases (is_stream stream e.hot) (is_stream stream e.cold) has))
+joined_by stream (Some e) has = (e, refl, by (or_cases (same_source e.hot own) (same_source e.cold own) has))
   where
-    by : (is_stream stream e.hot ≡ true) ⊎ (is_stream stream e.cold ≡ true) → Joins e stream
-    by (inl hot) = inl (stream_is stream e.hot hot)
-    by (inr cold) = inr (stream_is stream e.cold cold)
+    own : Source
+    own = source.Stream stream
+
+    by : (same_source e.hot own ≡ true) ⊎ (same_source e.cold own ≡ true) → Joins e stream
+    by (inl hot) = inl (same_source-true e.hot own hot)
+    by (inr cold) = inr (same_source-true e.cold own cold)
 
 -- an exchanger that a branch of the stream may pass
 pub joined : (given : Network) (exchanger stream : ℕ) → joins_stream given exchanger stream ≡ true → (e : Exchanger)
@@ -165,8 +147,8 @@ exchanger_adds case given s shape passes =
     let name = passed-name (field s 1) checks.0 in
     let sound : IsExchanger case e = record {
       name = name;
-      hot = on_side case side.Hot hot sides.0;
-      cold = on_side case side.Cold cold sides.1;
+      hot = is_on-true case side.Hot hot sides.0;
+      cold = is_on-true case side.Cold cold sides.1;
       duty = fraction_sound (field s 4) checks.1.1.1.1.0 checks.1.1.1.1.1.0;
     } in record {
       fresh = record {

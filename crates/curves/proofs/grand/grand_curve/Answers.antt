@@ -1,7 +1,7 @@
 -- Each place has one point, or two where a stream is latent.
 use Rattle.curves.proofs.CurveLemmas.{points-more, pushed-two}
 use Rattle.curves.proofs.grand.grand_curve.Goals.{else-has_level_at, then-has_level_at+in_ok-push-2}
-use Rattle.curves.proofs.Words.{IsStreamsHeat, Stream, grand_points, ints, is_level_at, list_any, one_or_two, to_z-of_z}
+use Rattle.curves.proofs.Words.{IsStreamsHeat, Stream, grand_points, has_level_at, ints, one_or_two, to_z-of_z}
 use Rattle.problem_table.specs.Deficit.{IsDeficit, deficit_above, deficit_from, hot_target}
 use Rattle.std.proofs.Common.{FitsSigned, List, ap, ap₂, arith, get_or, of_z, pos, rules, sym, to_z, w32, w64, ℤ, ◌-ℤ◌, ◌∙◌, ◌≡◌}
 use Rattle.curves.proofs.grand.grand_curve.Goals as goal
@@ -27,7 +27,7 @@ loop-t-preserved c =
     let net_above = net_heat _ _ hot.hot_range above.range
     ∙ ap₂ ◌-ℤ◌ hot.hot (above.value ∙ ap (deficit_above streams) back) in
     let level = c.has_level_at.ensures
-    ∙ ap₂ (λ (x : ℤ) (ss : List Stream). list_any (is_level_at x) ss) back c.as_slice-in-loop-t.ensures in
+    ∙ ap₂ (λ (x : ℤ) (ss : List Stream). has_level_at x ss) back c.as_slice-in-loop-t.ensures in
     let more = points-more (grand_points streams) ts i (pos 0) c.loop-t.points c.if-has_level_at.points c.loop-t-test.true c.loop-t.invariant in
     elim c.if-has_level_at.branch [
       | then-has_level_at+in_ok-push-2 w ↦

@@ -16,5 +16,6 @@ returns c =
     let high_fits : FitsSigned w32 high = search rules in
     let low_fits : FitsSigned w32 low = search rules in
     let read = ap₂ (λ h l. heat_between h l s) (to_z-of_z w32 high high_fits) (to_z-of_z w32 low low_fits) in
-    sum-is c.heat_between.result (heat_between high low s) s.load _ (c.heat_between.ensures.value ∙ read) c.heat_between.ensures.range
+    let value = c.heat_between.ensures.value ∙ read in
+    sum-is c.heat_between.result (heat_between high low s) s.load _ value c.heat_between.ensures.range
     (load-between s c.requires.valid.heat) refl

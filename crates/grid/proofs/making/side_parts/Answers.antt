@@ -1,5 +1,5 @@
 -- One more place: the latent streams and the utilities there, and the streams on the interval below it.
-use Rattle.grid.proofs.MakingLemmas.{made-end, made-push}
+use Rattle.grid.proofs.MakingSteps.{made-end, made-push}
 use Rattle.grid.proofs.making.side_parts.Goals.{else-index-places, then-index-places+in_ok-push_streams}
 use Rattle.std.proofs.Common.{FitsSigned, ap, arith, get_or, of_z, pos, rules, sym, to_z, w32, ℤ, ◌+◌, ◌∙◌, ◌≡◌}
 use Rattle.grid.proofs.Words.{ints, length-AreStreams, to_z-of_z}
@@ -36,11 +36,13 @@ loop-index-preserved c =
       | then-index-places+in_ok-push_streams w ↦
           let below_fits : FitsSigned w32 (get_or places (i + 1) (pos 0)) = search rules in
           let below = read_is (get_or places (i + 1) (pos 0)) below_fits in
-          made-push c.args.streams.now c.args.utilities.now c.args.side places i _ c.loop-index-test.true here c.loop-index.parts.items
-          c.push_latent.new.parts.items c.push_utilities.new.parts.items latent level _ c.if-index-places.parts.items _ w.if-index-places.true below
-          c.loop-index.invariant (ap (λ v. v.items) w.parts-is ∙ w.in_ok-push_streams.ensures)
+          let items = ap (λ v. v.items) w.parts-is ∙ w.in_ok-push_streams.ensures in
+          made-push c.args.streams.now c.args.utilities.now c.args.side places i _ c.loop-index-test.true here
+          c.loop-index.parts.items c.push_latent.new.parts.items c.push_utilities.new.parts.items latent level _
+          c.if-index-places.parts.items _ w.if-index-places.true below c.loop-index.invariant items
       | else-index-places w ↦
-          made-end c.args.streams.now c.args.utilities.now c.args.side places i _ c.loop-index-test.true here c.loop-index.parts.items
-          c.push_latent.new.parts.items c.push_utilities.new.parts.items latent level c.if-index-places.parts.items _ w.if-index-places.false
-          c.loop-index.invariant (ap (λ v. v.items) w.parts-is)
+          made-end c.args.streams.now c.args.utilities.now c.args.side places i _ c.loop-index-test.true here
+          c.loop-index.parts.items c.push_latent.new.parts.items c.push_utilities.new.parts.items latent level
+          c.if-index-places.parts.items _ w.if-index-places.false c.loop-index.invariant
+          (ap (λ v. v.items) w.parts-is)
     ]

@@ -6,5 +6,5 @@ use Rattle.stream_case.proofs.stream.Stream.heat_over.Goals as goal
 
 pub returns-clause-range : goal.returns-clause-range
 returns-clause-range c =
-    let range = heat_over-between c.args.from (to_z w32 (of_z w32 c.args.t)) c.args.self.now c.requires in
+    let range = heat_over-between c.args.from_itself (to_z w32 (of_z w32 c.args.t)) c.args.self.now c.requires in
     omega (arith, ints)

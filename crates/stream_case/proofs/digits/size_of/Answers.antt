@@ -1,6 +1,6 @@
-use Rattle.statements.proofs.PlainNumbers.{fewer_digits}
+use Rattle.stream_case.proofs.DigitLemmas.{fewer_digits}
 use Rattle.std.proofs.Common.{IfSome, None, Option, Some, arith, ℕ, ◌<◌, ◌^◌, ◌≤◌}
-use Rattle.statements.proofs.number.size_of.Goals as goal
+use Rattle.stream_case.proofs.digits.size_of.Goals as goal
 
 weaker : (o : Option ℕ) (m n : ℕ) → m ≤ n → IfSome o (λ size. size < m) → IfSome o (λ size. size < n)
 weaker None m n more small = tt
