@@ -48,9 +48,11 @@ module _ (case : Case) (tariff : Tariff) where
         → worth b ≡ step_worth tariff.least tariff.views (tariff.prices s.side (source.Stream i)) (heat b) (height b)
     unfolding branch_worth
     worth-of i s b at of_stream =
+        let p = tariff.prices s.side (source.Stream i) in
+        let seen = λ (v : View). sym (branch_height shape whole_values v i s b at of_stream) in
         ap (λ j. value_worth tariff j (slice_get case.streams j) (branch b)) of_stream
         ∙ ap (λ o. value_worth tariff i o (branch b)) at
-        ∙ step_worth-same tariff.least tariff.views (tariff.prices s.side (source.Stream i)) _ _ _ _ refl (λ v. sym (branch_height shape whole_values v i s b at of_stream))
+        ∙ step_worth-same tariff.least tariff.views p _ _ _ _ refl seen
 
     -- ---- mixes
 
@@ -70,14 +72,16 @@ module _ (case : Case) (tariff : Tariff) where
         (branch_above whole_values shape first first_within) (branch_above whole_values shape second second_within) solves in
         let lower =
             λ (v : View). subst₂ IsAtMost (sym (seen to one.1 v)) (sym (ap₂ plus (seen first refl v) (seen second one.0 v))) (mixed v) in
-        let both : step_worth tariff.least tariff.views p (heat to) (λ v. plus (height first v) (height second v))
-        ≡ plus (worth first) (worth second)
+        let before = λ (v : View). plus (height first v) (height second v) in
+        let both : step_worth tariff.least tariff.views p (heat to) before ≡ plus (worth first) (worth second)
         =
-        step_worth-same tariff.least tariff.views p _ (plus (heat first) (heat second)) _ (λ v. plus (height first v) (height second v)) solves.heat (λ v. refl)
+        step_worth-same tariff.least tariff.views p _ (plus (heat first) (heat second)) _ before solves.heat (λ v. refl)
         ∙ step_worth-plus tariff.least tariff.views p (heat first) (heat second) (height first) (height second)
-        ∙ sym (ap₂ plus (worth-of i s first at refl) (worth-of i s second at one.0)) in not_negative-minus (worth to) (plus (worth first) (worth second))
-        (subst₂ IsAtMost (sym (worth-of i s to at one.1)) both
-        (step_worth-at_most tariff.least tariff.views p (falls s.side (source.Stream i)) (heat to) (height to) (λ v. plus (height first v) (height second v)) lower))
+        ∙ sym (ap₂ plus (worth-of i s first at refl) (worth-of i s second at one.0)) in
+        let lost =
+            step_worth-at_most tariff.least tariff.views p (falls s.side (source.Stream i)) (heat to) (height to) before lower in
+        not_negative-minus (worth to) (plus (worth first) (worth second))
+        (subst₂ IsAtMost (sym (worth-of i s to at one.1)) both lost)
     mix_worth falls other within one solves = at_most_refl rational_zero
 
     -- ---- passes

@@ -87,10 +87,11 @@ change_given s x valid under = ⊎_elim sensible latent valid.heat
 -- ---- heats on a side
 
 module _ (tariff : Tariff) (of : Source) where
-  -- heats of a stream of one side, at the tariff.prices of another
+  -- heats of a stream of one side, at the prices of another
   abbrev side_heat : Side → ℤ → (View → ℤ) → Side → Rational
   side_heat of_side all heat on =
-      step_worth tariff.least tariff.views (tariff.prices on of) (whole (if same_side of_side on then all else pos 0)) (λ v. whole (if same_side of_side on then heat v else pos 0))
+      step_worth tariff.least tariff.views (tariff.prices on of) (whole (if same_side of_side on then all else pos 0))
+      (λ v. whole (if same_side of_side on then heat v else pos 0))
 
   sides_given : (of_side : Side) (all : ℤ) (heat : View → ℤ)
       → step_worth tariff.least tariff.views (tariff.prices of_side of) (whole (given_by of_side all)) (λ v. whole (given_by of_side (heat v)))
@@ -112,7 +113,7 @@ abbrev own_least : ℕ → Part → ℤ
 own_least i p = if same_source p.source (source.Stream i) then p.least else pos 0
 
 module _ (network : Network) (tariff : Tariff) (on : Side) (i : ℕ) where
-  -- heats at the stream's tariff.prices
+  -- heats at the stream's prices
   abbrev priced_heat : ℤ → (View → ℤ) → Rational
   priced_heat all above =
       step_worth tariff.least tariff.views (tariff.prices on (source.Stream i)) (whole all) (λ v. whole (above v))

@@ -87,7 +87,7 @@ module _ (case : Case) (network : Network) (values : Valuation) (tariff : Tariff
       rational_sum_by (of_source side_source duty_worth (source.Utility k)) (enumerate_from 0 (exchangers_of network.lines))
 
   module _ (k : ℕ) (u : Utility) (at : slice_get case.utilities k ≡ Some u) where
-    -- heat at the utility's tariff.prices, where its part stands
+    -- heat at the utility's prices, where its part stands
     abbrev stood_worth : Rational → Rational
     stood_worth heat =
         step_worth tariff.least tariff.views (tariff.prices on (source.Utility k)) heat (stood (utility_part k u) heat)
@@ -103,9 +103,12 @@ module _ (case : Case) (network : Network) (values : Valuation) (tariff : Tariff
             ∙ step-same tariff.least tariff.views (tariff.prices on (source.Utility k)) e.1.duty e.1.duty
             (λ v. share_in v e.1.duty (shifted_run on case network values e.0 (source.Utility k))) (stood (utility_part k u) e.1.duty) refl
             (λ n d within. share-stood case network values on e.0 k u at side_is (get_or tariff.views n d) e.1.duty)
-        by false same = sym (step-none tariff.least tariff.views (tariff.prices on (source.Utility k)))
-            ∙ step-same tariff.least tariff.views (tariff.prices on (source.Utility k)) rational_zero rational_zero (λ v. rational_zero) (stood (utility_part k u) rational_zero)
-            refl (λ n d within. sym (if_either (stands (utility_part k u) (get_or tariff.views n d)) rational_zero))
+        by false same =
+            let q = tariff.prices on (source.Utility k) in
+            let nothing = stood (utility_part k u) rational_zero in
+            sym (step-none tariff.least tariff.views q)
+            ∙ step-same tariff.least tariff.views q rational_zero rational_zero (λ v. rational_zero) nothing refl
+            (λ n d within. sym (if_either (stands (utility_part k u) (get_or tariff.views n d)) rational_zero))
 
     -- the duties of a utility of the side are worth what its part is worth
     duties-worth : HasShape case network → u.side ≡ on
