@@ -141,5 +141,3 @@ module _ (case : Case) (tariff : Tariff) where
             worth-between i s side.Cold to from e.duty _ pass.at pass.is_on pass.of_to pass.of_from gives takes in
         ap₂ plus (sym gained) (ap (λ o. minus (inlet_height worth o) (outlet_height worth o)) pass.found)
         ∙ there_and_back (worth from) (worth to)
-
--- What a stream loses of its worth is what its parts are worth: of a hot stream's, and of a cold one's taken away.

@@ -25,21 +25,24 @@ use Rattle.price_floor.proofs.BranchWorth.{branch_worth-additive, cold_taken, ho
 higher_distance : (at : Rational) (v w : ℤ) → w <ℤ v → IsAtMost rational_zero (minus at (whole v))
     → IsBelow rational_zero (minus at (whole w))
 higher_distance at v w lower above =
-    positive-minus (whole w) at (below_at_most_trans (whole w) (whole v) at (below-whole w v lower) (at_most_from_not_negative (whole v) at above))
+    let at_least = at_most_from_not_negative (whole v) at above in
+    positive-minus (whole w) at (below_at_most_trans (whole w) (whole v) at (below-whole w v lower) at_least)
 
 -- from a lower place a share is no less, whatever of the places counts from itself
 share-strictly_lower : (v w : ℤ) (duty : Rational) (run : SideRun) → IsBelow rational_zero duty
     → HasDuty duty run → w <ℤ v
     → IsAtMost (share true duty (seen_from (whole v) run)) (share false duty (seen_from (whole w) run))
 share-strictly_lower v w duty (Between size low high) positive has lower =
-    shares_rise.lower false (whole v) (whole w) duty (Between size low high) positive has (at_most-whole w v (omega (arith, ints, lower)))
+    let under = at_most-whole w v (omega (arith, ints, lower)) in
+    shares_rise.lower false (whole v) (whole w) duty (Between size low high) positive has under
 share-strictly_lower v w duty (Level at) positive has lower = by (is_above true (minus at (whole v))) refl
   where
     by : (b : Bool) → is_above true (minus at (whole v)) ≡ b
         → IsAtMost (if b then duty else rational_zero) (share false duty (Level (minus at (whole w))))
     by true above =
         let more = higher_distance at v w lower ((Decides-is_le rational_zero (minus at (whole v))).0 above) in
-        at_most_from_same _ _ (ap (λ b. if b then duty else rational_zero) (sym ((Decides-is_below rational_zero (minus at (whole w))).1 more)))
+        let is = (Decides-is_below rational_zero (minus at (whole w))).1 more in
+        at_most_from_same _ _ (ap (λ b. if b then duty else rational_zero) (sym is))
     by false other = (shares_parts false (whole w) duty (Level at) positive tt).least
 
 share-itself_least : (from_itself : Bool) (duty : Rational) (run : SideRun) → IsBelow rational_zero duty
@@ -56,12 +59,14 @@ share-above_least false duty run positive = at_most_refl (share false duty run)
 shares_rising : (duty : Rational) (run : SideRun) → IsBelow rational_zero duty → HasDuty duty run
     → AreRising (λ v. share_in v duty run)
 shares_rising duty run positive has v w (inl lower) =
-    let from_w = seen_from (whole w.place) run in
-    at_most_trans _ _ _ (share-itself_least v.from_itself duty (seen_from (whole v.place) run) positive)
-    (at_most_trans _ _ _ (share-strictly_lower v.place w.place duty run positive has lower) (share-above_least w.from_itself duty from_w positive))
+    let upto_itself = share-itself_least v.from_itself duty (seen_from (whole v.place) run) positive in
+    let less = share-strictly_lower v.place w.place duty run positive has lower in
+    let from_above = share-above_least w.from_itself duty (seen_from (whole w.place) run) positive in
+    at_most_trans _ _ _ upto_itself (at_most_trans _ _ _ less from_above)
 shares_rising duty run positive has v w (inr (same, above, itself)) =
-    subst₂ IsAtMost (ap (λ b. share b duty (seen_from (whole v.place) run)) (sym above))
-    (ap₂ (λ b place. share b duty (seen_from (whole place) run)) (sym itself) (sym same)) (shares_rise.itself duty (seen_from (whole v.place) run) positive)
+    let from_above = ap (λ b. share b duty (seen_from (whole v.place) run)) (sym above) in
+    let from_itself = ap₂ (λ b place. share b duty (seen_from (whole place) run)) (sym itself) (sym same) in
+    subst₂ IsAtMost from_above from_itself (shares_rise.itself duty (seen_from (whole v.place) run) positive)
 
 -- ---- the exchangers
 
@@ -105,15 +110,18 @@ module _ (case : Case) (network : Network) (values : Valuation) (tariff : Tariff
         let hot = shifted_run side.Hot case network values number e.hot in
         let cold = shifted_run side.Cold case network values number e.cold in
         let open_match = all_at (IsPermitted case) (exchangers_of network.lines) number e permitted at in
-        let dearer =
-            step_worth-ordered tariff.least tariff.views (tariff.prices side.Cold e.cold) (tariff.prices side.Hot e.hot) (ordered.falls side.Cold e.cold)
-        (ordered.falls side.Hot e.hot) (ordered.ordered e.hot e.cold open_match) pairs e.duty (λ v. share_in v e.duty cold)
-        (shares_rising e.duty cold runs.positive runs.cold_duty)
-        (λ v. (shares_parts v.from_itself (whole v.place) e.duty cold runs.positive runs.cold_duty).least) in
-        let more =
-            step_worth-at_most tariff.least tariff.views (tariff.prices side.Hot e.hot) (ordered.falls side.Hot e.hot) e.duty (λ v. share_in v e.duty cold)
-        (λ v. share_in v e.duty hot)
-        (λ v. hot_shares_lead v.from_itself (whole v.place) e.duty hot cold runs.positive runs.hot_duty runs.cold_duty (runs.apart (apart number e at))) in
+        let p = tariff.prices side.Cold e.cold in
+        let q = tariff.prices side.Hot e.hot in
+        let p_falls = ordered.falls side.Cold e.cold in
+        let q_falls = ordered.falls side.Hot e.hot in
+        let given = λ (v : View). share_in v e.duty hot in
+        let taken = λ (v : View). share_in v e.duty cold in
+        let leads = runs.apart (apart number e at) in
+        let dearer = step_worth-ordered tariff.least tariff.views p q p_falls q_falls
+            (ordered.ordered e.hot e.cold open_match) pairs e.duty taken (shares_rising e.duty cold runs.positive runs.cold_duty)
+            (λ v. (shares_parts v.from_itself (whole v.place) e.duty cold runs.positive runs.cold_duty).least) in
+        let more = step_worth-at_most tariff.least tariff.views q q_falls e.duty taken given (λ v.
+            hot_shares_lead v.from_itself (whole v.place) e.duty hot cold runs.positive runs.hot_duty runs.cold_duty leads) in
         at_most_trans _ _ _ dearer more
 
     abbrev taken : ℕ × Exchanger → Rational
@@ -133,7 +141,8 @@ module _ (case : Case) (network : Network) (values : Valuation) (tariff : Tariff
         let all_cold = cold_given number e at e.cold refl valid.cold in
         let sides = plus_swap_right (lost number e.hot) (lost number e.cold) (hot_bought (number, e))
         ∙ ap (λ x. plus x (lost number e.cold)) all_hot in
-        subst₂ IsAtMost (sym all_cold) (sym sides) (at_most-plus_plus _ _ _ _ (sides_ordered number e at) (at_most_refl (lost number e.cold)))
+        let both = at_most-plus_plus _ _ _ _ (sides_ordered number e at) (at_most_refl (lost number e.cold)) in
+        subst₂ IsAtMost (sym all_cold) (sym sides) both
 
     -- ---- the network
 

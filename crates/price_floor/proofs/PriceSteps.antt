@@ -33,7 +33,8 @@ module _ (least : ℤ) (prices : List ℤ) where
   greatest-least : (counts : Part → Bool) (parts : List (ℕ × Part)) → least ≤ℤ greatest_price least counts prices parts
   greatest-least counts [] = omega (arith, ints)
   greatest-least counts ((b, p) ∷ parts) =
-      behind least (if counts p then price_at prices b else least) (greatest_price least counts prices parts) (greatest-least counts parts)
+      let rest = greatest_price least counts prices parts in
+      behind least (if counts p then price_at prices b else least) rest (greatest-least counts parts)
 
   -- no less where more parts count
   greatest-more : (counts more : Part → Bool) (parts : List (ℕ × Part))
@@ -44,10 +45,11 @@ module _ (least : ℤ) (prices : List ℤ) where
       let x = price_at prices b in
       let rest = greatest_price least counts prices parts in
       let others = greatest_price least more prices parts in
+      let first = All-head (λ (e : ℕ × Part). counts e.1 ≡ true → more e.1 ≡ true) (b, p) parts h in
+      let later = All-tail (λ (e : ℕ × Part). counts e.1 ≡ true → more e.1 ≡ true) (b, p) parts h in
       both_upto (if counts p then x else least) rest (int_max (if more p then x else least) others)
-      (by (counts p) (more p) (All-head (λ (e : ℕ × Part). counts e.1 ≡ true → more e.1 ≡ true) (b, p) parts h) x others (greatest-least more parts))
-      (behind rest (if more p then x else least) others
-      (greatest-more counts more parts (All-tail (λ (e : ℕ × Part). counts e.1 ≡ true → more e.1 ≡ true) (b, p) parts h)))
+      (by (counts p) (more p) first x others (greatest-least more parts))
+      (behind rest (if more p then x else least) others (greatest-more counts more parts later))
     where
       by : (b c : Bool) → (b ≡ true → c ≡ true) → (x others : ℤ) → least ≤ℤ others
           → (if b then x else least) ≤ℤ int_max (if c then x else least) others
@@ -60,9 +62,10 @@ module _ (least : ℤ) (prices : List ℤ) where
       → greatest_price least counts prices parts ≤ℤ bound
   greatest-upto counts bound [] h each = h
   greatest-upto counts bound ((b, p) ∷ parts) h each =
+      let first = All-head (λ (e : ℕ × Part). counts e.1 ≡ true → price_at prices e.0 ≤ℤ bound) (b, p) parts each in
+      let later = All-tail (λ (e : ℕ × Part). counts e.1 ≡ true → price_at prices e.0 ≤ℤ bound) (b, p) parts each in
       both_upto (if counts p then price_at prices b else least) (greatest_price least counts prices parts) bound
-      (by (counts p) (price_at prices b) (All-head (λ (e : ℕ × Part). counts e.1 ≡ true → price_at prices e.0 ≤ℤ bound) (b, p) parts each))
-      (greatest-upto counts bound parts h (All-tail (λ (e : ℕ × Part). counts e.1 ≡ true → price_at prices e.0 ≤ℤ bound) (b, p) parts each))
+      (by (counts p) (price_at prices b) first) (greatest-upto counts bound parts h later)
     where
       by : (c : Bool) (x : ℤ) → (c ≡ true → x ≤ℤ bound) → (if c then x else least) ≤ℤ bound
       by true x k = k refl
@@ -78,9 +81,9 @@ module _ (least : ℤ) (prices : List ℤ) where
       let index : n + 0 ≡ n = omega arith in
       let here : (if counts q then price_at prices n else least) ≡ price_at prices n
       = ap (λ c. if c then price_at prices n else least) (ap counts is ∙ h) in
+      let rest = greatest_price least counts prices (enumerate_from (n + 1) parts) in
       subst (λ k. price_at prices k ≤ℤ greatest_price least counts prices (enumerate_from n (q ∷ parts))) (sym index)
-      (front (price_at prices n) (if counts q then price_at prices n else least) (greatest_price least counts prices (enumerate_from (n + 1) parts))
-      (omega (arith, ints)))
+      (front (price_at prices n) (if counts q then price_at prices n else least) rest (omega (arith, ints)))
   greatest-at counts n (q ∷ parts) (suc b) p at h =
       let index : n + 1 + b ≡ n + suc b = omega arith in
       subst (λ k. price_at prices k ≤ℤ greatest_price least counts prices (enumerate_from n (q ∷ parts))) index
@@ -92,13 +95,15 @@ module _ (least : ℤ) (prices : List ℤ) where
       → ((b : ℕ) (p : Part) → slice_get cold b ≡ Some p → counts p ≡ true → more p ≡ true)
       → greatest_price least counts prices (enumerate_from 0 cold) ≤ℤ greatest_price least more prices (enumerate_from 0 cold)
   more_counted counts more cold each =
-      greatest-more counts more (enumerate_from 0 cold) (All-enumerated (λ (e : ℕ × Part). counts e.1 ≡ true → more e.1 ≡ true) cold each)
+      greatest-more counts more (enumerate_from 0 cold)
+      (All-enumerated (λ (e : ℕ × Part). counts e.1 ≡ true → more e.1 ≡ true) cold each)
 
   upto_counted : (counts : Part → Bool) (bound : ℤ) (cold : List Part) → least ≤ℤ bound
       → ((b : ℕ) (p : Part) → slice_get cold b ≡ Some p → counts p ≡ true → price_at prices b ≤ℤ bound)
       → greatest_price least counts prices (enumerate_from 0 cold) ≤ℤ bound
   upto_counted counts bound cold some each =
-      greatest-upto counts bound (enumerate_from 0 cold) some (All-enumerated (λ (e : ℕ × Part). counts e.1 ≡ true → price_at prices e.0 ≤ℤ bound) cold each)
+      greatest-upto counts bound (enumerate_from 0 cold) some
+      (All-enumerated (λ (e : ℕ × Part). counts e.1 ≡ true → price_at prices e.0 ≤ℤ bound) cold each)
 
 -- ---- falling prices
 
@@ -163,7 +168,9 @@ module _ (case : Case) (least : ℤ) (prices : List ℤ) (cold : List Part) (gri
     last_least : (places : List ℤ) → AllPairs (λ a b. b <ℤ a) places → All (HasEnds places) cold
         → last_price steps.top steps.below (views_of places) ≡ least
     last_least [] down each =
-        none_counts (counts_for case on s) (λ b p at h. let (k, within, is) = low_on [] p (All-slice_get (HasEnds []) cold b p each at) in omega arith)
+        none_counts (counts_for case on s) (λ b p at h.
+        let (k, within, is) = low_on [] p (All-slice_get (HasEnds []) cold b p each at) in
+        omega arith)
     last_least (g ∷ places) down each =
         let (lowest, h) = lowest_of g places down in
         h.last steps.top steps.below ∙ none_counts (counts_below on s (from_place lowest)) (λ b p at counted.
@@ -182,7 +189,8 @@ module _ (case : Case) (least : ℤ) (prices : List ℤ) (cold : List Part) (gri
   counts_more : (giver taker : Source) → is_forbidden case.forbids giver taker ≡ false → (p : Part)
       → counts_for case side.Cold taker p ≡ true → counts_for case side.Hot giver p ≡ true
   counts_more giver taker permitted p own =
-      not_from_false (is_forbidden case.forbids giver p.source) (ap (is_forbidden case.forbids giver) (same_source-true p.source taker own) ∙ permitted)
+      let same = ap (is_forbidden case.forbids giver) (same_source-true p.source taker own) in
+      not_from_false (is_forbidden case.forbids giver p.source) (same ∙ permitted)
 
   steps_ordered : (giver taker : Source) → is_forbidden case.forbids giver taker ≡ false
       → AreAtMost (price_steps case least prices cold side.Cold taker) (price_steps case least prices cold side.Hot giver)
@@ -190,7 +198,9 @@ module _ (case : Case) (least : ℤ) (prices : List ℤ) (cold : List Part) (gri
     top = more_counted least prices (counts_for case side.Cold taker) (counts_for case side.Hot giver) cold
         (λ b p at own. counts_more giver taker permitted p own);
     below = λ v. more_counted least prices (counts_below side.Cold taker v) (counts_below side.Hot giver v) cold
-        (λ b p at h. let (own, under) = below-parts side.Cold taker v p h in below-from side.Hot giver v p (counts_more giver taker permitted p own) under);
+        (λ b p at h.
+        let (own, under) = below-parts side.Cold taker v p h in
+        below-from side.Hot giver v p (counts_more giver taker permitted p own) under);
   }
 
   pub steps_are_ordered : IsOrderedTariff case (tariff_of case least prices cold grid)
@@ -219,11 +229,11 @@ module _ (case : Case) (least : ℤ) (prices : List ℤ) (cold : List Part) (gri
           let low = none_inside grid q falls other p.low (interval_ends grid p.high p.low interval).1 more in
           let wide = width in
           let under = lower in (
-            by_lt_z p.high q.high
-                (λ up. let inside = none_inside grid q falls other p.high (interval_ends grid p.high p.low interval).0 up in absurd (omega (arith, ints)))
-                (λ upto. by_lt_z q.high p.high
-                (λ down. let inside = interval_below grid p.high p.low q.high falls interval (high_on q other) down in absurd (omega (arith, ints)))
-                (λ from. omega (arith, ints))),
+            by_lt_z p.high q.high (λ up.
+                let inside = none_inside grid q falls other p.high (interval_ends grid p.high p.low interval).0 up in
+                absurd (omega (arith, ints))) (λ upto. by_lt_z q.high p.high (λ down.
+                let inside = interval_below grid p.high p.low q.high falls interval (high_on q other) down in
+                absurd (omega (arith, ints))) (λ from. omega (arith, ints))),
             omega (arith, ints),
           )
 
@@ -232,15 +242,22 @@ module _ (case : Case) (least : ℤ) (prices : List ℤ) (cold : List Part) (gri
       → passes_heat p q ≡ true
   passes_own p q (inl (level, found)) other under =
       by_lt_z p.high q.high (λ more. let stood = int_lt-from p.high q.high more in absurd (cc))
-      (λ most. or_left (int_le q.high p.low) (int_eq p.high q.high && int_eq p.low q.low) (int_le-from q.high p.low (omega (arith, ints))))
+      (λ most.
+      let below = int_le-from q.high p.low (omega (arith, ints)) in
+      or_left (int_le q.high p.low) (int_eq p.high q.high && int_eq p.low q.low) below)
   passes_own p q (inr interval) other under =
-      by_lt_z q.low p.high (λ less. by (on_interval p q interval other less)) (λ more. let stood = int_le-from p.high q.low more in absurd (cc))
+      by_lt_z q.low p.high (λ less. by (on_interval p q interval other less)) (λ more.
+      let stood = int_le-from p.high q.low more in
+      absurd (cc))
     where
       by : (q.high ≤ℤ p.low) ⊎ ((p.high ≡ q.high) × (p.low ≡ q.low)) → passes_heat p q ≡ true
       by (inl below) =
           or_left (int_le q.high p.low) (int_eq p.high q.high && int_eq p.low q.low) (int_le-from q.high p.low below)
-      by (inr (high, low)) = or_right (int_le q.high p.low) (int_eq p.high q.high && int_eq p.low q.low)
-          (and_from (int_eq p.high q.high) (int_eq p.low q.low) ((Decides-int_eq p.high q.high).1 high) ((Decides-int_eq p.low q.low).1 low))
+      by (inr (high, low)) =
+          let highs = (Decides-int_eq p.high q.high).1 high in
+          let lows = (Decides-int_eq p.low q.low).1 low in
+          or_right (int_le q.high p.low) (int_eq p.high q.high && int_eq p.low q.low)
+          (and_from (int_eq p.high q.high) (int_eq p.low q.low) highs lows)
 
   -- a hot part's is at most a price that is at least that of each cold part that it reaches
   pub hot_price : (p : Part) (own : HasEnds grid p) (price : ℤ) → least ≤ℤ price
@@ -250,7 +267,8 @@ module _ (case : Case) (least : ℤ) (prices : List ℤ) (cold : List Part) (gri
       let v = own_view grid p own in
       upto_counted least prices (counts_below side.Hot p.source v) price cold some (λ b q at h.
       let (permitted, under) = below-parts side.Hot p.source v q h in
-      reached b q at (and_from (passes_heat p q) (not (is_forbidden case.forbids p.source q.source)) (passes_own p q own (ends_at b q at) under) permitted))
+      let passes = passes_own p q own (ends_at b q at) under in
+      reached b q at (and_from (passes_heat p q) (not (is_forbidden case.forbids p.source q.source)) passes permitted))
 
   -- a cold part's is at least its price
   pub cold_price : (b : ℕ) (p : Part) (at : slice_get cold b ≡ Some p) (own : HasEnds grid p)
@@ -261,5 +279,3 @@ module _ (case : Case) (least : ℤ) (prices : List ℤ) (cold : List Part) (gri
       subst (λ k. price_at prices k ≤ℤ (price_steps case least prices cold side.Cold p.source).below v) index
       (greatest-at least prices (counts_below side.Cold p.source v) 0 cold b p at
       (below-from side.Cold p.source v p (same_source-same p.source) (own_not grid p falls own)))
-
--- Sums over parts and exchangers by the sources of the case, and what the use of a part is worth.

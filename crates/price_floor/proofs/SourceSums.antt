@@ -90,5 +90,3 @@ before-not p q (inl h) same = absurd (let is : p.high ≡ q.high = ap (λ (r : P
 before-not p q (inr (inl h)) same =
     absurd (let is : p.low ≡ q.low = ap (λ (r : Part). r.low) same in omega (arith, ints))
 before-not p q (inr (inr h)) same = before_source-not p.source q.source h.2 (ap (λ (r : Part). r.source) same)
-
--- The parts of one stream above a view add up to its heat there.

@@ -41,8 +41,10 @@ rise_worth-minus : (above : ℤ) (below : View → ℤ) (x y : View → Rational
 rise_worth-minus above below x y [] = sym (minus-self rational_zero)
 rise_worth-minus above below x y (v ∷ views) =
     let rise = whole (above -ℤ below v) in
+    let first = rise_worth (below v) below x views in
+    let second = rise_worth (below v) below y views in
     ap₂ plus (times-minus rise (x v) (y v)) (rise_worth-minus (below v) below x y views)
-    ∙ sym (minus-interchange (times rise (x v)) (rise_worth (below v) below x views) (times rise (y v)) (rise_worth (below v) below y views))
+    ∙ sym (minus-interchange (times rise (x v)) first (times rise (y v)) second)
 
 module _ (least : ℤ) (views : List View) (p : StepPrices) where
   pub step_worth-same : (a b : Rational) (x y : View → Rational) → a ≡ b → ((v : View) → x v ≡ y v)
@@ -53,14 +55,20 @@ module _ (least : ℤ) (views : List View) (p : StepPrices) where
   pub step_worth-plus : (a b : Rational) (x y : View → Rational)
       → step_worth least views p (plus a b) (λ v. plus (x v) (y v))
       ≡ plus (step_worth least views p a x) (step_worth least views p b y)
-  step_worth-plus a b x y = ap₂ plus (times-plus (whole least) a b) (rise_worth-plus p.top p.below x y views)
-      ∙ plus-interchange (times (whole least) a) (times (whole least) b) (rise_worth p.top p.below x views) (rise_worth p.top p.below y views)
+  step_worth-plus a b x y =
+      let first = rise_worth p.top p.below x views in
+      let second = rise_worth p.top p.below y views in
+      ap₂ plus (times-plus (whole least) a b) (rise_worth-plus p.top p.below x y views)
+      ∙ plus-interchange (times (whole least) a) (times (whole least) b) first second
 
   pub step_worth-minus : (a b : Rational) (x y : View → Rational)
       → step_worth least views p (minus a b) (λ v. minus (x v) (y v))
       ≡ minus (step_worth least views p a x) (step_worth least views p b y)
-  step_worth-minus a b x y = ap₂ plus (times-minus (whole least) a b) (rise_worth-minus p.top p.below x y views)
-      ∙ sym (minus-interchange (times (whole least) a) (rise_worth p.top p.below x views) (times (whole least) b) (rise_worth p.top p.below y views))
+  step_worth-minus a b x y =
+      let first = rise_worth p.top p.below x views in
+      let second = rise_worth p.top p.below y views in
+      ap₂ plus (times-minus (whole least) a b) (rise_worth-minus p.top p.below x y views)
+      ∙ sym (minus-interchange (times (whole least) a) first (times (whole least) b) second)
 
 -- ---- more heat
 
@@ -72,14 +80,16 @@ rise_worth-at_most : (above : ℤ) (below : View → ℤ) (x y : View → Ration
     → ((v : View) → IsAtMost (x v) (y v)) → IsAtMost (rise_worth above below x views) (rise_worth above below y views)
 rise_worth-at_most above below x y [] falls more = at_most_refl rational_zero
 rise_worth-at_most above below x y (v ∷ views) falls more =
-    at_most-plus_plus _ _ _ _ (at_most-times_left (whole (above -ℤ below v)) (x v) (y v) (not_negative-fall above (below v) falls.0) (more v))
+    let rise = not_negative-fall above (below v) falls.0 in
+    at_most-plus_plus _ _ _ _ (at_most-times_left (whole (above -ℤ below v)) (x v) (y v) rise (more v))
     (rise_worth-at_most (below v) below x y views falls.1 more)
 
 pub step_worth-at_most : (least : ℤ) (views : List View) (p : StepPrices) → FallTo least views p
     → (a : Rational) (x y : View → Rational)
     → ((v : View) → IsAtMost (x v) (y v)) → IsAtMost (step_worth least views p a x) (step_worth least views p a y)
 step_worth-at_most least views p falls a x y more =
-    at_most-plus_plus _ _ _ _ (at_most_refl (times (whole least) a)) (rise_worth-at_most p.top p.below x y views falls.falling more)
+    let rises = rise_worth-at_most p.top p.below x y views falls.falling more in
+    at_most-plus_plus _ _ _ _ (at_most_refl (times (whole least) a)) rises
 
 -- ---- higher prices
 
@@ -120,12 +130,13 @@ module _ (least : ℤ) (p q : View → ℤ) (x : View → Rational) (more : (v :
   rise_worth-ordered p_top q_top c (v ∷ views) higher p_last q_last pairs seen =
       let above_next : All (λ w. IsAtMost (x v) (x w)) views
       = λ k d within. rising v (get_or views k d) (AllPairs-head comes_below v views pairs k d within) in
-      let rest =
-          rise_worth-ordered (p v) (q v) (x v) views (more v) p_last q_last (AllPairs-tail comes_below v views pairs) above_next in
-      let here =
-          at_most-times_left (whole (q_top -ℤ p_top)) c (x v) (not_negative-fall q_top p_top higher) (All-head (λ w. IsAtMost c (x w)) v views seen) in
+      let later = AllPairs-tail comes_below v views pairs in
+      let rest = rise_worth-ordered (p v) (q v) (x v) views (more v) p_last q_last later above_next in
+      let first = All-head (λ w. IsAtMost c (x w)) v views seen in
+      let here = at_most-times_left (whole (q_top -ℤ p_top)) c (x v) (not_negative-fall q_top p_top higher) first in
+      let moved = shifted_rises p_top q_top (p v) (q v) (x v) (rise_worth (p v) p x views) in
       at_most_trans _ _ _ (at_most-plus_plus _ _ _ _ (at_most_refl (rise_worth p_top p x (v ∷ views))) here)
-      (subst (λ y. IsAtMost y (rise_worth q_top q x (v ∷ views))) (sym (shifted_rises p_top q_top (p v) (q v) (x v) (rise_worth (p v) p x views)))
+      (subst (λ y. IsAtMost y (rise_worth q_top q x (v ∷ views))) (sym moved)
       (at_most-plus_plus _ _ _ _ (at_most_refl (times (whole (q_top -ℤ q v)) (x v))) rest))
 
 pub step_worth-ordered : (least : ℤ) (views : List View) (p q : StepPrices) → FallTo least views p
@@ -137,9 +148,10 @@ step_worth-ordered least views p q p_falls q_falls more pairs a x rising some =
     let no_heat = times (whole (q.top -ℤ p.top)) rational_zero in
     let none : IsAtMost rational_zero no_heat
     = not_negative-times _ _ (not_negative-fall q.top p.top more.top) (at_most_refl rational_zero) in
-    at_most-plus_plus _ _ _ _ (at_most_refl (times (whole least) a)) (at_most_trans _ _ _ (at_most-plus_right (rise_worth p.top p.below x views) no_heat none)
-    (rise_worth-ordered least p.below q.below x more.below rising p.top q.top rational_zero views more.top p_falls.last q_falls.last pairs
-    (λ k d within. some (get_or views k d))))
+    let with_none = at_most-plus_right (rise_worth p.top p.below x views) no_heat none in
+    let rises = rise_worth-ordered least p.below q.below x more.below rising p.top q.top rational_zero views more.top
+        p_falls.last q_falls.last pairs (λ k d within. some (get_or views k d)) in
+    at_most-plus_plus _ _ _ _ (at_most_refl (times (whole least) a)) (at_most_trans _ _ _ with_none rises)
 
 -- Sums of what heats are worth at step prices; and the one price at which the heat of a part is worth it.
 
@@ -173,7 +185,8 @@ module _ (p : Part) (x : Rational) (below : View → ℤ) where
       let none : pos 0 ≡ above -ℤ above = omega (arith, ints) in
       sym (zero-times x) ∙ ap (λ n. times (whole n) x) none
   rise-all above (v ∷ views) all =
-      ap₂ plus (ap (λ b. times (whole (above -ℤ below v)) (if b then x else rational_zero)) (All-head (λ w. stands p w ≡ true) v views all))
+      let first = All-head (λ w. stands p w ≡ true) v views all in
+      ap₂ plus (ap (λ b. times (whole (above -ℤ below v)) (if b then x else rational_zero)) first)
       (rise-all (below v) views (All-tail (λ w. stands p w ≡ true) v views all))
       ∙ two_steps above (below v) (last_price (below v) below views) x
 
@@ -181,11 +194,13 @@ module _ (p : Part) (x : Rational) (below : View → ℤ) where
       → rise_worth above below (stood p x) views ≡ times (whole (below own -ℤ last_price above below views)) x
   rise-leaves own above [] leaves = absurd leaves
   rise-leaves own above (v ∷ views) (under, inl (is, all)) =
-      ap₂ plus (ap (λ b. times (whole (above -ℤ below v)) (if b then x else rational_zero)) under ∙ times-zero (whole (above -ℤ below v)))
+      let rise = whole (above -ℤ below v) in
+      ap₂ plus (ap (λ b. times rise (if b then x else rational_zero)) under ∙ times-zero rise)
       (rise-all (below v) views all) ∙ zero-plus (times (whole (below v -ℤ last_price (below v) below views)) x)
       ∙ ap (λ w. times (whole (below w -ℤ last_price (below v) below views)) x) is
   rise-leaves own above (v ∷ views) (under, inr later) =
-      ap₂ plus (ap (λ b. times (whole (above -ℤ below v)) (if b then x else rational_zero)) under ∙ times-zero (whole (above -ℤ below v)))
+      let rise = whole (above -ℤ below v) in
+      ap₂ plus (ap (λ b. times rise (if b then x else rational_zero)) under ∙ times-zero rise)
       (rise-leaves own (below v) views later)
       ∙ zero-plus (times (whole (below own -ℤ last_price (below v) below views)) x)
 
@@ -195,9 +210,7 @@ pub step-part : (least : ℤ) (views : List View) (q : StepPrices) (p : Part) (o
     → LeavesAt p own views → step_worth least views q x (stood p x) ≡ times (whole (q.below own)) x
 step-part least views q p own x last leaves =
     let total : least +ℤ (q.below own -ℤ least) ≡ q.below own = omega (arith, ints) in
-    ap (plus (times (whole least) x)) (rise-leaves p x q.below own q.top views leaves ∙ ap (λ n. times (whole (q.below own -ℤ n)) x) last)
+    let rises = rise-leaves p x q.below own q.top views leaves in
+    ap (plus (times (whole least) x)) (rises ∙ ap (λ n. times (whole (q.below own -ℤ n)) x) last)
     ∙ sym (plus-times (whole least) (whole (q.below own -ℤ least)) x)
     ∙ ap (λ y. times y x) (whole-plus least (q.below own -ℤ least) ∙ ap whole total)
-
--- The step prices that prices of cold parts make: they fall to the least price, they are ordered, and where a part lies
--- they are at most its price if it is hot, and at least its price if it is cold.

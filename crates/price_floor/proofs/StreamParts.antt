@@ -17,12 +17,14 @@ own_over i from place p =
 module _ (i : ℕ) (from : Bool) (place : ℤ) where
   own-other : (high low : ℤ) (n : ℕ) (s : Stream) → n ≢ i → own_over i from place (stream_part high low n s) ≡ pos 0
   own-other high low n s other =
-      ap (λ b. if b then (if stands_above from place (stream_part high low n s) then (stream_part high low n s).least else pos 0) else pos 0) (ne_eqb n i other)
+      let p = stream_part high low n s in
+      ap (λ b. if b then (if stands_above from place p then p.least else pos 0) else pos 0) (ne_eqb n i other)
 
   own-here : (high low : ℤ) (n : ℕ) (s : Stream) → n ≡ i
       → own_over i from place (stream_part high low n s) ≡ part_over from place (pos 0) (stream_part high low 0 s)
   own-here high low n s same =
-      ap (λ b. if b then (if stands_above from place (stream_part high low n s) then (stream_part high low n s).least else pos 0) else pos 0) (eq-eqb n i same)
+      let p = stream_part high low n s in
+      ap (λ b. if b then (if stands_above from place p then p.least else pos 0) else pos 0) (eq-eqb n i same)
 
   -- parts of later streams
   own-later : (test : Stream → Bool) (high low : ℤ) (n : ℕ) (streams : List Stream) → i < n
@@ -33,8 +35,8 @@ module _ (i : ℕ) (from : Bool) (place : ℤ) where
       let here : (if test s then own_over i from place (stream_part high low n s) else pos 0) ≡ pos 0 =
       if_zero (test s) (own_over i from place (stream_part high low n s)) first in
       let rest = own-later test high low (suc n) streams (omega arith) in
-      let sum =
-          int_sum_by-cons_if (own_over i from place) (test s) (stream_part high low n s) (picked test (stream_part high low) (suc n) streams) in
+      let others = picked test (stream_part high low) (suc n) streams in
+      let sum = int_sum_by-cons_if (own_over i from place) (test s) (stream_part high low n s) others in
       omega (arith, ints)
 
   -- parts that are picked are those that would be picked of this stream alone
@@ -47,8 +49,8 @@ module _ (i : ℕ) (from : Bool) (place : ℤ) where
       let same : t ≡ s = cc in
       let number : n ≡ i = omega (arith, is) in
       let rest = own-later test high low (suc n) streams (omega (arith, is)) in
-      let sum =
-          int_sum_by-cons_if (own_over i from place) (test t) (stream_part high low n t) (picked test (stream_part high low) (suc n) streams) in
+      let others = picked test (stream_part high low) (suc n) streams in
+      let sum = int_sum_by-cons_if (own_over i from place) (test t) (stream_part high low n t) others in
       let alone = int_sum_by-cons_if (part_over from place (pos 0)) (test s) (stream_part high low 0 s) [] in
       let here : (if test t then own_over i from place (stream_part high low n t) else pos 0)
       ≡ (if test s then part_over from place (pos 0) (stream_part high low 0 s) else pos 0) =
@@ -57,17 +59,18 @@ module _ (i : ℕ) (from : Bool) (place : ℤ) where
   own-picked test high low n (t ∷ streams) (suc k) s at is =
       let first = own-other high low n t (λ same. absurd (omega (arith, same, is))) in
       let rest = own-picked test high low (suc n) streams k s at (omega (arith, is)) in
-      let sum =
-          int_sum_by-cons_if (own_over i from place) (test t) (stream_part high low n t) (picked test (stream_part high low) (suc n) streams) in
+      let others = picked test (stream_part high low) (suc n) streams in
+      let sum = int_sum_by-cons_if (own_over i from place) (test t) (stream_part high low n t) others in
       let here : (if test t then own_over i from place (stream_part high low n t) else pos 0) ≡ pos 0 =
       if_zero (test t) (own_over i from place (stream_part high low n t)) first in omega (arith, ints)
 
   own-utilities : (test : Utility → Bool) (n : ℕ) (utilities : List Utility)
       → int_sum_by (own_over i from place) (picked test utility_part n utilities) ≡ pos 0
   own-utilities test n [] = refl
-  own-utilities test n (u ∷ utilities) = let rest = own-utilities test (suc n) utilities in
-      let sum =
-          int_sum_by-cons_if (own_over i from place) (test u) (utility_part n u) (picked test utility_part (suc n) utilities) in
+  own-utilities test n (u ∷ utilities) =
+      let rest = own-utilities test (suc n) utilities in
+      let others = picked test utility_part (suc n) utilities in
+      let sum = int_sum_by-cons_if (own_over i from place) (test u) (utility_part n u) others in
       let here : (if test u then pos 0 else pos 0) ≡ pos 0 = if_zero (test u) (pos 0) refl in
       omega (arith, ints)
 
@@ -108,17 +111,20 @@ module _ (i : ℕ) (from : Bool) (place : ℤ) where
         omega (arith, ints)
 
 -- on places that hold the ends of the streams and this place
-pub stream_parts-are : (i : ℕ) (from : Bool) (place : ℤ) (streams : List Stream) (utilities : List Utility) (side : Side) (s : Stream) (places : List ℤ)
+pub stream_parts-are : (i : ℕ) (from : Bool) (place : ℤ) (streams : List Stream) (utilities : List Utility) (side : Side)
+    (s : Stream) (places : List ℤ)
     → slice_get streams i ≡ Some s → IsValidStream s → HoldsPlaces streams utilities places → Contains places place
     → int_sum_by (own_over i from place) (made_parts streams utilities side places)
     ≡ (if same_side s.side side then heat_over from place s else pos 0)
-stream_parts-are i from place streams utilities side s places at valid holds found = let ends =
-    All-slice_get (λ (r : Stream). Contains places (high_end r) × Contains places (low_end r)) streams i s (holds_ends streams utilities places holds) at in
+stream_parts-are i from place streams utilities side s places at valid holds found =
+    let all_ends = holds_ends streams utilities places holds in
+    let ends = All-slice_get (λ (r : Stream). Contains places (high_end r) × Contains places (low_end r)) streams i s all_ends at in
+    let low = All-cons (Contains places) (low_end s) [] ends.1 (All-nil (Contains places)) in
     let alone : HoldsPlaces (s ∷ []) [] places = record {
       falls = holds.falls;
-      holds =
-          All-cons (Contains places) (high_end s) (low_end s ∷ []) ends.0 (All-cons (Contains places) (low_end s) [] ends.1 (All-nil (Contains places)));
+      holds = All-cons (Contains places) (high_end s) (low_end s ∷ []) ends.0 low;
     } in
-    let sum =
-        sum-part_over (s ∷ []) [] side places from place (pos 0) (All-cons IsValidStream s [] valid (All-nil IsValidStream)) alone found in
-    let own = own-made i from place streams utilities side s at places in omega (arith, ints)
+    let all_valid = All-cons IsValidStream s [] valid (All-nil IsValidStream) in
+    let sum = sum-part_over (s ∷ []) [] side places from place (pos 0) all_valid alone found in
+    let own = own-made i from place streams utilities side s at places in
+    omega (arith, ints)

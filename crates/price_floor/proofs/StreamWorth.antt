@@ -94,15 +94,17 @@ module _ (tariff : Tariff) (of : Source) where
       (λ v. whole (if same_side of_side on then heat v else pos 0))
 
   sides_given : (of_side : Side) (all : ℤ) (heat : View → ℤ)
-      → step_worth tariff.least tariff.views (tariff.prices of_side of) (whole (given_by of_side all)) (λ v. whole (given_by of_side (heat v)))
+      → step_worth tariff.least tariff.views (tariff.prices of_side of) (whole (given_by of_side all))
+      (λ v. whole (given_by of_side (heat v)))
       ≡ minus (side_heat of_side all heat side.Hot) (side_heat of_side all heat side.Cold)
   sides_given side.Hot all heat =
       let worth = side_heat side.Hot all heat side.Hot in
       sym (minus-zero worth) ∙ ap (minus worth) (sym (step-none tariff.least tariff.views (tariff.prices side.Cold of)))
   sides_given side.Cold all heat =
       let q = tariff.prices side.Cold of in
+      let taken = λ (v : View). minus rational_zero (whole (heat v)) in
       step-same tariff.least tariff.views q (whole (pos 0 -ℤ all)) (minus rational_zero (whole all)) (λ v. whole (pos 0 -ℤ heat v))
-      (λ v. minus rational_zero (whole (heat v))) (sym (whole-minus (pos 0) all)) (λ k d within. sym (whole-minus (pos 0) (heat (get_or tariff.views k d))))
+      taken (sym (whole-minus (pos 0) all)) (λ k d within. sym (whole-minus (pos 0) (heat (get_or tariff.views k d))))
       ∙ step_worth-minus tariff.least tariff.views q rational_zero (whole all) (λ v. rational_zero) (λ v. whole (heat v))
       ∙ ap (λ none. minus none (step_worth tariff.least tariff.views q (whole all) (λ v. whole (heat v))))
       (step-none tariff.least tariff.views q ∙ sym (step-none tariff.least tariff.views (tariff.prices side.Hot of)))
@@ -133,21 +135,27 @@ module _ (network : Network) (tariff : Tariff) (on : Side) (i : ℕ) where
           → (if b then part_worth tariff network on p else rational_zero)
           ≡ priced_heat (if b then p.least else pos 0) (λ v. if b then (if stands p v then p.least else pos 0) else pos 0)
       by true same =
-          ap (λ s. step_worth tariff.least tariff.views (tariff.prices on s) (used_by network p.least s) (stood p (used_by network p.least s))) (same refl)
-          ∙ step-same tariff.least tariff.views (tariff.prices on (source.Stream i)) (whole p.least) (whole p.least) (stood p (whole p.least))
+          let worth = λ (s : Source) (heat : Rational). step_worth tariff.least tariff.views (tariff.prices on s) heat (stood p heat) in
+          let q = tariff.prices on (source.Stream i) in
+          ap (λ s. worth s (used_by network p.least s)) (same refl)
+          ∙ step-same tariff.least tariff.views q (whole p.least) (whole p.least) (stood p (whole p.least))
           (λ v. whole (if stands p v then p.least else pos 0)) refl (λ k d within. if_whole (stands p (get_or tariff.views k d)))
       by false same = sym (step-none tariff.least tariff.views (tariff.prices on (source.Stream i)))
 
   own-sum : (parts : List Part) → rational_sum_by (own_worth tariff network on (source.Stream i)) parts
       ≡ priced_heat (int_sum_by (own_least i) parts) (λ v. int_sum_by (over v) parts)
-  own-sum parts = let q = tariff.prices on (source.Stream i) in
-      rational_sum_by-same (own_worth tariff network on (source.Stream i)) (λ p. priced_heat (own_least i p) (λ v. over v p)) parts
-      (λ k d within. own-heat (get_or parts k d))
+  own-sum parts =
+      let q = tariff.prices on (source.Stream i) in
+      let each = λ (p : Part). priced_heat (own_least i p) (λ v. over v p) in
+      let all = rational_sum_by (λ (p : Part). whole (own_least i p)) parts in
+      rational_sum_by-same (own_worth tariff network on (source.Stream i)) each parts (λ k d within. own-heat (get_or parts k d))
       ∙ step-sum tariff.least tariff.views q (λ p. whole (own_least i p)) (λ p v. whole (over v p)) parts
-      ∙ step-same tariff.least tariff.views q (rational_sum_by (λ p. whole (own_least i p)) parts) (whole (int_sum_by (own_least i) parts))
+      ∙ step-same tariff.least tariff.views q all (whole (int_sum_by (own_least i) parts))
       (λ v. rational_sum_by (λ p. whole (over v p)) parts) (λ v. whole (int_sum_by (over v) parts))
       (rational_sum_by-whole (own_least i) (int_sum_by (own_least i)) refl (λ p ps. refl) parts)
-      (λ k d within. let v = get_or tariff.views k d in rational_sum_by-whole (over v) (int_sum_by (over v)) refl (λ p ps. refl) parts)
+      (λ k d within.
+      let v = get_or tariff.views k d in
+      rational_sum_by-whole (over v) (int_sum_by (over v)) refl (λ p ps. refl) parts)
 
 -- ---- a stream of a case
 
@@ -177,7 +185,8 @@ module _ (case : Case) (network : Network) (least : ℤ) (grid : List ℤ) (pric
     where
       all_over : (p : Part) → HasEnds grid p → own_least i p ≡ own_over i true lowest p
       all_over p own =
-          ap (λ b. if same_source p.source (source.Stream i) then (if b then p.least else pos 0) else pos 0) (sym (stands_lowest grid p lowest own low))
+          let above = stands_lowest grid p lowest own low in
+          ap (λ b. if same_source p.source (source.Stream i) then (if b then p.least else pos 0) else pos 0) (sym above)
 
       over : (from : Bool) (place : ℤ) → Contains grid place
           → int_sum_by (own_over i from place) parts ≡ (if same_side s.side on then heat_over from place s else pos 0)
@@ -195,10 +204,13 @@ module _ (case : Case) (network : Network) (least : ℤ) (grid : List ℤ) (pric
       let q = prices s.side (source.Stream i) in
       let first = first_value s in
       let last = last_value s in
+      let had = times first.cp first.t in
+      let left = times last.cp last.t in
+      let lost = λ (v : View). minus (height_in v s first) (height_in v s last) in
       ap (λ o. minus (value_worth tariff i o first) (value_worth tariff i o last)) at
-      ∙ sym (step_worth-minus least views q (times first.cp first.t) (times last.cp last.t) (λ v. height_in v s first) (λ v. height_in v s last))
-      ∙ step-same least views q (minus (times first.cp first.t) (times last.cp last.t)) (whole (given_by s.side (seen (from_place lowest))))
-      (λ v. minus (height_in v s first) (height_in v s last)) (λ v. whole (given_by s.side (seen v))) (change_given s lowest valid under)
+      ∙ sym (step_worth-minus least views q had left (λ v. height_in v s first) (λ v. height_in v s last))
+      ∙ step-same least views q (minus had left) (whole (given_by s.side (seen (from_place lowest)))) lost
+      (λ v. whole (given_by s.side (seen v))) (change_given s lowest valid under)
       (λ k d within. stream_given (get_or views k d) s valid)
 
   pub stream_worth-is : lowest ≤ℤ low_end s → (hot cold : List Part)
@@ -210,5 +222,3 @@ module _ (case : Case) (network : Network) (least : ℤ) (grid : List ℤ) (pric
   stream_worth-is under hot cold hot_made hot_ends cold_made cold_ends =
       loss_given under ∙ sides_given tariff (source.Stream i) s.side (seen (from_place lowest)) seen
       ∙ ap₂ minus (sym (parts_given side.Hot hot hot_made hot_ends)) (sym (parts_given side.Cold cold cold_made cold_ends))
-
--- The duties of a utility are worth what its part is worth.

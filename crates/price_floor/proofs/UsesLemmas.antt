@@ -40,9 +40,11 @@ least_price-least (x ∷ xs) (suc a) =
 
 -- ---- the parts on a grid
 
-module _ (case : Case) (network : Network) (hot cold : List Part) (y z : List ℤ) (complete : IsComplete case) (shape : HasShape case network)
-    (valid : IsValidNetwork case network) (grid : List ℤ) (is_grid : IsGrid case grid) (hot_parts : AreParts case.streams case.utilities grid side.Hot hot)
-    (cold_parts : AreParts case.streams case.utilities grid side.Cold cold) (hot_ends : All (HasEnds grid) hot) (cold_ends : All (HasEnds grid) cold) where
+module _ (case : Case) (network : Network) (hot cold : List Part) (y z : List ℤ) (complete : IsComplete case)
+    (shape : HasShape case network) (valid : IsValidNetwork case network) (grid : List ℤ) (is_grid : IsGrid case grid)
+    (hot_parts : AreParts case.streams case.utilities grid side.Hot hot)
+    (cold_parts : AreParts case.streams case.utilities grid side.Cold cold) (hot_ends : All (HasEnds grid) hot)
+    (cold_ends : All (HasEnds grid) cold) where
   abbrev least : ℤ
   least = least_price y
 
@@ -70,14 +72,17 @@ module _ (case : Case) (network : Network) (hot cold : List Part) (y z : List �
       → IsAtMost rational_zero (used_heat network p)
   not_negative-used on p (inl (i, s, h)) =
       let from : source.Stream i ≡ p.source = sym (ap (λ (r : Part). r.source) h.is) in
-      let bounded =
-      IsBounded-part case.streams case.utilities on grid (AreStreams-IsComplete case complete).each (IsPlaced-IsComplete case complete) holds p
-      (inl (i, s, h)) in subst (λ r. IsAtMost rational_zero (used_by network p.least r)) from (at_most-whole (pos 0) p.least bounded.least.from)
+      let streams = (AreStreams-IsComplete case complete).each in
+      let placed = IsPlaced-IsComplete case complete in
+      let bounded = IsBounded-part case.streams case.utilities on grid streams placed holds p (inl (i, s, h)) in
+      subst (λ r. IsAtMost rational_zero (used_by network p.least r)) from
+      (at_most-whole (pos 0) p.least bounded.least.from)
   not_negative-used on p (inr (k, u, h)) =
       let from : source.Utility k ≡ p.source = sym (ap (λ (r : Part). r.source) h.is) in
       let placed = All-slice_get IsPlaced case.utilities k u (IsPlaced-IsComplete case complete) h.utility in
       subst (λ r. IsAtMost rational_zero (used_by network p.least r)) from
-      (at_most_trans rational_zero (whole u.least) (heat_with network k) (at_most-whole (pos 0) u.least placed.least.from) (valid.ranges k u h.utility).least)
+      (at_most_trans rational_zero (whole u.least) (heat_with network k) (at_most-whole (pos 0) u.least placed.least.from)
+      (valid.ranges k u h.utility).least)
 
   -- ---- one part
 
@@ -91,27 +96,30 @@ module _ (case : Case) (network : Network) (hot cold : List Part) (y z : List �
   cold_part b p at =
       let own = All-slice_get (HasEnds grid) cold b p cold_ends at in
       let price = (prices side.Cold p.source).below (own_view grid p own) in
-      subst (IsAtMost (use_worth network z (b, p))) (sym (worth-is side.Cold p own)) (at_most-times (whole (price_at z b)) (whole price) (used_heat network p)
-      (not_negative-used side.Cold p (All-slice_get (IsPartOf case.streams case.utilities grid side.Cold) cold b p cold_parts.each at))
-      (at_most-whole (price_at z b) price (cold_price case least z cold grid falls cold_ends b p at own)))
+      let is = All-slice_get (IsPartOf case.streams case.utilities grid side.Cold) cold b p cold_parts.each at in
+      let dearer = at_most-whole (price_at z b) price (cold_price case least z cold grid falls cold_ends b p at own) in
+      subst (IsAtMost (use_worth network z (b, p))) (sym (worth-is side.Cold p own))
+      (at_most-times (whole (price_at z b)) (whole price) (used_heat network p) (not_negative-used side.Cold p is) dearer)
 
   hot_part : IsSupporting (reach_between case hot cold) y z → (a : ℕ) (p : Part) → slice_get hot a ≡ Some p
       → IsAtMost (worth side.Hot p) (use_worth network y (a, p))
   hot_part supporting a p at =
       let own = All-slice_get (HasEnds grid) hot a p hot_ends at in
       let price = (prices side.Hot p.source).below (own_view grid p own) in
+      let is = All-slice_get (IsPartOf case.streams case.utilities grid side.Hot) hot a p hot_parts.each at in
+      let cheaper = hot_price case least z cold grid falls cold_ends p own (price_at y a) (least_price-least y a)
+          (λ b q here reaches. supporting a b (ap₂ (both_reach case) at here ∙ reaches)) in
       subst (λ w. IsAtMost w (use_worth network y (a, p))) (sym (worth-is side.Hot p own))
-      (at_most-times (whole price) (whole (price_at y a)) (used_heat network p)
-      (not_negative-used side.Hot p (All-slice_get (IsPartOf case.streams case.utilities grid side.Hot) hot a p hot_parts.each at))
-      (at_most-whole price (price_at y a) (hot_price case least z cold grid falls cold_ends p own (price_at y a) (least_price-least y a)
-      (λ b q here reaches. supporting a b (ap₂ (both_reach case) at here ∙ reaches)))))
+      (at_most-times (whole price) (whole (price_at y a)) (used_heat network p) (not_negative-used side.Hot p is)
+      (at_most-whole price (price_at y a) cheaper))
 
   -- ---- all parts of a side
 
   -- the parts of the streams, and the duties of the utilities
   abbrev of_streams : Side → List Part → Rational
   of_streams on parts =
-      rational_sum_by (λ (e : ℕ × Stream). rational_sum_by (own_worth tariff network on (source.Stream e.0)) parts) (enumerate_from 0 case.streams)
+      rational_sum_by (λ (e : ℕ × Stream). rational_sum_by (own_worth tariff network on (source.Stream e.0)) parts)
+      (enumerate_from 0 case.streams)
 
   abbrev of_utilities : Side → Rational
   of_utilities on =
@@ -121,8 +129,9 @@ module _ (case : Case) (network : Network) (hot cold : List Part) (y z : List �
   side_sum : (on : Side) (parts : List Part) → AreParts case.streams case.utilities grid on parts
       → rational_sum_by (worth on) parts ≡ plus (of_streams on parts) (of_utilities on)
   side_sum on parts are =
-      sum-by_source case (λ (p : Part). p.source) (worth on) parts (All-weaker (IsPartOf case.streams case.utilities grid on) (λ p. IsSourceOf case p.source)
-      (λ p is. IsSourceOf-side case p.source (ap is_some (side_of_part case grid on p is))) parts are.each)
+      let sources = All-weaker (IsPartOf case.streams case.utilities grid on) (λ p. IsSourceOf case p.source)
+          (λ p is. IsSourceOf-side case p.source (ap is_some (side_of_part case grid on p is))) parts are.each in
+      sum-by_source case (λ (p : Part). p.source) (worth on) parts sources
       ∙ ap (plus (of_streams on parts))
       (sum-enumerated (λ (e : ℕ × Utility). rational_sum_by (own_worth tariff network on (source.Utility e.0)) parts)
       (λ e. duties_of case network valid.values tariff on e.0) case.utilities
@@ -157,9 +166,11 @@ module _ (case : Case) (network : Network) (hot cold : List Part) (y z : List �
 
   -- what is taken away on one side is added on the other
   moved_over : (a b c e : Rational) → IsAtMost c (plus (minus a b) e) → IsAtMost (plus b c) (plus a e)
-  moved_over a b c e h = subst (λ w. IsAtMost w (plus a e)) (plus_comm c b)
-      (subst (IsAtMost (plus c b)) (ap (λ w. plus w b) (plus_comm (minus a b) e) ∙ plus_assoc e (minus a b) b ∙ ap (plus e) (plus-minus a b) ∙ plus_comm e a)
-      (at_most-plus_plus c (plus (minus a b) e) b b h (at_most_refl b)))
+  moved_over a b c e h =
+      let back = ap (λ w. plus w b) (plus_comm (minus a b) e) ∙ plus_assoc e (minus a b) b
+          ∙ ap (plus e) (plus-minus a b) ∙ plus_comm e a in
+      subst (λ w. IsAtMost w (plus a e)) (plus_comm c b)
+      (subst (IsAtMost (plus c b)) back (at_most-plus_plus c (plus (minus a b) e) b b h (at_most_refl b)))
 
   sides_ordered : IsAtMost (rational_sum_by (worth side.Cold) cold) (rational_sum_by (worth side.Hot) hot)
   sides_ordered =
@@ -172,9 +183,9 @@ module _ (case : Case) (network : Network) (hot cold : List Part) (y z : List �
       let h =
       worths_ordered case network valid.values tariff shape valid.valuation valid.ended valid.approaches valid.permitted
       (views-fall grid falls) (steps_are_ordered case least z cold grid falls cold_ends) in
-      let both =
-          subst (λ c. IsAtMost c (plus (minus (of_streams side.Hot hot) (of_streams side.Cold cold)) (of_utilities side.Hot))) takes
-      (subst (IsAtMost (rational_sum_by (cold_worth case network valid.values tariff) (enumerate_from 0 es))) (ap₂ plus streams_lose gives) h) in
+      let bought = rational_sum_by (cold_worth case network valid.values tariff) (enumerate_from 0 es) in
+      let sold = plus (minus (of_streams side.Hot hot) (of_streams side.Cold cold)) (of_utilities side.Hot) in
+      let both = subst (λ c. IsAtMost c sold) takes (subst (IsAtMost bought) (ap₂ plus streams_lose gives) h) in
       subst (λ w. IsAtMost w (rational_sum_by (worth side.Hot) hot)) (sym (side_sum side.Cold cold cold_parts))
       (subst (IsAtMost (plus (of_streams side.Cold cold) (of_utilities side.Cold))) (sym (side_sum side.Hot hot hot_parts))
       (moved_over (of_streams side.Hot hot) (of_streams side.Cold cold) (of_utilities side.Cold) (of_utilities side.Hot) both))
@@ -191,8 +202,9 @@ module _ (case : Case) (network : Network) (hot cold : List Part) (y z : List �
       (at_most-enumerated (use_worth network z) (λ (e : ℕ × Part). worth side.Cold e.1) cold cold_part) in
       let given = subst (λ w. IsAtMost w (rational_sum_by (use_worth network y) (enumerate_from 0 hot))) hot_sum
       (at_most-enumerated (λ (e : ℕ × Part). worth side.Hot e.1) (use_worth network y) hot (hot_part supporting)) in
-      at_most_trans (rational_sum_by (use_worth network z) (enumerate_from 0 cold)) colds (rational_sum_by (use_worth network y) (enumerate_from 0 hot)) taken
-      (at_most_trans colds hots (rational_sum_by (use_worth network y) (enumerate_from 0 hot)) sides_ordered given)
+      let cold_uses = rational_sum_by (use_worth network z) (enumerate_from 0 cold) in
+      let hot_uses = rational_sum_by (use_worth network y) (enumerate_from 0 hot) in
+      at_most_trans cold_uses colds hot_uses taken (at_most_trans colds hots hot_uses sides_ordered given)
 
 pub uses_ordered : UsesAreOrdered
 uses_ordered case network hot cold y z complete shape valid parts supporting =

@@ -57,8 +57,8 @@ shifted-base : (on : Side) (level c : ℤ) → level -ℤ unshifted on (pos 0) c
 shifted-base side.Hot level c = omega (arith, ints)
 shifted-base side.Cold level c = omega (arith, ints)
 
-module _ (case : Case) (network : Network) (values : Valuation) (on : Side) (number k : ℕ) (u : Utility) (at : slice_get case.utilities k ≡ Some u)
-    (side_is : u.side ≡ on) where
+module _ (case : Case) (network : Network) (values : Valuation) (on : Side) (number k : ℕ) (u : Utility)
+    (at : slice_get case.utilities k ≡ Some u) (side_is : u.side ≡ on) where
   run-is : shifted_run on case network values number (source.Utility k) ≡ Level (whole (shifted_level u))
   unfolding side_run
   run-is = ap (λ o. Level (minus (whole (option_map_or (λ (v : Utility). v.level) o (pos 0)))
@@ -68,8 +68,10 @@ module _ (case : Case) (network : Network) (values : Valuation) (on : Side) (num
 
   share-stood : (v : View) (duty : Rational)
       → share_in v duty (shifted_run on case network values number (source.Utility k)) ≡ stood (utility_part k u) duty v
-  share-stood v duty = ap (share_in v duty) run-is ∙ ap (λ b. if b then duty else rational_zero)
-      (is_above-whole v.from_itself v.place (shifted_level u) ∙ ap (counts_above v.from_itself v.place) (sym (if_either v.from_itself (shifted_level u))))
+  share-stood v duty =
+      let either = ap (counts_above v.from_itself v.place) (sym (if_either v.from_itself (shifted_level u))) in
+      ap (share_in v duty) run-is
+      ∙ ap (λ b. if b then duty else rational_zero) (is_above-whole v.from_itself v.place (shifted_level u) ∙ either)
 
 -- ---- duties at step prices
 
@@ -99,9 +101,11 @@ module _ (case : Case) (network : Network) (values : Valuation) (tariff : Tariff
       where
         by : (b : Bool) → (b ≡ true → source_on on e.1 ≡ source.Utility k)
             → (if b then duty_worth e else rational_zero) ≡ stood_worth (if b then e.1.duty else rational_zero)
-        by true same = ap (utility_worth (shifted_run on case network values e.0) tariff on e.1.duty) (same refl)
+        by true same =
+            let run = shifted_run on case network values e.0 in
+            ap (utility_worth run tariff on e.1.duty) (same refl)
             ∙ step-same tariff.least tariff.views (tariff.prices on (source.Utility k)) e.1.duty e.1.duty
-            (λ v. share_in v e.1.duty (shifted_run on case network values e.0 (source.Utility k))) (stood (utility_part k u) e.1.duty) refl
+            (λ v. share_in v e.1.duty (run (source.Utility k))) (stood (utility_part k u) e.1.duty) refl
             (λ n d within. share-stood case network values on e.0 k u at side_is (get_or tariff.views n d) e.1.duty)
         by false same =
             let q = tariff.prices on (source.Utility k) in
@@ -124,8 +128,9 @@ module _ (case : Case) (network : Network) (values : Valuation) (tariff : Tariff
         rational_sum_by-same (of_source side_source duty_worth (source.Utility k))
         (λ e. stood_worth (duty e)) numbered (λ n d within. duty-stood side_is (get_or numbered n d))
         ∙ step-sum tariff.least tariff.views q duty (λ e. stood (utility_part k u) (duty e)) numbered
-        ∙ step-same tariff.least tariff.views q (rational_sum_by duty numbered) heat (λ v. rational_sum_by (λ e. stood (utility_part k u) (duty e) v) numbered)
-        (stood (utility_part k u) heat) total (λ n d within. where_stood (stands (utility_part k u) (get_or tariff.views n d)) duty numbered heat total)
+        ∙ step-same tariff.least tariff.views q (rational_sum_by duty numbered) heat
+        (λ v. rational_sum_by (λ e. stood (utility_part k u) (duty e) v) numbered) (stood (utility_part k u) heat) total
+        (λ n d within. where_stood (stands (utility_part k u) (get_or tariff.views n d)) duty numbered heat total)
       where
         where_stood : (b : Bool) (f : ℕ × Exchanger → Rational) (xs : List (ℕ × Exchanger)) (a : Rational)
             → rational_sum_by f xs ≡ a
@@ -136,10 +141,12 @@ module _ (case : Case) (network : Network) (values : Valuation) (tariff : Tariff
     -- a utility of the other side has none here
     duties-none : HasShape case network → (u.side ≡ on → ⊥) → duties_of k ≡ rational_zero
     duties-none shape other =
-        rational_sum_by-zero (of_source side_source duty_worth (source.Utility k)) (enumerate_from 0 (exchangers_of network.lines))
-        (All-enumerated (λ (e : ℕ × Exchanger). of_source side_source duty_worth (source.Utility k) e ≡ rational_zero) (exchangers_of network.lines)
-        (λ n e here. ap (λ b. if b then duty_worth (n, e) else rational_zero) (other_source case (source_on on e) on k u
-        (side-on case on e (All-slice_get (IsExchanger case) (exchangers_of network.lines) n e shape.exchangers.each here)) at other)))
+        let es = exchangers_of network.lines in
+        let own = of_source side_source duty_worth (source.Utility k) in
+        rational_sum_by-zero own (enumerate_from 0 es)
+        (All-enumerated (λ (e : ℕ × Exchanger). own e ≡ rational_zero) es (λ n e here.
+        let is = side-on case on e (All-slice_get (IsExchanger case) es n e shape.exchangers.each here) in
+        ap (λ b. if b then duty_worth (n, e) else rational_zero) (other_source case (source_on on e) on k u is at other)))
 
     -- a part of the utility is its one part, and on its side
     part-is : (places : List ℤ) (p : Part) → IsPartOf case.streams case.utilities places on p
@@ -184,7 +191,9 @@ module _ (case : Case) (network : Network) (values : Valuation) (tariff : Tariff
         → AreParts case.streams case.utilities places on parts
         → rational_sum_by (own_worth tariff network on (source.Utility k)) parts ≡ duties_of k
     utility_worth-is shape places parts are =
-        ⊎_elim (λ same. let side_is = same_side-true u.side on same in part-once places parts are side_is ∙ sym (duties-worth shape side_is)) (λ differ.
+        ⊎_elim (λ same.
+        let side_is = same_side-true u.side on same in
+        part-once places parts are side_is ∙ sym (duties-worth shape side_is)) (λ differ.
         let other = λ (side_is : u.side ≡ on). absurd_side (ap (λ s. same_side s on) side_is) differ in
         part-none places parts are other ∙ sym (duties-none shape other)) (cases_Bool (same_side u.side on))
       where
@@ -197,16 +206,19 @@ module _ (case : Case) (network : Network) (values : Valuation) (tariff : Tariff
   pub duty_worth-by : HasShape case network
       → rational_sum_by duty_worth (enumerate_from 0 (exchangers_of network.lines))
       ≡ rational_sum_by (λ e. duties_of e.0) (enumerate_from 0 case.utilities)
-  duty_worth-by shape = let es = enumerate_from 0 (exchangers_of network.lines) in
+  duty_worth-by shape =
+      let es = enumerate_from 0 (exchangers_of network.lines) in
+      let streams = enumerate_from 0 case.streams in
       let utilities = rational_sum_by (λ (e : ℕ × Utility). duties_of e.0) (enumerate_from 0 case.utilities) in
       sum-by_source case side_source duty_worth es
       (All-enumerated (λ (e : ℕ × Exchanger). IsSourceOf case (source_on on e.1)) (exchangers_of network.lines)
-      (λ n e here. IsSourceOf-side case (source_on on e)
-      (ap is_some (side-on case on e (All-slice_get (IsExchanger case) (exchangers_of network.lines) n e shape.exchangers.each here)))))
+      (λ n e here.
+      let is = All-slice_get (IsExchanger case) (exchangers_of network.lines) n e shape.exchangers.each here in
+      IsSourceOf-side case (source_on on e) (ap is_some (side-on case on e is))))
       ∙ ap (λ none. plus none utilities)
-      (rational_sum_by-zero (λ e. rational_sum_by (of_source side_source duty_worth (source.Stream e.0)) es) (enumerate_from 0 case.streams)
-      (λ n d within. rational_sum_by-zero (of_source side_source duty_worth (source.Stream (get_or (enumerate_from 0 case.streams) n d).0)) es
-      (λ m c inside. nothing (get_or (enumerate_from 0 case.streams) n d).0 (get_or es m c)))) ∙ zero-plus utilities
+      (rational_sum_by-zero (λ e. rational_sum_by (of_source side_source duty_worth (source.Stream e.0)) es) streams
+      (λ n d within. rational_sum_by-zero (of_source side_source duty_worth (source.Stream (get_or streams n d).0)) es
+      (λ m c inside. nothing (get_or streams n d).0 (get_or es m c)))) ∙ zero-plus utilities
     where
       nothing : (i : ℕ) (e : ℕ × Exchanger) → of_source side_source duty_worth (source.Stream i) e ≡ rational_zero
       nothing i e = by (source_on on e.1)
@@ -216,5 +228,3 @@ module _ (case : Case) (network : Network) (values : Valuation) (tariff : Tariff
               ≡ rational_zero
           by (source.Stream j) = if_either (j == i) rational_zero
           by (source.Utility j) = refl
-
--- The worths of a network are ordered.

@@ -204,5 +204,3 @@ pub own_not : (places : List ℤ) (p : Part) → AllPairs (λ a b. b <ℤ a) pla
     → stands p (own_view places p ends) ≡ false
 own_not places p falls (inl level) = int_lt-false p.high p.high (omega (arith, ints))
 own_not places p falls (inr interval) = int_le-false p.high p.low (interval_falls places p.high p.low falls interval)
-
--- What heat is worth at step prices: additive in the heat, and no less for more heat or at higher prices.

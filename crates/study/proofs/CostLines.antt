@@ -202,7 +202,3 @@ module _ (own : List ℤ) (i : ℕ) (there : i < length own) where
           no_step =
               let none = ap (λ z. s *ℤ z) {x = p -ℤ p} {y = pos 0} (omega (arith, ints)) ∙ *ℤ-zero s in
               omega (arith, ints)
-
--- The least cost over a span of prices of one utility.
-
--- ---- one least cost, of the parts as they are or at other prices

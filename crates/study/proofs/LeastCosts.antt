@@ -78,7 +78,3 @@ module _ (c : Case) (i : ℕ) (there : i < length c.utilities) where
 
 pub rises_fall : (c : Case) → RisesFall c
 rises_fall c i p first middle last there one two three = rises-fall_with c i there p first middle last one two three
-
--- ---- lines and segments
-
--- the line of the segment that a line makes

@@ -93,7 +93,3 @@ module _ (c : Case) (i : ℕ) where
     next =
         subst (CostsWith c i (line.from +ℤ pos 1)) {x = next} {y = line.cost +ℤ line.slope} (omega (arith, ints)) second;
   }
-
--- A study has one list of answers.
-
--- ---- segments

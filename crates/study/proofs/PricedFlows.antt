@@ -67,5 +67,3 @@ module _ (prices : List ℤ) where
     hot_ranges = ranges-unpriced Hot hot ts flow.hot_ranges;
     cold_ranges = ranges-unpriced Cold cold ts flow.cold_ranges;
   }
-
--- ---- costs

@@ -64,7 +64,3 @@ module _ (c : Case) (i : ℕ) where
   one_more_segment to from next [] s are at is = (at ∙ sym are, is, refl)
   one_more_segment to from next (t ∷ segments) s (first, here, rest) at is =
       (first, here, one_more_segment to (t.to +ℤ pos 1) next segments s rest at is)
-
--- Lines through least costs: how large their numbers are, and how far they lie above least costs.
-
--- a product of numbers that are each within a bound, on both sides of 0
