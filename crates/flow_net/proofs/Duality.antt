@@ -17,8 +17,10 @@ module _ (n m : ℕ) (node : ℕ → ℕ) (within : (k : ℕ) → k < m → node
       ≡ sum_below m (λ k. c (node k) *ℤ x k)
   regrouped =
       sum_below-same n _ _ (λ v l. sym (sum_below-scale m (c v) (λ k. when (node k == v) (x k))))
-      ∙ (sum_below-exchange n m (λ v k. c v *ℤ when (node k == v) (x k)) ∙ sum_below-same m _ _ (λ k l.
-      sum_below-same n (λ v. c v *ℤ when (node k == v) (x k)) (λ v. when (node k == v) (c v *ℤ x k)) (λ v b. inside (node k == v) (c v) (x k))
+      ∙ (sum_below-exchange n m (λ v k. c v *ℤ when (node k == v) (x k))
+      ∙ sum_below-same m _ _ (λ k l.
+      sum_below-same n (λ v. c v *ℤ when (node k == v) (x k)) (λ v. when (node k == v) (c v *ℤ x k))
+      (λ v b. inside (node k == v) (c v) (x k))
       ∙ sum_below-single n (λ v. c v *ℤ x k) (node k) (within k l)))
     where
       inside : (p : Bool) (a y : ℤ) → a *ℤ when p y ≡ when p (a *ℤ y)
@@ -44,12 +46,17 @@ module _ (net : Net) (limits : IsWithinLimits net) where
       ≡ sum_below (length net.links) (fall net.links flow c)
   surplus_by_links flow c =
       let m = length net.links in
+      let froms =
+      regrouped net.nodes m (λ k. (link_at net.links k).from) (λ k l. (limits.links k l).from_in) c (flow_on flow) in
+      let tos =
+      regrouped net.nodes m (λ k. (link_at net.links k).to) (λ k l. (limits.links k l).to_in) c (flow_on flow) in
       sum_below-same net.nodes _ _ (λ v l. *ℤ--ℤ (c v) (outflow net.links flow v) (inflow net.links flow v))
       ∙ (sum_below-sub net.nodes (λ v. c v *ℤ outflow net.links flow v) (λ v. c v *ℤ inflow net.links flow v)
-      ∙ (ap₂ ◌-ℤ◌ (regrouped net.nodes m (λ k. (link_at net.links k).from) (λ k l. (limits.links k l).from_in) c (flow_on flow))
-      (regrouped net.nodes m (λ k. (link_at net.links k).to) (λ k l. (limits.links k l).to_in) c (flow_on flow))
-      ∙ sym (sum_below-same m (fall net.links flow c) _ (λ k l. -ℤ-*ℤ (c (link_at net.links k).from) (c (link_at net.links k).to) (flow_on flow k))
-      ∙ sum_below-sub m (λ k. c (link_at net.links k).from *ℤ flow_on flow k) (λ k. c (link_at net.links k).to *ℤ flow_on flow k))))
+      ∙ (ap₂ ◌-ℤ◌ froms tos
+      ∙ sym (sum_below-same m (fall net.links flow c) _ (λ k l.
+      -ℤ-*ℤ (c (link_at net.links k).from) (c (link_at net.links k).to) (flow_on flow k))
+      ∙ sum_below-sub m (λ k. c (link_at net.links k).from *ℤ flow_on flow k) (λ k.
+      c (link_at net.links k).to *ℤ flow_on flow k))))
 
 -- the reduced cost of a link times its flow
 reduced_part : List Link → List ℤ → List ℤ → ℕ → ℤ
@@ -63,8 +70,11 @@ unfolding reduced_part
 cost_and_fall links flow potentials =
     sum_below-same (length links) (reduced_part links potentials flow)
     (λ k. (link_at links k).cost *ℤ flow_on flow k +ℤ fall links flow (potential_at potentials) k)
-    (λ k l. split (link_at links k).cost (potential_at potentials (link_at links k).from) (potential_at potentials (link_at links k).to) (flow_on flow k))
-    ∙ sum_below-add (length links) (λ k. (link_at links k).cost *ℤ flow_on flow k) (fall links flow (potential_at potentials))
+    (λ k l.
+    split (link_at links k).cost (potential_at potentials (link_at links k).from)
+    (potential_at potentials (link_at links k).to) (flow_on flow k))
+    ∙ sum_below-add (length links) (λ k. (link_at links k).cost *ℤ flow_on flow k)
+    (fall links flow (potential_at potentials))
   where
     split : (cost a b x : ℤ) → ((cost +ℤ a) -ℤ b) *ℤ x ≡ cost *ℤ x +ℤ (a -ℤ b) *ℤ x
     split cost a b x =
@@ -127,7 +137,8 @@ module _ (net : Net) (limits : IsWithinLimits net) (source sink : ℕ) (ends : A
     | inr ne ↦ rw (ne_eqb source v ne) (elim (cases_eq sink v) [
       | inl e ↦ rw (eq-eqb sink v e) (subst (λ u. surplus net.links flow u ≡ pos 0 -ℤ amount) e (omega (arith, ints)))
       | inr other ↦
-          rw (ne_eqb sink v other) (let same = routing.balances v within (λ d. ne (sym d)) (λ d. other (sym d)) in omega (arith, ints))
+          rw (ne_eqb sink v other)
+          (let same = routing.balances v within (λ d. ne (sym d)) (λ d. other (sym d)) in omega (arith, ints))
     ])
   ]
 
@@ -157,27 +168,36 @@ module _ (net : Net) (limits : IsWithinLimits net) (source sink : ℕ) (ends : A
         → cost_of net.links flow ≤ℤ cost_of net.links other
     unfolding reduced_part
     least_from_potentials potentials other proof other_routing =
-        let terms = sum_below-le (length net.links) (reduced_part net.links potentials flow) (reduced_part net.links potentials other)
-        (λ k l. least_term (reduced_cost (link_at net.links k) potentials) (flow_on flow k) (flow_on other k) (link_at net.links k).room
-        (other_routing.rooms.not_negative k l) (other_routing.rooms.upto_room k l) (proof.left_to_add k l) (proof.flowing k l) (routing.rooms.upto_room k l)) in
+        let terms = sum_below-le (length net.links) (reduced_part net.links potentials flow)
+        (reduced_part net.links potentials other)
+        (λ k l.
+        least_term (reduced_cost (link_at net.links k) potentials) (flow_on flow k) (flow_on other k)
+        (link_at net.links k).room (other_routing.rooms.not_negative k l) (other_routing.rooms.upto_room k l)
+        (proof.left_to_add k l) (proof.flowing k l) (routing.rooms.upto_room k l)) in
         let same_nodes = sum_below-same net.nodes (λ v. potential_at potentials v *ℤ surplus net.links flow v)
-        (λ v. potential_at potentials v *ℤ surplus net.links other v)
-        (λ v b. ap (λ s. potential_at potentials v *ℤ s) (surplus_is amount flow routing v b ∙ sym (surplus_is amount other other_routing v b))) in
+        (λ v. potential_at potentials v *ℤ surplus net.links other v) (λ v b.
+        let same_surplus = surplus_is amount flow routing v b ∙ sym (surplus_is amount other other_routing v b) in
+        ap (λ s. potential_at potentials v *ℤ s) same_surplus) in
         let falls = sym (surplus_by_links net limits flow (potential_at potentials))
         ∙ (same_nodes ∙ surplus_by_links net limits other (potential_at potentials)) in
         let here = cost_and_fall net.links flow potentials in
         let there = cost_and_fall net.links other potentials in
         omega (arith, ints, terms, falls, here, there)
 
-    -- what a potential falls along the links, times the flows on them, is in all its fall from the source to the sink, times the amount
+    -- what a potential falls along the links, times the flows on them, is in all its fall from the source to the sink,
+    -- times the amount
     pub falls_of_routing : (c : ℕ → ℤ)
         → sum_below (length net.links) (fall net.links flow c) ≡ c source *ℤ amount -ℤ c sink *ℤ amount
     falls_of_routing c =
-        let n = net.nodes in sym (surplus_by_links net limits flow c)
-        ∙ (sum_below-same n (λ v. c v *ℤ surplus net.links flow v) (λ v. when (source == v) (c v *ℤ amount) -ℤ when (sink == v) (c v *ℤ amount))
+        let n = net.nodes in
+        let at_source = sum_below-single n (λ v. c v *ℤ amount) source ends.source_in in
+        let at_sink = sum_below-single n (λ v. c v *ℤ amount) sink ends.sink_in in
+        sym (surplus_by_links net limits flow c)
+        ∙ (sum_below-same n (λ v. c v *ℤ surplus net.links flow v)
+        (λ v. when (source == v) (c v *ℤ amount) -ℤ when (sink == v) (c v *ℤ amount))
         (λ v b. ap (λ s. c v *ℤ s) (surplus_is amount flow routing v b) ∙ inside (c v) (source == v) (sink == v))
         ∙ (sum_below-sub n (λ v. when (source == v) (c v *ℤ amount)) (λ v. when (sink == v) (c v *ℤ amount))
-        ∙ ap₂ ◌-ℤ◌ (sum_below-single n (λ v. c v *ℤ amount) source ends.source_in) (sum_below-single n (λ v. c v *ℤ amount) sink ends.sink_in)))
+        ∙ ap₂ ◌-ℤ◌ at_source at_sink))
       where
         inside : (c : ℤ) (p q : Bool)
             → c *ℤ (when p amount -ℤ when q amount) ≡ when p (c *ℤ amount) -ℤ when q (c *ℤ amount)
@@ -196,19 +216,25 @@ module _ (net : Net) (limits : IsWithinLimits net) (source sink : ℕ) (ends : A
       amount_within_rooms =
           let crossing = crossing_is in
           let terms = sum_below-le (length net.links) (fall net.links flow (indicator set)) (leaving_room net.links set)
-          (λ k l. crossing_term (is_in set (link_at net.links k).from) (is_in set (link_at net.links k).to) (flow_on flow k) (link_at net.links k).room
-          (routing.rooms.not_negative k l) (routing.rooms.upto_room k l)) in
+          (λ k l.
+          crossing_term (is_in set (link_at net.links k).from) (is_in set (link_at net.links k).to) (flow_on flow k)
+          (link_at net.links k).room (routing.rooms.not_negative k l) (routing.rooms.upto_room k l)) in
           omega (arith, ints, crossing, terms)
 
       -- and just the amount where the links that leave are full and those that enter are empty
-      pub rooms_of_closed : ((k : ℕ) → k < length net.links → is_in set (link_at net.links k).from ≡ true → is_in set (link_at net.links k).to ≡ false
-          → flow_on flow k ≡ (link_at net.links k).room)
-          → ((k : ℕ) → k < length net.links → is_in set (link_at net.links k).from ≡ false → is_in set (link_at net.links k).to ≡ true → flow_on flow k ≡ pos 0)
+      pub
+          rooms_of_closed : ((k : ℕ) → k < length net.links → is_in set (link_at net.links k).from ≡ true
+          → is_in set (link_at net.links k).to ≡ false → flow_on flow k ≡ (link_at net.links k).room)
+          → ((k : ℕ) → k < length net.links → is_in set (link_at net.links k).from ≡ false
+          → is_in set (link_at net.links k).to ≡ true → flow_on flow k ≡ pos 0)
           → sum_below (length net.links) (leaving_room net.links set) ≡ amount
       rooms_of_closed full empty =
-          sym (sum_below-same (length net.links) (fall net.links flow (indicator set)) (leaving_room net.links set)
-          (λ k l. full_term (is_in set (link_at net.links k).from) (is_in set (link_at net.links k).to) (flow_on flow k) (link_at net.links k).room (full k l)
-          (empty k l))) ∙ crossing_is
+          let full_terms = sum_below-same (length net.links) (fall net.links flow (indicator set))
+          (leaving_room net.links set)
+          (λ k l.
+          full_term (is_in set (link_at net.links k).from) (is_in set (link_at net.links k).to) (flow_on flow k)
+          (link_at net.links k).room (full k l) (empty k l)) in
+          sym full_terms ∙ crossing_is
 
   -- nothing routes an amount past a cut
   pub none_past_cut : (amount : ℤ) (flow : List ℤ) (set : List Bool) → IsCutBelow net source sink amount set

@@ -56,7 +56,8 @@ pub sum_below-single : (n : ℕ) (c : ℕ → ℤ) (i : ℕ) → i < n → sum_b
 sum_below-single zero c i l = absurd (omega arith)
 sum_below-single (suc n) c i l = elim (cases_eq i n) [
   | inl e ↦
-      let none = sum_below-zero n (λ v. if i == v then c v else pos 0) (λ k b. rw (ne_eqb i k (λ d. absurd (omega arith))) refl) in
+      let none =
+      sum_below-zero n (λ v. if i == v then c v else pos 0) (λ k b. rw (ne_eqb i k (λ d. absurd (omega arith))) refl) in
       let here : (if i == n then c n else pos 0) ≡ c i = rw (eq-eqb i n e) (ap c (sym e)) in
       omega (arith, ints)
   | inr ne ↦

@@ -5,7 +5,7 @@ use Rattle.std.proofs.lemmas.List.{get_or-drop, get_or-take, length-drop, length
 use Rattle.flow_net.proofs.Words.{link_at, place_in, place_of, placed, places_at, residual_of, way_at}
 use Rattle.std.proofs.Common.{Bool, IsTrue, List, ap, arith, drop, false, inl, inr, length, pos, refl, replicate, set, slice_range, subst, sym, true, ℕ, ℤ, ◌+◌, ◌-◌}
 use Rattle.std.proofs.Common.{◌<ℤ◌, ◌<◌, ◌↔◌, ◌∙◌, ◌≡◌, ◌≢◌, ◌≤◌, ◌⊎◌}
-use Rattle.flow_net.proofs.FlowLemmas.{no_arc}
+use Rattle.flow_net.proofs.SentFlow.{no_arc}
 use Rattle.flow_net.proofs.Lists.{set_cases}
 
 -- ---- places
@@ -30,7 +30,9 @@ Bool-cases_eq false false = inl refl
 same_way : (links : List Link) (a b : Arc) → IsArc links a → IsArc links b → a.link ≡ b.link
     → a.forward ≡ b.forward → a ≡ b
 same_way links a b p q link way =
-    p.is ∙ (ap (λ k. arc_of (link_at links k) k a.forward) link ∙ (ap (λ w. arc_of (link_at links b.link) b.link w) way ∙ sym q.is))
+    p.is
+    ∙ (ap (λ k. arc_of (link_at links k) k a.forward) link
+    ∙ (ap (λ w. arc_of (link_at links b.link) b.link w) way ∙ sym q.is))
 
 -- the places of the arcs before index i
 pub record ArePlacedBelow (n : ℕ) (arcs : List Arc) (i : ℕ) (places : List Places) : Type 0 where
@@ -38,8 +40,8 @@ pub record ArePlacedBelow (n : ℕ) (arcs : List Arc) (i : ℕ) (places : List P
   pub own : (j : ℕ) → j < i → place_of places (arc_numbered arcs j) ≡ j
 
 -- one arc more
-module _ (links : List Link) (arcs : List Arc) (i : ℕ) (places : List Places) (are : All (IsArc links) arcs) (once : StandOnce arcs) (within : i < length arcs)
-    (each : length places ≡ length links) where
+module _ (links : List Link) (arcs : List Arc) (i : ℕ) (places : List Places) (are : All (IsArc links) arcs)
+    (once : StandOnce arcs) (within : i < length arcs) (each : length places ≡ length links) where
   abbrev a : Arc
   a = arc_numbered arcs i
 
@@ -58,14 +60,18 @@ module _ (links : List Link) (arcs : List Arc) (i : ℕ) (places : List Places) 
   kept_place : (j : ℕ) → j < i → place_of changed (arc_numbered arcs j) ≡ place_of places (arc_numbered arcs j)
   kept_place j less = elim (cases_eq (arc_numbered arcs j).link a.link) [
     | inr ne ↦
-        ap (λ p. place_in p (arc_numbered arcs j).forward) (get_or-set_other places a.link (arc_numbered arcs j).link _ _ ne)
+        ap (λ p. place_in p (arc_numbered arcs j).forward)
+        (get_or-set_other places a.link (arc_numbered arcs j).link _ _ ne)
     | inl e ↦
         let way = (arc_numbered arcs j).forward in
         let apart : way ≢ a.forward =
-        λ way_too. once j i no_arc less within
-        (same_way links (arc_numbered arcs j) a (are j no_arc (omega (arith, less, within))) (are i no_arc within) e way_too) in
-        ap (λ m. place_in (places_at changed m) way) e ∙ (ap (λ p. place_in p way) at_link
-        ∙ (placed_there (places_at places a.link) a.forward way i apart ∙ ap (λ m. place_in (places_at places m) way) (sym e)))
+        λ way_too.
+        once j i no_arc less within
+        (same_way links (arc_numbered arcs j) a (are j no_arc (omega (arith, less, within))) (are i no_arc within) e
+        way_too) in
+        let placed = placed_there (places_at places a.link) a.forward way i apart
+        ∙ ap (λ m. place_in (places_at places m) way) (sym e) in
+        ap (λ m. place_in (places_at changed m) way) e ∙ (ap (λ p. place_in p way) at_link ∙ placed)
   ]
 
   pub ArePlacedBelow-more : ((j : ℕ) → j < i → place_of places (arc_numbered arcs j) ≡ j)
@@ -102,7 +108,8 @@ IsWayOf-along links flow a w is h = subst (λ b. IsWayOf links flow b w) (sym is
 -- the ways where nothing flows
 pub AreWays-none : (links : List Link) (arcs : List Arc) (ways : List Way) → All (IsArc links) arcs
     → length ways ≡ length arcs
-    → ((j : ℕ) → j < length arcs → IsWay (link_at links (arc_numbered arcs j).link) (pos 0) (arc_numbered arcs j).forward (way_at ways j))
+    → ((j : ℕ) → j < length arcs
+    → IsWay (link_at links (arc_numbered arcs j).link) (pos 0) (arc_numbered arcs j).forward (way_at ways j))
     → AreWays links (replicate (length links) (pos 0)) arcs ways
 AreWays-none links arcs ways are one_each each = record {
   one_each = one_each;
@@ -143,7 +150,8 @@ module _ (n : ℕ) (links : List Link) (adjacency : Adjacency) (sound : IsAdjace
       let (j, within, at) = sound.arcs.complete a is in
       let own = sound.places.own j within in
       let stands = sym (get_or_default adjacency.arcs.items j a _ within) ∙ at in
-      subst (λ i. i < length adjacency.arcs.items) (sym (ap (place_of adjacency.places.items) (sym stands) ∙ own)) within
+      let same_place = ap (place_of adjacency.places.items) (sym stands) ∙ own in
+      subst (λ i. i < length adjacency.arcs.items) (sym same_place) within
 
   pub place-stands : (a : Arc) → IsArc links a
       → arc_numbered adjacency.arcs.items (place_of adjacency.places.items a) ≡ a
@@ -158,8 +166,9 @@ module _ (n : ℕ) (links : List Link) (adjacency : Adjacency) (sound : IsAdjace
       → (a : Arc) → IsArc links a
       → IsTrue (way_at ways (place_of adjacency.places.items a)).is_open ↔ (pos 0 <ℤ residual_of links flow a)
   place-open flow ways are a is =
-      subst (λ b. IsTrue (way_at ways (place_of adjacency.places.items a)).is_open ↔ (pos 0 <ℤ residual_of links flow b)) (place-stands a is)
-      (are.each (place_of adjacency.places.items a) (place-within a is)).is_open
+      let place = place_of adjacency.places.items a in
+      let opened = (are.each place (place-within a is)).is_open in
+      subst (λ b. IsTrue (way_at ways place).is_open ↔ (pos 0 <ℤ residual_of links flow b)) (place-stands a is) opened
 
   -- the two arcs of a link, and where they stand
   arc_along : (k : ℕ) → k < length links → (w : Bool) → IsArc links (arc_of (link_at links k) k w)
@@ -195,23 +204,28 @@ module _ (n : ℕ) (links : List Link) (adjacency : Adjacency) (sound : IsAdjace
         subst (λ u. IsWayOf links (set flow k x) (arc_numbered adjacency.arcs.items u) way) (sym at) (own w h)
       where
         own : (w : Bool) → IsWay (link_at links k) x w way
-            → IsWayOf links (set flow k x) (arc_numbered adjacency.arcs.items (place_in (places_at adjacency.places.items k) w)) way
+            → IsWayOf links (set flow k x)
+            (arc_numbered adjacency.arcs.items (place_in (places_at adjacency.places.items k) w)) way
         own true h =
-            subst (λ a. IsWayOf links (set flow k x) a way) (sym (place-stands (arc_of (link_at links k) k true) (arc_along k below true)))
-            (IsWayOf-along links (set flow k x) (arc_of (link_at links k) k true) way (arc_along k below true)
-            (subst (λ z. IsWay (link_at links k) z true way) (sym carried) h))
+            let stands = place-stands (arc_of (link_at links k) k true) (arc_along k below true) in
+            let own_way = IsWayOf-along links (set flow k x) (arc_of (link_at links k) k true) way
+            (arc_along k below true) (subst (λ z. IsWay (link_at links k) z true way) (sym carried) h) in
+            subst (λ a. IsWayOf links (set flow k x) a way) (sym stands) own_way
         own false h =
-            subst (λ a. IsWayOf links (set flow k x) a way) (sym (place-stands (arc_of (link_at links k) k false) (arc_along k below false)))
-            (IsWayOf-along links (set flow k x) (arc_of (link_at links k) k false) way (arc_along k below false)
-            (subst (λ z. IsWay (link_at links k) z false way) (sym carried) h))
+            let stands = place-stands (arc_of (link_at links k) k false) (arc_along k below false) in
+            let own_way = IsWayOf-along links (set flow k x) (arc_of (link_at links k) k false) way
+            (arc_along k below false) (subst (λ z. IsWay (link_at links k) z false way) (sym carried) h) in
+            subst (λ a. IsWayOf links (set flow k x) a way) (sym stands) own_way
 
     -- at no other place stands an arc of the link
     other_link : (m : ℕ) → m < length adjacency.arcs.items → m ≢ i → m ≢ j
         → (arc_numbered adjacency.arcs.items m).link ≢ k
     other_link m within not_i not_j same =
         let own = sound.places.own m within in
-        apart (arc_numbered adjacency.arcs.items m).forward
-        (sym own ∙ ap (λ u. place_in (places_at adjacency.places.items u) (arc_numbered adjacency.arcs.items m).forward) same)
+        let own_is =
+        sym own
+        ∙ ap (λ u. place_in (places_at adjacency.places.items u) (arc_numbered adjacency.arcs.items m).forward) same in
+        apart (arc_numbered adjacency.arcs.items m).forward own_is
       where
         apart : (w : Bool) → m ≡ place_in (places_at adjacency.places.items k) w → ⊥
         apart true e = not_i e
@@ -222,12 +236,17 @@ module _ (n : ℕ) (links : List Link) (adjacency : Adjacency) (sound : IsAdjace
         → AreWays links (set flow k x) adjacency.arcs.items (set (set ways i forth) j back)
     AreWays-set forward backward are = record {
       one_each = length-set (set ways i forth) j back ∙ (length-set ways i forth ∙ are.one_each);
-      each = λ m l.
+      each =
+          λ m l.
           set_cases (set ways i forth) j back no_way
-          (let e = length-set ways i forth in let b = link_place-within k below false in omega (arith, e, are.one_each, b)) IsRight
-          (λ here_too. here false j back refl backward)
-          (λ u not_j. set_cases ways i forth no_way (let f = link_place-within k below true in omega (arith, are.one_each, f))
-          (λ v w. v ≢ j → IsRight v w) (λ off here_too. here true i forth refl forward) there u not_j) m l;
+          (let e = length-set ways i forth in
+          let b = link_place-within k below false in
+          omega (arith, e, are.one_each, b))
+          IsRight (λ here_too. here false j back refl backward)
+          (λ u not_j.
+          set_cases ways i forth no_way (let f = link_place-within k below true in omega (arith, are.one_each, f))
+          (λ v w. v ≢ j → IsRight v w) (λ off here_too. here true i forth refl forward) there u not_j)
+          m l;
     }
       where
         there : (m : ℕ) → m ≢ i → m ≢ j → IsRight m (way_at ways m)

@@ -18,7 +18,7 @@ pub use Rattle.heat_flow.specs.Flow.{HaveParts, IsHeatFlow, IsLeastCost, cost_of
 pub use Rattle.heat_flow.specs.Reach.{reach_between}
 pub use Rattle.heat_flow.specs.declared.flow.Transfer.{Transfer}
 pub use Rattle.network_audit.proofs.BalanceWithin.{HasFractions, balance-within}
-pub use Rattle.network_audit.proofs.ValidLemmas.{one_verdict}
+pub use Rattle.network_audit.proofs.FindingLemmas.{one_verdict}
 pub use Rattle.network_audit.specs.Audit.{SaysExactly}
 pub use Rattle.network_audit.specs.Balance.{balance_of}
 pub use Rattle.network_audit.specs.Findings.{HasNoFinding, IsVerdict}

@@ -5,7 +5,7 @@ use Rattle.stream_case.specs.Stream.{AreSensible}
 use Rattle.plants.specs.Site.{IsValidSite}
 use Rattle.networks.specs.Shape.{HasShape}
 use Rattle.certify.specs.Answers.{HasPartPrices}
-use Rattle.study.specs.Study.{IsStudy}
+use Rattle.study_text.specs.Study.{IsStudy}
 use Rattle.pinch_outside.specs.Shelf.{ShelfState}
 use Rattle.reports.specs.declared.shown.Shown.{Shown}
 use Rattle.pinch.specs.Command.{CanDo, CanWork, IsSampleOf}

@@ -3,11 +3,11 @@ use Rattle.std.specs.Prelude.{◌≡◌, List}
 use Rattle.rows.specs.Rows.{rows_of}
 use Rattle.first_fault.specs.Outcome.{IsOutcome}
 use Rattle.stream_case.specs.declared.case.Case.{Case}
-use Rattle.study.specs.StudyOutcome.{grammar}
-use Rattle.study.specs.Study.{AreAnswers}
-use Rattle.study.specs.declared.study_fault.StudyWhy.{StudyWhy}
-use Rattle.study.specs.declared.study_item.Study.{Study}
-use Rattle.study.specs.declared.study_item.StudyAnswer.{StudyAnswer}
+use Rattle.study_text.specs.Outcome.{grammar}
+use Rattle.study.specs.StudyAnswers.{AreAnswers}
+use Rattle.study_text.specs.declared.fault.StudyWhy.{StudyWhy}
+use Rattle.study_text.specs.declared.study.Study.{Study}
+use Rattle.study.specs.declared.study_answer.StudyAnswer.{StudyAnswer}
 use Rattle.reports.specs.declared.shown.FileRole.TheVariants.{Study as StudyFile}
 use Rattle.reports.specs.declared.shown.Shown.{Shown}
 use Rattle.reports.specs.declared.shown.Shown.TheVariants.{BadStudy, Prices}

@@ -13,7 +13,7 @@ ghost use Rattle.pinch.specs.Report.{report_file};
 ghost use Rattle.pinch.specs.Site.{site_file};
 ghost use Rattle.pinch.specs.Stop.{IfEarly, IfNoMemory};
 ghost use Rattle.plants.specs.Site.{IsValidSite};
-ghost use Rattle.study.specs.Study.{IsStudy};
+ghost use Rattle.study_text.specs.Study.{IsStudy};
 
 use crate::stop::Stop;
 use crate::word::Word;

@@ -24,7 +24,7 @@ pub use Rattle.heat_flow.specs.Flow.{IsLeastCost}
 pub use Rattle.heat_flow.specs.Prices.{IsSupporting, excess_price, least_product, price_at, side_value, value_of}
 pub use Rattle.heat_flow.specs.Reach.{both_reach, part_reaches, passes_heat, reach_between}
 pub use Rattle.heat_flow.specs.Table.{reaches}
-pub use Rattle.network_audit.proofs.ValidLemmas.{known_network}
+pub use Rattle.network_audit.proofs.VerdictLemmas.{known_network}
 pub use Rattle.network_audit.proofs.HeatLemmas.{part-own, source_on}
 pub use Rattle.network_audit.specs.Balance.{duty_with, heat_price, heat_with}
 unfoldable pub use Rattle.network_audit.specs.Balance.{cost_of, duties_with}

@@ -42,8 +42,8 @@ pub fn floor_of(
     ensures value { result ≡ value_of parts.now.hot parts.now.cold prices.now.hot prices.now.cold }
     ensures floor { IsAtMost (whole result) (cost_of case.now network.now) }
 {
-    // What the auditor knows: the network that it has accepted is valid.
-    let _joints = auditor.joints();
+    // The network that the auditor has accepted is valid.
+    auditor.knows_its_network();
     value_of(parts, prices)
 }
 
@@ -65,7 +65,7 @@ pub fn cut_stands(
         parts.now.hot parts.now.cold cut.now }
     ensures never { result ≡ false }
 {
-    let _joints = auditor.joints();
+    auditor.knows_its_network();
     is_cut(parts, reach, cut)
 }
 

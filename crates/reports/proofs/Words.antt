@@ -75,8 +75,8 @@ pub use Rattle.stream_case.specs.declared.source.Source.{Source}
 pub use Rattle.stream_case.specs.declared.stream.Stream.{Stream}
 pub use Rattle.stream_case.specs.declared.utility.Utility.{Utility}
 pub use Rattle.study.specs.declared.row.SweepRow.{SweepRow}
-pub use Rattle.study.specs.declared.study_fault.StudyWhy.{StudyWhy}
-pub use Rattle.study.specs.declared.study_item.Study.{Study}
-pub use Rattle.study.specs.declared.study_item.StudyAnswer.{StudyAnswer}
-pub use Rattle.study.specs.declared.study_item.StudyItem.{StudyItem}
+pub use Rattle.study_text.specs.declared.fault.StudyWhy.{StudyWhy}
+pub use Rattle.study_text.specs.declared.study.Study.{Study}
+pub use Rattle.study.specs.declared.study_answer.StudyAnswer.{StudyAnswer}
+pub use Rattle.study_text.specs.declared.study.StudyItem.{StudyItem}
 pub use Rattle.transport.specs.declared.answer.Answer.{Answer}

@@ -9,8 +9,8 @@ use Rattle.network_text.specs.declared.fault.NetWhy.{NetWhy}
 use Rattle.network_text.specs.declared.fault.NetWhy.TheVariants as net
 use Rattle.site.specs.declared.fault.SiteWhy.{SiteWhy}
 use Rattle.site.specs.declared.fault.SiteWhy.TheVariants as site
-use Rattle.study.specs.declared.study_fault.StudyWhy.{StudyWhy}
-use Rattle.study.specs.declared.study_fault.StudyWhy.TheVariants as study
+use Rattle.study_text.specs.declared.fault.StudyWhy.{StudyWhy}
+use Rattle.study_text.specs.declared.fault.StudyWhy.TheVariants as study
 use Rattle.reports.specs.declared.shown.FileRole.{FileRole}
 use Rattle.reports.specs.declared.shown.FileRole.TheVariants.{Case, Network, Site, Report, Study}
 

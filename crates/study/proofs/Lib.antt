@@ -7,6 +7,5 @@ pub mod PartBounds
 pub mod PricedFlows
 pub mod SampleLemmas
 pub mod SegmentLemmas
-pub mod StudyAccepted
 pub mod SweepLemmas
 pub mod Words

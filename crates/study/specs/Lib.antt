@@ -10,10 +10,5 @@ pub mod Row
 pub mod Sample
 pub mod SampleRow
 pub mod Segments
-pub mod Study
-pub mod StudyAccepted
-pub mod StudyChecks
-pub mod StudyEntries
-pub mod StudyOutcome
-pub mod StudyRows
+pub mod StudyAnswers
 pub mod Sweep

@@ -3,7 +3,7 @@ use Rattle.std.specs.Prelude.{◌≡◌, ℕ, ℤ, pos, ◌+ℤ◌, ◌*ℤ◌, 
 use Rattle.stream_case.specs.Limits.{IsBetween}
 use Rattle.stream_case.specs.declared.case.Case.{Case}
 use Rattle.study.specs.Priced.{IsLeastCostAt, prices_with}
-use Rattle.study.specs.declared.study_item.Segment.{Segment}
+use Rattle.study.specs.declared.study_answer.Segment.{Segment}
 
 -- the least cost of the case with the price p of utility number i
 abbrev pub CostsWith : Case → ℕ → ℤ → ℤ → Type 0

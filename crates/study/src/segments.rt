@@ -3,14 +3,15 @@ ghost use Rattle.std.specs.Prelude.{◌≡◌, ◌<◌, pos, ◌+ℤ◌, ◌≤�
 ghost use Rattle.stream_case.specs.Limits.{IsPrice};
 ghost use Rattle.study.specs.CostCurve.{IsCostCurve, IsPointOf};
 ghost use Rattle.study.specs.PricedCase.{IsPricedCase};
-ghost use Rattle.study.specs.Segments.{IsSegment};
 ghost use Rattle.study.specs.Lines.{IsLine, IsLineEnd};
-ghost use Rattle.study.specs.Study.{AreSpanSegments, IsSpan};
+ghost use Rattle.study.specs.Segments.{IsSegment};
+ghost use Rattle.study.specs.StudyAnswers.{AreSpanSegments};
+ghost use Rattle.study_text.specs.Study.{IsSpan};
 
 use crate::cost_curve::{CostCurve, Point};
 use crate::lines::{Line, line_at, next_price};
 use crate::priced::PricedCase;
-use crate::study_item::Segment;
+use crate::study_answer::Segment;
 use std::alloc::{AllocError, Global};
 use stream_case::Items;
 

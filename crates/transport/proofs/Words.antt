@@ -75,7 +75,7 @@ pub use Rattle.transport.specs.CaseCost.{IsCaseCost}
 pub use Rattle.transport.specs.Around.{BlocksMost, IsNodePotential, RoutesMost, ends_behind, links_between, links_of_parts, most_of, net_around, prices_of}
 pub use Rattle.transport.specs.Around.{spare_link, start_of, whole_link}
 pub use Rattle.transport.specs.Members.{IsCutWithin, IsSideHeat, is_picked, members_of, needing_from}
-pub use Rattle.transport.specs.Offer.{ForbidAlike, joins_part, meets_part, names, refuses}
+pub use Rattle.transport.specs.Offer.{ForbidAlike, both_pass, names, reach_unless, refuses}
 pub use Rattle.transport.specs.Pairs.{link_between, pair_link, pair_links, pair_net, row_links}
 pub use Rattle.transport.specs.Priced.{priced}
 pub use Rattle.transport.specs.declared.answer.Answer.TheVariants.{Least, Stuck}

@@ -1,4 +1,4 @@
-use Rattle.flow_net.proofs.FlowLemmas.{IsStep, level_count}
+use Rattle.flow_net.proofs.LevelPaths.{IsStep, level_count}
 use Rattle.flow_net.proofs.Words.{All, IsLevelGraph, IsWalk, height_at}
 use Rattle.std.proofs.Common.{reverse, ◌*◌, ◌+◌, ◌<◌}
 use Rattle.flow_net.proofs.level_graph.LevelGraph.find_path.Given as goal

@@ -1,5 +1,7 @@
 use Rattle.flow_net.proofs.AdjacencyLemmas.{arcs_at-arcs}
-use Rattle.flow_net.proofs.FlowLemmas.{IsPriced-between, arc-nodes, no_arc}
+use Rattle.flow_net.proofs.ArcLemmas.{arc-nodes}
+use Rattle.flow_net.proofs.SentFlow.{no_arc}
+use Rattle.flow_net.proofs.StandingLemmas.{IsPriced-between}
 use Rattle.flow_net.proofs.level_graph.LevelGraph.reach.Goals.{Then-way, else-way, then-way+then-not-has_level+then-cost_along-eq0+in_ok-enter}
 use Rattle.flow_net.proofs.Words.{AreWays, IsLevelGraph, IsPricedBetween, IsStanding, Problem, Routing, Way, arc_numbered, arcs_at, way_at}
 use Rattle.std.proofs.Common.{List, arith, length, subst, sym, ℕ, ◌<◌, ◌≤◌}
@@ -25,7 +27,9 @@ given p r standing v node ways are i within =
           IsPriced-between p r standing a arc.0 v (way_at ways i).head (way_at ways i).cost arc.1 way.head way.cost;
     }
 
-way : (c : Then-way) → IsGiven c.args.problem.now c.args.routing.now c.args.node (way_at c.ways_from-way-items.result.now c.loop-way.way-index)
+way : (c : Then-way)
+    → IsGiven c.args.problem.now c.args.routing.now c.args.node
+    (way_at c.ways_from-way-items.result.now c.loop-way.way-index)
 way c =
     given c.args.problem.now c.args.routing.now c.requires.standing c.args.node c.requires.node
     c.ways_from-way-items.result.now c.ways_from-way-items.ensures c.loop-way.way-index c.loop-way-test.true
@@ -50,7 +54,8 @@ loop-way-preserved c =
       | then-way+then-not-has_level+then-cost_along-eq0+in_ok-enter w ↦ record {
         graph = subst (IsLevelGraph c.args.problem.now) (sym w.self-is) w.in_ok-enter.ensures.graph;
         no_fewer =
-            subst (λ g. count ≤ length g.entered.items) (sym w.self-is) (omega (arith, before, w.in_ok-enter.ensures.one_more));
+            subst (λ g. count ≤ length g.entered.items) (sym w.self-is)
+            (omega (arith, before, w.in_ok-enter.ensures.one_more));
       }
       | else-way w ↦ record {
         graph = subst (IsLevelGraph c.args.problem.now) (sym w.self-is) inv.graph;

@@ -4,4 +4,7 @@ use Rattle.flow_net.proofs.level_graph.LevelGraph.reach.Given as goal
 
 abbrev pub invariant-loop-way : goal.invariant-loop-way
 invariant-loop-way l =
-    record { graph : IsLevelGraph l.problem l.self; no_fewer : length l.initial.self.entered.items ≤ length l.self.entered.items }
+    record {
+      graph : IsLevelGraph l.problem l.self;
+      no_fewer : length l.initial.self.entered.items ≤ length l.self.entered.items;
+    }

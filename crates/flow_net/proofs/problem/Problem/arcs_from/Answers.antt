@@ -5,8 +5,8 @@ use Rattle.flow_net.proofs.problem.Problem.arcs_from.Goals as goal
 
 pub arcs_from-requires : goal.arcs_from-requires
 arcs_from-requires c =
-    HasRange-adjacency c.args.self.now.net.now.nodes c.args.self.now.net.now.links c.args.self.now.adjacency c.requires.problem.adjacency c.args.node
-    c.requires.node
+    HasRange-adjacency c.args.self.now.net.now.nodes c.args.self.now.net.now.links c.args.self.now.adjacency
+    c.requires.problem.adjacency c.args.node c.requires.node
 
 pub returns-clause-arcs : goal.returns-clause-arcs
 returns-clause-arcs c =
@@ -18,5 +18,6 @@ pub returns-clause-complete : goal.returns-clause-complete
 returns-clause-complete c =
     λ a is tail.
     let p = c.args.self.now in
-    subst (λ xs. Contains xs a) (sym c.arcs_from.ensures)
-    (arcs_at-complete p.net.now.nodes p.net.now.links p.adjacency c.requires.problem.adjacency c.args.node c.requires.node a is tail)
+    let among = arcs_at-complete p.net.now.nodes p.net.now.links p.adjacency c.requires.problem.adjacency c.args.node
+    c.requires.node a is tail in
+    subst (λ xs. Contains xs a) (sym c.arcs_from.ensures) among

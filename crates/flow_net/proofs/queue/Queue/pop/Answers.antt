@@ -1,4 +1,4 @@
-use Rattle.flow_net.proofs.SearchLemmas.{next-near}
+use Rattle.flow_net.proofs.QueueLemmas.{next-near}
 use Rattle.std.proofs.Common.{refl}
 use Rattle.flow_net.proofs.queue.Queue.pop.Goals as goal
 

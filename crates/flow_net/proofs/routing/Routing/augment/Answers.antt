@@ -1,4 +1,5 @@
-use Rattle.flow_net.proofs.FlowLemmas.{Stands-augmented, Stands-same, next_arc, next_carried, next_carries, next_rooms, next_sent, no_arc}
+use Rattle.flow_net.proofs.SentFlow.{next_arc, next_carried, next_carries, next_rooms, next_sent, no_arc}
+use Rattle.flow_net.proofs.StandingLemmas.{Stands-augmented, Stands-same}
 use Rattle.flow_net.proofs.Words.{AreWays, CanCarry, IsBottleneck, IsWithinRooms, carry, ints, sent_along_path, take_all}
 use Rattle.flow_net.proofs.Words.{to_z-of_z}
 use Rattle.std.proofs.Common.{ap, arith, drop, get_or, of_z, pos, rules, set, subst, sym, to_z, w64, ◌+ℤ◌, ◌+◌, ◌-ℤ◌, ◌∙◌, ◌≡◌, ◌≤ℤ◌}
@@ -12,7 +13,8 @@ carry-carried-requires-clause-carried c =
     let i = c.loop-arc.arc-index in
     let k = (get_or path i no_arc).link in
     let is = next_arc links c.loop-arc.self.flow.items path _ i c.loop-arc-test.true inv.rooms inv.can_carry in
-    let read = next_carried links c.loop-arc.self.flow.items path _ i c.loop-arc-test.true inv.rooms inv.can_carry c.index.result.now c.index.ensures in
+    let read = next_carried links c.loop-arc.self.flow.items path _ i c.loop-arc-test.true inv.rooms inv.can_carry
+    c.index.result.now c.index.ensures in
     let from = inv.rooms.not_negative k is.below in
     let upto = inv.rooms.upto_room k is.below in
     let room = (c.requires.standing.problem.net.links k is.below).room.upto in
@@ -46,7 +48,8 @@ loop-arc-preserved c =
           subst (IsWithinRooms links) (sym sent) (next_rooms links flow path m i within inv.rooms inv.can_carry from);
       ways = c.set_flow.ensures.ways;
       can_carry =
-          subst (λ f. CanCarry links f (drop (i + 1) path) m) (sym sent) (next_carries links flow path m i within inv.rooms inv.can_carry);
+          let carries = next_carries links flow path m i within inv.rooms inv.can_carry in
+          subst (λ f. CanCarry links f (drop (i + 1) path) m) (sym sent) carries;
       sent = sent ∙ next_sent links flow path m i within inv.rooms inv.can_carry c.args.self.now.flow.items inv.sent;
       potentials = c.set_flow.ensures.potentials ∙ inv.potentials;
       routed = c.set_flow.ensures.routed ∙ inv.routed;
@@ -60,15 +63,21 @@ returns-clause-standing c =
     let m = c.bottleneck-amount.result in
     let kept : to_z w64 (of_z w64 m) ≡ m = to_z-of_z w64 m (search rules) in
     let inv = c.loop-arc.invariant in
-    let flow = inv.sent ∙ (ap (λ xs. sent_along_path r.flow.items xs (to_z w64 (of_z w64 m))) (take_all c.loop-arc.arc-index path c.loop-arc-test.false)
+    let all_taken = take_all c.loop-arc.arc-index path c.loop-arc-test.false in
+    let flow =
+    inv.sent
+    ∙ (ap (λ xs. sent_along_path r.flow.items xs (to_z w64 (of_z w64 m))) all_taken
     ∙ ap (sent_along_path r.flow.items path) kept) in
-    let opened = subst (λ f. AreWays p.net.now.links f p.adjacency.arcs.items c.loop-arc.self.ways.items) flow inv.ways in
+    let opened =
+    subst (λ f. AreWays p.net.now.links f p.adjacency.arcs.items c.loop-arc.self.ways.items) flow inv.ways in
     Stands-same p _ _ _ _ _ _ _ flow (ap (λ v. v.items) inv.potentials) (omega (arith, ints))
     (Stands-augmented p r c.requires.standing path c.requires.path m c.bottleneck-amount.ensures _ opened)
 
 pub returns-clause-amount : goal.returns-clause-amount
 returns-clause-amount c =
     let m = c.bottleneck-amount.result in
-    let is : m ≡ to_z w64 (of_z w64 (to_z w64 (of_z w64 c.loop-arc.self.routed) +ℤ to_z w64 (of_z w64 m))) -ℤ c.args.self.now.routed
+    let is : m
+    ≡ to_z w64 (of_z w64 (to_z w64 (of_z w64 c.loop-arc.self.routed) +ℤ to_z w64 (of_z w64 m)))
+    -ℤ c.args.self.now.routed
     = omega (arith, ints) in
     subst (IsBottleneck c.args.problem.now c.args.self.now c.args.path.now) is c.bottleneck-amount.ensures

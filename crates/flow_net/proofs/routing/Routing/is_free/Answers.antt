@@ -1,4 +1,4 @@
-use Rattle.flow_net.proofs.FlowLemmas.{IsPriced-arc}
+use Rattle.flow_net.proofs.StandingLemmas.{IsPriced-arc}
 use Rattle.std.proofs.Common.{arith}
 use Rattle.flow_net.proofs.Words.{ints}
 use Rattle.flow_net.proofs.routing.Routing.is_free.Goals as goal

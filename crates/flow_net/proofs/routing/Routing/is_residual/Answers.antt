@@ -7,7 +7,8 @@ pub index-requires : goal.index-requires
 index-requires c =
     let p = c.args.problem.now in
     let standing = c.requires.standing in
-    let within = place-within p.net.now.nodes p.net.now.links p.adjacency standing.problem.adjacency c.args.arc.now c.requires.arc in
+    let within =
+    place-within p.net.now.nodes p.net.now.links p.adjacency standing.problem.adjacency c.args.arc.now c.requires.arc in
     omega (arith, c.place_of.ensures, within, standing.opened.one_each)
 
 pub returns : goal.returns
@@ -17,8 +18,8 @@ returns c =
     let a = c.args.arc.now in
     let standing = c.requires.standing in
     let within = place-within p.net.now.nodes p.net.now.links p.adjacency standing.problem.adjacency a c.requires.arc in
-    let read = get_or_read r.ways.items c.place_of.result c.index.result.now (omega (arith, c.place_of.ensures, within, standing.opened.one_each))
-    c.index.ensures no_way in
+    let read = get_or_read r.ways.items c.place_of.result c.index.result.now
+    (omega (arith, c.place_of.ensures, within, standing.opened.one_each)) c.index.ensures no_way in
     let way = read ∙ ap (way_at r.ways.items) c.place_of.ensures in
     let opens =
     place-open p.net.now.nodes p.net.now.links p.adjacency standing.problem.adjacency r.flow.items r.ways.items

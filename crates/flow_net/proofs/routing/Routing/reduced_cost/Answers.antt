@@ -6,6 +6,8 @@ use Rattle.flow_net.proofs.routing.Routing.reduced_cost.Goals as goal
 pub returns : goal.returns
 returns c =
     let potentials = c.args.self.now.potentials.items in
-    let at_tail = get_or_read potentials c.args.arc.now.tail c.index.result.now c.requires.tail_in c.index.ensures (pos 0) in
-    let at_head = get_or_read potentials c.args.arc.now.head c.index-2.result.now c.requires.head_in c.index-2.ensures (pos 0) in
+    let at_tail =
+    get_or_read potentials c.args.arc.now.tail c.index.result.now c.requires.tail_in c.index.ensures (pos 0) in
+    let at_head =
+    get_or_read potentials c.args.arc.now.head c.index-2.result.now c.requires.head_in c.index-2.ensures (pos 0) in
     omega (arith, sizes, c.requires.cost, c.requires.at_tail, c.requires.at_head)

@@ -12,7 +12,8 @@ record IsRead (c : After-as_slice) : Type 0 where
 read : (c : After-as_slice) → IsRead c
 read c = record {
   flow =
-      get_or_read c.args.self.now.flow.items c.args.arc.now.link c.index-carried.result.now (omega arith) c.index-carried.ensures (pos 0);
+      get_or_read c.args.self.now.flow.items c.args.arc.now.link c.index-carried.result.now (omega arith)
+      c.index-carried.ensures (pos 0);
   link = ap (λ xs. link_at xs c.args.arc.now.link) c.as_slice.ensures;
 }
 

@@ -4,10 +4,12 @@ use Rattle.std.proofs.Common.{Bool, List, arith, false, get_or, length, of_z, se
 use Rattle.flow_net.proofs.routing.Routing.set_flow.Goals as goal
 
 -- the places of a link's arcs, as the code reads them
-module _ (p : Problem) (is : IsProblem p) (k : ℕ) (below : k < length p.net.now.links) (r : Places) (e : r ≡ get_or p.adjacency.places.items k r) where
+module _ (p : Problem) (is : IsProblem p) (k : ℕ) (below : k < length p.net.now.links) (r : Places)
+    (e : r ≡ get_or p.adjacency.places.items k r) where
   read : r ≡ places_at p.adjacency.places.items k
   read =
-      get_or_read p.adjacency.places.items k r (omega (arith, below, is.adjacency.places.one_each)) e (record { forward = 0; back = 0 })
+      get_or_read p.adjacency.places.items k r (omega (arith, below, is.adjacency.places.one_each)) e
+      (record { forward = 0; back = 0 })
 
   within : (w : Bool) → place_in r w < length p.adjacency.arcs.items
   within w = subst (λ q. place_in q w < length p.adjacency.arcs.items) (sym read)
@@ -28,12 +30,14 @@ along-requires-2 c =
 
 pub index_mut-requires-2 : goal.index_mut-requires-2
 index_mut-requires-2 c =
-    let i = within c.args.problem.now c.requires.problem c.args.link c.requires.link c.index-places.result.now c.index-places.ensures true in
+    let i = within c.args.problem.now c.requires.problem c.args.link c.requires.link c.index-places.result.now
+    c.index-places.ensures true in
     omega (arith, i, c.requires.ways.one_each)
 
 pub index_mut-requires-3 : goal.index_mut-requires-3
 index_mut-requires-3 c =
-    let i = within c.args.problem.now c.requires.problem c.args.link c.requires.link c.index-places.result.now c.index-places.ensures false in
+    let i = within c.args.problem.now c.requires.problem c.args.link c.requires.link c.index-places.result.now
+    c.index-places.ensures false in
     omega (arith, i, c.requires.ways.one_each)
 
 pub returns-clause-ways : goal.returns-clause-ways
@@ -48,6 +52,8 @@ returns-clause-ways c =
     let forth = subst (λ xs. IsWay (link_at xs k) x true c.along.result) c.as_slice.ensures c.along.ensures in
     let back = subst (λ xs. IsWay (link_at xs k) x false c.along-2.result) c.as_slice.ensures c.along-2.ensures in
     let places = read p c.requires.problem k c.requires.link c.index-places.result.now c.index-places.ensures in
-    subst (λ (q : Places). AreWays links (set flow k x) arcs (set (set ways q.forward c.along.result) q.back c.along-2.result)) (sym places)
-    (AreWays-set p.net.now.nodes links p.adjacency c.requires.problem.adjacency flow ways k c.requires.link x c.along.result c.along-2.result
-    c.requires.one_each forth back c.requires.ways)
+    let both_set = AreWays-set p.net.now.nodes links p.adjacency c.requires.problem.adjacency flow ways k
+    c.requires.link x c.along.result c.along-2.result c.requires.one_each forth back c.requires.ways in
+    subst (λ (q : Places).
+    AreWays links (set flow k x) arcs (set (set ways q.forward c.along.result) q.back c.along-2.result)) (sym places)
+    both_set

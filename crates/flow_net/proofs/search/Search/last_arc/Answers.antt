@@ -7,4 +7,5 @@ arc-requires c = c.requires.tree.indices c.args.node c.in_ok-index.index (sym c.
 
 pub returns : goal.returns
 returns c =
-    ap Some c.arc.ensures ∙ sym (ap (option_map (arc_by_index c.args.problem.now)) (sym c.last_index.ensures ∙ c.in_ok-index.was))
+    ap Some c.arc.ensures
+    ∙ sym (ap (option_map (arc_by_index c.args.problem.now)) (sym c.last_index.ensures ∙ c.in_ok-index.was))

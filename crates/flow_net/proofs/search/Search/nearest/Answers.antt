@@ -1,14 +1,16 @@
-use Rattle.flow_net.proofs.SearchLemmas.{IsQueued-settled, IsQueued-stale, labelled_within, next-entry, settled-level}
+use Rattle.flow_net.proofs.QueueLemmas.{IsQueued-settled, IsQueued-stale, labelled_within, next-entry, settled-level}
 use Rattle.flow_net.proofs.search.Search.nearest.Goals.{In-Some}
 use Rattle.flow_net.proofs.Words.{IsQueued, entries_of, false≢true, get_or_read, is_in, label_at, length_permutation, distance_of_label}
 use Rattle.std.proofs.Common.{None, ap, arith, false, is_some, length, set, subst, sym, true, ◌<◌, ◌∙◌}
 use Rattle.flow_net.proofs.search.Search.nearest.Goals as goal
 
 -- the node that leaves the queue is labelled, and so it is in range
-node_in : (c : In-Some) → (c.in-Some.node < length c.loop-node.self.labels.items) × (c.in-Some.node < length c.loop-node.self.settled.items)
+node_in : (c : In-Some)
+    → (c.in-Some.node < length c.loop-node.self.labels.items) × (c.in-Some.node < length c.loop-node.self.settled.items)
 node_in c =
     let s = c.loop-node.self in
-    let at = next-entry s.labels.items s.settled.items s.queue c.pop.new.self c.in-Some.node c.in-Some.ensures c.loop-node.invariant.queue in
+    let at = next-entry s.labels.items s.settled.items s.queue c.pop.new.self c.in-Some.node c.in-Some.ensures
+    c.loop-node.invariant.queue in
     let within = labelled_within s.labels.items c.in-Some.node at.labelled in
     (within, (omega arith))
 
@@ -30,8 +32,8 @@ returns-in-Some-index c =
     let inv = c.loop-node.invariant in
     let w = node_in (goal.at.returns-in-Some-index c).In-Some in
     let free = sym (get_or_read s.settled.items v c.index.result.now w.1 c.index.ensures false) ∙ c.if-not-index.true in
-    let label = sym (get_or_read s.labels.items v c.index-then-not-index.result.now w.0 c.index-then-not-index.ensures None)
-    ∙ c.in-Some-index.is in
+    let read = get_or_read s.labels.items v c.index-then-not-index.result.now w.0 c.index-then-not-index.ensures None in
+    let label = sym read ∙ c.in-Some-index.is in
     record {
       labels = ap (λ xs. xs.items) inv.labels;
       label = ap (λ xs. label_at xs.items v) (sym inv.labels) ∙ label;
@@ -73,9 +75,10 @@ loop-node-preserved-in_default-index c =
     let s = c.loop-node.self in
     let v = c.in-Some.node in
     let w = node_in (goal.at.loop-node-preserved-in_default-index c).In-Some in
-    let none = sym (get_or_read s.labels.items v c.index-then-not-index.result.now w.0 c.index-then-not-index.ensures None)
-    ∙ c.in_default-index.is in
-    let at = next-entry s.labels.items s.settled.items s.queue c.pop.new.self v c.in-Some.ensures c.loop-node.invariant.queue in
+    let read = get_or_read s.labels.items v c.index-then-not-index.result.now w.0 c.index-then-not-index.ensures None in
+    let none = sym read ∙ c.in_default-index.is in
+    let at =
+    next-entry s.labels.items s.settled.items s.queue c.pop.new.self v c.in-Some.ensures c.loop-node.invariant.queue in
     absurd (false≢true (sym (ap is_some none) ∙ at.labelled))
 
 pub returns : goal.returns

@@ -1,5 +1,5 @@
-use Rattle.flow_net.proofs.FlowLemmas.{walk-push}
-use Rattle.flow_net.proofs.SearchLemmas.{settled_within}
+use Rattle.flow_net.proofs.RisingWalks.{walk-push}
+use Rattle.flow_net.proofs.QueueLemmas.{settled_within}
 use Rattle.flow_net.proofs.Words.{All, All-push, IsTreeArc, IsWalk, arc_at, is_in}
 use Rattle.std.proofs.Common.{Some, ap, arith, reverse, subst, sym, ◌∙◌, ◌≡◌}
 use Rattle.flow_net.proofs.search.Search.path.Goals as goal
@@ -27,6 +27,10 @@ loop-arc-preserved c =
       settled = c.requires.tail_settled c.loop-arc.node a last;
       walk = subst (λ xs. IsWalk (reverse xs) a.tail p.sink) (sym grown) (walk-push c.loop-arc.path.items a p.sink
           (subst (λ v. IsWalk (reverse c.loop-arc.path.items) v p.sink) (sym head) inv.walk));
-      arcs = subst (All (IsTreeArc p s)) (sym grown) (All-push (IsTreeArc p s) c.loop-arc.path.items a inv.arcs
-          (record { is_last = ap (arc_at p s.labels.items) head ∙ last; head_settled = ap (is_in s.settled.items) head ∙ inv.settled }));
+      arcs =
+          let longer = All-push (IsTreeArc p s) c.loop-arc.path.items a inv.arcs (record {
+            is_last = ap (arc_at p s.labels.items) head ∙ last;
+            head_settled = ap (is_in s.settled.items) head ∙ inv.settled;
+          }) in
+          subst (All (IsTreeArc p s)) (sym grown) longer;
     }

@@ -1,5 +1,7 @@
-use Rattle.flow_net.proofs.FlowLemmas.{IsPriced-arc, IsPriced-between, arc-nodes, no_arc}
-use Rattle.flow_net.proofs.SearchLemmas.{IsRelaxed-entered, IsRelaxed-low, IsRelaxed-settled, IsRelaxed-same, IsSmall-tail, above-level}
+use Rattle.flow_net.proofs.ArcLemmas.{arc-nodes}
+use Rattle.flow_net.proofs.SentFlow.{no_arc}
+use Rattle.flow_net.proofs.StandingLemmas.{IsPriced-arc, IsPriced-between}
+use Rattle.flow_net.proofs.LabelLemmas.{IsRelaxed-entered, IsRelaxed-low, IsRelaxed-settled, IsRelaxed-same, IsSmall-tail, above-level}
 use Rattle.flow_net.proofs.Sizes.{sizes}
 use Rattle.flow_net.specs.Search.{IsEntered}
 use Rattle.flow_net.proofs.search.Search.relax.Goals.{After-cost_along, After-way-way, Else-not-is_lower, then-not-way-via-then-not-way}
@@ -30,7 +32,8 @@ given c =
       is = is;
       head_in = (arc-nodes p.net.now problem.net a is).1;
       priced =
-          IsPriced-between p r c.requires.standing a is c.args.node c.way-way.result.head c.way-way.result.cost c.requires.tail way.head way.cost;
+          IsPriced-between p r c.requires.standing a is c.args.node c.way-way.result.head c.way-way.result.cost
+          c.requires.tail way.head way.cost;
       reduced = rw (sym c.requires.tail, way.head, way.cost) refl;
     }
 
@@ -53,9 +56,11 @@ returns-then-not-way c =
           IsRelaxed-same p r c.requires.standing s c.requires.search a c.args.label.now c.requires.at
           (λ residual. absurd (false≢true (sym w.if-not-way.true ∙ c.way-way.ensures.is_open.1 residual)))
       | then-not-way-via-else-not-way+then-index w ↦
+          let head_in = (given (goal.at.returns-then-not-way c).After-way-way).head_in in
+          let mark = mark_of s p.net.now.nodes a c.way-way.result.head w.index.result.now head_in c.way-way.ensures.head
+          c.requires.search.labels.one_mark_each w.index.ensures in
           IsRelaxed-settled p r c.requires.standing s c.requires.search a c.args.label.now c.requires.at
-          (sym (mark_of s p.net.now.nodes a c.way-way.result.head w.index.result.now (given (goal.at.returns-then-not-way c).After-way-way).head_in
-          c.way-way.ensures.head c.requires.search.labels.one_mark_each w.index.ensures) ∙ w.if-index.true)
+          (sym mark ∙ w.if-index.true)
     ]
 
 pub cost_along-requires : goal.cost_along-requires
@@ -68,7 +73,9 @@ distance_in c =
 
 record IsSum (c : After-cost_along) : Type 0 where
   fits : FitsSigned w64 (to_z w64 (of_z w64 c.args.label.now.distance) +ℤ to_z w64 (of_z w64 c.cost_along.result))
-  is : distance_in c ≡ c.args.label.now.distance +ℤ reduced_cost_of c.args.routing.now.potentials.items (arc_by_index c.args.problem.now c.args.index)
+  is : distance_in c
+      ≡ c.args.label.now.distance
+      +ℤ reduced_cost_of c.args.routing.now.potentials.items (arc_by_index c.args.problem.now c.args.index)
 
 sum : (c : After-cost_along) → IsSum c
 sum c =
@@ -77,7 +84,9 @@ sum c =
     let a = arc_by_index p c.args.index in
     let arc = given (goal.at.After-cost_along c).After-way-way in
     let priced = IsPriced-arc p r c.requires.standing a arc.is in
-    let upto = (IsSmall-tail p r c.requires.standing c.args.self.now c.requires.search a c.args.label.now c.requires.at).distance in
+    let s = c.args.self.now in
+    let small = IsSmall-tail p r c.requires.standing s c.requires.search a c.args.label.now c.requires.at in
+    let upto = small.distance in
     let from = subst (λ o. pos 0 ≤ℤ distance_of_label o) c.requires.at.label (c.requires.search.labels.risen a.tail) in
     let along : c.cost_along.result ≡ reduced_cost_of r.potentials.items a = c.cost_along.ensures ∙ arc.reduced in
     record { fits = omega (arith, sizes); is = omega (arith, sizes) }
@@ -111,9 +120,10 @@ returns-then-not-is_lower c =
     let s = c.args.self.now in
     let a = arc_by_index p c.args.index in
     let d = distance_in (goal.at.returns-then-not-is_lower c).After-cost_along in
-    IsRelaxed-low p r c.requires.standing s c.requires.search a c.args.label.now c.requires.at
-    d (sum (goal.at.returns-then-not-is_lower c).After-cost_along).is
-    (low_at s c.way-way.result.head a.head d c.way-way.ensures.head (c.is_lower.ensures.no_lower c.if-not-is_lower.true))
+    let is = (sum (goal.at.returns-then-not-is_lower c).After-cost_along).is in
+    let low = low_at s c.way-way.result.head a.head d c.way-way.ensures.head
+    (c.is_lower.ensures.no_lower c.if-not-is_lower.true) in
+    IsRelaxed-low p r c.requires.standing s c.requires.search a c.args.label.now c.requires.at d is low
 
 pub overflow_add-label : goal.overflow_add-label
 overflow_add-label c =
@@ -130,9 +140,11 @@ open_arc : (c : Else-not-is_lower) → IsOpen c
 open_arc c = record {
   residual = c.way-way.ensures.is_open.0 c.if-not-way.false;
   free =
-      sym (mark_of c.args.self.now c.args.problem.now.net.now.nodes (arc_by_index c.args.problem.now c.args.index) c.way-way.result.head c.index.result.now
-      (given (goal.at.Else-not-is_lower c).After-way-way).head_in c.way-way.ensures.head c.requires.search.labels.one_mark_each c.index.ensures)
-      ∙ c.if-index.false;
+      let head_in = (given (goal.at.Else-not-is_lower c).After-way-way).head_in in
+      let mark = mark_of c.args.self.now c.args.problem.now.net.now.nodes (arc_by_index c.args.problem.now c.args.index)
+      c.way-way.result.head c.index.result.now head_in c.way-way.ensures.head c.requires.search.labels.one_mark_each
+      c.index.ensures in
+      sym mark ∙ c.if-index.false;
 }
 
 pub enter-requires-clause-node : goal.enter-requires-clause-node
@@ -142,9 +154,10 @@ enter-requires-clause-node c =
 
 pub enter-requires-clause-distance : goal.enter-requires-clause-distance
 enter-requires-clause-distance c =
+    let is = (sum (goal.at.enter-requires-clause-distance c).After-cost_along).is in
+    let residual = (open_arc (goal.at.enter-requires-clause-distance c).Else-not-is_lower).residual in
     above-level c.args.problem.now c.args.routing.now c.requires.standing c.args.self.now c.requires.search
-    (arc_by_index c.args.problem.now c.args.index) c.args.label.now c.requires.at
-    _ (sum (goal.at.enter-requires-clause-distance c).After-cost_along).is (open_arc (goal.at.enter-requires-clause-distance c).Else-not-is_lower).residual
+    (arc_by_index c.args.problem.now c.args.index) c.args.label.now c.requires.at _ is residual
 
 pub returns : goal.returns
 returns c =
@@ -155,8 +168,10 @@ returns c =
     let a = arc_by_index p c.args.index in
     let d = distance_in (goal.at.returns c).After-cost_along in
     let to = c.way-way.ensures.head in
-    let o = open_arc (goal.at.returns c).Else-not-is_lower in on_ok_weaker c.enter.result
-    (λ entered. IsRelaxed-entered p r c.requires.standing s c.requires.search a c.args.label.now c.requires.at
-    d (sum (goal.at.returns c).After-cost_along).is o.residual o.free
-    (lower_at s c.way-way.result.head a.head d to (c.is_lower.ensures.lower c.if-not-is_lower.false)) c.args.index c.requires.index refl t
-    (entered_at s t c.way-way.result.head a.head _ to entered)) c.enter.ensures
+    let is = (sum (goal.at.returns c).After-cost_along).is in
+    let lower = lower_at s c.way-way.result.head a.head d to (c.is_lower.ensures.lower c.if-not-is_lower.false) in
+    let o = open_arc (goal.at.returns c).Else-not-is_lower in
+    on_ok_weaker c.enter.result (λ entered.
+    IsRelaxed-entered p r c.requires.standing s c.requires.search a c.args.label.now c.requires.at d is o.residual
+    o.free lower c.args.index c.requires.index refl t (entered_at s t c.way-way.result.head a.head _ to entered))
+    c.enter.ensures

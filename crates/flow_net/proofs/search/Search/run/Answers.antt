@@ -1,5 +1,9 @@
-use Rattle.flow_net.proofs.SearchLemmas.{IsAt-settling, IsClosedAt-improves, IsSearch-fresh, IsSearch-settling, all_settled-drained, miss-settling}
-use Rattle.flow_net.proofs.SearchLemmas.{none_settled, settled_cases}
+use Rattle.flow_net.proofs.QueueLemmas.{all_settled-drained}
+use Rattle.flow_net.proofs.SettledNodes.{IsAt-settling, IsSearch-settling, miss-settling}
+use Rattle.flow_net.proofs.LabelLemmas.{IsClosedAt-improves}
+use Rattle.flow_net.proofs.FreshSearch.{IsSearch-fresh}
+use Rattle.flow_net.proofs.SettledNodes.{settled_cases}
+use Rattle.flow_net.proofs.FreshSearch.{none_settled}
 use Rattle.flow_net.proofs.search.Search.run.Goals.{In-Some}
 use Rattle.flow_net.proofs.Words.{Arc, IsArc, IsClosed, IsClosedAt, cases_eq, false≢true, is_in, distance_at, distance_of_label}
 use Rattle.std.proofs.Common.{ap, inl, inr, refl, subst, sym, true, ◌∙◌, ◌≡◌, ◌≢◌}
@@ -23,28 +27,31 @@ closed_before : (c : In-Some) (a : Arc) → IsArc c.args.problem.now.net.now.lin
     → IsClosedAt c.args.problem.now c.args.routing.now c.nearest.new.self a
 closed_before c a is ne hit residual =
     let inv = c.loop-node.invariant in
-    let before = settled_cases c.args.problem.now c.args.routing.now c.loop-node.self c.nearest.new.self c.in-Some.node c.in-Some.label c.in-Some.ensures
-    inv.search (λ u. u ≢ c.in-Some.node → is_in c.loop-node.self.settled.items u ≡ true) (λ no. absurd (no refl)) (λ u h _. h) a.tail hit ne in
-    subst (λ labels. IsClosed c.args.routing.now labels a) (sym c.in-Some.ensures.labels) (inv.closed a is before residual)
+    let before = settled_cases c.args.problem.now c.args.routing.now c.loop-node.self c.nearest.new.self c.in-Some.node
+    c.in-Some.label c.in-Some.ensures inv.search
+    (λ u. u ≢ c.in-Some.node → is_in c.loop-node.self.settled.items u ≡ true) (λ no. absurd (no refl)) (λ u h _. h)
+    a.tail hit ne in
+    subst (λ labels. IsClosed c.args.routing.now labels a) (sym c.in-Some.ensures.labels)
+    (inv.closed a is before residual)
 
 pub scan-requires-clause-search : goal.scan-requires-clause-search
 scan-requires-clause-search c =
-    IsSearch-settling c.args.problem.now c.args.routing.now c.loop-node.self c.nearest.new.self c.in-Some.node c.in-Some.label c.in-Some.ensures
-    c.loop-node.invariant.search
+    IsSearch-settling c.args.problem.now c.args.routing.now c.loop-node.self c.nearest.new.self c.in-Some.node
+    c.in-Some.label c.in-Some.ensures c.loop-node.invariant.search
 
 pub scan-requires-clause-at : goal.scan-requires-clause-at
 scan-requires-clause-at c =
-    IsAt-settling c.args.problem.now c.args.routing.now c.loop-node.self c.nearest.new.self c.in-Some.node c.in-Some.label c.in-Some.ensures
-    c.loop-node.invariant.search
+    IsAt-settling c.args.problem.now c.args.routing.now c.loop-node.self c.nearest.new.self c.in-Some.node
+    c.in-Some.label c.in-Some.ensures c.loop-node.invariant.search
 
 pub returns-then-node-problem : goal.returns-then-node-problem
 returns-then-node-problem c =
     let t = c.nearest.new.self in
     let at_sink = c.if-node-problem.true in
-    let search = IsSearch-settling c.args.problem.now c.args.routing.now c.loop-node.self t c.in-Some.node c.in-Some.label c.in-Some.ensures
-    c.loop-node.invariant.search in
-    let at = IsAt-settling c.args.problem.now c.args.routing.now c.loop-node.self t c.in-Some.node c.in-Some.label c.in-Some.ensures
-    c.loop-node.invariant.search in
+    let search = IsSearch-settling c.args.problem.now c.args.routing.now c.loop-node.self t c.in-Some.node
+    c.in-Some.label c.in-Some.ensures c.loop-node.invariant.search in
+    let at = IsAt-settling c.args.problem.now c.args.routing.now c.loop-node.self t c.in-Some.node c.in-Some.label
+    c.in-Some.ensures c.loop-node.invariant.search in
     record {
       search = search;
       sink_settled = subst (λ v. is_in t.settled.items v ≡ true) at_sink at.settled;
@@ -68,10 +75,13 @@ loop-node-preserved c =
         | inl e ↦ scan.closed a is e
         | inr ne ↦
             let before = ap (λ xs. is_in xs a.tail) (sym scan.improves.settled) ∙ hit in
-            IsClosedAt-improves p r t c.scan.new.self a scan.improves before (closed_before (goal.at.loop-node-preserved c).In-Some a is ne before)
+            let closed = closed_before (goal.at.loop-node-preserved c).In-Some a is ne before in
+            IsClosedAt-improves p r t c.scan.new.self a scan.improves before closed
       ];
-      sink_out = ap (λ xs. is_in xs p.sink) scan.improves.settled
-          ∙ miss-settling p r c.loop-node.self t v c.in-Some.label c.in-Some.ensures inv.search p.sink (λ e. c.if-node-problem.false (sym e)) inv.sink_out;
+      sink_out =
+          ap (λ xs. is_in xs p.sink) scan.improves.settled
+          ∙ miss-settling p r c.loop-node.self t v c.in-Some.label c.in-Some.ensures inv.search p.sink (λ e.
+          c.if-node-problem.false (sym e)) inv.sink_out;
     }
 
 pub returns : goal.returns

@@ -1,19 +1,25 @@
-use Rattle.flow_net.proofs.SearchLemmas.{Improves-refl, Improves-trans, IsAt-improves, IsClosedAt-improves}
+use Rattle.flow_net.proofs.LabelLemmas.{Improves-refl, Improves-trans, IsAt-improves, IsClosedAt-improves}
 use Rattle.flow_net.proofs.Words.{IsAt, IsClosedAt, arc_by_index, cases_eq, is_in}
 use Rattle.std.proofs.Common.{ap, arith, inl, inr, subst, sym, ◌∙◌}
 use Rattle.flow_net.proofs.search.Search.scan.Goals as goal
 
 pub loop-index-init : goal.loop-index-init
 loop-index-init c =
-    record { search = c.requires.search; improves = Improves-refl c.args.self.now; closed = λ k low high. absurd (omega (arith, low, high)) }
+    record {
+      search = c.requires.search;
+      improves = Improves-refl c.args.self.now;
+      closed = λ k low high. absurd (omega (arith, low, high));
+    }
 
 pub relax-requires-clause-tail : goal.relax-requires-clause-tail
 relax-requires-clause-tail c = c.range_from-first.ensures.tails c.loop-index.index (omega arith) (omega arith)
 
 pub relax-requires-clause-at : goal.relax-requires-clause-at
 relax-requires-clause-at c =
-    subst (λ v. IsAt c.loop-index.self v c.args.label.now) (sym (c.range_from-first.ensures.tails c.loop-index.index (omega arith) (omega arith)))
-    (IsAt-improves c.args.self.now c.loop-index.self c.args.node c.args.label.now c.loop-index.invariant.improves c.requires.at)
+    let tail_is = c.range_from-first.ensures.tails c.loop-index.index (omega arith) (omega arith) in
+    let still = IsAt-improves c.args.self.now c.loop-index.self c.args.node c.args.label.now
+    c.loop-index.invariant.improves c.requires.at in
+    subst (λ v. IsAt c.loop-index.self v c.args.label.now) (sym tail_is) still
 
 pub loop-index-preserved : goal.loop-index-preserved
 loop-index-preserved c =
@@ -38,4 +44,5 @@ loop-index-preserved c =
 
 pub returns-clause-closed : goal.returns-clause-closed
 returns-clause-closed c = λ a is tail. let (k, low, high, at) = c.range_from-first.ensures.complete a is tail in
-    subst (IsClosedAt c.args.problem.now c.args.routing.now c.loop-index.self) at (c.loop-index.invariant.closed k low (omega (arith, high)))
+    let closed = c.loop-index.invariant.closed k low (omega (arith, high)) in
+    subst (IsClosedAt c.args.problem.now c.args.routing.now c.loop-index.self) at closed
