@@ -67,7 +67,8 @@ module _ (own : List ℤ) (i : ℕ) (there : i < length own) where
       away q other = get_or-set_other own i j q (pos 0) other
 
   side_line : (p : ℤ) (side : Side) (parts : List Part) (ts : List Transfer)
-      → IsOnLine p (side_cost side (priced (at (pos 0)) parts) ts) (side_cost side (priced (at (pos 1)) parts) ts) (side_cost side (priced (at p) parts) ts)
+      → IsOnLine p (side_cost side (priced (at (pos 0)) parts) ts) (side_cost side (priced (at (pos 1)) parts) ts)
+      (side_cost side (priced (at p) parts) ts)
   side_line p side parts ts =
       rw (own_sum p, own_sum (pos 0), own_sum (pos 1)) (line-sum p (term (pos 0)) (term (pos 1)) (term p) 0 parts
       (λ a q. line-times p (price_of (at (pos 0)) q.source q.price) (price_of (at (pos 1)) q.source q.price) (price_of (at p) q.source q.price)
@@ -105,8 +106,9 @@ module _ (own : List ℤ) (i : ℕ) (there : i < length own) where
       where
         line : (x : ℤ) → IsOnLine x (cost (pos 0) ts) (cost (pos 1) ts) (cost x ts)
         line x =
-            line-plus x (side_cost Hot (priced (at (pos 0)) hot) ts) (side_cost Hot (priced (at (pos 1)) hot) ts) (side_cost Hot (priced (at x) hot) ts)
-            (side_cost Cold (priced (at (pos 0)) cold) ts) (side_cost Cold (priced (at (pos 1)) cold) ts) (side_cost Cold (priced (at x) cold) ts)
+            let hots = λ (q : ℤ). side_cost Hot (priced (at q) hot) ts in
+            let colds = λ (q : ℤ). side_cost Cold (priced (at q) cold) ts in
+            line-plus x (hots (pos 0)) (hots (pos 1)) (hots x) (colds (pos 0)) (colds (pos 1)) (colds x)
             (side_line x Hot hot ts) (side_line x Cold cold ts)
 
     pub flow-moves : (p q : ℤ) (ts : List Transfer) → Flow p ts → Flow q ts

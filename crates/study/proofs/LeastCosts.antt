@@ -56,8 +56,8 @@ module _ (c : Case) (i : ℕ) (there : i < length c.utilities) where
       → (last -ℤ middle) ≤ℤ (middle -ℤ first)
   rises-fall_with p first middle last one two three =
       let (hot, cold, parts) = one.some in
-      rises-fall (case_prices c) i utility_there (reach_between c hot cold) hot cold p first middle last (one.each hot cold parts) (two.each hot cold parts)
-      (three.each hot cold parts)
+      rises-fall (case_prices c) i utility_there (reach_between c hot cold) hot cold p first middle last
+      (one.each hot cold parts) (two.each hot cold parts) (three.each hot cold parts)
 
   -- the least cost is on the line at each price up to its end
   pub on_line-between : (line : Line) (to end : ℤ) → IsLine c i line → IsLineEnd c i line to end → (p : ℤ)
@@ -66,15 +66,14 @@ module _ (c : Case) (i : ℕ) (there : i < length c.utilities) where
   on_line-between line to end is ends p within =
       let (hot, cold, parts) = is.first.some in
       let turn = λ (r : ℤ). ap (λ z. line.cost +ℤ z) (*ℤ_comm line.slope (r -ℤ line.from)) in
-      let at_end =
-          subst (IsLeastCost (reach_between c hot cold) (priced (prices_with c i end) hot) (priced (prices_with c i end) cold)) (sym (turn end))
-      (ends.on.each hot cold parts) in
-      let least =
-          between (case_prices c) i utility_there (reach_between c hot cold) hot cold line.from end line.cost line.slope (is.first.each hot cold parts)
-      (is.next.each hot cold parts) at_end p (omega (arith, ints)) within.from within.upto in
-      HoldsOfParts-some c
-      (λ h k. IsLeastCost (reach_between c h k) (priced (prices_with c i p) h) (priced (prices_with c i p) k) (line_at line p)) hot cold parts
-      (subst (IsLeastCost (reach_between c hot cold) (priced (prices_with c i p) hot) (priced (prices_with c i p) cold)) (turn p) least)
+      let costs = λ (r cost : ℤ) (h k : List Part).
+          IsLeastCost (reach_between c h k) (priced (prices_with c i r) h) (priced (prices_with c i r) k) cost in
+      let first = is.first.each hot cold parts in
+      let next = is.next.each hot cold parts in
+      let at_end = subst (λ z. costs end z hot cold) (sym (turn end)) (ends.on.each hot cold parts) in
+      let least = between (case_prices c) i utility_there (reach_between c hot cold) hot cold line.from end line.cost line.slope
+          first next at_end p (omega (arith, ints)) within.from within.upto in
+      HoldsOfParts-some c (costs p (line_at line p)) hot cold parts (subst (λ z. costs p z hot cold) (turn p) least)
 
 pub rises_fall : (c : Case) → RisesFall c
 rises_fall c i p first middle last there one two three = rises-fall_with c i there p first middle last one two three

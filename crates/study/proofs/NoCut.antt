@@ -119,12 +119,11 @@ offer-at_least : (side : Side) (reach : ℕ → ℕ → Bool) (others : List Par
     → slice_get others u ≡ Some p → meets side reach members u ≡ true → p.most ≤ℤ offer_of side reach others members
 offer-at_least side reach others members u p not_negative at met =
     let within = slice_get_within others u p at in
-    let single =
-        int_sum_from-single (λ j q. if j == u then p.most else pos 0) u 0 others p (omega arith) (omega (arith, within))
-    (λ j q other. ap (λ b. if b then p.most else pos 0) (ne_eqb j u other)) in
+    let single = int_sum_from-single (λ j q. if j == u then p.most else pos 0) u 0 others p (omega arith) (omega (arith, within))
+        (λ j q other. ap (λ b. if b then p.most else pos 0) (ne_eqb j u other)) in
     let own = ap (λ b. if b then p.most else pos 0) (eq-eqb u u refl) in
-    let each =
-        int_sum_from-le_each (λ j q. if j == u then p.most else pos 0) (λ j q. if meets side reach members j then q.most else pos 0) others (λ j q other.
+    let each = int_sum_from-le_each (λ j q. if j == u then p.most else pos 0)
+        (λ j q. if meets side reach members j then q.most else pos 0) others (λ j q other.
     ⊎_elim (λ same.
     let left = ap (λ b. if b then p.most else pos 0) (eq-eqb j u same) in
     let right = ap (λ b. if b then q.most else pos 0) (ap (meets side reach members) same ∙ met) in
@@ -242,18 +241,18 @@ module _ (c : Case) (hot cold : List Part) (complete : IsComplete c) (supplied :
   pub no_cut : (side : Side) (members : List ℕ) → IsCut side (reach_between c hot cold) hot cold members → ⊥
   no_cut side [] cut =
       let short = cut.short in
-      let none =
-      int_sum_from-zero (λ j p. if meets side (reach_between c hot cold) [] j then p.most else pos 0) 0 (parts_of (opposite side) hot cold) (λ j p le. refl) in
+      let others = parts_of (opposite side) hot cold in
+      let none = int_sum_from-zero (λ j p. if meets side (reach_between c hot cold) [] j then p.most else pos 0) 0 others (λ j p le. refl) in
       omega (arith, ints)
   no_cut side (m ∷ members) cut =
       let reach = reach_between c hot cold in
       let mine = parts_of side hot cold in
       let (u, p, other, utility) = own_utility (opposite side) in
       let (q, at) = part_at mine m (All-head (λ i. pos 0 <ℤ least_at mine i) m members cut.needing) in
-      let met =
-          list_any_at (λ i. joins side reach i u) (m ∷ members) 0 m (omega arith) (joins_utility side m u q p at other utility) in
-      let offer =
-          offer-at_least side reach (parts_of (opposite side) hot cold) (m ∷ members) u p (mosts-not_negative (opposite side)) other met in
+      let joined = joins_utility side m u q p at other utility in
+      let met = list_any_at (λ i. joins side reach i u) (m ∷ members) 0 m (omega arith) joined in
+      let others = parts_of (opposite side) hot cold in
+      let offer = offer-at_least side reach others (m ∷ members) u p (mosts-not_negative (opposite side)) other met in
       let most = (utility_here (opposite side) u p other utility).most in
       let need = need-at_most mine (leasts-not_negative side) (m ∷ members) cut.ordered in
       let heat = leasts-at_most side in
