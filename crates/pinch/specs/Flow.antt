@@ -9,7 +9,7 @@ use Rattle.reports.specs.Proofs.{IsProofOf}
 use Rattle.transport.specs.Answer.{IsAnswer}
 use Rattle.transport.specs.declared.answer.Answer.{Answer}
 use Rattle.transport.specs.declared.answer.Answer.TheVariants as answer
-use Rattle.study.specs.Answer.{IsCornerAnswer}
+use Rattle.transport.specs.CornerAnswer.{IsCornerAnswer}
 use Rattle.reports.specs.declared.shown.Shown.{Shown}
 use Rattle.reports.specs.declared.shown.Shown.TheVariants as show
 

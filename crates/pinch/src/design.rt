@@ -18,8 +18,7 @@ use networks::Network;
 use reports::Shown;
 use std::alloc::{AllocError, Global};
 use stream_case::Case;
-use study::case_answer;
-use transport::Answer;
+use transport::{Answer, case_answer};
 
 /// A network of a completed case that realises a heat flow of least cost, or a cut where there
 /// is no heat flow.

@@ -7,8 +7,7 @@ use grid::{Parts, case_parts};
 use reports::Shown;
 use std::alloc::{AllocError, Global};
 use stream_case::Case;
-use study::case_answer;
-use transport::Answer;
+use transport::{Answer, case_answer};
 
 /// A heat flow of least cost of a completed case with its certificate, the corner flow where the
 /// case is standard, or a cut where it has no heat flow.

@@ -52,8 +52,8 @@ pub use Rattle.stream_case.specs.declared.source.Side.TheVariants.{Cold, Hot}
 pub use Rattle.stream_case.specs.declared.source.Source.{Source}
 pub use Rattle.stream_case.specs.declared.stream.Stream.{Stream}
 pub use Rattle.stream_case.specs.declared.utility.Utility.{Utility}
-pub use Rattle.study.specs.Cost.{IsCaseCut, IsCostOf}
-pub use Rattle.study.specs.CostCurve.{IsPoint, IsPointOf, IsSmallPoint}
+pub use Rattle.study.specs.Cost.{IsCostOf}
+pub use Rattle.study.specs.CostCurve.{HasFlowWith, IsPoint, IsPointOf, IsSmallPoint}
 pub use Rattle.study.specs.CostRange.{IsCost}
 pub use Rattle.study.specs.Draws.{draw, next_state, state_after}
 pub use Rattle.study.specs.Plan.{IsSweepPlan, contribution_at, has_row}
@@ -62,11 +62,10 @@ pub use Rattle.stream_case.specs.Stream.{stream_with}
 pub use Rattle.study.specs.Row.{OneRow, case_with, utility_with, with_contribution}
 pub use Rattle.study.specs.Sample.{drawn_forbids, drawn_high, drawn_low, drawn_stream, drawn_streams, least_temperature, pair_of, sample, stream_name}
 pub use Rattle.study.specs.SampleRow.{OneSampleRow, completed_sample}
-pub use Rattle.study.specs.Segments.{AreSegments, IsCostFunction, IsSegment, on_line}
-pub use Rattle.study.specs.Spans.{AreCostSegments, CostsWith, HasFlowWith, IsCostSegment, IsGap, IsLine, IsLineEnd, IsSmallLine, line_at}
+pub use Rattle.study.specs.Segments.{AreSegments, CostsWith, IsSegment, on_line}
+pub use Rattle.study.specs.Lines.{IsGap, IsLine, IsLineEnd, IsSmallLine, line_at}
 pub use Rattle.study.specs.StudyAnswers.{AreSpanSegments, IsItemAnswer, OneAnswer, RisesFall}
 pub use Rattle.study_text.specs.Study.{IsItem, case_prices}
-pub use Rattle.study.specs.Supplied.{IsSupplied, JoinsStreams}
 pub use Rattle.study.specs.Sweep.{AreRows, OneSweep}
 pub use Rattle.study.specs.declared.cost_curve.Point.{Point}
 pub use Rattle.study.specs.declared.limits.TheConstants.{FORBID_CHANCE, MOST_ROWS, MOST_SAMPLE_STREAMS, SAMPLE_CONTRIBUTION}
@@ -86,6 +85,7 @@ pub use Rattle.sums.proofs.OrderLemmas.{AllPairs-map}
 pub use Rattle.sums.proofs.ProductLemmas.{*ℤ-+ℤ, *ℤ_assoc, neg_ℤ-*ℤ, one_times, ≤ℤ_from_*ℤ}
 pub use Rattle.sums.proofs.SumLemmas.{int_sum_from-single}
 pub use Rattle.transport.proofs.CaseNetLemmas.{IsCaseNet-alike}
+pub use Rattle.transport.specs.CaseCost.{IsCaseCost, IsCaseCut}
 pub use Rattle.transport.specs.CaseNet.{IsCaseNet}
 pub use Rattle.transport.specs.declared.answer.Answer.TheVariants.{Least}
 pub use Rattle.std.proofs.Math.IntN.{*ℤ_comm}

@@ -1,8 +1,8 @@
-pub mod Answer
 pub mod Cost
 pub mod CostCurve
 pub mod CostRange
 pub mod Draws
+pub mod Lines
 pub mod Plan
 pub mod Priced
 pub mod PricedCase
@@ -10,7 +10,5 @@ pub mod Row
 pub mod Sample
 pub mod SampleRow
 pub mod Segments
-pub mod Spans
 pub mod StudyAnswers
-pub mod Supplied
 pub mod Sweep

@@ -6,8 +6,8 @@ use Rattle.study_text.specs.Study.{IsStudy}
 use Rattle.study_text.specs.declared.study.Study.{Study}
 use Rattle.study_text.specs.declared.study.StudyItem.{StudyItem}
 use Rattle.study_text.specs.declared.study.StudyItem.TheVariants.{Scenario, Span}
-use Rattle.study.specs.Priced.{HasNoFlowAt, IsCostAt, IsLeastCostAt, prices_with}
-use Rattle.study.specs.Segments.{AreSegments, IsCostFunction}
+use Rattle.study.specs.Priced.{HasNoFlowAt, IsCostAt, prices_with}
+use Rattle.study.specs.Segments.{AreSegments, CostsWith}
 use Rattle.study.specs.declared.study_answer.Segment.{Segment}
 use Rattle.study.specs.declared.study_answer.StudyAnswer.{StudyAnswer}
 use Rattle.study.specs.declared.study_answer.StudyAnswer.TheVariants.{Cost, Segments}
@@ -15,7 +15,7 @@ use Rattle.study.specs.declared.study_answer.StudyAnswer.TheVariants.{Cost, Segm
 -- the segments of the least cost over the span, or none where the case has no heat flow at any of its prices
 abbrev pub AreSpanSegments : Case → ℕ → ℤ → ℤ → List Segment → Type 0
 AreSpanSegments c i from to segments =
-    ((f : ℤ → ℤ) × IsCostFunction c i from to f × AreSegments f from to segments)
+    AreSegments c i to from (to +ℤ pos 1) segments
     ⊎ ((segments ≡ []) × ((p : ℤ) → IsBetween from to p → HasNoFlowAt c (prices_with c i p)))
 
 -- the least cost of a scenario, and the segments of a span
@@ -40,4 +40,7 @@ OneAnswer c = (study : Study) (answers others : List StudyAnswer) → IsStudy c 
 
 -- the least cost never rises more behind a price of a utility than before it
 abbrev pub RisesFall : Case → Type 0
-RisesFall c = (i : ℕ) (p first middle last : ℤ) → i < length c.utilities → IsLeastCostAt c (prices_with c i p) first → IsLeastCostAt c (prices_with c i (p +ℤ pos 1)) middle → IsLeastCostAt c (prices_with c i (p +ℤ pos 2)) last → (last -ℤ middle) ≤ℤ (middle -ℤ first)
+RisesFall c =
+    (i : ℕ) (p first middle last : ℤ) → i < length c.utilities
+    → CostsWith c i p first → CostsWith c i (p +ℤ pos 1) middle → CostsWith c i (p +ℤ pos 2) last
+    → (last -ℤ middle) ≤ℤ (middle -ℤ first)

@@ -5,9 +5,7 @@
 //! What a price study asks, and the grammar of its file, are in `study_text`, and found here too.
 #![tactic(auto)]
 
-mod answer;
 mod contribution;
-mod cost;
 mod cost_curve;
 mod generator;
 mod limits;
@@ -20,11 +18,8 @@ mod sample_targets;
 mod segments;
 mod studies;
 mod study_answer;
-mod supplied;
 mod sweeps;
 
-pub use answer::case_answer;
-pub use cost::least_cost;
 pub use limits::{
     FLOW_RATES, FORBID_CHANCE, LEAST_HOT_TEMPERATURE, LONGEST_STEP, MODULUS, MOST_ROWS,
     MOST_SAMPLE_NUMBER, MOST_SAMPLE_STREAMS, MOST_WORKERS, MULTIPLIER, SAMPLE_CONTRIBUTION,

@@ -1,7 +1,10 @@
 use Rattle.corner_flow.specs.Corner.{NeedsHeat, UtilityHeat, corner_price, counts_low}
-use Rattle.study.proofs.Words.{Cold, CountsFromItself, Hot, IsTrue, Least, ints, length-map, reach_between, to_z-of_z, weak_duality, ◌↔◌}
+use Rattle.transport.proofs.Words.{Cold, Hot, IsTrue, Least, ints, reach_between, to_z-of_z, weak_duality}
+use Rattle.problem_table.specs.Deficit.{CountsFromItself}
+use Rattle.std.proofs.lemmas.List.{length-map}
+use Rattle.std.specs.Prelude.{◌↔◌}
 use Rattle.std.proofs.Common.{FitsSigned, ap, ap₂, arith, length, map, rules, subst, sym, w32, ◌∙◌}
-use Rattle.study.proofs.answer.corner_answer.Goals as goal
+use Rattle.transport.proofs.case_flow.corner_answer.Goals as goal
 
 pub corner_prices-requires-clause-from : goal.corner_prices-requires-clause-from
 corner_prices-requires-clause-from c =

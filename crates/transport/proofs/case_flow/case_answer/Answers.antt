@@ -1,5 +1,5 @@
-use Rattle.study.proofs.Words.{parts_on_grid}
-use Rattle.study.proofs.answer.case_answer.Goals as goal
+use Rattle.transport.proofs.Words.{parts_on_grid}
+use Rattle.transport.proofs.case_flow.case_answer.Goals as goal
 
 pub least_case-requires-clause-parts : goal.least_case-requires-clause-parts
 least_case-requires-clause-parts c =

@@ -4,14 +4,15 @@ ghost use Rattle.stream_case.specs.Case.{IsComplete, IsStandard};
 ghost use Rattle.grid.specs.Part.{AreCaseParts};
 ghost use Rattle.heat_flow.specs.Reach.{reach_between};
 ghost use Rattle.transport.specs.Answer.{IsAnswer};
-ghost use Rattle.study.specs.Answer.{IsCornerAnswer};
+ghost use Rattle.transport.specs.CornerAnswer.{IsCornerAnswer};
 
+use crate::answer::Answer;
+use crate::case_net::least_case;
 use corner_flow::{corner, corner_prices};
 use grid::Parts;
 use problem_table::{reference_from, reference_place, targets};
 use std::alloc::{AllocError, Global};
 use stream_case::{Case, is_standard};
-use transport::{Answer, least_case};
 
 /// The heat flow of least cost between the parts of a completed case, with prices that certify it,
 /// or a cut; heat is in W, a price is of a watt. For a standard case it is the corner flow with its
