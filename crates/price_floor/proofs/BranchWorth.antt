@@ -66,12 +66,12 @@ module _ (case : Case) (tariff : Tariff) where
         let (s, at) = item_at case.streams i (stream_within shape first first_within) in
         let p = tariff.prices s.side (source.Stream i) in
         let seen =
-            λ (b : ℕ) (same : stream_at network.branches b ≡ i) (v : View). branch_height shape whole_values v i s b at same in
+        λ (b : ℕ) (same : stream_at network.branches b ≡ i) (v : View). branch_height shape whole_values v i s b at same in
         let mixed =
-            λ (v : View). height_on-mixed v.from_itself (course_of v.place s) (branch first) (branch second) (branch to)
+        λ (v : View). height_on-mixed v.from_itself (course_of v.place s) (branch first) (branch second) (branch to)
         (branch_above whole_values shape first first_within) (branch_above whole_values shape second second_within) solves in
         let lower =
-            λ (v : View). subst₂ IsAtMost (sym (seen to one.1 v)) (sym (ap₂ plus (seen first refl v) (seen second one.0 v))) (mixed v) in
+        λ (v : View). subst₂ IsAtMost (sym (seen to one.1 v)) (sym (ap₂ plus (seen first refl v) (seen second one.0 v))) (mixed v) in
         let before = λ (v : View). plus (height first v) (height second v) in
         let both : step_worth tariff.least tariff.views p (heat to) before ≡ plus (worth first) (worth second)
         =
@@ -79,7 +79,7 @@ module _ (case : Case) (tariff : Tariff) where
         ∙ step_worth-plus tariff.least tariff.views p (heat first) (heat second) (height first) (height second)
         ∙ sym (ap₂ plus (worth-of i s first at refl) (worth-of i s second at one.0)) in
         let lost =
-            step_worth-at_most tariff.least tariff.views p (falls s.side (source.Stream i)) (heat to) (height to) before lower in
+        step_worth-at_most tariff.least tariff.views p (falls s.side (source.Stream i)) (heat to) (height to) before lower in
         not_negative-minus (worth to) (plus (worth first) (worth second))
         (subst₂ IsAtMost (sym (worth-of i s to at one.1)) both lost)
     mix_worth falls other within one solves = at_most_refl rational_zero
@@ -116,7 +116,7 @@ module _ (case : Case) (tariff : Tariff) where
         let gives = ap (λ size. minus (heat from) (times size (branch to).t)) pass.size
         ∙ sym (times-minus (branch from).cp (branch from).t (branch to).t) ∙ pass.heat in
         let takes =
-            λ (v : View). sym (ap (λ o. minus (inlet_height (λ b. height b v) o) (outlet_height (λ b. height b v) o)) pass.found)
+        λ (v : View). sym (ap (λ o. minus (inlet_height (λ b. height b v) o) (outlet_height (λ b. height b v) o)) pass.found)
         ∙ ap (λ x. released_heat (λ b. height b v) network number e.duty x) (sym is) ∙ runs.released v i is
         ∙ ap (λ x. share_in v e.duty (shifted_run side.Hot case network values number x)) is in
         ap (λ o. minus (inlet_height worth o) (outlet_height worth o)) pass.found
@@ -134,10 +134,10 @@ module _ (case : Case) (tariff : Tariff) where
         let gives = ap (λ size. minus (times size (branch to).t) (heat from)) pass.size
         ∙ sym (times-minus (branch from).cp (branch to).t (branch from).t) ∙ pass.heat in
         let takes =
-            λ (v : View). sym (ap (λ o. minus (outlet_height (λ b. height b v) o) (inlet_height (λ b. height b v) o)) pass.found)
+        λ (v : View). sym (ap (λ o. minus (outlet_height (λ b. height b v) o) (inlet_height (λ b. height b v) o)) pass.found)
         ∙ ap (λ x. absorbed_heat (λ b. height b v) network number x) (sym is) ∙ runs.absorbed v i is
         ∙ ap (λ x. share_in v e.duty (shifted_run side.Cold case network values number x)) is in
         let gained =
-            worth-between i s side.Cold to from e.duty _ pass.at pass.is_on pass.of_to pass.of_from gives takes in
+        worth-between i s side.Cold to from e.duty _ pass.at pass.is_on pass.of_to pass.of_from gives takes in
         ap₂ plus (sym gained) (ap (λ o. minus (inlet_height worth o) (outlet_height worth o)) pass.found)
         ∙ there_and_back (worth from) (worth to)

@@ -65,7 +65,7 @@ whole-int_sum_from f n [] = refl
 whole-int_sum_from f n (x ∷ xs) =
     let next : suc n ≡ n + 1 = omega arith in
     let rest = whole-int_sum_from f (suc n) xs
-        ∙ ap (λ k. rational_sum_by (λ p. whole (f p.0 p.1)) (enumerate_from k xs)) next in
+    ∙ ap (λ k. rational_sum_by (λ p. whole (f p.0 p.1)) (enumerate_from k xs)) next in
     sym (whole-plus (f n x) (int_sum_from f (suc n) xs)) ∙ ap (plus (whole (f n x))) rest
 
 -- what a part is used for costs
@@ -279,7 +279,7 @@ no_network-costs_less uses case network hot cold y z complete shape valid parts 
     let cold_worth = worth_of_uses network z cold in
     let both = plus (minus hot_cost hot_worth) (plus cold_cost cold_worth) in
     let sides = at_most-plus_plus (whole (side_value side.Hot hot y)) (minus hot_cost hot_worth)
-        (whole (side_value side.Cold cold z)) (plus cold_cost cold_worth) given taken in
+    (whole (side_value side.Cold cold z)) (plus cold_cost cold_worth) given taken in
     at_most_trans (whole (value_of hot cold y z)) both (cost_of case network)
     (subst (λ v. IsAtMost v both) (whole-plus (side_value side.Hot hot y) (side_value side.Cold cold z)) sides)
     (subst (IsAtMost both) (cost-is case network hot cold parts) (less_on_both hot_cost cold_cost hot_worth cold_worth ordered))

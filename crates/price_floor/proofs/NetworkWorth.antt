@@ -118,10 +118,10 @@ module _ (case : Case) (network : Network) (values : Valuation) (tariff : Tariff
         let taken = λ (v : View). share_in v e.duty cold in
         let leads = runs.apart (apart number e at) in
         let dearer = step_worth-ordered tariff.least tariff.views p q p_falls q_falls
-            (ordered.ordered e.hot e.cold open_match) pairs e.duty taken (shares_rising e.duty cold runs.positive runs.cold_duty)
-            (λ v. (shares_parts v.from_itself (whole v.place) e.duty cold runs.positive runs.cold_duty).least) in
+        (ordered.ordered e.hot e.cold open_match) pairs e.duty taken (shares_rising e.duty cold runs.positive runs.cold_duty)
+        (λ v. (shares_parts v.from_itself (whole v.place) e.duty cold runs.positive runs.cold_duty).least) in
         let more = step_worth-at_most tariff.least tariff.views q q_falls e.duty taken given (λ v.
-            hot_shares_lead v.from_itself (whole v.place) e.duty hot cold runs.positive runs.hot_duty runs.cold_duty leads) in
+        hot_shares_lead v.from_itself (whole v.place) e.duty hot cold runs.positive runs.hot_duty runs.cold_duty leads) in
         at_most_trans _ _ _ dearer more
 
     abbrev taken : ℕ × Exchanger → Rational
@@ -166,7 +166,7 @@ module _ (case : Case) (network : Network) (values : Valuation) (tariff : Tariff
         let balance = weight_balance case network values (branch_worth case tariff) shape whole_values ended
         (branch_worth-additive case tariff) in
         let each =
-            at_most-enumerated cold_bought (λ p. plus (taken p) (hot_bought p)) (exchangers_of network.lines) exchanger_ordered in
+        at_most-enumerated cold_bought (λ p. plus (taken p) (hot_bought p)) (exchangers_of network.lines) exchanger_ordered in
         let sum = rational_sum_by-plus taken hot_bought es
         ∙ ap (λ x. plus x hot) (sym (passes_by_side weigh case network shape)) in
         at_most_trans _ _ _ (subst (IsAtMost (rational_sum_by cold_bought es)) sum each) (at_most-plus_plus _ _ _ _

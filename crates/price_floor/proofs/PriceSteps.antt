@@ -161,7 +161,7 @@ module _ (case : Case) (least : ℤ) (prices : List ℤ) (cold : List Part) (gri
         → greatest_price least counted prices (enumerate_from 0 cold) ≡ least
     none_counts counted none =
         let upto =
-            upto_counted least prices counted least cold (omega (arith, ints)) (λ b p at h. absurd (none b p at h)) in
+        upto_counted least prices counted least cold (omega (arith, ints)) (λ b p at h. absurd (none b p at h)) in
         let from = greatest-least least prices counted (enumerate_from 0 cold) in
         omega (arith, ints)
 

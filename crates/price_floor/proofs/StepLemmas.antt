@@ -150,7 +150,7 @@ step_worth-ordered least views p q p_falls q_falls more pairs a x rising some =
     = not_negative-times _ _ (not_negative-fall q.top p.top more.top) (at_most_refl rational_zero) in
     let with_none = at_most-plus_right (rise_worth p.top p.below x views) no_heat none in
     let rises = rise_worth-ordered least p.below q.below x more.below rising p.top q.top rational_zero views more.top
-        p_falls.last q_falls.last pairs (λ k d within. some (get_or views k d)) in
+    p_falls.last q_falls.last pairs (λ k d within. some (get_or views k d)) in
     at_most-plus_plus _ _ _ _ (at_most_refl (times (whole least) a)) (at_most_trans _ _ _ with_none rises)
 
 -- Sums of what heats are worth at step prices; and the one price at which the heat of a part is worth it.

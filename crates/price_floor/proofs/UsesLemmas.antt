@@ -108,7 +108,7 @@ module _ (case : Case) (network : Network) (hot cold : List Part) (y z : List �
       let price = (prices side.Hot p.source).below (own_view grid p own) in
       let is = All-slice_get (IsPartOf case.streams case.utilities grid side.Hot) hot a p hot_parts.each at in
       let cheaper = hot_price case least z cold grid falls cold_ends p own (price_at y a) (least_price-least y a)
-          (λ b q here reaches. supporting a b (ap₂ (both_reach case) at here ∙ reaches)) in
+      (λ b q here reaches. supporting a b (ap₂ (both_reach case) at here ∙ reaches)) in
       subst (λ w. IsAtMost w (use_worth network y (a, p))) (sym (worth-is side.Hot p own))
       (at_most-times (whole price) (whole (price_at y a)) (used_heat network p) (not_negative-used side.Hot p is)
       (at_most-whole price (price_at y a) cheaper))
@@ -130,7 +130,7 @@ module _ (case : Case) (network : Network) (hot cold : List Part) (y z : List �
       → rational_sum_by (worth on) parts ≡ plus (of_streams on parts) (of_utilities on)
   side_sum on parts are =
       let sources = All-weaker (IsPartOf case.streams case.utilities grid on) (λ p. IsSourceOf case p.source)
-          (λ p is. IsSourceOf-side case p.source (ap is_some (side_of_part case grid on p is))) parts are.each in
+      (λ p is. IsSourceOf-side case p.source (ap is_some (side_of_part case grid on p is))) parts are.each in
       sum-by_source case (λ (p : Part). p.source) (worth on) parts sources
       ∙ ap (plus (of_streams on parts))
       (sum-enumerated (λ (e : ℕ × Utility). rational_sum_by (own_worth tariff network on (source.Utility e.0)) parts)
@@ -153,7 +153,7 @@ module _ (case : Case) (network : Network) (hot cold : List Part) (y z : List �
           (rational_sum_by (own_worth tariff network side.Cold (source.Stream i)) cold)
       one i s at =
           let ends =
-              All-slice_get (λ (r : Stream). Contains grid (high_end r) × Contains grid (low_end r)) case.streams i s
+          All-slice_get (λ (r : Stream). Contains grid (high_end r) × Contains grid (low_end r)) case.streams i s
           (holds_ends case.streams case.utilities grid holds) at in
           let (lowest, low) = some_lowest grid (low_end s) falls ends.1 in
           let under = All-contains (λ x. lowest ≤ℤ x) grid (low_end s) low.each ends.1 in
@@ -168,7 +168,7 @@ module _ (case : Case) (network : Network) (hot cold : List Part) (y z : List �
   moved_over : (a b c e : Rational) → IsAtMost c (plus (minus a b) e) → IsAtMost (plus b c) (plus a e)
   moved_over a b c e h =
       let back = ap (λ w. plus w b) (plus_comm (minus a b) e) ∙ plus_assoc e (minus a b) b
-          ∙ ap (plus e) (plus-minus a b) ∙ plus_comm e a in
+      ∙ ap (plus e) (plus-minus a b) ∙ plus_comm e a in
       subst (λ w. IsAtMost w (plus a e)) (plus_comm c b)
       (subst (IsAtMost (plus c b)) back (at_most-plus_plus c (plus (minus a b) e) b b h (at_most_refl b)))
 
@@ -210,7 +210,7 @@ pub uses_ordered : UsesAreOrdered
 uses_ordered case network hot cold y z complete shape valid parts supporting =
     let on = parts_on_grid case hot cold parts in
     let same =
-        ListsFalling-unique (Contains (places_of case.streams case.utilities)) parts.grid on.grid parts.is_grid on.is_grid in
+    ListsFalling-unique (Contains (places_of case.streams case.utilities)) parts.grid on.grid parts.is_grid on.is_grid in
     uses_on_grid case network hot cold y z complete shape valid on.grid on.is_grid
     (subst (λ g. AreParts case.streams case.utilities g side.Hot hot) same parts.hot_parts)
     (subst (λ g. AreParts case.streams case.utilities g side.Cold cold) same parts.cold_parts)

@@ -18,6 +18,7 @@ use grid::Parts;
 use heat_flow::{Cut, Prices, Reach, is_cut, value_of};
 use network_audit::Auditor;
 use networks::Network;
+use problem_table::targets;
 use std::alloc::{AllocError, Global};
 use stream_case::Case;
 use transport::case_cost;
@@ -78,7 +79,7 @@ pub fn cost_floor(alloc: Global, case: &Case, network: &Network) -> Result<i128,
     ensures least { IfOk result (IsLeastCostOf case.now) }
     ensures floor { IfOk result (λ floor. IsAtMost (whole floor) (cost_of case.now network.now)) }
 {
-    match case_cost(alloc, case)? {
+    match case_cost(alloc, case, targets(case))? {
         Ok(cost) => Ok(cost),
         // No cut stands beside a valid network.
         Err(_) => unreachable!(),

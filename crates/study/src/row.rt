@@ -34,7 +34,7 @@ pub(crate) fn sweep_row(
     let given = with_contribution(alloc, case, contribution)?;
     let case = complete(alloc, &given)?;
     let targets = targets(&case);
-    let found = case_cost(alloc, &case)?;
+    let found = case_cost(alloc, &case, targets)?;
     Ok(SweepRow {
         contribution,
         hot: targets.hot,

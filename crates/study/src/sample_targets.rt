@@ -29,7 +29,7 @@ pub fn sample_row(alloc: Global, number: u32, count: u32) -> Result<SampleRow, A
     let given = sample_case(alloc, number, count)?;
     let case = complete(alloc, &given)?;
     let targets = targets(&case);
-    match case_cost(alloc, &case)? {
+    match case_cost(alloc, &case, targets)? {
         Ok(cost) => Ok(SampleRow {
             hot: targets.hot,
             cold: targets.cold,

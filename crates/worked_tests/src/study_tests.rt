@@ -121,7 +121,8 @@ fn drawn_of(alloc: Global, streams: &[Stream]) -> Result<Vec<Drawn>, AllocError>
 fn cost_of(alloc: Global, case: &Case) -> Result<(Target, Option<i128>), AllocError>
     requires { IsComplete case.now }
 {
-    Ok((targets(case), case_cost(alloc, case)?.ok()))
+    let targets = targets(case);
+    Ok((targets, case_cost(alloc, case, targets)?.ok()))
 }
 
 /// A sample of the first number: its hot and its cold streams each, what is drawn of the first

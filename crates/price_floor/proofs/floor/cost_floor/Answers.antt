@@ -1,9 +1,12 @@
 use Rattle.price_floor.proofs.CutLemmas.{no_cut-stands}
 use Rattle.price_floor.proofs.FloorLemmas.{no_network-costs_less}
 use Rattle.price_floor.proofs.UsesLemmas.{uses_ordered}
-use Rattle.price_floor.proofs.Words.{IsAtMost, IsLeastCostOf, cost_of, to_z-of_z, w128, whole}
+use Rattle.price_floor.proofs.Words.{AreStreams-IsComplete, IsAtMost, IsLeastCostOf, cost_of, to_z-of_z, w128, whole}
 use Rattle.std.proofs.Common.{FitsSigned, rules, subst, sym, ◌∙◌}
 use Rattle.price_floor.proofs.floor.cost_floor.Goals as goal
+
+pub targets-requires : goal.targets-requires
+targets-requires c = AreStreams-IsComplete c.args.case.now c.requires.complete
 
 pub unreachable-requires : goal.unreachable-requires
 unreachable-requires c =

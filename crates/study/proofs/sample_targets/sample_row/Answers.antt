@@ -10,8 +10,8 @@ targets-targets-requires c =
     AreStreams-IsComplete c.in_ok-case.case
     (subst IsComplete (sym is) (IsComplete-sample c.args.number c.args.count c.requires.some_streams c.requires.few_streams))
 
-pub case_cost-requires : goal.case_cost-requires
-case_cost-requires c =
+pub case_cost-requires-clause-complete : goal.case_cost-requires-clause-complete
+case_cost-requires-clause-complete c =
     let is = c.in_ok-case.ensures ∙ ap completed c.in_ok-given.ensures.case in
     subst IsComplete (sym is) (IsComplete-sample c.args.number c.args.count c.requires.some_streams c.requires.few_streams)
 
