@@ -26,9 +26,9 @@ pub struct Given {
 
 impl Model for Given {
     ghost use Rattle.site_text.specs.Additions.{HaveFewStreams};
-    ghost use Rattle.site_text.specs.Given.{Given};
+    ghost use Rattle.site_text.specs.Given.{Given as GivenByRows};
 
-    ghost Value = { Given };
+    ghost Value = { GivenByRows };
 
     ghost view = { λ f. record { contribution = f.contribution; plants = f.plants.items; mains = f.mains.items } };
 

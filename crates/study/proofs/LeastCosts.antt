@@ -67,12 +67,12 @@ module _ (c : Case) (i : ℕ) (there : i < length c.utilities) where
       let (hot, cold, parts) = is.first.some in
       let turn = λ (r : ℤ). ap (λ z. line.cost +ℤ z) (*ℤ_comm line.slope (r -ℤ line.from)) in
       let costs = λ (r cost : ℤ) (h k : List Part).
-          IsLeastCost (reach_between c h k) (priced (prices_with c i r) h) (priced (prices_with c i r) k) cost in
+      IsLeastCost (reach_between c h k) (priced (prices_with c i r) h) (priced (prices_with c i r) k) cost in
       let first = is.first.each hot cold parts in
       let next = is.next.each hot cold parts in
       let at_end = subst (λ z. costs end z hot cold) (sym (turn end)) (ends.on.each hot cold parts) in
       let least = between (case_prices c) i utility_there (reach_between c hot cold) hot cold line.from end line.cost line.slope
-          first next at_end p (omega (arith, ints)) within.from within.upto in
+      first next at_end p (omega (arith, ints)) within.from within.upto in
       HoldsOfParts-some c (costs p (line_at line p)) hot cold parts (subst (λ z. costs p z hot cold) (turn p) least)
 
 pub rises_fall : (c : Case) → RisesFall c

@@ -69,7 +69,7 @@ module _ (parts : List Part) (not_negative : All (λ p. pos 0 ≤ℤ p.least) pa
   need-from n (m ∷ members) late ordered =
       let behind = AllPairs-head (λ i j. i < j) m members ordered in
       let rest =
-          need-from (suc m) members (All-weaker (λ i. m < i) (λ i. suc m ≤ i) (λ i less. omega (arith, less)) members behind)
+      need-from (suc m) members (All-weaker (λ i. m < i) (λ i. suc m ≤ i) (λ i less. omega (arith, less)) members behind)
       (AllPairs-tail (λ i j. i < j) m members ordered) in
       let step = least_from-step parts m in
       let falls = least_from-falls n m (All-head (λ i. n ≤ i) m members late) in
@@ -120,10 +120,10 @@ offer-at_least : (side : Side) (reach : ℕ → ℕ → Bool) (others : List Par
 offer-at_least side reach others members u p not_negative at met =
     let within = slice_get_within others u p at in
     let single = int_sum_from-single (λ j q. if j == u then p.most else pos 0) u 0 others p (omega arith) (omega (arith, within))
-        (λ j q other. ap (λ b. if b then p.most else pos 0) (ne_eqb j u other)) in
+    (λ j q other. ap (λ b. if b then p.most else pos 0) (ne_eqb j u other)) in
     let own = ap (λ b. if b then p.most else pos 0) (eq-eqb u u refl) in
     let each = int_sum_from-le_each (λ j q. if j == u then p.most else pos 0)
-        (λ j q. if meets side reach members j then q.most else pos 0) others (λ j q other.
+    (λ j q. if meets side reach members j then q.most else pos 0) others (λ j q other.
     ⊎_elim (λ same.
     let left = ap (λ b. if b then p.most else pos 0) (eq-eqb j u same) in
     let right = ap (λ b. if b then q.most else pos 0) (ap (meets side reach members) same ∙ met) in

@@ -30,7 +30,7 @@ module _ (c : Case) (i : ℕ) (to : ℤ) where
         let first = same_first in
         by_lt_z s.from to (λ ahead.
         let there =
-            subst (λ p. CostsWith c i (p +ℤ pos 1) (on_line t (p +ℤ pos 1))) (sym at) (two.slope (omega (arith, ints))) in
+        subst (λ p. CostsWith c i (p +ℤ pos 1) (on_line t (p +ℤ pos 1))) (sym at) (two.slope (omega (arith, ints))) in
         let next = both_on (s.from +ℤ pos 1) (one.slope ahead) there in
         let rise = next_on_line s s.from in
         let other = next_on_line t s.from in

@@ -31,7 +31,7 @@ side_within side parts ts bounded ranges =
     let from = heat.from in
     let upto = heat.upto in
     let bound = product_within p.price (heat_at side ts a) 1000000 1000000000000 own.price.from own.price.upto
-        (omega (arith, ints)) (omega (arith, ints)) in
+    (omega (arith, ints)) (omega (arith, ints)) in
     let within : IsWithin (pos (1000000 * 1000000000000)) (p.price *ℤ heat_at side ts a)
     = record { from = bound.0; upto = bound.1 } in
     rw zero-add within)

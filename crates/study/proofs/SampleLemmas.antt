@@ -233,13 +233,13 @@ few_on : (of : Side) (x y count : ℕ) → count ≤ MOST_SAMPLE_STREAMS
     → count_on of (drawn_streams Hot x count ++ drawn_streams Cold y count) ≤ count
 few_on Hot x y count small =
     let both =
-        sum_by-append (λ (s : Stream). cond (same_side s.side Hot) 1 0) (drawn_streams Hot x count) (drawn_streams Cold y count) in
+    sum_by-append (λ (s : Stream). cond (same_side s.side Hot) 1 0) (drawn_streams Hot x count) (drawn_streams Cold y count) in
     let hot = count_by-le-length (λ (s : Stream). same_side s.side Hot) (drawn_streams Hot x count) in
     let cold = none_on (made Cold y count small) Hot (λ i. refl) (range_with_len 0 count) in
     omega (arith, both, hot, cold, length-drawn Hot x count small)
 few_on Cold x y count small =
     let both =
-        sum_by-append (λ (s : Stream). cond (same_side s.side Cold) 1 0) (drawn_streams Hot x count) (drawn_streams Cold y count) in
+    sum_by-append (λ (s : Stream). cond (same_side s.side Cold) 1 0) (drawn_streams Hot x count) (drawn_streams Cold y count) in
     let hot = none_on (made Hot x count small) Cold (λ i. refl) (range_with_len 0 count) in
     let cold = count_by-le-length (λ (s : Stream). same_side s.side Cold) (drawn_streams Cold y count) in
     omega (arith, both, hot, cold, length-drawn Cold y count small)

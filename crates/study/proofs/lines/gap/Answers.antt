@@ -10,7 +10,7 @@ overflow_sub-result c =
     let fits : FitsSigned w64 point.price = search rules in
     let on = c.line_at.ensures ∙ ap (line_at line) (to_z-of_z w64 point.price fits) in
     let is =
-        gap-within line point.price point.cost c.line_at.result c.requires.line c.requires.point.price c.requires.point.cost on in
+    gap-within line point.price point.cost c.line_at.result c.requires.line c.requires.point.price c.requires.point.cost on in
     let low = is.from in
     let high = is.upto in
     omega (arith, ints)
@@ -22,7 +22,7 @@ returns c =
     let fits : FitsSigned w64 point.price = search rules in
     let on = c.line_at.ensures ∙ ap (line_at line) (to_z-of_z w64 point.price fits) in
     let is =
-        gap-within line point.price point.cost c.line_at.result c.requires.line c.requires.point.price c.requires.point.cost on in
+    gap-within line point.price point.cost c.line_at.result c.requires.line c.requires.point.price c.requires.point.cost on in
     let low = is.from in
     let high = is.upto in
     record { from = omega (arith, ints); upto = omega (arith, ints) }

@@ -20,7 +20,7 @@ unreachable-requires c =
     let case = c.in_ok-case.case in
     let is = c.in_ok-case.ensures ∙ ap completed c.in_ok-given.ensures.case in
     let complete =
-        subst IsComplete (sym is) (IsComplete-sample c.args.number c.args.count c.requires.some_streams c.requires.few_streams) in
+    subst IsComplete (sym is) (IsComplete-sample c.args.number c.args.count c.requires.some_streams c.requires.few_streams) in
     let supplied = subst IsSupplied (sym is) (IsSupplied-sample c.args.number c.args.count) in
     let cut = c.in-Err.field-0 in
     let found = rw c.in-Err.is at c.in_ok-cost.ensures in

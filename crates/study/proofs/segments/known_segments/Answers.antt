@@ -54,6 +54,6 @@ returns c =
     let end : to_z w64 c.loop-next.next-bits ≡ c.args.to +ℤ pos 1 = grind (arith, ints) in
     let segments = c.loop-next.segments in
     let upto_end =
-        subst (λ next. AreSegments case i (to_z w64 (of_z w64 c.args.to)) (to_z w64 (of_z w64 c.args.from)) next segments) end
-        c.loop-next.invariant.segments in
+    subst (λ next. AreSegments case i (to_z w64 (of_z w64 c.args.to)) (to_z w64 (of_z w64 c.args.from)) next segments) end
+    c.loop-next.invariant.segments in
     inl (subst₂ (λ to from. AreSegments case i to from (c.args.to +ℤ pos 1) segments) to_is from_is upto_end)

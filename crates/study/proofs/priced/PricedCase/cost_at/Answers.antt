@@ -37,9 +37,9 @@ returns-in-Least-clause-cost c =
     let made = c.in_ok-priced.priced in
     let is = c.in_ok-priced.ensures in
     let costs = λ (hot cold : List Part).
-        IsLeastCost (reach_between case hot cold) (priced prices hot) (priced prices cold) cost in
+    IsLeastCost (reach_between case hot cold) (priced prices hot) (priced prices cold) cost in
     let least = by_case (λ r hot cold. IsLeastCost r hot cold cost) case prices parts.hot parts.cold made.hot made.cold
-        is.hot is.cold found.least in
+    is.hot is.cold found.least in
     subst (IsLeastCostAt case prices) (sym (to_z-of_z w128 cost fits))
     (HoldsOfParts-some case costs parts.hot parts.cold c.requires.priced.parts least)
 
