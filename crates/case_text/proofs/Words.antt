@@ -1,5 +1,5 @@
 -- The words and lemmas from elsewhere that the proofs of this crate speak in, passed on from one place. Declares nothing.
-pub use Rattle.case_text.specs.Answers.{HasFewSources}
+pub use Rattle.case_text.specs.Additions.{HasFewSources}
 unfoldable pub use Rattle.case_text.specs.Checks.{end_checks, is_reserved, is_reserved_from, is_source, is_taken}
 pub use Rattle.case_text.specs.Given.{Given, case_of, entry_by, nothing, source_at, stream_data, stream_of, utility_data, utility_of, with_entry}
 pub use Rattle.case_text.specs.Outcome.{IsCase, IsOutcome, end_fault, grammar}

@@ -2,5 +2,5 @@ pub mod Rows
 pub mod Given
 pub mod Checks
 pub mod Outcome
-pub mod Answers
+pub mod Additions
 pub mod Printed

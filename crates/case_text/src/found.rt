@@ -6,7 +6,7 @@ ghost use Rattle.stream_case.specs.Case.{is_forbidden, side_of, source_named};
 ghost use Rattle.stream_case.specs.Stream.{count_on};
 ghost use Rattle.case_text.specs.Given.{case_of, case_with, nothing, source_at, stream_of, utility_of, with_entry};
 ghost use Rattle.case_text.specs.Checks.{end_checks, is_source, is_taken};
-ghost use Rattle.case_text.specs.Answers.{IsFresh, TakesMemory};
+ghost use Rattle.case_text.specs.Additions.{IsFresh, TakesMemory};
 
 use crate::entry::{Entry, StreamData, UtilityData};
 use crate::fault::CaseWhy;
@@ -27,7 +27,7 @@ pub struct Found {
 
 impl Model for Found {
     ghost use Rattle.case_text.specs.Given.{Given};
-    ghost use Rattle.case_text.specs.Answers.{HasFewSources};
+    ghost use Rattle.case_text.specs.Additions.{HasFewSources};
 
     ghost Value = { Given };
 

@@ -8,7 +8,7 @@ ghost use Rattle.first_fault.specs.Outcome.{SoundBefore, given_by};
 ghost use Rattle.stream_case.specs.Case.{IsValid};
 ghost use Rattle.case_text.specs.Given.{entry_in, nothing};
 ghost use Rattle.case_text.specs.Checks.{checks};
-ghost use Rattle.case_text.specs.Answers.{IsFresh};
+ghost use Rattle.case_text.specs.Additions.{IsFresh};
 ghost use Rattle.case_text.specs.Outcome.{IsOutcome, grammar};
 
 use crate::contribution_row::contribution_entry;

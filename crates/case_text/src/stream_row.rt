@@ -6,7 +6,7 @@ ghost use Rattle.first_fault.specs.Checks.{Checked};
 ghost use Rattle.rows.specs.Fields.{field};
 ghost use Rattle.case_text.specs.Given.{stream_data};
 ghost use Rattle.case_text.specs.Checks.{heat_checks, is_reserved, stream_checks, stream_number_checks};
-ghost use Rattle.case_text.specs.Answers.{IsFresh};
+ghost use Rattle.case_text.specs.Additions.{IsFresh};
 
 use crate::entry::{Entry, StreamData};
 use crate::fault::CaseWhy;

@@ -6,7 +6,7 @@ ghost use Rattle.first_fault.specs.Checks.{Checked};
 ghost use Rattle.rows.specs.Fields.{field};
 ghost use Rattle.case_text.specs.Given.{utility_data};
 ghost use Rattle.case_text.specs.Checks.{is_reserved_from, utility_checks, utility_number_checks};
-ghost use Rattle.case_text.specs.Answers.{IsFresh};
+ghost use Rattle.case_text.specs.Additions.{IsFresh};
 
 use crate::entry::{Entry, UtilityData};
 use crate::fault::CaseWhy;

@@ -6,7 +6,7 @@ pub use Rattle.certify.specs.Given.{cut_kind_in, entry_as, entry_by, kind_of, le
 unfoldable pub use Rattle.certify.specs.Given.{cut_kind, entry_in, number, span_at}
 pub use Rattle.certify.specs.Outcome.{IsOutcome, IsReport, end_fault, grammar}
 pub use Rattle.certify.specs.Permits.{HavePermits}
-pub use Rattle.certify.specs.Setting.{cold_parts, hot_parts, reach_of}
+pub use Rattle.certify.specs.Setting.{cold_parts, hot_parts}
 pub use Rattle.certify.specs.Table.{IsTableOf, IsWithSpan, bytes_of_span, index_in, same_span}
 unfoldable pub use Rattle.certify.specs.Table.{bytes_of_parts}
 pub use Rattle.certify.specs.declared.draft.Draft.{Draft}
@@ -42,15 +42,15 @@ pub use Rattle.heat_flow.proofs.Blanks.{blank}
 pub use Rattle.heat_flow.proofs.CostLemmas.{HasCost-flow}
 pub use Rattle.heat_flow.proofs.CutLemmas.{cuts_refuse_flows}
 pub use Rattle.heat_flow.proofs.Duality.{weak_duality}
-pub use Rattle.heat_flow.proofs.LoopSums.{SumSoFar, SumSoFar-more}
 pub use Rattle.heat_flow.proofs.PartLemmas.{HoldsOfParts-some}
-pub use Rattle.heat_flow.proofs.ReachLemmas.{sources_of_parts}
+pub use Rattle.heat_flow.proofs.ReachLemmas.{reach_between-among, sources_of_parts}
 pub use Rattle.heat_flow.proofs.Words.{ArePermissions, HaveParts, IsBounded, IsSourceOf, IsSourceOf-side, IsTrue, IsWithin, KeepsRanges, StaysValid-IsComplete}
-pub use Rattle.heat_flow.proofs.Words.{both_reach, cut_side, heat_at, heat_of_utility, int_sum_from, int_sum_from-grouped, is_some, least_at, length-take-le}
+pub use Rattle.heat_flow.proofs.Words.{cut_side, heat_at, heat_of_utility, int_sum_from, int_sum_from-grouped, is_some, least_at, length-take-le}
 pub use Rattle.heat_flow.proofs.Words.{meets, nat_tests, need_of, offer_of, opposite, part_index, parts_of, price_at, product_within, reach_between, side_cost}
 pub use Rattle.heat_flow.proofs.Words.{slice_get_past, true≢false, w128}
 pub use Rattle.heat_flow.specs.Cells.{source_index}
 pub use Rattle.heat_flow.specs.Certificate.{IsCertified, IsCutOf, is_of_utility, utility_heat}
+pub use Rattle.heat_flow.specs.Checks.{ReachesAmong}
 pub use Rattle.heat_flow.specs.Cuts.{HasNoFlow}
 pub use Rattle.heat_flow.specs.Flow.{IsLeastCost, cost_of}
 pub use Rattle.heat_flow.specs.declared.cut.Cut.{Cut}
@@ -85,7 +85,7 @@ pub use Rattle.stream_case.proofs.Words.{source_name}
 unfoldable pub use Rattle.stream_case.proofs.Words.{is_name, source_named}
 pub use Rattle.stream_case.specs.Limits.{IsPartPrice}
 pub use Rattle.stream_case.specs.declared.case.Case.{Case}
-pub use Rattle.stream_case.specs.declared.limits.TheConstants.{ALL_UTILITIES, MOST_HEAT}
+pub use Rattle.stream_case.specs.declared.limits.TheConstants.{ALL_UTILITIES}
 pub use Rattle.stream_case.specs.declared.source.Side.{Side}
 pub use Rattle.stream_case.specs.declared.source.Side.TheVariants.{Cold, Hot}
 pub use Rattle.stream_case.specs.declared.source.Source.{Source}

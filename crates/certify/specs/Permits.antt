@@ -1,12 +1,10 @@
 -- The table of sources that tells which may take heat from which.
-use Rattle.std.specs.Prelude.{◌<◌, pos, ◌<ℤ◌, Bool, IsTrue, List, [], length, All, slice_index_or}
+use Rattle.std.specs.Prelude.{◌<◌, Bool, List, [], length, All, slice_index_or}
 use Rattle.stream_case.specs.Case.{IsComplete, IsSourceOf}
 use Rattle.stream_case.specs.declared.case.Case.{Case}
 use Rattle.stream_case.specs.declared.source.Source.{Source}
 use Rattle.grid.specs.declared.part.Part.{Part}
-use Rattle.heat_flow.specs.declared.flow.Transfer.{Transfer}
 use Rattle.heat_flow.specs.Cells.{ArePermissions, source_index}
-use Rattle.heat_flow.specs.Reach.{reach_between}
 
 -- each row that there is tells which sources may take heat from its source
 abbrev pub HavePermits : Case → List (List Bool) → Type 0
@@ -24,10 +22,3 @@ pub record IsSetting (c : Case) (hot cold : List Part) (rows : List (List Bool))
   pub hot_sources : All (λ p. IsSourceOf c p.source) hot
   pub cold_sources : All (λ p. IsSourceOf c p.source) cold
   pub permits : ArePermits c rows
-
--- a transfer of heat between two of these parts, of which the hot one reaches the cold one
-pub record IsTransferOf (c : Case) (hot cold : List Part) (t : Transfer) : Type 0 where
-  pub hot_index : t.hot < length hot
-  pub cold_index : t.cold < length cold
-  pub positive : pos 0 <ℤ t.heat
-  pub joined : IsTrue (reach_between c hot cold t.hot t.cold)

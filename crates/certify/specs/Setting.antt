@@ -1,9 +1,8 @@
 -- What a check sees of a case.
 use Rattle.std.specs.Prelude.{ℕ, Bool, List}
 use Rattle.grid.specs.declared.part.Part.{Part}
-use Rattle.heat_flow.specs.declared.flow.Transfer.{Transfer}
 use Rattle.heat_flow.specs.Reach.{reach_between}
-use Rattle.certify.specs.Permits.{IsSetting, IsTransferOf}
+use Rattle.certify.specs.Permits.{IsSetting}
 use Rattle.certify.specs.declared.permits.Setting.{Setting}
 
 -- the parts of the two sides
@@ -20,7 +19,3 @@ IsSound s = IsSetting s.case.now (hot_parts s) (cold_parts s) s.permits.now
 -- which of these parts reach which
 abbrev pub reach_of : Setting → ℕ → ℕ → Bool
 reach_of s = reach_between s.case.now (hot_parts s) (cold_parts s)
-
--- a transfer between two of these parts
-abbrev pub IsTransferIn : Setting → Transfer → Type 0
-IsTransferIn s = IsTransferOf s.case.now (hot_parts s) (cold_parts s)

@@ -6,14 +6,15 @@ ghost use Rattle.certify.specs.Answers.{ArePricesOf, HasPartPrices, HoldsOfCut, 
 ghost use Rattle.certify.specs.Setting.{IsSound, cold_parts, hot_parts};
 ghost use Rattle.stream_case.specs.Limits.{IsPartPrice};
 
-use crate::certificate::{is_flow, is_supported};
-use crate::cut::{is_cut, members_of};
-use crate::naming::{are_prices_of, flow_of};
+use crate::naming::{are_prices_of, flow_of, members_of};
 use crate::permits::{Setting, permits_of};
 use crate::report::{Checked, Moved, NoWhy, Priced, Report, Span, Used};
 use crate::uses::are_uses_of;
 use grid::case_parts;
-use heat_flow::{Cut, CutKind, Flow, Prices, cost_of, parts_of, value_of};
+use heat_flow::{
+    Cut, CutKind, Flow, Prices, are_supporting, cost_of, is_cut_of, is_heat_flow, parts_of,
+    value_of,
+};
 use std::alloc::{AllocError, Global};
 use stream_case::{Case, Items};
 
@@ -49,7 +50,7 @@ fn check_transfers(
         prices.now.hot prices.now.cold) result }
 {
     let transfers = flow.transfers.as_slice();
-    if !is_flow(setting, transfers) {
+    if !is_heat_flow(setting.parts, setting, transfers) {
         return Checked::No { why: NoWhy::Flow };
     }
     if cost_of(setting.parts, flow) != cost {
@@ -58,7 +59,7 @@ fn check_transfers(
     if !are_uses_of(setting.case, setting.parts, transfers, uses) {
         return Checked::No { why: NoWhy::Uses };
     }
-    if !is_supported(setting, prices) {
+    if !are_supporting(setting, prices.hot.as_slice(), prices.cold.as_slice()) {
         return Checked::No {
             why: NoWhy::Support,
         };
@@ -128,7 +129,7 @@ fn check_cut(
         need,
         offer,
     };
-    if !is_cut(setting, &cut) {
+    if !is_cut_of(setting.parts, setting, &cut) {
         return Ok(Checked::No { why: NoWhy::Cut });
     }
     Ok(Checked::Yes)

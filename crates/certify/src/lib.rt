@@ -5,9 +5,7 @@
 //! without any search: a yes means that the cost is the least one, or that there is no heat flow.
 #![tactic(auto)]
 
-mod certificate;
 mod check;
-mod cut;
 mod draft;
 mod entry;
 mod fault;

@@ -1,8 +1,9 @@
 //! The parts that a report names.
 
 ghost use Rattle.std.specs.Prelude.{◌≡◌, ◌↔◌, ◌<◌, ◌≤◌, IsTrue, All, IfOk, IfSome, is_some, length};
+ghost use Rattle.std.specs.List.{filter_map};
 ghost use Rattle.stream_case.specs.Case.{IsSourceOf};
-ghost use Rattle.certify.specs.Answers.{ArePricesOf, span_of, transfer_by, transfer_of, transfers_of};
+ghost use Rattle.certify.specs.Answers.{ArePricesOf, index_of, span_of, transfer_by, transfer_of, transfers_of};
 ghost use Rattle.certify.specs.Table.{index_in};
 ghost use Rattle.stream_case.specs.declared.limits.TheConstants.{MOST_PARTS};
 
@@ -76,4 +77,29 @@ pub fn flow_of(
     Ok(Some(Flow {
         transfers: Items::from_vec(transfers),
     }))
+}
+
+/// The indexes of the parts that a cut names, if each is one of these parts.
+pub fn members_of(
+    alloc: Global,
+    case: &Case,
+    parts: &[Part],
+    spans: &[Span],
+) -> Result<Option<Items<u32>>, AllocError>
+    requires few { length parts.now ≤ MOST_PARTS }
+    requires sources { All (λ p. IsSourceOf case.now p.source) parts.now }
+    ensures some { IfOk result (λ members. IsTrue (is_some members) ↔
+        All (λ s. IsTrue (is_some (index_of case.now parts.now s))) spans.now) }
+    ensures members { IfOk result (λ members. IfSome members (λ m. m ≡
+        filter_map (index_of case.now parts.now) spans.now)) }
+{
+    let table = table_of(alloc, case, parts)?;
+    let mut members = Vec::with_capacity(alloc, spans.len())?;
+    for span in spans {
+        let Some(member) = index_in(&table, span) else {
+            return Ok(None);
+        };
+        members.push(member)?;
+    }
+    Ok(Some(Items::from_vec(members)))
 }

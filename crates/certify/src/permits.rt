@@ -6,7 +6,7 @@ ghost use Rattle.heat_flow.specs.Reach.{part_reaches};
 ghost use Rattle.certify.specs.Permits.{ArePermits, HavePermits};
 
 use grid::{Part, Parts};
-use heat_flow::{passes_heat, permissions, source_index};
+use heat_flow::{Reaches, passes_heat, permissions, source_index};
 use std::alloc::{AllocError, Global};
 use stream_case::{Case, Items, Source};
 
@@ -76,14 +76,14 @@ fn part_reaches(case: &Case, permits: &Items<Items<bool>>, hot: &Part, cold: &Pa
     passes_heat(hot, cold) && row.as_slice()[source_index(case, cold.source)]
 }
 
-impl<'a> Setting<'a> {
+impl Reaches for Setting<'_> {
     ghost use Rattle.certify.specs.Setting.{IsSound, reach_of};
 
-    /// Whether the hot part of index `hot` reaches the cold part of index `cold`.
-    pub fn reaches(&self, hot: u32, cold: u32) -> bool
-        requires { IsSound self.now }
-        ensures { result ≡ reach_of self.now hot cold }
-    {
+    ghost is_sound = { IsSound };
+
+    ghost reach = { reach_of };
+
+    fn reaches(&self, hot: u32, cold: u32) -> bool {
         let Some(hot) = self.parts.hot.get(hot as usize) else {
             return false;
         };

@@ -8,7 +8,7 @@ use Rattle.corner_flow.proofs.Words.{heat_over, high_end, hot_target, if_zero, i
 use Rattle.corner_flow.proofs.Words.{int_lt-from, int_min, int_sum_by, int_sum_by-zero, int_sum_from-by, int_sum_from-excess, int_sum_from-same_each}
 use Rattle.corner_flow.proofs.Words.{int_sum_from-zero, ints, is_level_at, is_stream, least_product, load-between, load_over, none_any, part_over, parts_of}
 use Rattle.corner_flow.proofs.Words.{pos, price_at, product_not_negative, reach_between, sensible_above, side_value, stands_above, stream_ends, strictly}
-use Rattle.corner_flow.proofs.Words.{sum_side-same, value_of, ℤ, ◌*ℤ◌, ◌+ℤ◌, ◌-ℤ◌, ◌||◌, ◌↔◌, ◌≤ℤ◌}
+use Rattle.corner_flow.proofs.Words.{IsValueBetween, some_tight, sum_side-same, value_of, ℤ, ◌*ℤ◌, ◌+ℤ◌, ◌-ℤ◌, ◌||◌, ◌↔◌, ◌≤ℤ◌}
 use Rattle.std.proofs.Common.{Bool, List, ap, ap₂, arith, false, get_or, inl, inr, length, map, not, refl, subst, sym, true, ℕ, ⊎_elim, ◌<◌, ◌∙◌, ◌≡◌, ◌≢◌, ◌⊎◌}
 
 -- the price of a part, where `none` says that no heat is needed
@@ -170,3 +170,23 @@ tight_counted streams place false valid reference counts = by_level (has_level_a
     by_level true e = subst (λ (x : Bool). IsTightOver (not x) streams place) (sym e) above_is
     by_level false e =
         subst (λ (x : Bool). IsTightOver (not x) streams place) (sym e) (same_deficit place streams valid e ∙ above_is)
+
+-- ---- the value of some prices
+
+module _ {c : Case} {hot cold : List Part} (s : AreStandardParts c hot cold) where
+  -- it is the hot target
+  pub target-value : IsValueBetween (reach_between c hot cold) hot cold (hot_target c.streams)
+  target-value =
+      let (place, at) = some_tight c.streams s.valid in
+      ⊎_elim (over false place at.end) (over true place at.end) at.tight
+    where
+      over : (low : Bool) (place : ℤ) → Contains (stream_ends c.streams) place → IsTightOver low c.streams place
+          → IsValueBetween (reach_between c hot cold) hot cold (hot_target c.streams)
+      over low place end tight = record {
+        prices = record {
+          hot = map (corner_price (hot_target c.streams) low place) hot;
+          cold = map (corner_price (hot_target c.streams) low place) cold;
+        };
+        supporting = corner-supports s low place;
+        is = corner-value s low place end tight;
+      }

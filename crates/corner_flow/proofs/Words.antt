@@ -2,6 +2,7 @@
 pub use Rattle.corner_flow.specs.Corner.{IsCornerFlow, NeedsHeat, NoHeatCrosses, NoHeatCrossesPinch, UtilityHeat, as_pair, as_transfer, corner_price}
 pub use Rattle.corner_flow.specs.Corner.{counts_low, heats_of, part_heat}
 pub use Rattle.stream_case.specs.Stream.{has_level_at}
+pub use Rattle.corner_flow.specs.Value.{IsValueBetween}
 pub use Rattle.grid.proofs.HeatLemmas.{part_over, sum-part_over}
 pub use Rattle.grid.proofs.PartsExist.{some_parts}
 pub use Rattle.grid.proofs.PlaceLemmas.{interval_above, interval_below, interval_ends, interval_falls}

@@ -1,7 +1,8 @@
 -- The table of the pairs of a case's parts.
 use Rattle.heat_flow.proofs.Words.{All, All-weaker, AreParts, Case, IsComplete, IsPartOf, IsSourceOf, IsSourceOf-side, IsValidForbid, Part, Side}
 use Rattle.heat_flow.proofs.Words.{StaysValid-IsComplete, both_reach, cases_lt, flat_map, get_or-flat_map, get_or-map, is_some, length-map, length-take-le}
-use Rattle.heat_flow.proofs.Words.{nat_lt, nat_tests, part_reaches, reach_between, side_of_part, slice_get-get_or, slice_get_past, ℤ}
+use Rattle.heat_flow.proofs.Words.{Parts, Reach, ReachesAmong, and_parts, ltb-true, nat_lt, nat_tests, part_reaches, reach_between, reaches, side_of_part}
+use Rattle.heat_flow.proofs.Words.{slice_get, slice_get-get_or, slice_get_past, slice_get_within, slice_index_or, ℤ}
 use Rattle.heat_flow.proofs.Blanks.{blank}
 use Rattle.std.proofs.Common.{Bool, List, None, Option, Some, [], ap, arith, false, get_or, length, length-append, map, refl, sym, take, true, ℕ, ⊎_elim, ◌&&◌, ◌*◌}
 use Rattle.std.proofs.Common.{◌+◌, ◌<◌, ◌∙◌, ◌∷◌, ◌≡◌}
@@ -51,6 +52,32 @@ cell_rows-reach c hot cold a b = ⊎_elim (λ row.
     grind (arith, nat_tests, cell, p, q))
     (λ past. let p = slice_get-get_or hot a blank row in let none = slice_get_past cold b past in grind (arith, nat_tests, p, none)) (cases_lt b (length cold)))
     (λ past. let none = slice_get_past hot a past in grind (arith, nat_tests, none)) (cases_lt a (length hot))
+
+-- ---- how many parts reach
+
+-- those that have a row and a column
+pub reaches-among : (r : Reach) (hots colds : ℕ) → r.hots ≡ hots → r.colds ≡ colds → ReachesAmong (reaches r) hots colds
+reaches-among r hots colds rows columns = record {
+  few_hots = omega (arith, rows, r.few_hots);
+  few_colds = omega (arith, columns, r.few_colds);
+  within = λ a b joined.
+      let cell = slice_index_or r.cells (a * r.colds + b) false in
+      let both = and_parts (nat_lt a r.hots && nat_lt b r.colds) cell joined in
+      let each = and_parts (nat_lt a r.hots) (nat_lt b r.colds) both.0 in
+      let row = ltb-true a r.hots each.0 in
+      let column = ltb-true b r.colds each.1 in
+      (omega (arith, row, rows), omega (arith, column, columns));
+}
+
+-- those that there are
+pub reach_between-among : (c : Case) (parts : Parts) → ReachesAmong (reach_between c parts.hot parts.cold) (length parts.hot) (length parts.cold)
+reach_between-among c parts = record {
+  few_hots = parts.few_hot;
+  few_colds = parts.few_cold;
+  within = λ a b joined.
+      let (p, q, hot, cold, reached) = both_parts c (slice_get parts.hot a) (slice_get parts.cold b) joined in
+      (slice_get_within parts.hot a p hot, slice_get_within parts.cold b q cold);
+}
 
 -- ---- the sources of a case's parts
 

@@ -1,5 +1,6 @@
 -- What the checks of flows and prices say, with the sizes of lists and tables.
-use Rattle.std.specs.Prelude.{◌≡◌, ℕ, IsTrue, ℤ, pos, ◌<ℤ◌, ◌≤ℤ◌, List, length, Some, slice_get, slice_index_or}
+use Rattle.std.specs.Prelude.{◌≡◌, ℕ, ◌<◌, ◌≤◌, Bool, IsTrue, ℤ, pos, ◌<ℤ◌, ◌≤ℤ◌, List, length, Some, slice_get, slice_index_or}
+use Rattle.stream_case.specs.declared.limits.TheConstants.{MOST_PARTS}
 use Rattle.stream_case.specs.declared.source.Side.TheVariants.{Hot, Cold}
 use Rattle.stream_case.specs.Limits.{IsBetween}
 use Rattle.grid.specs.declared.part.Part.{Part}
@@ -11,10 +12,12 @@ use Rattle.heat_flow.specs.Flow.{heat_at, HaveParts, ArePositive, IsHeatFlow}
 use Rattle.heat_flow.specs.Prices.{IsSupporting}
 use Rattle.heat_flow.specs.Table.{HasSizes, reaches}
 
--- a transfer of heat between two parts that reach
-pub record IsTransfer (r : Reach) (t : Transfer) : Type 0 where
+-- a transfer of heat between two of these parts that reach
+pub record IsTransfer (reach : ℕ → ℕ → Bool) (hot cold : List Part) (t : Transfer) : Type 0 where
+  pub hot_index : t.hot < length hot
+  pub cold_index : t.cold < length cold
   pub positive : pos 0 <ℤ t.heat
-  pub joined : IsTrue (reaches r t.hot t.cold)
+  pub joined : IsTrue (reach t.hot t.cold)
 
 -- a heat flow over these parts and this table of them
 pub record IsFlowOver (hot cold : List Part) (r : Reach) (transfers : List Transfer) : Type 0 where
@@ -25,6 +28,12 @@ pub record IsFlowOver (hot cold : List Part) (r : Reach) (transfers : List Trans
 pub record IsCutOver (hot cold : List Part) (r : Reach) (cut : Cut) : Type 0 where
   pub sizes : HasSizes r (length hot) (length cold)
   pub is_cut : IsCutOf (reaches r) hot cold cut
+
+-- only so many hot and cold parts reach, which are few
+pub record ReachesAmong (reach : ℕ → ℕ → Bool) (hots colds : ℕ) : Type 0 where
+  pub few_hots : hots ≤ MOST_PARTS
+  pub few_colds : colds ≤ MOST_PARTS
+  pub within : (a b : ℕ) → IsTrue (reach a b) → (a < hots) × (b < colds)
 
 -- prices for this table that support its heat flows
 pub record IsSupported (r : Reach) (y z : List ℤ) : Type 0 where

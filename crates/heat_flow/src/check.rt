@@ -2,31 +2,37 @@
 ghost use Rattle.std.specs.Prelude.{◌≡◌, ◌↔◌, ◌<◌, ◌≤◌, ℕ, pos, ◌<ℤ◌, IsTrue, length, All, AllPairs, slice_index_or};
 ghost use Rattle.stream_case.specs.Limits.{IsBetween};
 ghost use Rattle.heat_flow.specs.Checks.{IsTransfer, IsFlowOver, SumsWithin};
-ghost use Rattle.heat_flow.specs.Flow.{part_index, heat_at, precedes, HaveParts, ArePositive, KeepsRanges};
+ghost use Rattle.heat_flow.specs.Flow.{part_index, heat_at, precedes, HaveParts, ArePositive, KeepsRanges, IsHeatFlow};
 
 use crate::flow::{Flow, Transfer};
-use crate::reach::Reach;
-use crate::table::{has_sizes, reaches};
+use crate::reach::{Reach, Reaches};
+use crate::table::has_sizes;
 use grid::{Part, Parts};
 use stream_case::{MOST_PARTS, Side};
 
-/// Whether a transfer is positive and joins parts that reach.
-fn is_transfer(reach: &Reach, transfer: &Transfer) -> bool
-    ensures { IsTrue result ↔ IsTransfer reach.now transfer.now }
+/// Whether a transfer is positive and joins two of these parts that reach.
+fn is_transfer<R: Reaches>(parts: &Parts, reach: &R, transfer: &Transfer) -> bool
+    requires { R.is_sound reach.now }
+    ensures { IsTrue result
+        ↔ IsTransfer (R.reach reach.now) parts.now.hot parts.now.cold transfer.now }
 {
-    if transfer.hot >= reach.hots || transfer.cold >= reach.colds {
+    let hots = parts.hot.len();
+    let colds = parts.cold.len();
+    if transfer.hot as usize >= hots || transfer.cold as usize >= colds {
         return false;
     }
-    transfer.heat > 0 && reaches(reach, transfer.hot, transfer.cold)
+    transfer.heat > 0 && reach.reaches(transfer.hot, transfer.cold)
 }
 
-/// Whether each transfer is positive and joins parts that reach.
-fn are_transfers(reach: &Reach, transfers: &[Transfer]) -> bool
-    ensures { IsTrue result ↔ All (IsTransfer reach.now) transfers.now }
+/// Whether each transfer is positive and joins two of these parts that reach.
+fn are_transfers<R: Reaches>(parts: &Parts, reach: &R, transfers: &[Transfer]) -> bool
+    requires { R.is_sound reach.now }
+    ensures { IsTrue result
+        ↔ All (IsTransfer (R.reach reach.now) parts.now.hot parts.now.cold) transfers.now }
 {
     transfers
         .iter()
-        .all(|transfer| is_transfer(reach, transfer))
+        .all(|transfer| is_transfer(parts, reach, transfer))
 }
 
 /// Whether a transfer stands before another by the hot part, then by the cold part.
@@ -37,7 +43,7 @@ fn precedes(first: &Transfer, second: &Transfer) -> bool
 }
 
 /// Whether each transfer stands before all later ones, by the hot part and then by the cold part.
-pub fn are_ordered(transfers: &[Transfer]) -> bool
+fn are_ordered(transfers: &[Transfer]) -> bool
     ensures { IsTrue result ↔ AllPairs precedes transfers.now }
 {
     for i in 1..transfers.len() {
@@ -83,7 +89,7 @@ fn are_within(parts: &[Part], sums: &[i128]) -> bool
 
 /// Whether the sum of the transfers of each part of a side is within the part's range. The sums
 /// of all parts are formed in one pass over the transfers.
-pub fn keeps_ranges(side: Side, parts: &[Part], transfers: &[Transfer]) -> bool
+fn keeps_ranges(side: Side, parts: &[Part], transfers: &[Transfer]) -> bool
     requires few { length parts.now ≤ MOST_PARTS }
     requires indexes { HaveParts side parts.now transfers.now }
     requires positive { ArePositive transfers.now }
@@ -94,18 +100,25 @@ pub fn keeps_ranges(side: Side, parts: &[Part], transfers: &[Transfer]) -> bool
     are_within(parts, &sums)
 }
 
-/// Whether a list of transfers is a heat flow over these parts: each transfer is positive and
-/// joins parts that reach, the list rises strictly by hot part and then by cold part, and the
-/// sum of the transfers of each part is within the part's range. A table of other sizes than
-/// the parts' lists and indexes out of range give false.
+/// Whether transfers are a heat flow over these parts: each transfer is positive and joins parts
+/// that reach, the list rises strictly by hot part and then by cold part, and the sum of the
+/// transfers of each part is within the part's range. Indexes out of range give false.
+pub fn is_heat_flow<R: Reaches>(parts: &Parts, reach: &R, transfers: &[Transfer]) -> bool
+    requires { R.is_sound reach.now }
+    ensures { IsTrue result
+        ↔ IsHeatFlow (R.reach reach.now) parts.now.hot parts.now.cold transfers.now }
+{
+    if !are_transfers(parts, reach, transfers) || !are_ordered(transfers) {
+        return false;
+    }
+    keeps_ranges(Side::Hot, parts.hot.as_slice(), transfers)
+        && keeps_ranges(Side::Cold, parts.cold.as_slice(), transfers)
+}
+
+/// Whether a list of transfers is a heat flow over these parts, as `is_heat_flow` says it. A table
+/// of other sizes than the parts' lists gives false.
 pub fn is_flow(parts: &Parts, reach: &Reach, flow: &Flow) -> bool
     ensures { IsTrue result ↔ IsFlowOver parts.now.hot parts.now.cold reach.now flow.now.transfers }
 {
-    let hot = parts.hot.as_slice();
-    let cold = parts.cold.as_slice();
-    let transfers = flow.transfers.as_slice();
-    if !has_sizes(reach, parts) || !are_transfers(reach, transfers) || !are_ordered(transfers) {
-        return false;
-    }
-    keeps_ranges(Side::Hot, hot, transfers) && keeps_ranges(Side::Cold, cold, transfers)
+    has_sizes(reach, parts) && is_heat_flow(parts, reach, flow.transfers.as_slice())
 }

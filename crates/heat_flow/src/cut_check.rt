@@ -3,13 +3,14 @@ ghost use Rattle.std.specs.Prelude.{◌≡◌, ◌↔◌, ◌<◌, ◌≤◌, po
 ghost use Rattle.stream_case.specs.declared.limits.TheConstants.{MOST_PARTS};
 ghost use Rattle.stream_case.specs.Limits.{IsHeat};
 ghost use Rattle.grid.specs.Bounds.{IsBounded};
-ghost use Rattle.heat_flow.specs.Cuts.{opposite, parts_of, joins, meets, least_at, need_of, offer_of, HasNoFlow};
+ghost use Rattle.heat_flow.specs.Certificate.{IsCutOf};
 ghost use Rattle.heat_flow.specs.Checks.{IsCutOver};
+ghost use Rattle.heat_flow.specs.Cuts.{opposite, parts_of, joins, meets, least_at, need_of, offer_of, HasNoFlow};
 ghost use Rattle.heat_flow.specs.Table.{reaches};
 
 use crate::cut::Cut;
-use crate::reach::Reach;
-use crate::table::{has_sizes, reaches};
+use crate::reach::{Reach, Reaches};
+use crate::table::has_sizes;
 use grid::{Part, Parts};
 use stream_case::Side;
 
@@ -43,7 +44,7 @@ fn least_at(parts: &[Part], index: u32) -> i64
 }
 
 /// Whether each of these is the index of a part that has to have some heat.
-pub fn are_needing(parts: &[Part], members: &[u32]) -> bool
+fn are_needing(parts: &[Part], members: &[u32]) -> bool
     requires { All IsBounded parts.now }
     ensures { IsTrue result ↔ All (λ i. pos 0 <ℤ least_at parts.now i) members.now }
 {
@@ -51,7 +52,7 @@ pub fn are_needing(parts: &[Part], members: &[u32]) -> bool
 }
 
 /// Whether indexes rise strictly.
-pub fn are_rising(members: &[u32]) -> bool
+fn are_rising(members: &[u32]) -> bool
     ensures { IsTrue result ↔ AllPairs (λ i j. i < j) members.now }
 {
     for i in 1..members.len() {
@@ -75,30 +76,38 @@ pub fn need_of(parts: &[Part], members: &[u32]) -> i128
 }
 
 /// Whether a part of this side and one of the other side reach.
-fn joins(side: Side, reach: &Reach, member: u32, other: u32) -> bool
-    ensures { result ≡ joins side (reaches reach.now) member other }
+fn joins<R: Reaches>(side: Side, reach: &R, member: u32, other: u32) -> bool
+    requires { R.is_sound reach.now }
+    ensures { result ≡ joins side (R.reach reach.now) member other }
 {
-    let (hot, cold) = match side {
-        Side::Hot => (member, other),
-        Side::Cold => (other, member),
-    };
-    hot < reach.hots && cold < reach.colds && reaches(reach, hot, cold)
+    match side {
+        Side::Hot => reach.reaches(member, other),
+        Side::Cold => reach.reaches(other, member),
+    }
 }
 
 /// Whether a part of the other side reaches one of the members, or one of them reaches it.
-fn meets(side: Side, reach: &Reach, members: &[u32], other: u32) -> bool
-    ensures { result ≡ meets side (reaches reach.now) members.now other }
+fn meets<R: Reaches>(side: Side, reach: &R, members: &[u32], other: u32) -> bool
+    requires { R.is_sound reach.now }
+    ensures { result ≡ meets side (R.reach reach.now) members.now other }
 {
     members
         .iter()
         .any(|member| joins(side, reach, *member, other))
 }
 
-/// The most that a part of the other side can take or give, if it meets a member.
-fn part_offer(side: Side, reach: &Reach, members: &[u32], index: u32, part: &Part) -> i64
-    requires { IsBounded part.now }
+/// The most that a part of the other side can take or give in W, if it meets a member.
+pub fn part_offer<R: Reaches>(
+    side: Side,
+    reach: &R,
+    members: &[u32],
+    index: u32,
+    part: &Part,
+) -> i64
+    requires sound { R.is_sound reach.now }
+    requires bounded { IsBounded part.now }
     ensures value { result
-        ≡ if meets side (reaches reach.now) members.now index then part.now.most else pos 0 }
+        ≡ if meets side (R.reach reach.now) members.now index then part.now.most else pos 0 }
     ensures range { IsHeat result }
 {
     if meets(side, reach, members, index) {
@@ -110,10 +119,11 @@ fn part_offer(side: Side, reach: &Reach, members: &[u32], index: u32, part: &Par
 
 /// The offer of a cut whose parts are of this side: the most that all parts of the other side can
 /// take or give that reach one of them, or that one of them reaches, in W.
-pub fn offer_of(side: Side, reach: &Reach, others: &[Part], members: &[u32]) -> i128
+pub fn offer_of<R: Reaches>(side: Side, reach: &R, others: &[Part], members: &[u32]) -> i128
+    requires sound { R.is_sound reach.now }
     requires few { length others.now ≤ MOST_PARTS }
     requires bounded { All IsBounded others.now }
-    ensures { result ≡ offer_of side (reaches reach.now) others.now members.now }
+    ensures { result ≡ offer_of side (R.reach reach.now) others.now members.now }
 {
     let mut offer = 0i128;
     for (index, part) in others.iter().enumerate() {
@@ -123,7 +133,7 @@ pub fn offer_of(side: Side, reach: &Reach, others: &[Part], members: &[u32]) -> 
 }
 
 /// Whether a cut has this need and this offer, and its need is the greater one.
-pub fn is_short(cut: &Cut, need: i128, offer: i128) -> bool
+fn is_short(cut: &Cut, need: i128, offer: i128) -> bool
     ensures { IsTrue result ↔ (cut.now.need ≡ need) × (cut.now.offer ≡ offer) × (offer <ℤ need) }
 {
     i128::from(cut.need) == need && i128::from(cut.offer) == offer && offer < need
@@ -131,21 +141,33 @@ pub fn is_short(cut: &Cut, need: i128, offer: i128) -> bool
 
 /// Whether a cut is one of these parts. Its indexes rise strictly, and each names a part with a
 /// least above 0. Its need is the sum of their leasts, its offer the sum of the mosts of all parts
-/// of the other side that meet one of them, and the need is greater than the offer. A table of
-/// other sizes than the parts' lists, indexes out of range, and another need or offer than these
-/// sums give false. Where there is a cut there is no heat flow.
-pub fn is_cut(parts: &Parts, reach: &Reach, cut: &Cut) -> bool
-    ensures exact { IsTrue result ↔ IsCutOver parts.now.hot parts.now.cold reach.now cut.now }
-    ensures refuses { IsTrue result → HasNoFlow (reaches reach.now) parts.now.hot parts.now.cold }
+/// of the other side that meet one of them, and the need is greater than the offer. Indexes out of
+/// range, and another need or offer than these sums give false. Where there is a cut there is no
+/// heat flow.
+pub fn is_cut_of<R: Reaches>(parts: &Parts, reach: &R, cut: &Cut) -> bool
+    requires { R.is_sound reach.now }
+    ensures exact { IsTrue result
+        ↔ IsCutOf (R.reach reach.now) parts.now.hot parts.now.cold cut.now }
+    ensures refuses { IsTrue result
+        → HasNoFlow (R.reach reach.now) parts.now.hot parts.now.cold }
 {
     let side = cut.kind.side();
     let own = parts_of(side, parts);
     let others = parts_of(opposite(side), parts);
     let members = cut.parts.as_slice();
-    if !has_sizes(reach, parts) || !are_rising(members) || !are_needing(own, members) {
+    if !are_rising(members) || !are_needing(own, members) {
         return false;
     }
     let need = need_of(own, members);
     let offer = offer_of(side, reach, others, members);
     is_short(cut, need, offer)
+}
+
+/// Whether a cut is one of these parts, as `is_cut_of` says it. A table of other sizes than the
+/// parts' lists gives false.
+pub fn is_cut(parts: &Parts, reach: &Reach, cut: &Cut) -> bool
+    ensures exact { IsTrue result ↔ IsCutOver parts.now.hot parts.now.cold reach.now cut.now }
+    ensures refuses { IsTrue result → HasNoFlow (reaches reach.now) parts.now.hot parts.now.cold }
+{
+    has_sizes(reach, parts) && is_cut_of(parts, reach, cut)
 }

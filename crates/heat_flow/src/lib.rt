@@ -18,15 +18,13 @@ mod table;
 mod utilities;
 
 pub use cells::{passes_heat, permissions, reach_of, source_index};
-pub use check::{are_ordered, is_flow, keeps_ranges};
+pub use check::{is_flow, is_heat_flow};
 pub use cost::{cost_of, least_cost_is_one};
 pub use cut::{Cut, CutKind};
-pub use cut_check::{
-    are_needing, are_rising, is_cut, is_short, need_of, offer_of, opposite, parts_of,
-};
+pub use cut_check::{is_cut, is_cut_of, need_of, offer_of, opposite, part_offer, parts_of};
 pub use flow::{Flow, Transfer};
 pub use prices::{Prices, least_product_is_least, value_of};
-pub use reach::Reach;
-pub use support::is_supported;
+pub use reach::{Reach, Reaches};
+pub use support::{are_supporting, is_supported};
 pub use table::reaches;
 pub use utilities::utility_heat;

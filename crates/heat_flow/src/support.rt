@@ -1,22 +1,38 @@
-//! Whether prices support the heat flows over a table of pairs.
-ghost use Rattle.std.specs.Prelude.{◌≡◌, ◌↔◌, ℕ, ◌<◌, ◌≤ℤ◌, IsTrue, length};
-ghost use Rattle.heat_flow.specs.Checks.{IsSupported};
-ghost use Rattle.heat_flow.specs.Prices.{price_at};
-ghost use Rattle.heat_flow.specs.Table.{reaches};
+//! Whether prices support the heat flows over parts that reach each other.
+ghost use Rattle.std.specs.Prelude.{◌≡◌, ◌↔◌, ℕ, ◌<◌, ◌≤◌, ◌≤ℤ◌, IsTrue, length};
+ghost use Rattle.stream_case.specs.declared.limits.TheConstants.{MOST_PARTS};
+ghost use Rattle.heat_flow.specs.Checks.{IsSupported, ReachesAmong};
+ghost use Rattle.heat_flow.specs.Prices.{IsSupporting, price_at};
 
 use crate::prices::Prices;
-use crate::reach::Reach;
-use crate::table::reaches;
+use crate::reach::{Reach, Reaches};
 
-/// Whether no cold part that the hot part reaches has a price above this one.
-fn is_row_supported(reach: &Reach, hot: u32, price: i64, cold_prices: &[i64]) -> bool
-    requires hot_index { hot < reach.now.hots }
-    requires cold_count { length cold_prices.now ≡ reach.now.colds }
-    ensures { IsTrue result ↔ ((cold : ℕ) → IsTrue (reaches reach.now hot cold)
-        → price_at cold_prices.now cold ≤ℤ price) }
+/// Whether none of the cold parts with these prices that the hot part reaches has a price above
+/// this one.
+fn is_row_supported<R: Reaches>(reach: &R, hot: u32, price: i64, cold_prices: &[i64]) -> bool
+    requires sound { R.is_sound reach.now }
+    requires few { length cold_prices.now ≤ MOST_PARTS }
+    ensures { IsTrue result ↔ ((cold : ℕ) → cold < length cold_prices.now
+        → IsTrue (R.reach reach.now hot cold) → price_at cold_prices.now cold ≤ℤ price) }
 {
     for (cold, cold_price) in cold_prices.iter().enumerate() {
-        if *cold_price > price && reaches(reach, hot, cold as u32) {
+        if *cold_price > price && reach.reaches(hot, cold as u32) {
+            return false;
+        }
+    }
+    true
+}
+
+/// Whether prices, one for each part that may reach another, support the heat flows: where a hot
+/// part reaches a cold part, the cold part's price is at most the hot part's.
+pub fn are_supporting<R: Reaches>(reach: &R, hot_prices: &[i64], cold_prices: &[i64]) -> bool
+    requires sound { R.is_sound reach.now }
+    requires parts { ReachesAmong (R.reach reach.now)
+        (length hot_prices.now) (length cold_prices.now) }
+    ensures { IsTrue result ↔ IsSupporting (R.reach reach.now) hot_prices.now cold_prices.now }
+{
+    for (hot, price) in hot_prices.iter().enumerate() {
+        if !is_row_supported(reach, hot as u32, *price, cold_prices) {
             return false;
         }
     }
@@ -33,10 +49,5 @@ pub fn is_supported(reach: &Reach, prices: &Prices) -> bool
     if hot_prices.len() != reach.hots as usize || cold_prices.len() != reach.colds as usize {
         return false;
     }
-    for (hot, price) in hot_prices.iter().enumerate() {
-        if !is_row_supported(reach, hot as u32, *price, cold_prices) {
-            return false;
-        }
-    }
-    true
+    are_supporting(reach, hot_prices, cold_prices)
 }

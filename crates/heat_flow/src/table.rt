@@ -1,8 +1,8 @@
 //! Reading the table of pairs.
-ghost use Rattle.std.specs.Prelude.{◌≡◌, ◌↔◌, ◌<◌, IsTrue, length};
+ghost use Rattle.std.specs.Prelude.{◌≡◌, ◌↔◌, ◌<◌, ⊤, IsTrue, length};
 ghost use Rattle.heat_flow.specs.Table.{HasSizes, reaches};
 
-use crate::reach::Reach;
+use crate::reach::{Reach, Reaches};
 use grid::Parts;
 
 /// Whether the table has a row for each hot part and a column for each cold part.
@@ -19,4 +19,14 @@ pub fn reaches(reach: &Reach, hot: u32, cold: u32) -> bool
     ensures { result ≡ reaches reach.now hot cold }
 {
     reach.cells.as_slice()[hot as usize * reach.colds as usize + cold as usize]
+}
+
+impl Reaches for Reach {
+    ghost is_sound = { λ _. ⊤ };
+
+    ghost reach = { reaches };
+
+    fn reaches(&self, hot: u32, cold: u32) -> bool {
+        hot < self.hots && cold < self.colds && reaches(self, hot, cold)
+    }
 }

@@ -2,7 +2,8 @@
 use Rattle.network_audit.proofs.Words.{Balance, Case, Decides-is_within_limits, HasNoFinding, HasShape, IsWithinLimits, Item, Network, Place, Rational, Step}
 use Rattle.network_audit.proofs.Words.{balance_items, balance_of, cost_of, cost_steps, enumerate_from, excess_of, first_finding, heat_price, heats_on, plus}
 use Rattle.network_audit.proofs.Words.{rational_sum_by-map, rational_zero, sum_steps}
-use Rattle.network_audit.proofs.ValidLemmas.{passed-back, passed-each, passed-front, passed-item, passed-rest}
+use Rattle.network_audit.proofs.ItemLemmas.{passed-back, passed-front, passed-item, passed-rest}
+use Rattle.network_audit.proofs.PartLemmas.{passed-each}
 use Rattle.network_audit.proofs.HeatLemmas.{cold_heat-is, hot_heat-is}
 use Rattle.network_audit.proofs.LineSteps.{within-zero}
 use Rattle.network_audit.proofs.SumSteps.{added, added-zero}

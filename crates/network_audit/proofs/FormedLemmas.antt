@@ -2,7 +2,8 @@
 use Rattle.network_audit.proofs.Words.{All-cons, All-nil, Case, Decides-is_within_limits, Finding, HasNoFinding, HasShape, IsFormed, IsValidNetwork}
 use Rattle.network_audit.proofs.Words.{IsWholeValuation, IsWithinLimits, Item, Network, Place, Rational, Step, Test, Valuation, false≢true, finding_of}
 use Rattle.network_audit.proofs.Words.{first_finding, is_passed, items}
-use Rattle.network_audit.proofs.ValidLemmas.{found-item, invalid_network}
+use Rattle.network_audit.proofs.ItemLemmas.{found-item}
+use Rattle.network_audit.proofs.ValidLemmas.{invalid_network}
 use Rattle.std.proofs.Common.{All, List, None, Option, Some, [], false, length, refl, sym, ℕ, ◌∙◌, ◌∷◌, ◌≡◌}
 use Rattle.network_audit.specs.declared.findings.Finding.TheVariants as finding
 

@@ -13,7 +13,8 @@ use Rattle.network_audit.proofs.Words.{utility_items, utility_items_at, value_at
 use Rattle.std.proofs.Common.{All, Bool, List, None, Option, Some, [], ap, append-nil, ap₂, arith, cond, eq-eqb, false, filter_map, find, flat_map, get_or}
 use Rattle.std.proofs.Common.{if◌then◌else◌, inl, inr, length, length-take, map, ne_eqb, refl, set, slice_get, suc, sym, take, true, unwrap_or, zero, ℕ, ℤ}
 use Rattle.std.proofs.Common.{◌&&◌, ◌++◌, ◌+◌, ◌<◌, ◌==◌, ◌∙◌, ◌∷◌, ◌≡◌, ◌≢◌, ◌⊎◌}
-use Rattle.network_audit.proofs.ValidLemmas.{flat_map-same, found-append, found-behind, items-whole}
+use Rattle.network_audit.proofs.ItemLemmas.{flat_map-same, found-append, found-behind}
+use Rattle.network_audit.proofs.PartLemmas.{items-whole}
 use Rattle.network_audit.specs.Table.{ends_at, level_ends, passed_ends}
 use Rattle.networks.specs.declared.network.Line.TheVariants as line
 use Rattle.stream_case.specs.declared.source.Source.TheVariants as source

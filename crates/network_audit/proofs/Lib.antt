@@ -9,5 +9,13 @@ pub mod BalanceWithin
 pub mod HeatLemmas
 pub mod JointLemmas
 pub mod SumSteps
+pub mod ItemLemmas
+pub mod WalkLemmas
+pub mod FindingLemmas
+pub mod BehindPass
+pub mod EndLemmas
+pub mod PartLemmas
+pub mod TestLemmas
 pub mod ValidLemmas
+pub mod VerdictLemmas
 pub mod Words

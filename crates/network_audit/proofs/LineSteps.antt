@@ -1,5 +1,5 @@
 -- The numbers that statements and exchangers form are within the limits where what the branches carry leaves room.
-use Rattle.network_audit.proofs.ValidLemmas.{all-if}
+use Rattle.network_audit.proofs.ItemLemmas.{all-if}
 use Rattle.network_audit.proofs.Words.{All-from_recursion, BranchValue, Case, Exchanger, HasShape, HasValidStreams-IsComplete, IsBelow, IsBetween, IsComplete}
 use Rattle.network_audit.proofs.Words.{IsContribution, IsFormed, IsLevel, IsMix, IsPass, IsSplit, IsTemperature, IsUtility, IsValidStream, IsWholeValuation}
 use Rattle.network_audit.proofs.Words.{IsWithinLimits, Line, MOST_CONTRIBUTION, Network, Place, Rational, Side, Solves, Source, StaysValid-IsComplete}

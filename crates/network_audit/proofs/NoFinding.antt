@@ -2,7 +2,7 @@
 use Rattle.network_audit.proofs.FormedLemmas.{AreFormed, no_finding}
 use Rattle.network_audit.proofs.LineSteps.{HasRoom, exchanger_formed, lines_formed}
 use Rattle.network_audit.proofs.SumBounds.{HaveWholeHeats, balance_formed}
-use Rattle.network_audit.proofs.ValidLemmas.{each-part}
+use Rattle.network_audit.proofs.PartLemmas.{each-part}
 use Rattle.network_audit.proofs.Words.{All-from_recursion, Case, HasNoFinding, HasShape, IsComplete, IsFormed, IsValidNetwork, IsWholeValuation, Network}
 use Rattle.network_audit.proofs.Words.{Utility, Valuation, stream_items_at, utility_items_at}
 use Rattle.std.proofs.Common.{Some, slice_get, ℕ, ◌≡◌}

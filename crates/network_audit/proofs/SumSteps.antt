@@ -3,7 +3,7 @@ use Rattle.network_audit.proofs.Words.{Place, Rational, Step, append-nil, cons_o
 use Rattle.network_audit.proofs.Words.{plus, plus-zero, plus_assoc, rational_sum, rational_zero, sum_steps, take-append-drop, take_all, take_more, zero-plus}
 use Rattle.std.proofs.Common.{List, None, Option, Some, [], ap, arith, drop, get_or, length, length-append, map, refl, subst, suc, sym, take, ℕ, ◌*◌, ◌++◌, ◌+◌}
 use Rattle.std.proofs.Common.{◌<◌, ◌∙◌, ◌∷◌, ◌≡◌, ◌≤◌}
-use Rattle.network_audit.proofs.ValidLemmas.{found-behind, found-front, found-nothing}
+use Rattle.network_audit.proofs.ItemLemmas.{found-behind, found-front, found-nothing}
 use Rattle.network_audit.specs.declared.findings.Finding.TheVariants as finding
 
 -- a total with more numbers

@@ -40,9 +40,14 @@ abbrev pub IsFormed : Item → Type 0
 IsFormed (Test at passed because) = Unit {0}
 IsFormed (Step at number value) = IsWithinLimits value
 
+-- a step is not within the limits
+abbrev pub too_fine : Place → ℕ → Finding
+too_fine at number = finding.TooFine at number
+
+-- what is found where an item is not passed
 abbrev pub finding_of : Item → Finding
 finding_of (Test at passed because) = finding.Failed at because
-finding_of (Step at number value) = finding.TooFine at number
+finding_of (Step at number value) = too_fine at number
 
 -- the first item that is not passed
 unfoldable pub first_finding : List Item → Option Finding

@@ -3,7 +3,6 @@ ghost use Rattle.std.specs.Prelude.{◌≡◌, ◌+◌, ◌*◌, ◌<◌, ◌≤
 ghost use Rattle.std.specs.List.{enumerate_from};
 ghost use Rattle.fractions.specs.Rationals.{minus, rational_sum, rational_zero, whole};
 ghost use Rattle.problem_table.specs.Deficit.{hot_target};
-ghost use Rattle.stream_case.specs.Source.{same_side};
 ghost use Rattle.stream_case.specs.Stream.{AreStreams};
 ghost use Rattle.network_audit.specs.AllItems.{cost_steps, sum_steps};
 ghost use Rattle.network_audit.specs.Answers.{Formed};

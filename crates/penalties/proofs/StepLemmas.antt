@@ -1,83 +1,49 @@
--- The first step that is too fine, of steps in a row and of the steps of many members.
+-- The first step that is too fine, in what calls and loops answer, and the penalties that are listed.
+use Rattle.penalties.proofs.Words.{too_fine}
 use Rattle.penalties.proofs.Words.{All-append, All-cons, All-enumerated, All-head, All-map, All-nil, All-same, All-tail, AreEnded, AreStreams, Audit, Case}
 use Rattle.penalties.proofs.Words.{CountsFromItself, Finds, Formed, Gives, HasAccepted, HasNoNegativePenalty, HasShape, IsAtMost, IsNotNegative}
-use Rattle.penalties.proofs.Words.{IsReferencePlace, IsReferenceView, IsTrue, IsValidNetwork, IsWholeValuation, Joint, KeepApproaches, KnowsItsNetwork, Line}
+use Rattle.penalties.proofs.Words.{IsReferencePlace, IsReferenceView, IsTrue, IsValidNetwork, IsWholeValuation, Item, Joint, KeepApproaches, KnowsItsNetwork, Line}
 use Rattle.penalties.proofs.Words.{ListsPenalties, Network, Penalty, Place, Rational, Step, Stream, TooFine, Valuation, View, all_exchanger_steps}
 use Rattle.penalties.proofs.Words.{all_joint_steps, all_mix_steps, branch_steps, enumerate_from, enumerated-more, excess_of, exchanger_row, exchanger_rows}
-use Rattle.penalties.proofs.Words.{exchangers_of, filter_map, filter_map-append, first-append, first-behind, first-front, first_too_fine, height_at}
-use Rattle.penalties.proofs.Words.{is_too_fine, is_within_limits, joint_rows, joints_of, line_steps, map-append, minus, mix_loss, mix_row, mix_rows}
-use Rattle.penalties.proofs.Words.{one_valuation, option_or, penalties_excess, penalties_of, penalties_sign, plus, rational_sum_by, rational_sum_by-append}
-use Rattle.penalties.proofs.Words.{rational_sum_by-map, rational_zero, spot_of, step, sum_of, value_formed, values_of, within_formed, within_not_formed}
+use Rattle.penalties.proofs.Words.{exchangers_of, filter_map, filter_map-append, first_finding, height_at}
+use Rattle.penalties.proofs.Words.{joint_rows, joints_of, line_steps, map-append, minus, mix_loss, mix_row, mix_rows}
+use Rattle.penalties.proofs.Words.{one_valuation, penalties_excess, penalties_of, penalties_sign, plus, rational_sum_by, rational_sum_by-append}
+use Rattle.penalties.proofs.Words.{rational_sum_by-map, rational_zero, sum_of, value_formed, values_of}
 use Rattle.penalties.proofs.Words.{zero-plus}
 use Rattle.std.proofs.Common.{All, Bool, Err, IsErrAnd, List, None, Ok, Option, Result, Some, [], ap, append_assoc, ap₂, false, get_or, length, map, refl}
 use Rattle.std.proofs.Common.{subst, sym, take, true, ℕ, ℤ, ◌++◌, ◌+◌, ◌<◌, ◌↔◌, ◌∙◌, ◌∷◌, ◌≡◌}
 use Rattle.penalties.proofs.SurveyLemmas.{rows-joints, steps-joints}
-use Rattle.network_audit.proofs.ValidLemmas.{faultless_values}
+use Rattle.network_audit.proofs.ItemLemmas.{found-behind, found-formed, found-front, found-not_formed, found-nothing}
+use Rattle.network_audit.proofs.VerdictLemmas.{faultless_values}
+use Rattle.problem_table.specs.declared.reference.Reference.{Reference}
 use Rattle.networks.specs.declared.network.Line.TheVariants as line
 use Rattle.penalties.specs.declared.list.PenaltyList.TheVariants as list
-
--- ---- one step
-
-pub none_of_nothing : first_too_fine [] ≡ None
-unfolding first_too_fine
-none_of_nothing = refl
-
--- a step that a call formed, or did not form
-pub after_formed : (at : Place) (k : ℕ) (a b : Rational) (r : Option Rational) (steps : List Step)
-    → r ≡ Some b → Gives r a
-    → first_too_fine (step at k a ∷ steps) ≡ first_too_fine steps
-unfolding first_too_fine
-after_formed at k a b r steps formed gives =
-    let within : is_within_limits a ≡ true = within_formed a b r formed gives in
-    rw within refl
-
-pub at_not_formed : (at : Place) (k : ℕ) (a : Rational) (r : Option Rational) (steps : List Step) → r ≡ None → Gives r a
-    → first_too_fine (step at k a ∷ steps) ≡ Some (at, k)
-unfolding first_too_fine
-at_not_formed at k a r steps none gives =
-    let outside : is_within_limits a ≡ false = within_not_formed a r none gives in
-    rw outside refl
-
--- ---- steps in a row
-
-pub steps-append : (xs ys : List Step) → first_too_fine (xs ++ ys) ≡ option_or (first_too_fine xs) (first_too_fine ys)
-unfolding first_too_fine
-steps-append = first-append spot_of is_too_fine
-
--- behind steps that are fine
-pub first_behind : (xs ys : List Step) → first_too_fine xs ≡ None → first_too_fine (xs ++ ys) ≡ first_too_fine ys
-first_behind = first-behind first_too_fine steps-append
-
--- more steps change nothing
-pub first_front : (xs ys : List Step) (found : Place × ℕ) → first_too_fine xs ≡ Some found
-    → first_too_fine (xs ++ ys) ≡ Some found
-first_front = first-front first_too_fine steps-append
 
 -- ---- answers
 
 -- what a `?` hands on
-pub handed_on : {X : Type 0} (steps : List Step) (P : X → Type 0) (found : TooFine) (answer : Result X TooFine)
+pub handed_on : {X : Type 0} (steps : List Item) (P : X → Type 0) (found : TooFine) (answer : Result X TooFine)
     → IsErrAnd answer (λ e. e ≡ found)
-    → first_too_fine steps ≡ Some (found.place, found.step) → Formed steps P answer
+    → first_finding steps ≡ Some (too_fine found.place found.step) → Formed steps P answer
 handed_on steps P found (Ok x) same is = absurd same
 handed_on steps P found (Err e) same is =
-    subst (λ (f : TooFine). first_too_fine steps ≡ Some (f.place, f.step)) (sym same) is
+    subst (λ (f : TooFine). first_finding steps ≡ Some (too_fine f.place f.step)) (sym same) is
 
 -- the difference of two numbers, behind the steps that form them
-module _ (xs ys : List Step) (a b x y : Rational) (at : Place) (k : ℕ) (r : Option Rational) (one : (first_too_fine xs ≡ None) × (a ≡ x))
-    (other : (first_too_fine ys ≡ None) × (b ≡ y)) (gives : Gives r (minus a b)) where
+module _ (xs ys : List Item) (a b x y : Rational) (at : Place) (k : ℕ) (r : Option Rational) (one : (first_finding xs ≡ None) × (a ≡ x))
+    (other : (first_finding ys ≡ None) × (b ≡ y)) (gives : Gives r (minus a b)) where
   difference : Gives r (minus x y)
   difference = subst (Gives r) (ap₂ minus one.1 other.1) gives
 
   pub difference_formed : (d : Rational) → r ≡ Some d
-      → (first_too_fine (xs ++ (ys ++ step at k (minus x y) ∷ [])) ≡ None) × (d ≡ minus x y)
+      → (first_finding (xs ++ (ys ++ Step at k (minus x y) ∷ [])) ≡ None) × (d ≡ minus x y)
   difference_formed d is =
-      let last = after_formed at k (minus x y) d r [] is difference ∙ none_of_nothing in
-      (first_behind xs _ one.0 ∙ first_behind ys _ other.0 ∙ last, value_formed (minus x y) d r is difference)
+      let last = found-formed at k (minus x y) d r [] is difference ∙ found-nothing in
+      (found-behind xs _ one.0 ∙ found-behind ys _ other.0 ∙ last, value_formed (minus x y) d r is difference)
 
-  pub difference_not_formed : r ≡ None → first_too_fine (xs ++ (ys ++ step at k (minus x y) ∷ [])) ≡ Some (at, k)
+  pub difference_not_formed : r ≡ None → first_finding (xs ++ (ys ++ Step at k (minus x y) ∷ [])) ≡ Some (too_fine at k)
   difference_not_formed is =
-      first_behind xs _ one.0 ∙ first_behind ys _ other.0 ∙ at_not_formed at k (minus x y) r [] is difference
+      found-behind xs _ one.0 ∙ found-behind ys _ other.0 ∙ found-not_formed at k (minus x y) r [] is difference
 
 -- Rows of penalties, as they are added one by one.
 
@@ -105,7 +71,7 @@ module _ {X Y : Type 0} (xs : List X) (n : ℕ) (d : X) (within : n < length xs)
 abbrev pub IsNoMix : Line → Type 0
 IsNoMix l = (first second to : ℕ) → l ≡ line.Mix first second to → ⊥
 
-pub no_steps : (height : ℕ → Rational) (steps : Place → ℕ → ℕ → List Step) (n : ℕ) (l : Line) → IsNoMix l
+pub no_steps : (height : ℕ → Rational) (steps : Place → ℕ → ℕ → List Item) (n : ℕ) (l : Line) → IsNoMix l
     → line_steps height steps (n, l) ≡ []
 no_steps height steps n (line.Mix first second to) other = absurd (other first second to refl)
 no_steps height steps n l other = refl
@@ -190,25 +156,22 @@ module _ (case : Case) (network : Network) (streams : AreStreams case.streams) (
 -- What the two loops answer is what is answered for the network.
 
 -- what a loop found, and what it found not
-pub found_some : (steps : List Step) (P : Type 0) (o : Option TooFine) (found : TooFine) → Finds steps P o
+pub found_some : (steps : List Item) (P : Type 0) (o : Option TooFine) (found : TooFine) → Finds steps P o
     → o ≡ Some found
-    → first_too_fine steps ≡ Some (found.place, found.step)
+    → first_finding steps ≡ Some (too_fine found.place found.step)
 found_some steps P o found finds is = subst (Finds steps P) is finds
 
-pub found_none : (steps : List Step) (P : Type 0) (o : Option TooFine) → Finds steps P o
+pub found_none : (steps : List Item) (P : Type 0) (o : Option TooFine) → Finds steps P o
     → ((found : TooFine) → o ≡ Some found → ⊥)
-    → (first_too_fine steps ≡ None) × P
+    → (first_finding steps ≡ None) × P
 found_none steps P None finds none = finds
 found_none steps P (Some found) finds none = absurd (none found refl)
 
--- the view from the place that was found, as it counts from itself or not
-pub reference_view : (streams : List Stream) (place found : ℤ) (from_itself : Bool) → place ≡ found
-    → IsReferencePlace streams found
-    → ((p : ℤ) → IsReferencePlace streams p → IsTrue from_itself ↔ CountsFromItself streams p)
-    → IsReferenceView streams (record { place = place; from_itself = from_itself })
-reference_view streams place found from_itself same is counts =
-    let there = subst (IsReferencePlace streams) (sym same) is in
-    record { place = there; from_itself = counts place there }
+-- the view from the reference of a case
+pub reference_view : (streams : List Stream) (r : Reference) → IsReferencePlace streams r.place
+    → IsTrue r.from_itself ↔ CountsFromItself streams r.place
+    → IsReferenceView streams (record { place = r.place; from_itself = r.from_itself })
+reference_view streams r place counts = record { place = place; from_itself = counts }
 
 module _
     (case : Case) (network : Network) (audit : Audit) (view : View) (joints : List Joint) (accepted : HasAccepted audit case network)
@@ -220,20 +183,20 @@ module _
     abbrev height : ℕ → Rational
     height = height_at case view network (values_of audit)
 
-    abbrev steps : Place → ℕ → ℕ → List Step
+    abbrev steps : Place → ℕ → ℕ → List Item
     steps = branch_steps case view network (values_of audit)
 
     valuation_kept : IsWholeValuation case network (values_of audit)
     valuation_kept =
         subst (IsWholeValuation case network) (sym (ap values_of accepted.is)) (faultless_values audit case network accepted knows).valuation
 
-    exchangers_first : first_too_fine (all_exchanger_steps height steps network)
-        ≡ first_too_fine (all_joint_steps height steps joints)
+    exchangers_first : first_finding (all_exchanger_steps height steps network)
+        ≡ first_finding (all_joint_steps height steps joints)
     exchangers_first =
-        ap first_too_fine (sym (ap (all_joint_steps height steps) table ∙ steps-joints height network steps))
+        ap first_finding (sym (ap (all_joint_steps height steps) table ∙ steps-joints height network steps))
 
     pub too_fine_first : (place : Place) (step : ℕ)
-        → first_too_fine (all_joint_steps height steps joints) ≡ Some (place, step)
+        → first_finding (all_joint_steps height steps joints) ≡ Some (too_fine place step)
         → ListsPenalties case network (list.TooFine place step)
     too_fine_first place step found = record {
       view = view;
@@ -241,16 +204,16 @@ module _
       is_reference = is_reference;
       valuation = valuation_kept;
       lists =
-          first_front (all_exchanger_steps height steps network) (all_mix_steps height steps network.lines) (place, step) (exchangers_first ∙ found);
+          found-front (all_exchanger_steps height steps network) (all_mix_steps height steps network.lines) (too_fine place step) (exchangers_first ∙ found);
     }
 
     module _ (lines : List Line) (own : lines ≡ network.lines) where
-      mixes_later : first_too_fine (all_mix_steps height steps network.lines)
-          ≡ first_too_fine (all_mix_steps height steps lines)
-      mixes_later = ap (λ ls. first_too_fine (all_mix_steps height steps ls)) (sym own)
+      mixes_later : first_finding (all_mix_steps height steps network.lines)
+          ≡ first_finding (all_mix_steps height steps lines)
+      mixes_later = ap (λ ls. first_finding (all_mix_steps height steps ls)) (sym own)
 
-      pub too_fine_later : (place : Place) (step : ℕ) → first_too_fine (all_joint_steps height steps joints) ≡ None
-          → first_too_fine (all_mix_steps height steps lines) ≡ Some (place, step)
+      pub too_fine_later : (place : Place) (step : ℕ) → first_finding (all_joint_steps height steps joints) ≡ None
+          → first_finding (all_mix_steps height steps lines) ≡ Some (too_fine place step)
           → ListsPenalties case network (list.TooFine place step)
       too_fine_later place step none found = record {
         view = view;
@@ -258,14 +221,14 @@ module _
         is_reference = is_reference;
         valuation = valuation_kept;
         lists =
-            first_behind (all_exchanger_steps height steps network) (all_mix_steps height steps network.lines) (exchangers_first ∙ none)
+            found-behind (all_exchanger_steps height steps network) (all_mix_steps height steps network.lines) (exchangers_first ∙ none)
             ∙ mixes_later
             ∙ found;
       }
 
       -- the list begins empty, gets the rows of the exchangers, and then those of the mixes
-      pub all_listed : (start first listed : List Penalty) → first_too_fine (all_joint_steps height steps joints) ≡ None
-          → first_too_fine (all_mix_steps height steps lines) ≡ None → start ≡ []
+      pub all_listed : (start first listed : List Penalty) → first_finding (all_joint_steps height steps joints) ≡ None
+          → first_finding (all_mix_steps height steps lines) ≡ None → start ≡ []
           → first ≡ start ++ joint_rows height joints
           → listed ≡ first ++ mix_rows height lines → ListsPenalties case network (list.Listed listed)
       all_listed start first listed none later empty rows more = record {
@@ -274,7 +237,7 @@ module _
         is_reference = is_reference;
         valuation = valuation_kept;
         lists = (
-          first_behind (all_exchanger_steps height steps network) (all_mix_steps height steps network.lines) (exchangers_first ∙ none)
+          found-behind (all_exchanger_steps height steps network) (all_mix_steps height steps network.lines) (exchangers_first ∙ none)
               ∙ mixes_later ∙ later,
           more ∙ ap₂ (λ front ls. front ++ mix_rows height ls) (rows ∙ ap (λ xs. xs ++ joint_rows height joints) empty ∙ ap (joint_rows height) table
               ∙ rows-joints height network) own,

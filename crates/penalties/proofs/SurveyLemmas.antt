@@ -1,11 +1,11 @@
 -- The table of the exchangers has their penalties and the steps that form them.
 use Rattle.penalties.proofs.Words.{All-weaker, Audit, Branch, BranchValue, Course, Exchanger, Formed, IsShifted, IsValidStream, Joint, Latent, Line, Network}
-use Rattle.penalties.proofs.Words.{Place, Rational, Sensible, Side, Source, Step, Stream, Survey, TooFine, Valuation, View, absorbed_by, absorbed_heat}
+use Rattle.penalties.proofs.Words.{Item, Place, Rational, Sensible, Side, Source, Step, Stream, Survey, TooFine, Valuation, View, absorbed_by, absorbed_heat}
 use Rattle.penalties.proofs.Words.{absorbed_steps, all_exchanger_steps, all_joint_steps, base_of, counts_above, course_of, course_steps, enumerate_from}
 use Rattle.penalties.proofs.Words.{exchanger_row, exchanger_rows, exchanger_steps, exchangers_of, flat_map, height, height_on, heights, inlet_height, ints}
 use Rattle.penalties.proofs.Words.{is_below, is_latent, joint_penalty, joint_row, joint_rows, joint_steps, joints_of, latent_steps, minus, minus-self, no_value}
 use Rattle.penalties.proofs.Words.{outlet_height, pass_of, penalty, positive_part, rational_zero, released_by, released_heat, released_steps, seen_height}
-use Rattle.penalties.proofs.Words.{seen_steps, sensible_steps, shifted, side_pass, step, stream_at, stream_height, stream_steps, times, times-zero, unshifted}
+use Rattle.penalties.proofs.Words.{seen_steps, sensible_steps, shifted, side_pass, stream_at, stream_height, stream_steps, times, times-zero, unshifted}
 use Rattle.penalties.proofs.Words.{value_at, values_of, view_of, whole}
 use Rattle.std.proofs.Common.{All, Bool, List, None, Option, Result, Some, [], ap, ap₂, arith, false, if◌then◌else◌, map, option_and_then, refl, slice_get}
 use Rattle.std.proofs.Common.{subst, suc, sym, true, unwrap_or, zero, ℕ, ℤ, ◌++◌, ◌+◌, ◌∙◌, ◌∷◌, ◌≡◌}
@@ -74,12 +74,12 @@ module _ (height : ℕ → Rational) where
     rows-joints =
         map-made joint_of (joint_row height) (exchanger_row height network) row-joint 0 (exchangers_of network.lines)
 
-    pub steps-joints : (steps : Place → ℕ → ℕ → List Step)
+    pub steps-joints : (steps : Place → ℕ → ℕ → List Item)
         → all_joint_steps height steps (joints_of network) ≡ all_exchanger_steps height steps network
     unfolding all_joint_steps all_exchanger_steps joints_among
     steps-joints steps = flat_map-made joint_of (joint_steps height steps) (exchanger_steps height steps network)
         (λ number e. ap (λ value. released_steps height steps (place.Exchanger number) e.hot (side_pass network number e.hot)
-        ++ (absorbed_steps height steps (place.Exchanger number) e.cold (side_pass network number e.cold) ++ step (place.Exchanger number) 11 value ∷ []))
+        ++ (absorbed_steps height steps (place.Exchanger number) e.cold (side_pass network number e.cold) ++ Step (place.Exchanger number) 11 value ∷ []))
         (penalty-joint number e)) 0 (exchangers_of network.lines)
 
 -- What a survey reads is what its steps and heights speak of.
@@ -98,14 +98,14 @@ height-below size distance below = ap (λ b. times size (if b then distance else
 
 -- the second step is only formed above the place
 pub steps-above : (at : Place) (k : ℕ) (size distance : Rational) → is_below rational_zero distance ≡ true
-    → sensible_steps at k size distance ≡ step at k distance ∷ step at (k + 1) (times size distance) ∷ []
+    → sensible_steps at k size distance ≡ Step at k distance ∷ Step at (k + 1) (times size distance) ∷ []
 steps-above at k size distance above =
-    ap (λ b. step at k distance ∷ (if b then step at (k + 1) (times size distance) ∷ [] else [])) above
+    ap (λ b. Step at k distance ∷ (if b then Step at (k + 1) (times size distance) ∷ [] else [])) above
 
 pub steps-below : (at : Place) (k : ℕ) (size distance : Rational) → is_below rational_zero distance ≡ false
-    → sensible_steps at k size distance ≡ step at k distance ∷ []
+    → sensible_steps at k size distance ≡ Step at k distance ∷ []
 steps-below at k size distance below =
-    ap (λ b. step at k distance ∷ (if b then step at (k + 1) (times size distance) ∷ [] else [])) below
+    ap (λ b. Step at k distance ∷ (if b then Step at (k + 1) (times size distance) ∷ [] else [])) below
 
 -- ---- branches
 

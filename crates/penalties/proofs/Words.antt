@@ -8,6 +8,8 @@ unfoldable pub use Rattle.fractions.specs.Rationals.{minus, plus, times}
 pub use Rattle.network_audit.proofs.JointLemmas.{length-joints}
 pub use Rattle.network_audit.specs.Audit.{Audit, HasAccepted, KnowsItsNetwork}
 pub use Rattle.network_audit.specs.Balance.{excess_of}
+pub use Rattle.network_audit.specs.Items.{Item, Step, too_fine}
+unfoldable pub use Rattle.network_audit.specs.Items.{first_finding}
 pub use Rattle.network_audit.specs.Joints.{joints_of}
 pub use Rattle.network_audit.specs.Valid.{IsValidNetwork}
 pub use Rattle.network_audit.specs.declared.findings.Place.{Place}
@@ -35,9 +37,9 @@ pub use Rattle.networks.specs.declared.network.Line.{Line}
 pub use Rattle.networks.specs.declared.network.Network.{Network}
 pub use Rattle.penalties.specs.Answers.{Finds, Formed, IsNotNegative, ListsPenalties, sum_of}
 unfoldable pub use Rattle.penalties.specs.Rows.{exchanger_row, exchanger_rows, mix_row, mix_rows, penalties_of}
-pub use Rattle.penalties.specs.Steps.{Step, absorbed_steps, branch_steps, course_steps, exchanger_steps, is_too_fine, latent_steps, line_steps, released_steps}
-pub use Rattle.penalties.specs.Steps.{sensible_steps, side_pass, spot_of, step, stream_steps, taken_steps}
-unfoldable pub use Rattle.penalties.specs.Steps.{all_exchanger_steps, all_mix_steps, first_too_fine}
+pub use Rattle.penalties.specs.Steps.{absorbed_steps, branch_steps, course_steps, exchanger_steps, latent_steps, line_steps, released_steps}
+pub use Rattle.penalties.specs.Steps.{sensible_steps, side_pass, stream_steps, taken_steps}
+unfoldable pub use Rattle.penalties.specs.Steps.{all_exchanger_steps, all_mix_steps}
 pub use Rattle.penalties.specs.Survey.{seen_height, seen_steps, values_of, view_of}
 unfoldable pub use Rattle.penalties.specs.Tables.{absorbed_by, all_joint_steps, joint_penalty, joint_row, joint_rows, joint_steps, released_by}
 pub use Rattle.penalties.specs.declared.heights.Survey.{Survey}

@@ -4,11 +4,12 @@ use Rattle.std.specs.List.{enumerate_from, flat_map}
 use Rattle.stream_case.specs.declared.source.Source.{Source}
 use Rattle.stream_case.specs.declared.source.Source.TheVariants as source
 use Rattle.fractions.specs.Rationals.{Rational, minus, rational_zero}
+use Rattle.network_audit.specs.Items.{Item, Step}
 use Rattle.network_audit.specs.declared.findings.Place.{Place}
 use Rattle.network_audit.specs.declared.findings.Place.TheVariants as place
 use Rattle.network_audit.specs.declared.joints.Crossing.{Crossing}
 use Rattle.network_audit.specs.declared.joints.Joint.{Joint}
-use Rattle.penalties.specs.Steps.{Step, absorbed_steps, released_steps, step}
+use Rattle.penalties.specs.Steps.{absorbed_steps, released_steps}
 use Rattle.penalties.specs.declared.list.Penalty.{Penalty}
 
 abbrev pub released_by : (ℕ → Rational) → Rational → Source → Option Crossing → Rational
@@ -24,12 +25,12 @@ absorbed_by height (source.Utility i) pass = rational_zero
 abbrev pub joint_penalty : (ℕ → Rational) → Joint → Rational
 joint_penalty height joint = minus (released_by height joint.duty joint.hot joint.given) (absorbed_by height joint.cold joint.taken)
 
-abbrev pub joint_steps : (ℕ → Rational) → (Place → ℕ → ℕ → List Step) → ℕ × Joint → List Step
+abbrev pub joint_steps : (ℕ → Rational) → (Place → ℕ → ℕ → List Item) → ℕ × Joint → List Item
 joint_steps height steps (number, joint) =
     released_steps height steps (place.Exchanger number) joint.hot joint.given
-    ++ (absorbed_steps height steps (place.Exchanger number) joint.cold joint.taken ++ step (place.Exchanger number) 11 (joint_penalty height joint) ∷ [])
+    ++ (absorbed_steps height steps (place.Exchanger number) joint.cold joint.taken ++ Step (place.Exchanger number) 11 (joint_penalty height joint) ∷ [])
 
-unfoldable pub all_joint_steps : (ℕ → Rational) → (Place → ℕ → ℕ → List Step) → List Joint → List Step
+unfoldable pub all_joint_steps : (ℕ → Rational) → (Place → ℕ → ℕ → List Item) → List Joint → List Item
 all_joint_steps height steps joints = flat_map (joint_steps height steps) (enumerate_from 0 joints)
 
 abbrev pub joint_row : (ℕ → Rational) → ℕ × Joint → Penalty

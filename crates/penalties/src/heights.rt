@@ -13,6 +13,7 @@ use fractions::Frac;
 use network_audit::{Auditor, Place, stream_at};
 use network_values::BranchValue;
 use networks::Network;
+use problem_table::Reference;
 use stream_case::{Case, Side, Stream, counts_above, shifted};
 
 /// A network with what an audit knows of it, seen from the reference place.
@@ -21,10 +22,7 @@ pub(crate) struct Survey<'a> {
     pub case: &'a Case,
     pub network: &'a Network,
     pub auditor: &'a Auditor,
-    /// A shifted temperature, in tenths of °C.
-    pub reference: i32,
-    /// Whether a latent level at the reference place counts as above it.
-    pub from_itself: bool,
+    pub reference: Reference,
     ghost levels: { All
         (λ s. IsShifted (shifted s.side s.supply s.contribution))
         case.now.streams },
@@ -131,10 +129,10 @@ impl<'a> Survey<'a> {
         let reference = self.reference;
         let value = self.value(branch);
         if stream.is_latent() {
-            let counts = counts_above(self.from_itself, reference, level_of(stream));
+            let counts = counts_above(reference.from_itself, reference.place, level_of(stream));
             return latent_height(place, step, counts, &value);
         }
-        let base = base_of(stream, reference);
+        let base = base_of(stream, reference.place);
         sensible_height(place, step, &base, &value)
     }
 }

@@ -8,7 +8,7 @@ use crate::heights::Survey;
 use crate::list::{PenaltyList, TooFine};
 use network_audit::Auditor;
 use networks::Network;
-use problem_table::{reference_from, reference_place};
+use problem_table::reference_of;
 use std::alloc::{AllocError, Global};
 use stream_case::{Case, Items};
 
@@ -26,13 +26,13 @@ pub fn penalties(
     ensures sum { IfOk result (λ list.
         IfListed list (λ listed. sum_of listed ≡ excess_of case.now network.now)) }
 {
+    auditor.knows_its_network();
     let joints = auditor.joints();
     let survey = Survey {
         case,
         network,
         auditor,
-        reference: reference_place(case),
-        from_itself: reference_from(case),
+        reference: reference_of(case),
     };
     let mut list = Vec::new(alloc);
     if let Some(TooFine { place, step }) = survey.add_exchangers(joints, &mut list)? {

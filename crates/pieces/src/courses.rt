@@ -2,8 +2,6 @@
 
 ghost use Rattle.std.specs.Prelude.{◌≡◌, ◌<◌, ◌^◌, length, IfOk};
 ghost use Rattle.std.specs.List.{filter_map};
-ghost use Rattle.stream_case.specs.Source.{same_source};
-ghost use Rattle.stream_case.specs.declared.source.Source.TheVariants.{Stream as of_stream};
 ghost use Rattle.pieces.specs.Pieces.{course_of, courses_of, is_of_stream, own_shares, share_at};
 
 use crate::exchange::Exchange;

@@ -1,6 +1,6 @@
 -- The early ends of reading.
-use Rattle.pinch.proofs.Words.{Command, EndsIn, Format, IfEarly, IfEnd, IsErrAnd, NoText, Reading, ReadsText, Request, ShelfState, Shown, ShowsCommand, Stop}
-use Rattle.pinch.proofs.Words.{by_text, file, no_text, reading_of}
+use Rattle.pinch.proofs.Words.{Case, Command, EndsIn, Format, IfEarly, IfEnd, IsErrAnd, NoText, Reading, ReadsCompleted, Request, ShelfState, Shown, ShowsCommand}
+use Rattle.pinch.proofs.Words.{Stop, by_text, file, no_text, of_completed, reading_of}
 use Rattle.pinch.specs.declared.stop.Stop.TheVariants.{Early, OutOfMemory}
 use Rattle.std.proofs.Common.{Err, IfOk, List, MatchResult, Ok, Option, Result, refl, subst, sym, ℕ, ◌≡◌}
 
@@ -21,17 +21,23 @@ unfolding EndsIn
 without_text format result stop name old new next same early =
     stopped result stop _ _ same (λ shown none. no_text shown refl none) early
 
--- that of a second file was not had, behind what a first one says
-pub without_second : {Value Cause Other Fault : Type 0} (first : Format Value Cause) (second : Value → Format Other Fault) (next : Value → Other → Reading)
-    (result : Result Request Stop)
-    (stop : Stop) (first_name name : List ℕ) (old mid new : ShelfState) (value : Value)
-    → IsErrAnd result (λ e. e ≡ stop)
-    → ReadsText first first_name old mid value
-    → IfEarly stop (NoText (second value) name mid new)
-    → IfEnd result (EndsIn (file first first_name (λ v. file (second v) name (next v))) old new)
+-- reading goes on with a completed case
+pub by_completed : (name : List ℕ) (next : Case → Reading) (old mid new : ShelfState) (end : Result Request Shown) (case : Case)
+    → ReadsCompleted name old mid case → EndsIn (next case) mid new end → EndsIn (of_completed name next) old new end
 unfolding EndsIn
-without_second first second next result stop first_name name old mid new value same reads early =
-    stopped result stop _ _ same (λ shown none. by_text mid value reads (no_text shown refl none)) early
+by_completed name next old mid new end case reads then =
+    by_text mid reads.given reads.reads (subst (λ k. EndsIn (next k) mid new end) reads.is then)
+
+-- the text of a second file was not had, behind a completed case
+pub without_second : {Value Cause : Type 0} (second : Case → Format Value Cause) (next : Case → Value → Reading) (result : Result Request Stop) (stop : Stop)
+    (case_name name : List ℕ) (old mid new : ShelfState) (case : Case)
+    → IsErrAnd result (λ e. e ≡ stop) → ReadsCompleted case_name old mid case
+    → IfEarly stop (NoText (second case) name mid new)
+    → IfEnd result (EndsIn (of_completed case_name (λ c. file (second c) name (next c))) old new)
+unfolding EndsIn
+without_second second next result stop case_name name old mid new case same reads early =
+    stopped result stop _ _ same
+    (λ shown none. by_completed case_name (λ c. file (second c) name (next c)) old mid new (Err shown) case reads (no_text shown refl none)) early
 
 -- what is shown early is shown for the command
 pub early_shown : {E : Type 0} (stop : Stop) (result : Result Shown E) (command : Option Command) (old new : ShelfState)

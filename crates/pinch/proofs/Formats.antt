@@ -5,8 +5,8 @@ use Rattle.pinch.proofs.Plain.{is_plain}
 use Rattle.std.proofs.Common.{Err, List, Ok, Result, ap, refl, sym, true, ℕ, ◌∙◌, ◌≡◌}
 use Rattle.certify.specs.Outcome as report
 use Rattle.network_text.specs.Outcome as network
-use Rattle.site.specs.Outcome as site
-use Rattle.study.specs.StudyOutcome as study
+use Rattle.site_text.specs.Outcome as site
+use Rattle.study_text.specs.Outcome as study
 
 pub record IsLawful {Value Cause : Type 0} (format : Format Value Cause) : Type 0 where
   pub one_outcome : (bytes : List ℕ) (a b : Result Value (ℕ × Cause)) → format.Gives bytes a

@@ -1,14 +1,15 @@
-mod Audits
 mod Causes
 mod Complete
 mod Designs
 mod Early
 mod FileSizes
+mod Flows
 mod Formats
 mod Plain
 mod Printable
+mod PrintedDesigns
+mod PrintedProofs
 mod Profiles
-mod Proofs
 mod Readings
 mod Results
 mod Runnable

@@ -2,7 +2,7 @@
 use Rattle.pinch.proofs.Formats.{IsLawful, lawful_case, lawful_network, lawful_report, lawful_site, lawful_study}
 use Rattle.pinch.proofs.Plain.{is_plain}
 use Rattle.pinch.proofs.Words.{CanAnswer, Command, HasBadFile, IsPrintable, NamedFile, Reading, Shown, completed, file, reading_of, ready, stop, wanted, ⊤}
-use Rattle.pinch.specs.declared.command.Command.TheVariants.{Audit, Certify, OfCase, Prices, Sample, Site, Vertical}
+use Rattle.pinch.specs.declared.command.Command.TheVariants.{Audit, Certify, OfCase, Prices, Sample, Site, Sweep, Vertical}
 use Rattle.std.proofs.Common.{List, None, Option, Some, refl, true, ◌≡◌}
 
 -- its formats are lawful, and what it shows in place of a request is plain and can be printed
@@ -25,6 +25,7 @@ lawful (Some (Vertical case)) = (lawful_case, λ c. (refl, tt, (refl, tt, tt)))
 lawful (Some (Audit case network)) = (lawful_case, λ c. (lawful_network (completed c), λ n. tt))
 lawful (Some (Certify case report)) = (lawful_case, λ c. (lawful_report, λ r. tt))
 lawful (Some (Prices case study workers)) = (lawful_case, λ c. (lawful_study (completed c), λ s. tt))
+lawful (Some (Sweep case plan workers)) = (lawful_case, λ c. tt)
 lawful (Some (Site site)) = (lawful_site, λ s. tt)
 lawful (Some (Sample number count)) = tt
 

@@ -1,8 +1,8 @@
 -- What is shown of a request is a result, and can be printed.
 use Rattle.pinch.proofs.Words.{Answer, Answers, Case, CaseTask, Checked, Curves, Design, Flow, IsAnswered, IsPrintable, Network, No, OfSite, Parts, Prices}
-use Rattle.pinch.proofs.Words.{Report, Request, Shown, ShowsDesignOf, ShowsTask, ShowsVerdict, Sweep, Targets, Verdict, Yes, completed, shown_answer}
+use Rattle.pinch.proofs.Words.{Report, Request, Shown, ShowsDesignOf, ShowsTask, ShowsVerdict, Targets, Verdict, Yes, shown_answer}
 use Rattle.pinch.proofs.Words.{shown_check, status_of, status_of_site}
-use Rattle.pinch.specs.declared.request.Request.TheVariants.{Audit, Certify, OfCase, Sample, Vertical}
+use Rattle.pinch.specs.declared.request.Request.TheVariants.{Audit, Certify, OfCase, Sample, Sweep, Vertical}
 use Rattle.std.proofs.Common.{subst, sym, ◌≡◌}
 use Rattle.network_audit.specs.declared.verdict.Verdict.TheVariants as verdict
 use Rattle.transport.specs.declared.answer.Answer.TheVariants as answer
@@ -30,10 +30,9 @@ of_design c parts (answer.Stuck cut) shown is = of_is shown _ is tt tt
 of_task : (task : CaseTask) (c : Case) (shown : Shown) → ShowsTask task c shown → IsResult shown
 unfolding IsPrintable
 of_task Targets c shown is = of_is shown _ is.is tt tt
-of_task Flow c shown is = of_flow (completed c) is.parts is.answer shown is.is
-of_task Design c shown is = of_design (completed c) is.parts is.answer shown is.shows
+of_task Flow c shown is = of_flow c is.parts is.answer shown is.is
+of_task Design c shown is = of_design c is.parts is.answer shown is.shows
 of_task Curves c shown is = of_is shown _ is.is tt tt
-of_task (Sweep plan workers) c shown is = of_is shown _ is.is tt tt
 
 of_verdict : (c : Case) (network : Network) (v : Verdict) (shown : Shown) → ShowsVerdict c network v shown
     → IsResult shown
@@ -58,5 +57,6 @@ is_result (Vertical case) shown is = of_is shown _ is.shows.is tt (is.shows.comp
 is_result (Audit case network) shown is = of_verdict case network is.verdict shown is.shows
 is_result (Certify case report) shown is = of_check report is.checked shown is.is
 is_result (Prices case study workers) shown is = of_is shown _ is.is tt tt
+is_result (Sweep case plan workers) shown is = of_is shown _ is.is tt tt
 is_result (OfSite site) shown is = of_is shown _ is.is (site_is_answered is.answer) tt
 is_result (Sample number count) shown is = of_is shown _ is.is tt tt

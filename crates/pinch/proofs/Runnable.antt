@@ -1,9 +1,9 @@
 -- Words form only commands that can run.
-use Rattle.pinch.specs.Command.{CanWork, IsRunnable, command_of, command_of_word, one_file, prices_of, prices_with, sample_of, sample_with, sweep_of}
-use Rattle.pinch.specs.Command.{sweep_with, two_files}
+use Rattle.pinch.specs.Command.{CanWork, IsRunnable, command_of, command_of_word, of_task, one_file, prices_of, prices_with, sample_of, sample_with, sweep_of}
+use Rattle.pinch.specs.Command.{sweep_with, task_named, two_files}
 use Rattle.pinch.specs.Numbers.{limited, number_within, plan_of, plan_with, sample_count_of, sample_number_of, workers_of}
-use Rattle.pinch.proofs.Words.{Command, Curves, Design, Flow, IsSweepPlan, MOST_DIGITS, MOST_END, MOST_ROWS, MOST_SAMPLE_NUMBER, MOST_SAMPLE_STREAMS, MOST_STEP}
-use Rattle.pinch.proofs.Words.{MOST_WORKERS, SweepPlan, Targets, bytes_eq, codes, if◌then◌else◌, ints, nat_le, nat_lt, nat_tests, natural_in, pos, ◌&&◌}
+use Rattle.pinch.proofs.Words.{CaseTask, Command, IsSweepPlan, MOST_DIGITS, MOST_END, MOST_ROWS, MOST_SAMPLE_NUMBER, MOST_SAMPLE_STREAMS, MOST_STEP}
+use Rattle.pinch.proofs.Words.{MOST_WORKERS, SweepPlan, bytes_eq, codes, if◌then◌else◌, ints, nat_le, nat_lt, nat_tests, natural_in, pos, ◌&&◌}
 use Rattle.pinch.specs.declared.command.Command.TheVariants.{Audit, Certify, OfCase, Site, Vertical}
 use Rattle.std.proofs.Common.{Bool, IfSome, List, None, Option, Some, [], arith, false, option_map, refl, subst, true, ℕ, ◌*◌, ◌+◌, ◌<◌, ◌∷◌, ◌≡◌, ◌≤◌}
 
@@ -47,9 +47,8 @@ plan_runs (Some from) None step last some = tt
 plan_runs None to step last some = tt
 
 of_numbers : (case : List ℕ) (plan : Option SweepPlan) (workers : Option ℕ) → IfSome plan IsSweepPlan
-    → IfSome workers (λ n. (1 ≤ n) × (n ≤ MOST_WORKERS))
-    → IfSome (sweep_with case plan workers) IsRunnable
-of_numbers case (Some plan) (Some workers) can work = (can, work.0, work.1)
+    → IfSome workers CanWork → IfSome (sweep_with case plan workers) IsRunnable
+of_numbers case (Some plan) (Some workers) can work = (can, work)
 of_numbers case (Some plan) None can work = tt
 of_numbers case None workers can work = tt
 
@@ -90,6 +89,10 @@ of_names : {Names : Type 0} (command : Names → Command) → ((names : Names) �
 of_names command runs (Some names) = runs names
 of_names command runs None = tt
 
+tasks_run : (task : Option CaseTask) (words : List (List ℕ)) → IfSome (of_task task words) IsRunnable
+tasks_run (Some task) words = of_names (λ n. OfCase n task) (λ n. tt) (one_file words)
+tasks_run None words = tt
+
 either : (b : Bool) (x y : Option Command) → IfSome x IsRunnable → IfSome y IsRunnable
     → IfSome (if b then x else y) IsRunnable
 either true x y one other = one
@@ -97,17 +100,13 @@ either false x y one other = other
 
 of_word : (word : List ℕ) (rest : List (List ℕ)) → IfSome (command_of_word word rest) IsRunnable
 of_word word rest =
-    either (bytes_eq word (codes "targets")) _ _ (of_names (λ n. OfCase n Targets) (λ n. tt) (one_file rest))
-    (either (bytes_eq word (codes "flow")) _ _ (of_names (λ n. OfCase n Flow) (λ n. tt) (one_file rest))
-    (either (bytes_eq word (codes "design")) _ _ (of_names (λ n. OfCase n Design) (λ n. tt) (one_file rest))
-    (either (bytes_eq word (codes "vertical")) _ _ (of_names Vertical (λ n. tt) (one_file rest))
-    (either (bytes_eq word (codes "curves")) _ _ (of_names (λ n. OfCase n Curves) (λ n. tt) (one_file rest))
+    either (bytes_eq word (codes "vertical")) _ _ (of_names Vertical (λ n. tt) (one_file rest))
     (either (bytes_eq word (codes "audit")) _ _ (of_names (λ n. Audit n.0 n.1) (λ n. tt) (two_files rest))
     (either (bytes_eq word (codes "certify")) _ _ (of_names (λ n. Certify n.0 n.1) (λ n. tt) (two_files rest))
     (either (bytes_eq word (codes "prices")) _ _ (of_prices rest)
     (either (bytes_eq word (codes "site")) _ _ (of_names Site (λ n. tt) (one_file rest))
     (either (bytes_eq word (codes "sweep")) _ _ (of_sweep rest)
-    (either (bytes_eq word (codes "sample")) _ _ (of_sample rest) tt))))))))))
+    (either (bytes_eq word (codes "sample")) _ _ (of_sample rest) (tasks_run (task_named word) rest)))))))
 
 of_words : (words : List (List ℕ)) → IfSome (command_of words) IsRunnable
 of_words [] = tt

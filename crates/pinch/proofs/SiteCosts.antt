@@ -3,8 +3,8 @@ use Rattle.pinch.proofs.Words.{Answer, AreSiteParts, Cold, HaveParts, Hot, IfLea
 use Rattle.pinch.proofs.Words.{Parts, Source, Stuck, Transfer, Utility, blank, boiler, boiler_heat, cooling, cost_of, heat_of_utility, if_one-times}
 use Rattle.pinch.proofs.Words.{if◌then◌else◌, int_sum_by-same, int_sum_by-zero, ints, none-some, option_map_or, part_price, pos, same_Some, same_source}
 use Rattle.pinch.proofs.Words.{side_cost-transfers, site_utilities, slice_get-get_or, streams_of, utility_heat, ℤ, ◌*ℤ◌, ◌+ℤ◌}
-use Rattle.plants.specs.Reach.{reach_between}
-use Rattle.plants.specs.declared.site.Site.{Site}
+use Rattle.site.specs.Reach.{reach_between}
+use Rattle.site_text.specs.declared.site.Site.{Site}
 use Rattle.std.proofs.Common.{List, ap, ap₂, arith, false, get_or, inl, inr, length, suc, sym, zero, ◌<◌, ◌∙◌, ◌≡◌}
 use Rattle.stream_case.specs.declared.source.Source.TheVariants.{Utility as of_utility}
 

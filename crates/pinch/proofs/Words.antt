@@ -18,7 +18,7 @@ pub use Rattle.heat_flow.specs.Flow.{HaveParts, IsHeatFlow, IsLeastCost, cost_of
 pub use Rattle.heat_flow.specs.Reach.{reach_between}
 pub use Rattle.heat_flow.specs.declared.flow.Transfer.{Transfer}
 pub use Rattle.network_audit.proofs.BalanceWithin.{HasFractions, balance-within}
-pub use Rattle.network_audit.proofs.ValidLemmas.{one_verdict}
+pub use Rattle.network_audit.proofs.FindingLemmas.{one_verdict}
 pub use Rattle.network_audit.specs.Audit.{SaysExactly}
 pub use Rattle.network_audit.specs.Balance.{balance_of}
 pub use Rattle.network_audit.specs.Findings.{HasNoFinding, IsVerdict}
@@ -36,28 +36,26 @@ pub use Rattle.networks.specs.declared.network.Network.{Network}
 pub use Rattle.penalties.specs.Answers.{IfListed, sum_of}
 pub use Rattle.pinch.specs.Answers.{Shows, ShowsCommand}
 unfoldable pub use Rattle.pinch.specs.Answers.{Answers}
-pub use Rattle.pinch.specs.Audits.{AcceptsDesign, AuditsDesign, HoldsDesign, IsWithinCounts}
-pub use Rattle.pinch.specs.Case.{case_file}
+pub use Rattle.pinch.specs.Audit.{IsAccepted, IsAuditOf, ShowsVerdict}
+pub use Rattle.pinch.specs.Certify.{IsCheckOf, shown_check}
 pub use Rattle.pinch.specs.Complete.{Holds, HoldsFault, HoldsText}
 unfoldable pub use Rattle.pinch.specs.Complete.{CanAnswer, HasBadFile}
-pub use Rattle.pinch.specs.Design.{AnswersDesign, IsDesignOf, IsShownNetwork, IsTightDesign, ShowsDesign, ShowsDesignOf}
-pub use Rattle.pinch.specs.Files.{FromText, IsRefused, NoFile, NoText, ReadsText, by_text, failed, no_file, no_text, refused, too_long}
+pub use Rattle.pinch.specs.Design.{AnswersDesign, IsDesignOf, IsShownNetwork, IsTightDesign, ShowsDesignOf}
+pub use Rattle.pinch.specs.Files.{FromText, IsRefused, NoFile, NoText, ReadsCompleted, ReadsText, by_text, failed, no_file, no_text, refused, too_long}
 unfoldable pub use Rattle.pinch.specs.Files.{EndsIn}
 pub use Rattle.pinch.specs.Flow.{AnswersFlow, IsCaseAnswer, shown_answer}
-pub use Rattle.pinch.specs.Format.{Format}
-pub use Rattle.pinch.specs.Network.{IsAccepted, IsAuditOf, ShowsVerdict, network_file}
-pub use Rattle.pinch.specs.Prices.{study_file}
-pub use Rattle.pinch.specs.Proofs.{ChecksProof, HoldsProof}
-pub use Rattle.pinch.specs.Reading.{Reading, file, ready, stop, wanted}
+pub use Rattle.pinch.specs.Formats.{Format, case_file, network_file, report_file, site_file, study_file}
+pub use Rattle.pinch.specs.PrintedDesigns.{AcceptsDesign, AuditsDesign, HoldsDesign, IsWithinCounts}
+pub use Rattle.pinch.specs.PrintedProofs.{ChecksProof, HoldsProof}
+pub use Rattle.pinch.specs.Reading.{Reading, file, of_completed, ready, stop, wanted}
 unfoldable pub use Rattle.pinch.specs.Reading.{reading_of}
-pub use Rattle.pinch.specs.Report.{IsCheckOf, report_file, shown_check}
-pub use Rattle.pinch.specs.Site.{IsLeastBoiler, ShowsSite, profiles_shown, site_file}
+pub use Rattle.pinch.specs.Site.{IsLeastBoiler, ShowsSite, profiles_shown}
 pub use Rattle.pinch.specs.Status.{IsAnswered, number_of, status_of, status_of_site}
 pub use Rattle.pinch.specs.Stop.{IfEarly, IfEnd}
 pub use Rattle.pinch.specs.Tasks.{ShowsTask}
 pub use Rattle.pinch.specs.Vertical.{IsVerticalAnswer}
 pub use Rattle.pinch.specs.declared.command.CaseTask.{CaseTask}
-pub use Rattle.pinch.specs.declared.command.CaseTask.TheVariants.{Curves, Design, Flow, Sweep, Targets}
+pub use Rattle.pinch.specs.declared.command.CaseTask.TheVariants.{Curves, Design, Flow, Targets}
 pub use Rattle.pinch.specs.declared.command.Command.{Command}
 pub use Rattle.pinch.specs.declared.numbers.TheConstants.{MOST_DIGITS, MOST_END, MOST_STEP}
 pub use Rattle.pinch.specs.declared.request.Request.{Request}
@@ -69,10 +67,10 @@ pub use Rattle.pinch_outside.specs.Faults.{Rose}
 pub use Rattle.pinch_outside.specs.Shelf.{IsFile, IsFileAbove, IsWhole, KeepsFiles, NamedFile, ShelfState}
 pub use Rattle.pinch_outside.specs.Sink.{AppendsFront}
 pub use Rattle.pinch_outside.specs.declared.limits.TheConstants.{MAX_FILE}
-pub use Rattle.plants.specs.Profiles.{sink_profile, source_profile}
-pub use Rattle.plants.specs.Site.{streams_of}
-pub use Rattle.plants.specs.Table.{boiler, cooling, site_utilities}
-pub use Rattle.plants.specs.declared.table.SiteTable.{SiteTable}
+pub use Rattle.site.specs.Profiles.{sink_profile, source_profile}
+pub use Rattle.site_text.specs.Site.{streams_of}
+pub use Rattle.site.specs.Table.{boiler, cooling, site_utilities}
+pub use Rattle.site.specs.declared.table.SiteTable.{SiteTable}
 pub use Rattle.problem_table.specs.Deficit.{hot_target}
 pub use Rattle.reports.proofs.DesignText.{design-statements}
 pub use Rattle.reports.proofs.ProofTexts.{proofs-pass}
@@ -103,11 +101,11 @@ pub use Rattle.std.specs.Prelude.{Any, IsTrue, codes, if◌then◌else◌, nat_l
 pub use Rattle.std.specs.Result.{IsErrAnd}
 pub use Rattle.std.specs.Str.{bytes_eq}
 pub use Rattle.std.specs.Vec.Iter.{into_iter_items}
-pub use Rattle.stream_case.proofs.CompleteLemmas.{StaysValid-IsComplete}
+pub use Rattle.stream_case.proofs.CompleteLemmas.{AreStreams-IsComplete, StaysValid-IsComplete}
 pub use Rattle.stream_case.specs.Case.{IsComplete, IsStandard, completed}
 unfoldable pub use Rattle.stream_case.specs.Digits.{natural_in}
 pub use Rattle.stream_case.specs.Source.{same_source}
-pub use Rattle.stream_case.specs.Stream.{AreSensible, IsLatent, IsSensible}
+pub use Rattle.stream_case.specs.Stream.{AreSensible, IsLatent, IsSensible, IsValidStream}
 pub use Rattle.stream_case.specs.declared.case.Case.{Case}
 pub use Rattle.stream_case.specs.declared.source.Side.TheVariants.{Cold, Hot}
 pub use Rattle.stream_case.specs.declared.source.Source.{Source}

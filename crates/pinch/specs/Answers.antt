@@ -2,33 +2,36 @@
 use Rattle.std.specs.Prelude.{◌≡◌, Option, Result, Ok, Err}
 use Rattle.stream_case.specs.Case.{IsComplete, IsStandard, IsValid}
 use Rattle.stream_case.specs.Stream.{AreSensible}
-use Rattle.plants.specs.Site.{IsValidSite}
+use Rattle.site_text.specs.Site.{IsValidSite}
 use Rattle.networks.specs.Shape.{HasShape}
 use Rattle.certify.specs.Answers.{HasPartPrices}
-use Rattle.study.specs.Study.{IsStudy}
+use Rattle.study_text.specs.Study.{IsStudy}
 use Rattle.pinch_outside.specs.Shelf.{ShelfState}
 use Rattle.reports.specs.declared.shown.Shown.{Shown}
-use Rattle.pinch.specs.Command.{CanDo, CanWork, IsSampleOf}
+use Rattle.study.specs.Plan.{IsSweepPlan}
+use Rattle.pinch.specs.Audit.{IsAuditOf}
+use Rattle.pinch.specs.Certify.{IsCheckOf}
+use Rattle.pinch.specs.Command.{CanWork, IsSampleOf}
 use Rattle.pinch.specs.Files.{EndsIn}
-use Rattle.pinch.specs.Network.{IsAuditOf}
 use Rattle.pinch.specs.Prices.{AnswersStudy}
 use Rattle.pinch.specs.Reading.{reading_of}
-use Rattle.pinch.specs.Report.{IsCheckOf}
 use Rattle.pinch.specs.Sample.{ShowsSample}
 use Rattle.pinch.specs.Site.{ShowsSite}
+use Rattle.pinch.specs.Sweep.{ShowsSweep}
 use Rattle.pinch.specs.Tasks.{ShowsTask}
 use Rattle.pinch.specs.Vertical.{IsVerticalAnswer}
 use Rattle.pinch.specs.declared.command.Command.{Command}
 use Rattle.pinch.specs.declared.request.Request.{Request}
-use Rattle.pinch.specs.declared.request.Request.TheVariants.{OfCase, Vertical, Audit, Certify, Prices, OfSite, Sample}
+use Rattle.pinch.specs.declared.request.Request.TheVariants.{OfCase, Vertical, Audit, Certify, Prices, Sweep, OfSite, Sample}
 
 -- a request that can be answered
 abbrev pub IsRequest : Request → Type 0
-IsRequest (OfCase case task) = IsValid case × CanDo task
+IsRequest (OfCase case task) = IsComplete case
 IsRequest (Vertical case) = IsComplete case × IsStandard case × AreSensible case.streams
 IsRequest (Audit case network) = IsComplete case × HasShape case network
 IsRequest (Certify case report) = IsComplete case × HasPartPrices report
 IsRequest (Prices case study workers) = IsComplete case × IsStudy case study × CanWork workers
+IsRequest (Sweep case plan workers) = IsValid case × IsSweepPlan plan × CanWork workers
 IsRequest (OfSite site) = IsValidSite site
 IsRequest (Sample number count) = IsSampleOf number count
 
@@ -39,6 +42,7 @@ Answers (Vertical case) shown = IsVerticalAnswer case shown
 Answers (Audit case network) shown = IsAuditOf case network shown
 Answers (Certify case report) shown = IsCheckOf case report shown
 Answers (Prices case study workers) shown = AnswersStudy case study shown
+Answers (Sweep case plan workers) shown = ShowsSweep plan case shown
 Answers (OfSite site) shown = ShowsSite site shown
 Answers (Sample number count) shown = ShowsSample number count shown
 

@@ -4,7 +4,7 @@ use Rattle.pinch_outside.specs.Shelf.{NamedFile, find_file}
 use Rattle.pinch_outside.specs.declared.limits.TheConstants.{MAX_FILE}
 use Rattle.reports.specs.declared.shown.Shown.{Shown}
 use Rattle.pinch.specs.Files.{IsRefused}
-use Rattle.pinch.specs.Format.{Format}
+use Rattle.pinch.specs.Formats.{Format}
 use Rattle.pinch.specs.Reading.{Reading, ready, stop, wanted, file as reads}
 
 -- the files are told, and the first of that name is within the limit, with these bytes

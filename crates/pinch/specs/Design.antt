@@ -3,7 +3,7 @@ use Rattle.std.specs.Prelude.{◌≡◌, ◌≤◌, length, map}
 use Rattle.std.specs.List.{enumerate_from}
 use Rattle.pinch_outside.specs.declared.limits.TheConstants.{MAX_FILE}
 use Rattle.stream_case.specs.declared.case.Case.{Case}
-use Rattle.stream_case.specs.Case.{IsComplete, IsStandard, completed}
+use Rattle.stream_case.specs.Case.{IsComplete, IsStandard}
 use Rattle.fractions.specs.Rationals.{rational_zero, whole}
 use Rattle.grid.specs.declared.parts.Parts.{Parts}
 use Rattle.heat_flow.specs.Flow.{cost_of}
@@ -63,7 +63,3 @@ pub record AnswersDesign (c : Case) (shown : Shown) : Type 0 where
   pub answer : Answer
   pub is_answer : IsCaseAnswer c parts answer
   pub shows : ShowsDesignOf c parts answer shown
-
--- what `design` shows of a case
-abbrev pub ShowsDesign : Case → Shown → Type 0
-ShowsDesign case shown = AnswersDesign (completed case) shown

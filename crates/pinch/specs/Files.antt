@@ -1,10 +1,12 @@
 -- What becomes of files that are read.
 use Rattle.std.specs.Prelude.{◌≡◌, ◌⊎◌, ℕ, List, Result, Ok, Err}
 use Rattle.pinch_outside.specs.Shelf.{ShelfState, KeepsFiles, IsWhole, IsTooLong, HasFailed}
+use Rattle.stream_case.specs.Case.{completed}
+use Rattle.stream_case.specs.declared.case.Case.{Case}
 use Rattle.reports.specs.declared.shown.FileRole.{FileRole}
 use Rattle.reports.specs.declared.shown.Shown.{Shown}
 use Rattle.reports.specs.declared.shown.Shown.TheVariants.{ReadFault, TooLong}
-use Rattle.pinch.specs.Format.{Format}
+use Rattle.pinch.specs.Formats.{Format, case_file}
 use Rattle.pinch.specs.Reading.{Reading, ready, stop, wanted, file}
 use Rattle.pinch.specs.declared.request.Request.{Request}
 
@@ -19,6 +21,12 @@ pub record ReadsText {Value Cause : Type 0} (format : Format Value Cause) (name 
   pub whole : IsWhole name old new bytes
   pub keeps : KeepsFiles old new
   pub says : format.Gives bytes (Ok value)
+
+-- the same of a case file, of whose case this is the completed one
+pub record ReadsCompleted (name : List ℕ) (old new : ShelfState) (case : Case) : Type 0 where
+  pub given : Case
+  pub reads : ReadsText case_file name old new given
+  pub is : case ≡ completed given
 
 -- these bytes are at fault, which is shown
 pub record IsRefused {Value Cause : Type 0} (format : Format Value Cause) (bytes : List ℕ) (shown : Shown) : Type 0 where

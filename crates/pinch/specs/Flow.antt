@@ -1,7 +1,7 @@
 -- What `flow` shows of a completed case.
 use Rattle.std.specs.Prelude.{◌≡◌}
 use Rattle.stream_case.specs.declared.case.Case.{Case}
-use Rattle.stream_case.specs.Case.{IsStandard, completed}
+use Rattle.stream_case.specs.Case.{IsStandard}
 use Rattle.grid.specs.declared.parts.Parts.{Parts}
 use Rattle.grid.specs.Part.{AreCaseParts}
 use Rattle.heat_flow.specs.Reach.{reach_between}
@@ -9,7 +9,7 @@ use Rattle.reports.specs.Proofs.{IsProofOf}
 use Rattle.transport.specs.Answer.{IsAnswer}
 use Rattle.transport.specs.declared.answer.Answer.{Answer}
 use Rattle.transport.specs.declared.answer.Answer.TheVariants as answer
-use Rattle.study.specs.Answer.{IsCornerAnswer}
+use Rattle.transport.specs.CornerAnswer.{IsCornerAnswer}
 use Rattle.reports.specs.declared.shown.Shown.{Shown}
 use Rattle.reports.specs.declared.shown.Shown.TheVariants as show
 
@@ -32,7 +32,3 @@ pub record AnswersFlow (c : Case) (shown : Shown) : Type 0 where
   pub is_answer : IsCaseAnswer c parts answer
   pub is : shown ≡ shown_answer c parts answer
   pub proof : IsProofOf c shown
-
--- what `flow` shows of a case
-abbrev pub ShowsFlow : Case → Shown → Type 0
-ShowsFlow case shown = AnswersFlow (completed case) shown

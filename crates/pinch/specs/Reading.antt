@@ -2,14 +2,10 @@
 use Rattle.std.specs.Prelude.{ℕ, List, Option, Some, None}
 use Rattle.stream_case.specs.Case.{completed, IsStandard}
 use Rattle.stream_case.specs.Stream.{AreSensible}
+use Rattle.stream_case.specs.declared.case.Case.{Case}
 use Rattle.reports.specs.declared.shown.Shown.{Shown}
 use Rattle.reports.specs.declared.shown.Shown.TheVariants.{BadWords, Latent, NotStandard}
-use Rattle.pinch.specs.Case.{case_file}
-use Rattle.pinch.specs.Format.{Format}
-use Rattle.pinch.specs.Network.{network_file}
-use Rattle.pinch.specs.Prices.{study_file}
-use Rattle.pinch.specs.Report.{report_file}
-use Rattle.pinch.specs.Site.{site_file}
+use Rattle.pinch.specs.Formats.{Format, case_file, network_file, report_file, site_file, study_file}
 use Rattle.pinch.specs.declared.command.Command.{Command}
 use Rattle.pinch.specs.declared.command.Command.TheVariants as command
 use Rattle.pinch.specs.declared.request.Request.{Request}
@@ -26,18 +22,22 @@ pub data Reading : Type 1 where
   -- the file of that name is read by the format, and then what its value asks for
   file : {Value Cause : Type 0} → Format Value Cause → List ℕ → (Value → Reading) → Reading
 
--- what the words of a command ask to be read, and what is asked then
+-- the case of a file is read and completed, and then what it asks for
+abbrev pub of_completed : List ℕ → (Case → Reading) → Reading
+of_completed name next = file case_file name (λ given. next (completed given))
+
+-- what the words of a command ask to be read, and what is asked then. A sweep completes its case for each contribution
 unfoldable pub reading_of : Option Command → Reading
 reading_of None = stop BadWords
-reading_of (Some (command.OfCase case task)) = file case_file case (λ c. ready (request.OfCase c task))
+reading_of (Some (command.OfCase case task)) = of_completed case (λ c. ready (request.OfCase c task))
 reading_of (Some (command.Vertical case)) =
-    file case_file case (λ c. wanted (IsStandard (completed c)) NotStandard
-    (wanted (AreSensible c.streams) Latent (ready (request.Vertical (completed c)))))
+    of_completed case (λ c. wanted (IsStandard c) NotStandard (wanted (AreSensible c.streams) Latent (ready (request.Vertical c))))
 reading_of (Some (command.Audit case network)) =
-    file case_file case (λ c. file (network_file (completed c)) network (λ n. ready (request.Audit (completed c) n)))
+    of_completed case (λ c. file (network_file c) network (λ n. ready (request.Audit c n)))
 reading_of (Some (command.Certify case report)) =
-    file case_file case (λ c. file report_file report (λ r. ready (request.Certify (completed c) r)))
+    of_completed case (λ c. file report_file report (λ r. ready (request.Certify c r)))
 reading_of (Some (command.Prices case study workers)) =
-    file case_file case (λ c. file (study_file (completed c)) study (λ s. ready (request.Prices (completed c) s workers)))
+    of_completed case (λ c. file (study_file c) study (λ s. ready (request.Prices c s workers)))
+reading_of (Some (command.Sweep case plan workers)) = file case_file case (λ c. ready (request.Sweep c plan workers))
 reading_of (Some (command.Site site)) = file site_file site (λ s. ready (request.OfSite s))
 reading_of (Some (command.Sample number count)) = ready (request.Sample number count)

@@ -7,10 +7,10 @@ use Rattle.pinch_outside.specs.Sink.{AppendsFront}
 use Rattle.reports.specs.Text.{text}
 use Rattle.reports.specs.declared.shown.Shown.{Shown}
 use Rattle.pinch.specs.Answers.{ShowsCommand}
-use Rattle.pinch.specs.Audits.{AcceptsDesign, AuditsDesign}
+use Rattle.pinch.specs.PrintedDesigns.{AcceptsDesign, AuditsDesign}
 use Rattle.pinch.specs.Causes.{HasCause}
 use Rattle.pinch.specs.Complete.{CanAnswer, HasBadFile}
-use Rattle.pinch.specs.Proofs.{ChecksProof}
+use Rattle.pinch.specs.PrintedProofs.{ChecksProof}
 use Rattle.pinch.specs.Reading.{reading_of}
 use Rattle.pinch.specs.Status.{number_of, status_of, IsAnswered}
 use Rattle.pinch.specs.declared.command.Command.{Command}

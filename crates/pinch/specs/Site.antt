@@ -1,29 +1,19 @@
--- What a site file says, and what is shown of a site.
+-- What `site` shows of a site.
 use Rattle.std.specs.Prelude.{◌≡◌, ℤ, ◌≤ℤ◌, List, map}
-use Rattle.rows.specs.Rows.{rows_of}
-use Rattle.first_fault.specs.Outcome.{IsOutcome}
 use Rattle.grid.specs.declared.parts.Parts.{Parts}
 use Rattle.heat_flow.specs.declared.flow.Transfer.{Transfer}
 use Rattle.heat_flow.specs.Flow.{IsHeatFlow}
 use Rattle.transport.specs.Answer.{IfLeast}
 use Rattle.transport.specs.declared.answer.Answer.{Answer}
-use Rattle.plants.specs.Profiles.{sink_profile, source_profile}
-use Rattle.plants.specs.Reach.{reach_between}
-use Rattle.plants.specs.SiteTable.{IsSiteTable}
-use Rattle.plants.specs.declared.site.Site.{Site}
-use Rattle.plants.specs.declared.table.SiteTable.{SiteTable}
-use Rattle.site.specs.Outcome.{grammar}
+use Rattle.site.specs.Profiles.{sink_profile, source_profile}
+use Rattle.site.specs.Reach.{reach_between}
+use Rattle.site.specs.SiteTable.{IsSiteTable}
+use Rattle.site_text.specs.declared.site.Site.{Site}
+use Rattle.site.specs.declared.table.SiteTable.{SiteTable}
 use Rattle.site.specs.Target.{IsSiteTarget}
-use Rattle.site.specs.declared.fault.SiteWhy.{SiteWhy}
 use Rattle.reports.specs.Site.{boiler_heat}
-use Rattle.reports.specs.declared.shown.FileRole.TheVariants.{Site as SiteFile}
 use Rattle.reports.specs.declared.shown.Shown.{Shown}
-use Rattle.reports.specs.declared.shown.Shown.TheVariants.{SiteShown, BadSite}
-use Rattle.pinch.specs.Format.{Format}
-
--- site files, by the site grammar
-abbrev pub site_file : Format Site SiteWhy
-site_file = record { role = SiteFile; Gives = λ bytes. IsOutcome grammar (rows_of bytes); bad = BadSite }
+use Rattle.reports.specs.declared.shown.Shown.TheVariants.{SiteShown}
 
 -- in a heat flow of these parts the boiler gives just this heat, and in none does it give less
 pub record IsLeastBoiler (site : Site) (parts : Parts) (transfers : List Transfer) (heat : ℤ) : Type 0 where

@@ -3,12 +3,13 @@ ghost use Rattle.std.specs.Prelude.{IfOk};
 ghost use Rattle.pinch.specs.Answers.{Answers, IsRequest};
 
 use crate::audit::show_audit;
-use crate::case_answer::show_task;
 use crate::certify_answer::show_certify;
 use crate::prices_answer::show_prices;
 use crate::request::Request;
 use crate::sample_answer::show_sample;
 use crate::site_answer::show_site;
+use crate::sweep_answer::show_sweep;
+use crate::task_answer::show_task;
 use crate::vertical_answer::show_vertical;
 use reports::Shown;
 use std::alloc::{AllocError, Global};
@@ -27,7 +28,7 @@ pub fn answer<R: Threads + Sync, G: Gate + Sync>(
     ensures { IfOk result (Answers request) }
 {
     match request {
-        Request::OfCase { case, task } => show_task(rt, alloc, gate, &case, task),
+        Request::OfCase { case, task } => show_task(alloc, case, task),
         Request::Vertical { case } => show_vertical(alloc, case),
         Request::Audit { case, network } => show_audit(alloc, case, network),
         Request::Certify { case, report } => show_certify(alloc, &case, &report),
@@ -36,6 +37,11 @@ pub fn answer<R: Threads + Sync, G: Gate + Sync>(
             study,
             workers,
         } => show_prices(rt, alloc, gate, case, study, workers),
+        Request::Sweep {
+            case,
+            plan,
+            workers,
+        } => show_sweep(rt, alloc, gate, &case, plan, workers),
         Request::OfSite { site } => show_site(alloc, site),
         Request::Sample { number, count } => show_sample(alloc, number, count),
     }

@@ -5,7 +5,7 @@ ghost use Rattle.networks.specs.Shape.{HasShape};
 ghost use Rattle.network_audit.specs.Audit.{HasAccepted};
 ghost use Rattle.network_audit.specs.Balance.{balance_of};
 ghost use Rattle.network_audit.specs.Valid.{IsValidNetwork};
-ghost use Rattle.pinch.specs.Network.{IsAccepted, IsAuditOf};
+ghost use Rattle.pinch.specs.Audit.{IsAccepted, IsAuditOf};
 
 use network_audit::{Auditor, Balance, Verdict};
 use network_text::Network;

@@ -2,7 +2,7 @@
 ghost use Rattle.std.specs.Prelude.{◌≡◌, IfOk};
 ghost use Rattle.stream_case.specs.Case.{IsComplete};
 ghost use Rattle.certify.specs.Answers.{HasPartPrices};
-ghost use Rattle.pinch.specs.Report.{IsCheckOf, cost_in, shown_check};
+ghost use Rattle.pinch.specs.Certify.{IsCheckOf, cost_in, shown_check};
 
 use certify::{Checked, Report, check_report};
 use reports::Shown;

@@ -1,6 +1,6 @@
 //! The forms of a command.
 ghost use Rattle.std.specs.Prelude.{◌≡◌, IfOk, IsSome, OnErr};
-ghost use Rattle.pinch.specs.Command.{NamesFiles, command_of, command_of_word, of_case, one_file, prices_of, prices_with, sample_of, sample_with, sweep_of, sweep_with, two_files};
+ghost use Rattle.pinch.specs.Command.{NamesFiles, command_of, command_of_word, of_task, one_file, prices_of, prices_with, sample_of, sample_with, sweep_of, sweep_with, task_named, two_files};
 
 use crate::numbers::{plan_of, sample_count_of, sample_number_of, workers_of};
 use crate::word::Word;
@@ -8,7 +8,7 @@ use std::alloc::{AllocError, Global};
 use stream_case::Items;
 use study::SweepPlan;
 
-/// What is asked of a case.
+/// What is asked of the completed case of a file, with nothing beside it.
 #[derive(Clone, Copy, Debug)]
 pub enum CaseTask {
     /// `targets CASE`: the targets and the pinches.
@@ -19,9 +19,6 @@ pub enum CaseTask {
     Design,
     /// `curves CASE`: the composite curves and the grand composite curve.
     Curves,
-    /// `sweep CASE FROM TO STEP WORKERS`: the targets and the least cost for each contribution of
-    /// the plan, by so many workers.
-    Sweep { plan: SweepPlan, workers: u32 },
 }
 
 /// A command with what it needs: the names of its files, and its numbers.
@@ -53,6 +50,13 @@ pub enum Command {
         study: Word,
         workers: u32,
     },
+    /// `sweep CASE FROM TO STEP WORKERS`: the targets and the least cost for each contribution of
+    /// the plan, by so many workers.
+    Sweep {
+        case: Word,
+        plan: SweepPlan,
+        workers: u32,
+    },
     /// `site SITE`: the profiles of a site, and its least boiler heat with a certificate.
     Site {
         site: Word,
@@ -81,11 +85,7 @@ fn command_of_word(alloc: Global, word: &str, rest: &[Word]) -> Result<Option<Co
     ensures memory { OnErr result (NamesFiles (command_of_word word.now rest.now)) }
 {
     match word {
-        "targets" => of_case(alloc, rest, CaseTask::Targets),
-        "flow" => of_case(alloc, rest, CaseTask::Flow),
-        "design" => of_case(alloc, rest, CaseTask::Design),
         "vertical" => Ok(one_file(alloc, rest)?.map(|case| Command::Vertical { case })),
-        "curves" => of_case(alloc, rest, CaseTask::Curves),
         "audit" => {
             Ok(two_files(alloc, rest)?.map(|(case, network)| Command::Audit { case, network }))
         }
@@ -96,7 +96,7 @@ fn command_of_word(alloc: Global, word: &str, rest: &[Word]) -> Result<Option<Co
         "site" => Ok(one_file(alloc, rest)?.map(|site| Command::Site { site })),
         "sweep" => sweep_of(alloc, rest),
         "sample" => Ok(sample_of(rest)),
-        _ => Ok(None),
+        _ => of_task(alloc, task_named(word), rest),
     }
 }
 
@@ -111,12 +111,33 @@ fn one_file(alloc: Global, words: &[Word]) -> Result<Option<Word>, AllocError>
     }
 }
 
-/// A task on the case of a file, where the words are just its name; it is not empty.
-fn of_case(alloc: Global, words: &[Word], task: CaseTask) -> Result<Option<Command>, AllocError>
-    ensures command { IfOk result (λ command. command ≡ of_case task words.now) }
-    ensures memory { OnErr result (NamesFiles (of_case task words.now)) }
+/// The task of a word, if it is one of a task.
+fn task_named(word: &str) -> Option<CaseTask>
+    ensures { result ≡ task_named word.now }
 {
-    Ok(one_file(alloc, words)?.map(|case| Command::OfCase { case, task }))
+    match word {
+        "targets" => Some(CaseTask::Targets),
+        "flow" => Some(CaseTask::Flow),
+        "design" => Some(CaseTask::Design),
+        "curves" => Some(CaseTask::Curves),
+        _ => None,
+    }
+}
+
+/// A task on the case of a file, where it is there and the words are just the name of the file,
+/// which is not empty.
+fn of_task(
+    alloc: Global,
+    task: Option<CaseTask>,
+    words: &[Word],
+) -> Result<Option<Command>, AllocError>
+    ensures command { IfOk result (λ command. command ≡ of_task task words.now) }
+    ensures memory { OnErr result (NamesFiles (of_task task words.now)) }
+{
+    match task {
+        Some(task) => Ok(one_file(alloc, words)?.map(|case| Command::OfCase { case, task })),
+        None => Ok(None),
+    }
 }
 
 /// The names of two files, where the words are just those; none is empty.
@@ -156,9 +177,10 @@ fn sweep_with(
     ensures memory { OnErr result (NamesFiles (sweep_with case.now plan workers)) }
 {
     match (plan, workers) {
-        (Some(plan), Some(workers)) => Ok(Some(Command::OfCase {
+        (Some(plan), Some(workers)) => Ok(Some(Command::Sweep {
             case: case.copied(alloc)?,
-            task: CaseTask::Sweep { plan, workers },
+            plan,
+            workers,
         })),
         _ => Ok(None),
     }

@@ -1,6 +1,6 @@
-//! The design of a case.
+//! The design of a completed case.
 ghost use Rattle.std.specs.Prelude.{◌≡◌, ◌≤◌, ◌+◌, ◌-◌, IfOk, length};
-ghost use Rattle.stream_case.specs.Case.{IsComplete, IsStandard, IsValid};
+ghost use Rattle.stream_case.specs.Case.{IsComplete, IsStandard};
 ghost use Rattle.grid.specs.Part.{AreCaseParts};
 ghost use Rattle.heat_flow.specs.Certificate.{IsFlowOf};
 ghost use Rattle.heat_flow.specs.Flow.{cost_of};
@@ -8,7 +8,7 @@ ghost use Rattle.problem_table.specs.Deficit.{hot_target};
 ghost use Rattle.networks.specs.Shape.{HasShape};
 ghost use Rattle.network_audit.specs.Balance.{balance_of};
 ghost use Rattle.network_audit.specs.Findings.{HasNoFinding};
-ghost use Rattle.pinch.specs.Design.{IsDesignOf, IsTightDesign, ShowsDesign};
+ghost use Rattle.pinch.specs.Design.{AnswersDesign, IsDesignOf, IsTightDesign};
 
 use grid::{Parts, case_parts};
 use heat_flow::Flow;
@@ -17,17 +17,15 @@ use network_audit::{Auditor, Balance, Verdict};
 use networks::Network;
 use reports::Shown;
 use std::alloc::{AllocError, Global};
-use stream_case::{Case, complete};
-use study::case_answer;
-use transport::Answer;
+use stream_case::Case;
+use transport::{Answer, case_answer};
 
-/// A network of the completed case that realises a heat flow of least cost, or a cut where there
+/// A network of a completed case that realises a heat flow of least cost, or a cut where there
 /// is no heat flow.
-pub fn show_design(alloc: Global, case: &Case) -> Result<Shown, AllocError>
-    requires { IsValid case.now }
-    ensures { IfOk result (ShowsDesign case.now) }
+pub fn show_design(alloc: Global, case: Case) -> Result<Shown, AllocError>
+    requires { IsComplete case }
+    ensures { IfOk result (AnswersDesign case) }
 {
-    let case = complete(alloc, case)?;
     let parts = case_parts(alloc, &case)?;
     match case_answer(alloc, &case, &parts)? {
         Answer::Least { flow, .. } => design_flow(alloc, case, &parts, &flow),

@@ -5,15 +5,11 @@ ghost use Rattle.certify.specs.Answers.{HasPartPrices};
 ghost use Rattle.networks.specs.Shape.{HasShape};
 ghost use Rattle.pinch_outside.specs.Shelf.{KeepsFiles, IsWhole};
 ghost use Rattle.pinch_outside.specs.declared.limits.TheConstants.{MAX_FILE};
-ghost use Rattle.pinch.specs.Case.{case_file};
 ghost use Rattle.pinch.specs.Files.{NoFile, NoText, ReadsText};
-ghost use Rattle.pinch.specs.Network.{network_file};
-ghost use Rattle.pinch.specs.Prices.{study_file};
-ghost use Rattle.pinch.specs.Report.{report_file};
-ghost use Rattle.pinch.specs.Site.{site_file};
+ghost use Rattle.pinch.specs.Formats.{case_file, network_file, report_file, site_file, study_file};
 ghost use Rattle.pinch.specs.Stop.{IfEarly, IfNoMemory};
-ghost use Rattle.plants.specs.Site.{IsValidSite};
-ghost use Rattle.study.specs.Study.{IsStudy};
+ghost use Rattle.site_text.specs.Site.{IsValidSite};
+ghost use Rattle.study_text.specs.Study.{IsStudy};
 
 use crate::stop::Stop;
 use crate::word::Word;

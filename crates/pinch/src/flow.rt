@@ -1,22 +1,20 @@
 //! The heat flow of a completed case, or a cut.
 ghost use Rattle.std.specs.Prelude.{◌≡◌, IfOk};
-ghost use Rattle.stream_case.specs.Case.{IsValid, completed};
+ghost use Rattle.stream_case.specs.Case.{IsComplete};
 ghost use Rattle.pinch.specs.Flow.{AnswersFlow, shown_answer};
 
 use grid::{Parts, case_parts};
 use reports::Shown;
 use std::alloc::{AllocError, Global};
-use stream_case::{Case, complete};
-use study::case_answer;
-use transport::Answer;
+use stream_case::Case;
+use transport::{Answer, case_answer};
 
-/// A heat flow of least cost of the completed case with its certificate, the corner flow where the
+/// A heat flow of least cost of a completed case with its certificate, the corner flow where the
 /// case is standard, or a cut where it has no heat flow.
-pub fn show_flow(alloc: Global, case: &Case) -> Result<Shown, AllocError>
-    requires { IsValid case.now }
-    ensures { IfOk result (AnswersFlow (completed case.now)) }
+pub fn show_flow(alloc: Global, case: Case) -> Result<Shown, AllocError>
+    requires { IsComplete case }
+    ensures { IfOk result (AnswersFlow case) }
 {
-    let case = complete(alloc, case)?;
     let parts = case_parts(alloc, &case)?;
     let answer = case_answer(alloc, &case, &parts)?;
     Ok(shown_answer(case, parts, answer))

@@ -4,7 +4,6 @@
 mod answer;
 mod arguments;
 mod audit;
-mod case_answer;
 mod certify_answer;
 mod command;
 mod design;
@@ -19,6 +18,7 @@ mod site_answer;
 mod status;
 mod stop;
 mod sweep_answer;
+mod task_answer;
 #[cfg(test)]
 mod tests;
 mod vertical_answer;

@@ -1,7 +1,7 @@
 //! What `prices` shows.
 ghost use Rattle.std.specs.Prelude.{IfOk};
 ghost use Rattle.stream_case.specs.Case.{IsComplete};
-ghost use Rattle.study.specs.Study.{IsStudy};
+ghost use Rattle.study_text.specs.Study.{IsStudy};
 ghost use Rattle.pinch.specs.Command.{CanWork};
 ghost use Rattle.pinch.specs.Prices.{AnswersStudy};
 

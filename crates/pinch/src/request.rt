@@ -1,13 +1,15 @@
 //! What is asked: all files are read here, and all that is refused is refused here.
 ghost use Rattle.std.specs.Prelude.{◌≡◌, ◌↔◌, IfErr, IfOk, IsTrue, Some};
-ghost use Rattle.stream_case.specs.Case.{IsValid, completed};
+ghost use Rattle.stream_case.specs.Case.{IsComplete};
 ghost use Rattle.stream_case.specs.Stream.{AreSensible};
+ghost use Rattle.study.specs.Plan.{IsSweepPlan};
 ghost use Rattle.pinch.specs.Answers.{IsRequest};
-ghost use Rattle.pinch.specs.Command.{command_of, CanDo, CanWork, IsRunnable, NamesFiles};
-ghost use Rattle.pinch.specs.Files.{EndsIn};
+ghost use Rattle.pinch.specs.Command.{command_of, CanWork, IsRunnable, NamesFiles};
+ghost use Rattle.pinch.specs.Files.{EndsIn, NoText, ReadsCompleted};
+ghost use Rattle.pinch.specs.Formats.{case_file};
 ghost use Rattle.pinch.specs.Reading.{reading_of};
-ghost use Rattle.pinch.specs.Stop.{IfEnd, IfNoMemory};
-ghost use Rattle.pinch.specs.declared.command.Command.TheVariants.{Audit, Certify, OfCase, Prices, Vertical};
+ghost use Rattle.pinch.specs.Stop.{IfEarly, IfEnd, IfNoMemory};
+ghost use Rattle.pinch.specs.declared.command.Command.TheVariants.{Audit, Certify, OfCase, Prices, Sweep, Vertical};
 
 use crate::command::{CaseTask, Command, read_command};
 use crate::files::{take_case, take_network, take_report, take_site, take_study};
@@ -20,12 +22,12 @@ use reports::Shown;
 use site::Site;
 use std::alloc::{AllocError, Global};
 use stream_case::{Case, Items, complete, has_latent, is_standard};
-use study::Study;
+use study::{Study, SweepPlan};
 
 /// What is asked, with what its files say.
 #[derive(Debug, Drop)]
 pub enum Request {
-    /// A task on a case that it is for.
+    /// A task on a completed case.
     OfCase {
         case: Case,
         task: CaseTask,
@@ -48,6 +50,12 @@ pub enum Request {
     Prices {
         case: Case,
         study: Study,
+        workers: u32,
+    },
+    /// The rows of a plan for a case, which is completed for each contribution, by so many workers.
+    Sweep {
+        case: Case,
+        plan: SweepPlan,
         workers: u32,
     },
     /// The profiles of a site, and its least boiler heat.
@@ -99,6 +107,11 @@ fn request_of_command<S: Shelf>(
             study,
             workers,
         } => request_prices(alloc, shelf, case, study, *workers),
+        Command::Sweep {
+            case,
+            plan,
+            workers,
+        } => request_sweep(alloc, shelf, case, *plan, *workers),
         Command::Site { site } => {
             let site = take_site(alloc, shelf, site)?;
             Ok(Request::OfSite { site })
@@ -116,13 +129,12 @@ fn request_task<S: Shelf>(
     case: &Word,
     task: CaseTask,
 ) -> Result<Request, Stop>
-    requires { CanDo task }
     ensures request { IfOk result IsRequest }
     ensures reads { IfEnd result
         (EndsIn (reading_of (Some (OfCase case.now task))) (S.state shelf.old)
         (S.state shelf.new)) }
 {
-    let case = take_case(alloc, shelf, case)?;
+    let case = take_completed(alloc, shelf, case)?;
     Ok(Request::OfCase { case, task })
 }
 
@@ -132,13 +144,11 @@ fn request_vertical<S: Shelf>(alloc: Global, shelf: &mut S, case: &Word) -> Resu
     ensures reads { IfEnd result
         (EndsIn (reading_of (Some (Vertical case.now))) (S.state shelf.old) (S.state shelf.new)) }
 {
-    let given = take_case(alloc, shelf, case)?;
-    let sensible = is_sensible(&given);
-    let case = into_completed(alloc, given)?;
+    let case = take_completed(alloc, shelf, case)?;
     if !is_standard(&case) {
         return Err(Stop::Early(Shown::NotStandard));
     }
-    if sensible {
+    if is_sensible(&case) {
         Ok(Request::Vertical { case })
     } else {
         Err(Stop::Early(Shown::Latent))
@@ -157,8 +167,7 @@ fn request_audit<S: Shelf>(
         (EndsIn (reading_of (Some (Audit case.now network.now))) (S.state shelf.old)
         (S.state shelf.new)) }
 {
-    let given = take_case(alloc, shelf, case)?;
-    let case = into_completed(alloc, given)?;
+    let case = take_completed(alloc, shelf, case)?;
     let network = take_network(alloc, shelf, &case, network)?;
     Ok(Request::Audit { case, network })
 }
@@ -174,8 +183,7 @@ fn request_certify<S: Shelf>(
     ensures reads { IfEnd result (EndsIn (reading_of (Some (Certify case.now report.now)))
         (S.state shelf.old) (S.state shelf.new)) }
 {
-    let given = take_case(alloc, shelf, case)?;
-    let case = into_completed(alloc, given)?;
+    let case = take_completed(alloc, shelf, case)?;
     let report = take_report(alloc, shelf, report)?;
     Ok(Request::Certify { case, report })
 }
@@ -193,8 +201,7 @@ fn request_prices<S: Shelf>(
     ensures reads { IfEnd result (EndsIn (reading_of (Some (Prices case.now study.now workers)))
         (S.state shelf.old) (S.state shelf.new)) }
 {
-    let given = take_case(alloc, shelf, case)?;
-    let case = into_completed(alloc, given)?;
+    let case = take_completed(alloc, shelf, case)?;
     let study = take_study(alloc, shelf, &case, study)?;
     Ok(Request::Prices {
         case,
@@ -203,18 +210,43 @@ fn request_prices<S: Shelf>(
     })
 }
 
-/// The case with the standard utilities where it has none of its own. The given one ends here, so
-/// that no path of a caller has to drop both.
-fn into_completed(alloc: Global, given: Case) -> Result<Case, AllocError>
-    requires { IsValid given }
-    ensures { IfOk result (λ case. case ≡ completed given) }
+/// The sweep completes the case for each contribution.
+fn request_sweep<S: Shelf>(
+    alloc: Global,
+    shelf: &mut S,
+    case: &Word,
+    plan: SweepPlan,
+    workers: u32,
+) -> Result<Request, Stop>
+    requires plan { IsSweepPlan plan }
+    requires workers { CanWork workers }
+    ensures request { IfOk result IsRequest }
+    ensures reads { IfEnd result (EndsIn (reading_of (Some (Sweep case.now plan workers)))
+        (S.state shelf.old) (S.state shelf.new)) }
 {
-    complete(alloc, &given)
+    let case = take_case(alloc, shelf, case)?;
+    Ok(Request::Sweep {
+        case,
+        plan,
+        workers,
+    })
 }
 
-/// Whether the case has no latent stream.
+/// The case of a file, with the standard utilities where it has none of its own. The given one
+/// ends here, so that no path of a caller has to drop both.
+fn take_completed<S: Shelf>(alloc: Global, shelf: &mut S, name: &Word) -> Result<Case, Stop>
+    ensures case { IfOk result (ReadsCompleted name.now (S.state shelf.old) (S.state shelf.new)) }
+    ensures complete { IfOk result IsComplete }
+    ensures stop { IfErr result
+        (λ stop. IfEarly stop (NoText case_file name.now (S.state shelf.old) (S.state shelf.new))) }
+{
+    let given = take_case(alloc, shelf, name)?;
+    Ok(complete(alloc, &given)?)
+}
+
+/// Whether a completed case has no latent stream.
 fn is_sensible(case: &Case) -> bool
-    requires { IsValid case.now }
+    requires { IsComplete case.now }
     ensures { IsTrue result ↔ AreSensible case.now.streams }
 {
     !has_latent(case.streams.as_slice())

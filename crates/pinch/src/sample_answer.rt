@@ -1,6 +1,6 @@
 //! What `sample` shows.
-ghost use Rattle.std.specs.Prelude.{◌≤◌, IfOk};
-ghost use Rattle.study.specs.declared.limits.TheConstants.{MOST_SAMPLE_NUMBER, MOST_SAMPLE_STREAMS};
+ghost use Rattle.std.specs.Prelude.{IfOk};
+ghost use Rattle.pinch.specs.Command.{IsSampleOf};
 ghost use Rattle.pinch.specs.Sample.{ShowsSample};
 
 use reports::Shown;
@@ -10,10 +10,7 @@ use study::sample_row;
 /// The targets and the least cost of the completed sample of a number, with so many streams on
 /// each side. No file is read.
 pub fn show_sample(alloc: Global, number: u32, count: u32) -> Result<Shown, AllocError>
-    requires least_number { 1 ≤ number }
-    requires most_number { number ≤ MOST_SAMPLE_NUMBER }
-    requires some_streams { 1 ≤ count }
-    requires few_streams { count ≤ MOST_SAMPLE_STREAMS }
+    requires { IsSampleOf number count }
     ensures { IfOk result (ShowsSample number count) }
 {
     let row = sample_row(alloc, number, count)?;

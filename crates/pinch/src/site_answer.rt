@@ -1,7 +1,7 @@
 //! What `site` shows of the site that it reads.
 ghost use Rattle.std.specs.Prelude.{◌≡◌, map, IfOk};
-ghost use Rattle.plants.specs.Profiles.{sink_profile, source_profile};
-ghost use Rattle.plants.specs.Site.{IsValidSite};
+ghost use Rattle.site.specs.Profiles.{sink_profile, source_profile};
+ghost use Rattle.site_text.specs.Site.{IsValidSite};
 ghost use Rattle.pinch.specs.Site.{ShowsSite, profiles_shown};
 
 use reports::Shown;

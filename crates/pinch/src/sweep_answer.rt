@@ -1,8 +1,8 @@
 //! What `sweep` shows of the case that it reads.
-ghost use Rattle.std.specs.Prelude.{◌≤◌, IfOk};
+ghost use Rattle.std.specs.Prelude.{IfOk};
 ghost use Rattle.stream_case.specs.Case.{IsValid};
 ghost use Rattle.study.specs.Plan.{IsSweepPlan};
-ghost use Rattle.study.specs.declared.limits.TheConstants.{MOST_WORKERS};
+ghost use Rattle.pinch.specs.Command.{CanWork};
 ghost use Rattle.pinch.specs.Sweep.{ShowsSweep};
 
 use reports::Shown;
@@ -22,8 +22,7 @@ pub fn show_sweep<R: Threads + Sync, G: Gate + Sync>(
 ) -> Result<Shown, AllocError>
     requires valid { IsValid case.now }
     requires plan { IsSweepPlan plan }
-    requires some_workers { 1 ≤ workers }
-    requires few_workers { workers ≤ MOST_WORKERS }
+    requires workers { CanWork workers }
     ensures { IfOk result (ShowsSweep plan case.now) }
 {
     let rows = sweep(rt, alloc, gate, case, plan, workers)?;

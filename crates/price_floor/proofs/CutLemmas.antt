@@ -1,16 +1,19 @@
 -- Beside a valid network no cut stands: its members would have to use more than the parts that meet them can.
 use Rattle.fractions.proofs.Comparisons.{at_most_from_minus_turned, at_most_from_same, at_most_trans}
-use Rattle.price_floor.proofs.Words.{AllPairs, Any-from_list_any, AreCaseParts, Case, HasShape, IsAtMost, IsComplete, IsSupporting, IsValidNetwork, Network}
-use Rattle.price_floor.proofs.Words.{NoCutStands, Part, Rational, Side, UsesAreOrdered, at_most-enumerated, both_reach, cases_lt, enumerate_from, eqb-true}
-use Rattle.price_floor.proofs.Words.{get_or-map-range_with_len, int_sum_by, ints, left_of, list_any, list_any-from_Any, minus, minus-plus, minus-self}
-use Rattle.price_floor.proofs.Words.{minus-zero, option_map_or, pos, price_at, range_with_len, rational_sum_by, rational_sum_by-minus, rational_sum_by-same}
-use Rattle.price_floor.proofs.Words.{rational_sum_by-whole, rational_sum_by-zero, rational_zero, reach_between, slice_get_past, slice_get_within, sum-enumerate}
-use Rattle.price_floor.proofs.Words.{sum-enumerated, sum_over_used, times, times-one, times_comm, use_worth, used_heat, whole, whole-minus, worth_of_uses}
-use Rattle.price_floor.proofs.Words.{zero-times, ℤ, ◌-ℤ◌, ◌<ℤ◌, ◌≤ℤ◌}
+use Rattle.price_floor.proofs.Words.{AllPairs, Any-from_list_any, AreCaseParts, Case, HasShape, IsAtMost, IsComplete}
+use Rattle.price_floor.proofs.Words.{IsSupporting, IsValidNetwork, Network, NoCutStands, Part, Rational, Side}
+use Rattle.price_floor.proofs.Words.{UsesAreOrdered, at_most-enumerated, both_reach, cases_lt, enumerate_from, eqb-true}
+use Rattle.price_floor.proofs.Words.{get_or-map-range_with_len, int_sum_by, ints, left_of, list_any, list_any-from_Any}
+use Rattle.price_floor.proofs.Words.{minus, minus-plus, minus-self, minus-zero, option_map_or, pos, price_at}
+use Rattle.price_floor.proofs.Words.{range_with_len, rational_sum_by, rational_sum_by-minus, rational_sum_by-same}
+use Rattle.price_floor.proofs.Words.{rational_sum_by-whole, rational_sum_by-zero, rational_zero, reach_between}
+use Rattle.price_floor.proofs.Words.{slice_get_past, slice_get_within, sum-enumerate, sum-enumerated, sum_over_used}
+use Rattle.price_floor.proofs.Words.{times, times-one, times_comm, use_worth, used_heat, whole, whole-minus}
+use Rattle.price_floor.proofs.Words.{worth_of_uses, zero-times, ℤ, ◌-ℤ◌, ◌<ℤ◌, ◌≤ℤ◌}
 use Rattle.heat_flow.specs.Cuts.{cut_side, joins, least_at, meets, need_of, offer_of, opposite, parts_of}
 use Rattle.price_floor.proofs.FloorLemmas.{IsUsedWithin, minus-times, uses-within, whole-int_sum_from}
-use Rattle.std.proofs.Common.{All, Bool, List, None, Option, Some, ap, arith, false, get_or, if◌then◌else◌, length, map, refl, slice_get, subst, subst₂, sym}
-use Rattle.std.proofs.Common.{true, ℕ, ⊎_elim, ◌<◌, ◌==◌, ◌∙◌, ◌≡◌}
+use Rattle.std.proofs.Common.{All, Bool, List, None, Option, Some, ap, arith, false, get_or, if◌then◌else◌, length, map}
+use Rattle.std.proofs.Common.{refl, slice_get, subst, subst₂, sym, true, ℕ, ⊎_elim, ◌<◌, ◌==◌, ◌∙◌, ◌≡◌}
 use Rattle.stream_case.specs.declared.source.Side.TheVariants as side
 
 -- ---- prices that are made for each index
@@ -30,16 +33,22 @@ worth-listed : (network : Network) (f : ℕ → ℤ) (parts : List Part)
     → worth_of_uses network (listed f (length parts)) parts ≡ use_at network f parts
 unfolding worth_of_uses
 worth-listed network f parts =
-    sum-enumerated (use_worth network (listed f (length parts))) (λ (e : ℕ × Part). times (whole (f e.0)) (used_heat network e.1)) parts
+    let term = λ (e : ℕ × Part). times (whole (f e.0)) (used_heat network e.1) in
+    sum-enumerated (use_worth network (listed f (length parts))) term parts
     (λ i p at. ap (λ c. times (whole c) (used_heat network p)) (price-listed f (length parts) i (slice_get_within parts i p at)))
 
 -- prices below 0
-use-turned : (network : Network) (f : ℕ → ℤ) (parts : List Part) → use_at network (λ a. pos 0 -ℤ f a) parts ≡ minus rational_zero (use_at network f parts)
-use-turned network f parts = let es = enumerate_from 0 parts in let term = λ (e : ℕ × Part). times (whole (f e.0)) (used_heat network e.1) in
-    rational_sum_by-same (λ (e : ℕ × Part). times (whole (pos 0 -ℤ f e.0)) (used_heat network e.1)) (λ e. minus rational_zero (term e)) es
+use-turned : (network : Network) (f : ℕ → ℤ) (parts : List Part)
+    → use_at network (λ a. pos 0 -ℤ f a) parts ≡ minus rational_zero (use_at network f parts)
+use-turned network f parts =
+    let es = enumerate_from 0 parts in
+    let term = λ (e : ℕ × Part). times (whole (f e.0)) (used_heat network e.1) in
+    let below = λ (e : ℕ × Part). times (whole (pos 0 -ℤ f e.0)) (used_heat network e.1) in
+    let nothing = λ (e : ℕ × Part). rational_zero in
+    rational_sum_by-same below (λ e. minus rational_zero (term e)) es
     (λ k d inside. let e = get_or es k d in turned (f e.0) (used_heat network e.1))
-    ∙ rational_sum_by-minus (λ (e : ℕ × Part). rational_zero) term es
-    ∙ ap (λ none. minus none (use_at network f parts)) (rational_sum_by-zero (λ (e : ℕ × Part). rational_zero) es (λ k d inside. refl))
+    ∙ rational_sum_by-minus nothing term es
+    ∙ ap (λ none. minus none (use_at network f parts)) (rational_sum_by-zero nothing es (λ k d inside. refl))
   where
     turned : (c : ℤ) (x : Rational) → times (whole (pos 0 -ℤ c)) x ≡ minus rational_zero (times (whole c) x)
     turned c x =
@@ -64,7 +73,8 @@ meets-member : (of : Side) (reach : ℕ → ℕ → Bool) (members : List ℕ) (
     → meets of reach members j ≡ true
 meets-member of reach members i j joined is =
     let (n, k, inside, at, same) = Any-from_list_any (λ k. i == k) members is in
-    list_any-from_Any (λ k. joins of reach k j) members (n, k, inside, at, subst (λ m. joins of reach m j ≡ true) (eqb-true i k same) joined)
+    let joins_there = subst (λ m. joins of reach m j ≡ true) (eqb-true i k same) joined in
+    list_any-from_Any (λ k. joins of reach k j) members (n, k, inside, at, joins_there)
 
 reach-within : (case : Case) (hot cold : List Part) (a b : ℕ) → reach_between case hot cold a b ≡ true
     → (a < length hot) × (b < length cold)
@@ -76,8 +86,9 @@ reach-within case hot cold a b reached = by (slice_get hot a) (slice_get cold b)
     by (Some p) None one other is = cc is
     by (Some p) (Some q) one other is = (slice_get_within hot a p one, slice_get_within cold b q other)
 
-module _ (uses : UsesAreOrdered) (case : Case) (network : Network) (hot cold : List Part) (complete : IsComplete case) (shape : HasShape case network)
-    (valid : IsValidNetwork case network) (parts : AreCaseParts case hot cold) (members : List ℕ) where
+module _ (uses : UsesAreOrdered) (case : Case) (network : Network) (hot cold : List Part) (complete : IsComplete case)
+    (shape : HasShape case network) (valid : IsValidNetwork case network) (parts : AreCaseParts case hot cold)
+    (members : List ℕ) where
   abbrev reach : ℕ → ℕ → Bool
   reach = reach_between case hot cold
 
@@ -91,24 +102,42 @@ module _ (uses : UsesAreOrdered) (case : Case) (network : Network) (hot cold : L
   -- the members use no more than the parts that meet them
   members-at_most : (of : Side)
       → IsAtMost (use_at network own (parts_of of hot cold)) (use_at network (met of) (parts_of (opposite of) hot cold))
-  members-at_most side.Cold = subst₂ IsAtMost (worth-listed network own cold) (worth-listed network (met side.Cold) hot)
-      (uses case network hot cold (listed (met side.Cold) (length hot)) (listed own (length cold)) complete shape valid parts supporting)
+  members-at_most side.Cold =
+      let hot_prices = listed (met side.Cold) (length hot) in
+      let cold_prices = listed own (length cold) in
+      subst₂ IsAtMost (worth-listed network own cold) (worth-listed network (met side.Cold) hot)
+      (uses case network hot cold hot_prices cold_prices complete shape valid parts supporting)
     where
       supporting : IsSupporting reach (listed (met side.Cold) (length hot)) (listed own (length cold))
-      supporting a b reached = let within = reach-within case hot cold a b reached in
-          subst₂ (λ p q. p ≤ℤ q) (sym (price-listed own (length cold) b within.1)) (sym (price-listed (met side.Cold) (length hot) a within.0))
-          (one_if-le (is_member members b) (meets side.Cold reach members a) (meets-member side.Cold reach members b a reached))
+      supporting a b reached =
+          let within = reach-within case hot cold a b reached in
+          let of_cold = sym (price-listed own (length cold) b within.1) in
+          let of_hot = sym (price-listed (met side.Cold) (length hot) a within.0) in
+          let met_by = meets-member side.Cold reach members b a reached in
+          subst₂ (λ p q. p ≤ℤ q) of_cold of_hot (one_if-le (is_member members b) (meets side.Cold reach members a) met_by)
   members-at_most side.Hot =
+      let cold_worth = worth-listed network cold_price cold ∙ use-turned network (met side.Hot) cold in
+      let hot_worth = worth-listed network hot_price hot ∙ use-turned network own hot in
+      let hot_prices = listed hot_price (length hot) in
+      let cold_prices = listed cold_price (length cold) in
       at_most_from_minus_turned (use_at network own hot) (use_at network (met side.Hot) cold) rational_zero
-      (subst₂ IsAtMost (worth-listed network (λ b. pos 0 -ℤ met side.Hot b) cold ∙ use-turned network (met side.Hot) cold)
-      (worth-listed network (λ a. pos 0 -ℤ own a) hot ∙ use-turned network own hot) (uses case network hot cold (listed (λ a. pos 0 -ℤ own a) (length hot))
-      (listed (λ b. pos 0 -ℤ met side.Hot b) (length cold)) complete shape valid parts supporting))
+      (subst₂ IsAtMost cold_worth hot_worth
+      (uses case network hot cold hot_prices cold_prices complete shape valid parts supporting))
     where
-      supporting : IsSupporting reach (listed (λ a. pos 0 -ℤ own a) (length hot)) (listed (λ b. pos 0 -ℤ met side.Hot b) (length cold))
-      supporting a b reached = let within = reach-within case hot cold a b reached in
-          let less = one_if-le (is_member members a) (meets side.Hot reach members b) (meets-member side.Hot reach members a b reached) in
-          subst₂ (λ p q. p ≤ℤ q) (sym (price-listed (λ j. pos 0 -ℤ met side.Hot j) (length cold) b within.1))
-          (sym (price-listed (λ i. pos 0 -ℤ own i) (length hot) a within.0)) (omega (arith, ints, less))
+      hot_price : ℕ → ℤ
+      hot_price a = pos 0 -ℤ own a
+
+      cold_price : ℕ → ℤ
+      cold_price b = pos 0 -ℤ met side.Hot b
+
+      supporting : IsSupporting reach (listed hot_price (length hot)) (listed cold_price (length cold))
+      supporting a b reached =
+          let within = reach-within case hot cold a b reached in
+          let met_by = meets-member side.Hot reach members a b reached in
+          let less = one_if-le (is_member members a) (meets side.Hot reach members b) met_by in
+          let at_cold = price-listed cold_price (length cold) b within.1 in
+          let at_hot = price-listed hot_price (length hot) a within.0 in
+          subst₂ (λ p q. p ≤ℤ q) (sym at_cold) (sym at_hot) (omega (arith, ints, less))
 
   used_of : (of : Side) (a : ℕ) (p : Part) → slice_get (parts_of of hot cold) a ≡ Some p → IsUsedWithin network p
   used_of side.Hot = uses-within case network parts.grid side.Hot hot valid parts.hot_parts
@@ -121,8 +150,9 @@ members-within : (parts : List Part) (members : List ℕ) → All (λ i. pos 0 <
 members-within parts members needing k d inside =
     let i = get_or members k d in
     let some = needing k d inside in
-    ⊎_elim (λ within. within) (λ past. let none : least_at parts i ≡ pos 0 = rw (slice_get_past parts i past) refl in absurd (omega (arith, ints, some, none)))
-    (cases_lt i (length parts))
+    ⊎_elim (λ within. within) (λ past.
+    let none : least_at parts i ≡ pos 0 = rw (slice_get_past parts i past) refl in
+    absurd (omega (arith, ints, some, none))) (cases_lt i (length parts))
 
 need-at_most : (network : Network) (parts : List Part) (members : List ℕ)
     → ((a : ℕ) (p : Part) → slice_get parts a ≡ Some p → IsUsedWithin network p)
@@ -142,9 +172,11 @@ need-at_most network parts members used ordered needing =
     need =
         let numbers = range_with_len 0 (length parts) in
         let left = rational_sum_by (left_of least members) numbers in
-        let split =
-        sum_over_used least members (length parts) (λ i j d less inside same. let rises = ordered i j d less inside in omega (arith, rises, same))
-        (members-within parts members needing) in sym (rational_sum_by-whole (least_at parts) (int_sum_by (least_at parts)) refl (λ i is. refl) members)
+        let inside = members-within parts members needing in
+        let split = sum_over_used least members (length parts) (λ i j d less within same.
+        let rises = ordered i j d less within in
+        omega (arith, rises, same)) inside in
+        sym (rational_sum_by-whole (least_at parts) (int_sum_by (least_at parts)) refl (λ i is. refl) members)
         ∙ sym (minus-plus (rational_sum_by least members) left) ∙ ap (λ all. minus all left) (sym split)
         ∙ sym (rational_sum_by-minus least (left_of least members) numbers)
         ∙ sym (sum-enumerate (λ (e : ℕ × Part). taken e.0) taken parts (λ i p at. refl))
@@ -153,10 +185,12 @@ need-at_most network parts members used ordered needing =
         → IsAtMost (taken i) (times (whole (one_if (is_member members i))) (used_heat network p))
     each i p at = by (is_member members i)
       where
-        by : (b : Bool) → IsAtMost (minus (least i) (if b then rational_zero else least i)) (times (whole (one_if b)) (used_heat network p))
+        by : (b : Bool)
+            → IsAtMost (minus (least i) (if b then rational_zero else least i)) (times (whole (one_if b)) (used_heat network p))
         by true =
-            subst₂ IsAtMost (ap (λ o. whole (option_map_or (λ (q : Part). q.least) o (pos 0))) (sym at) ∙ sym (minus-zero (least i)))
-            (sym (times_comm (whole (pos 1)) (used_heat network p) ∙ times-one (used_heat network p))) (used i p at).least
+            let own = ap (λ o. whole (option_map_or (λ (q : Part). q.least) o (pos 0))) (sym at) in
+            let once = times_comm (whole (pos 1)) (used_heat network p) ∙ times-one (used_heat network p) in
+            subst₂ IsAtMost (own ∙ sym (minus-zero (least i))) (sym once) (used i p at).least
         by false = at_most_from_same _ _ (minus-self (least i) ∙ sym (zero-times (used_heat network p)))
 
 offer-at_most : (network : Network) (of : Side) (reach : ℕ → ℕ → Bool) (others : List Part) (members : List ℕ)
@@ -172,7 +206,8 @@ offer-at_most network of reach others members used =
     each : (b : Bool) (p : Part) → IsUsedWithin network p
         → IsAtMost (times (whole (one_if b)) (used_heat network p)) (whole (if b then p.most else pos 0))
     each true p within =
-        subst (λ x. IsAtMost x (whole p.most)) (sym (times_comm (whole (pos 1)) (used_heat network p) ∙ times-one (used_heat network p))) within.most
+        let once = times_comm (whole (pos 1)) (used_heat network p) ∙ times-one (used_heat network p) in
+        subst (λ x. IsAtMost x (whole p.most)) (sym once) within.most
     each false p within = at_most_from_same _ _ (zero-times (used_heat network p))
 
 pub no_cut-stands : UsesAreOrdered → NoCutStands

@@ -1,17 +1,22 @@
 -- No valid network costs less than the value of supporting prices: each part costs at least its value beyond what its use is worth.
-use Rattle.fractions.proofs.Comparisons.{at_most-plus_plus, at_most-ratio, at_most-times_left, at_most-whole, at_most_from_ratio, at_most_refl, at_most_trans}
-use Rattle.fractions.proofs.Comparisons.{times-turned}
-use Rattle.price_floor.proofs.Words.{All-contains, All-head, All-tail, AllPairs, AllPairs-head, AllPairs-tail, AreCaseParts, AreParts, Case, Contains}
-use Rattle.price_floor.proofs.Words.{Contains-cons, IsAtMost, IsInRange, IsPartOf, IsValidNetwork, Network, NoNetworkCostsLess, Part, Rational, Side, Source}
-use Rattle.price_floor.proofs.Words.{UsesAreOrdered, Utility, all_at, at_most-enumerated, by_four, cases_eq, clamps, comes_before, comes_before_source, cost_of}
-use Rattle.price_floor.proofs.Words.{enumerate_from, excess_price, false_from_ne_true, heat_price, heat_with, int_sum_from, ints, least_product, minus, negsuc}
-use Rattle.price_floor.proofs.Words.{one_denominator, own_side, plus, plus-times, plus-zero, pos, price_at, rational_sum_by, rational_sum_by-minus}
-use Rattle.price_floor.proofs.Words.{rational_sum_by-plus, rational_sum_by-same, rational_sum_by-swap, rational_sum_by-zero, rational_zero, same_Some}
-use Rattle.price_floor.proofs.Words.{same_side, same_side-true, same_source, same_source-same, same_source-true, side_value, slice_get_within, sum-enumerated}
-use Rattle.price_floor.proofs.Words.{sum-items, sum-picked, times, times-minus, times_comm, true≢false, use_worth, used_heat, utility_part, value_of, whole}
-use Rattle.price_floor.proofs.Words.{whole-minus, whole-plus, whole-times, worth_of_uses, zero-plus, zero-times, ℤ, ◌*ℤ◌, ◌+ℤ◌, ◌-ℤ◌}
-use Rattle.std.proofs.Common.{All, Bool, List, Some, [], ap, ap₂, arith, false, get_or, if◌then◌else◌, inl, inr, ne_eqb, refl, slice_get, subst, subst₂, suc}
-use Rattle.std.proofs.Common.{sym, true, ℕ, ⊎_elim, ◌+◌, ◌==◌, ◌∙◌, ◌∷◌, ◌≡◌}
+use Rattle.fractions.proofs.Comparisons.{at_most-plus_plus, at_most-ratio, at_most-times_left, at_most-whole}
+use Rattle.fractions.proofs.Comparisons.{at_most_from_ratio, at_most_refl, at_most_trans, times-turned}
+use Rattle.price_floor.proofs.Words.{All-contains, All-head, All-tail, AllPairs, AllPairs-head, AllPairs-tail}
+use Rattle.price_floor.proofs.Words.{AreCaseParts, AreParts, Case, Contains, Contains-cons, IsAtMost, IsInRange}
+use Rattle.price_floor.proofs.Words.{IsPartOf, IsValidNetwork, Network, NoNetworkCostsLess, Part, Rational, Side}
+use Rattle.price_floor.proofs.Words.{Source, UsesAreOrdered, Utility, all_at, at_most-enumerated, by_four, cases_eq}
+use Rattle.price_floor.proofs.Words.{clamps, comes_before, comes_before_source, cost_of, enumerate_from, excess_price}
+use Rattle.price_floor.proofs.Words.{false_from_ne_true, heat_price, heat_with, int_sum_from, ints, least_product}
+use Rattle.price_floor.proofs.Words.{minus, negsuc, one_denominator, own_side, plus, plus-times, plus-zero, pos}
+use Rattle.price_floor.proofs.Words.{price_at, rational_sum_by, rational_sum_by-minus, rational_sum_by-plus}
+use Rattle.price_floor.proofs.Words.{rational_sum_by-same, rational_sum_by-swap, rational_sum_by-zero, rational_zero}
+use Rattle.price_floor.proofs.Words.{same_Some, same_side, same_side-true, same_source, same_source-same}
+use Rattle.price_floor.proofs.Words.{same_source-true, side_value, slice_get_within, sum-enumerated, sum-items}
+use Rattle.price_floor.proofs.Words.{sum-picked, times, times-minus, times_comm, true≢false, use_worth, used_heat}
+use Rattle.price_floor.proofs.Words.{utility_part, value_of, whole, whole-minus, whole-plus, whole-times, worth_of_uses}
+use Rattle.price_floor.proofs.Words.{zero-plus, zero-times, ℤ, ◌*ℤ◌, ◌+ℤ◌, ◌-ℤ◌}
+use Rattle.std.proofs.Common.{All, Bool, List, Some, [], ap, ap₂, arith, false, get_or, if◌then◌else◌, inl, inr, ne_eqb}
+use Rattle.std.proofs.Common.{refl, slice_get, subst, subst₂, suc, sym, true, ℕ, ⊎_elim, ◌+◌, ◌==◌, ◌∙◌, ◌∷◌, ◌≡◌}
 use Rattle.stream_case.specs.declared.source.Side.TheVariants as side
 use Rattle.stream_case.specs.declared.source.Source.TheVariants as source
 
@@ -59,8 +64,9 @@ pub whole-int_sum_from : {X : Type 0} (f : ℕ → X → ℤ) (n : ℕ) (xs : Li
 whole-int_sum_from f n [] = refl
 whole-int_sum_from f n (x ∷ xs) =
     let next : suc n ≡ n + 1 = omega arith in
-    sym (whole-plus (f n x) (int_sum_from f (suc n) xs))
-    ∙ ap (plus (whole (f n x))) (whole-int_sum_from f (suc n) xs ∙ ap (λ k. rational_sum_by (λ p. whole (f p.0 p.1)) (enumerate_from k xs)) next)
+    let rest = whole-int_sum_from f (suc n) xs
+    ∙ ap (λ k. rational_sum_by (λ p. whole (f p.0 p.1)) (enumerate_from k xs)) next in
+    sym (whole-plus (f n x) (int_sum_from f (suc n) xs)) ∙ ap (plus (whole (f n x))) rest
 
 -- what a part is used for costs
 abbrev part_cost : Network → Part → Rational
@@ -87,11 +93,13 @@ excess-sum side.Cold f g xs = rational_sum_by-plus f g xs
 
 side_value-at_most : (network : Network) (on : Side) (parts : List Part) (prices : List ℤ)
     → ((a : ℕ) (p : Part) → slice_get parts a ≡ Some p → IsUsedWithin network p)
-    → IsAtMost (whole (side_value on parts prices)) (excess_rational on (rational_sum_by (part_cost network) parts) (worth_of_uses network prices parts))
+    → IsAtMost (whole (side_value on parts prices))
+    (excess_rational on (rational_sum_by (part_cost network) parts) (worth_of_uses network prices parts))
 unfolding worth_of_uses
 side_value-at_most network on parts prices within =
-    subst₂ IsAtMost (sym (whole-int_sum_from value 0 parts)) split (at_most-enumerated _ _ parts
-    (λ a p at. let used = within a p at in least_product-at_most (excess a p) p.least p.most (used_heat network p) used.least used.most))
+    subst₂ IsAtMost (sym (whole-int_sum_from value 0 parts)) split (at_most-enumerated _ _ parts (λ a p at.
+    let used = within a p at in
+    least_product-at_most (excess a p) p.least p.most (used_heat network p) used.least used.most))
   where
     excess : ℕ → Part → ℤ
     excess a p = excess_price on p.price (price_at prices a)
@@ -100,7 +108,8 @@ side_value-at_most network on parts prices within =
     value a p = least_product (excess a p) p.least p.most
 
     split : rational_sum_by (λ (e : ℕ × Part). times (whole (excess e.0 e.1)) (used_heat network e.1)) (enumerate_from 0 parts)
-        ≡ excess_rational on (rational_sum_by (part_cost network) parts) (rational_sum_by (use_worth network prices) (enumerate_from 0 parts))
+        ≡ excess_rational on (rational_sum_by (part_cost network) parts)
+        (rational_sum_by (use_worth network prices) (enumerate_from 0 parts))
     split = sum-enumerated _ _ parts (λ a p at. excess-times on p.price (price_at prices a) (used_heat network p))
         ∙ excess-sum on (λ (e : ℕ × Part). part_cost network e.1) (use_worth network prices) (enumerate_from 0 parts)
         ∙ ap (λ c. excess_rational on c (rational_sum_by (use_worth network prices) (enumerate_from 0 parts)))
@@ -128,10 +137,13 @@ part_cost-is : (case : Case) (network : Network) (places : List ℤ) (on : Side)
     → IsPartOf case.streams case.utilities places on p
     → part_cost network p ≡ rational_sum_by (own_price network p.source) (enumerate_from 0 case.utilities)
 part_cost-is case network places on p (inl (i, s, is)) =
-    subst (λ (q : Part). part_cost network q ≡ rational_sum_by (own_price network q.source) (enumerate_from 0 case.utilities)) (sym is.is)
-    (zero-times (whole _) ∙ sym (rational_sum_by-zero (own_price network (source.Stream i)) (enumerate_from 0 case.utilities) (λ k d inside. refl)))
+    let us = enumerate_from 0 case.utilities in
+    let nothing = rational_sum_by-zero (own_price network (source.Stream i)) us (λ k d inside. refl) in
+    subst (λ (q : Part). part_cost network q ≡ rational_sum_by (own_price network q.source) us) (sym is.is)
+    (zero-times (whole _) ∙ sym nothing)
 part_cost-is case network places on p (inr (i, u, is)) =
-    subst (λ (q : Part). part_cost network q ≡ rational_sum_by (own_price network q.source) (enumerate_from 0 case.utilities)) (sym is.is)
+    let us = enumerate_from 0 case.utilities in
+    subst (λ (q : Part). part_cost network q ≡ rational_sum_by (own_price network q.source) us) (sym is.is)
     (sym (numbered-one (heat_price network) i case.utilities u is.utility))
 
 not_before_itself : (p : Part) → comes_before p p → ⊥
@@ -229,7 +241,8 @@ both_sides : (network : Network) (e : ℕ × Utility)
 both_sides network e = by e.1.side
   where
     by : (s : Side)
-        → plus (if same_side s side.Hot then heat_price network e else rational_zero) (if same_side s side.Cold then heat_price network e else rational_zero)
+        → plus (if same_side s side.Hot then heat_price network e else rational_zero)
+        (if same_side s side.Cold then heat_price network e else rational_zero)
         ≡ heat_price network e
     by side.Hot = plus-zero (heat_price network e)
     by side.Cold = zero-plus (heat_price network e)
@@ -237,8 +250,11 @@ both_sides network e = by e.1.side
 cost-is : (case : Case) (network : Network) (hot cold : List Part) → AreCaseParts case hot cold
     → plus (rational_sum_by (part_cost network) hot) (rational_sum_by (part_cost network) cold) ≡ cost_of case network
 unfolding cost_of
-cost-is case network hot cold parts = let us = enumerate_from 0 case.utilities in
-    ap₂ plus (side_cost-is case network parts.grid side.Hot hot parts.hot_parts) (side_cost-is case network parts.grid side.Cold cold parts.cold_parts)
+cost-is case network hot cold parts =
+    let us = enumerate_from 0 case.utilities in
+    let hots = side_cost-is case network parts.grid side.Hot hot parts.hot_parts in
+    let colds = side_cost-is case network parts.grid side.Cold cold parts.cold_parts in
+    ap₂ plus hots colds
     ∙ sym (rational_sum_by-plus (side_price network side.Hot) (side_price network side.Cold) us)
     ∙ rational_sum_by-same (λ e. plus (side_price network side.Hot e) (side_price network side.Cold e)) (heat_price network) us
     (λ k d inside. both_sides network (get_or us k d))
@@ -252,15 +268,18 @@ less_on_both = by_four _ (λ n m l k d some h. let x = at_most_from_ratio k l d 
 
 pub no_network-costs_less : UsesAreOrdered → NoNetworkCostsLess
 no_network-costs_less uses case network hot cold y z complete shape valid parts supporting =
-    let given = side_value-at_most network side.Hot hot y (uses-within case network parts.grid side.Hot hot valid parts.hot_parts) in
-    let taken = side_value-at_most network side.Cold cold z (uses-within case network parts.grid side.Cold cold valid parts.cold_parts) in
+    let hot_uses = uses-within case network parts.grid side.Hot hot valid parts.hot_parts in
+    let cold_uses = uses-within case network parts.grid side.Cold cold valid parts.cold_parts in
+    let given = side_value-at_most network side.Hot hot y hot_uses in
+    let taken = side_value-at_most network side.Cold cold z cold_uses in
     let ordered = uses case network hot cold y z complete shape valid parts supporting in
     let hot_cost = rational_sum_by (part_cost network) hot in
     let cold_cost = rational_sum_by (part_cost network) cold in
-    at_most_trans (whole (value_of hot cold y z)) (plus (minus hot_cost (worth_of_uses network y hot)) (plus cold_cost (worth_of_uses network z cold)))
-    (cost_of case network) (subst (λ v. IsAtMost v (plus (minus hot_cost (worth_of_uses network y hot)) (plus cold_cost (worth_of_uses network z cold))))
-    (whole-plus (side_value side.Hot hot y) (side_value side.Cold cold z))
-    (at_most-plus_plus (whole (side_value side.Hot hot y)) (minus hot_cost (worth_of_uses network y hot)) (whole (side_value side.Cold cold z))
-    (plus cold_cost (worth_of_uses network z cold)) given taken))
-    (subst (λ c. IsAtMost (plus (minus hot_cost (worth_of_uses network y hot)) (plus cold_cost (worth_of_uses network z cold))) c)
-    (cost-is case network hot cold parts) (less_on_both hot_cost cold_cost (worth_of_uses network y hot) (worth_of_uses network z cold) ordered))
+    let hot_worth = worth_of_uses network y hot in
+    let cold_worth = worth_of_uses network z cold in
+    let both = plus (minus hot_cost hot_worth) (plus cold_cost cold_worth) in
+    let sides = at_most-plus_plus (whole (side_value side.Hot hot y)) (minus hot_cost hot_worth)
+    (whole (side_value side.Cold cold z)) (plus cold_cost cold_worth) given taken in
+    at_most_trans (whole (value_of hot cold y z)) both (cost_of case network)
+    (subst (λ v. IsAtMost v both) (whole-plus (side_value side.Hot hot y) (side_value side.Cold cold z)) sides)
+    (subst (IsAtMost both) (cost-is case network hot cold parts) (less_on_both hot_cost cold_cost hot_worth cold_worth ordered))

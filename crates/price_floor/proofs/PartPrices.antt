@@ -1,5 +1,5 @@
 -- The step prices that prices of cold parts make.
-use Rattle.std.specs.Prelude.{ℕ, ℤ, Bool, not, ◌&&◌, List, [], ◌∷◌, if◌then◌else◌}
+use Rattle.std.specs.Prelude.{Bool, List, [], if◌then◌else◌, not, ℕ, ℤ, ◌&&◌, ◌∷◌}
 use Rattle.std.specs.Int.{int_max}
 use Rattle.std.specs.List.{enumerate_from}
 use Rattle.stream_case.specs.Case.{is_forbidden}
@@ -11,7 +11,8 @@ use Rattle.stream_case.specs.declared.source.Source.{Source}
 use Rattle.grid.specs.declared.part.Part.{Part}
 use Rattle.grid.specs.Part.{stands_above}
 use Rattle.heat_flow.specs.Prices.{price_at}
-use Rattle.price_floor.specs.Steps.{StepPrices}
+use Rattle.price_floor.specs.Steps.{StepPrices, Tariff}
+use Rattle.price_floor.proofs.PlaceViews.{views_of}
 
 -- the greatest price of the parts that count, and no less than the least price
 abbrev pub greatest_price : ℤ → (Part → Bool) → List ℤ → List (ℕ × Part) → ℤ
@@ -33,3 +34,8 @@ price_steps case least prices cold on s =
       below =
           λ v. greatest_price least (λ p. counts_for case on s p && not (stands_above v.from_itself v.place p)) prices (enumerate_from 0 cold);
     }
+
+-- on the views of a grid
+abbrev pub tariff_of : Case → ℤ → List ℤ → List Part → List ℤ → Tariff
+tariff_of case least prices cold grid =
+    record { least = least; views = views_of grid; prices = price_steps case least prices cold }

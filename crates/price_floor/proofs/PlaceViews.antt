@@ -1,5 +1,5 @@
 -- The views from the places of a grid.
-use Rattle.std.specs.Prelude.{ℤ, true, false, List, [], ◌∷◌}
+use Rattle.std.specs.Prelude.{List, [], false, true, ℤ, ◌∷◌}
 use Rattle.std.specs.List.{flat_map}
 use Rattle.network_values.specs.Heights.{View}
 

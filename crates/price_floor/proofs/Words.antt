@@ -24,7 +24,7 @@ pub use Rattle.heat_flow.specs.Flow.{IsLeastCost}
 pub use Rattle.heat_flow.specs.Prices.{IsSupporting, excess_price, least_product, price_at, side_value, value_of}
 pub use Rattle.heat_flow.specs.Reach.{both_reach, part_reaches, passes_heat, reach_between}
 pub use Rattle.heat_flow.specs.Table.{reaches}
-pub use Rattle.network_audit.proofs.ValidLemmas.{known_network}
+pub use Rattle.network_audit.proofs.VerdictLemmas.{known_network}
 pub use Rattle.network_audit.proofs.HeatLemmas.{part-own, source_on}
 pub use Rattle.network_audit.specs.Balance.{duty_with, heat_price, heat_with}
 unfoldable pub use Rattle.network_audit.specs.Balance.{cost_of, duties_with}
@@ -54,8 +54,8 @@ pub use Rattle.networks.specs.Shape.{HasShape, IsExchanger, IsOfOneStream}
 pub use Rattle.networks.specs.declared.network.Line.{Line}
 pub use Rattle.networks.specs.declared.network.Network.{Network}
 pub use Rattle.price_floor.specs.Floor.{NoCutStands, NoNetworkCostsLess}
-pub use Rattle.price_floor.proofs.PartPrices.{counts_for, greatest_price, price_steps}
-pub use Rattle.price_floor.specs.Steps.{AreAtMost, AreFalling, AreOrderedPrices, FallTo, StepPrices, last_price, rise_worth, step_worth}
+pub use Rattle.price_floor.proofs.PartPrices.{counts_for, greatest_price, price_steps, tariff_of}
+pub use Rattle.price_floor.specs.Steps.{AreAtMost, AreFalling, FallTo, IsOrderedTariff, StepPrices, Tariff, last_price, rise_worth, step_worth}
 unfoldable pub use Rattle.price_floor.specs.Uses.{UsesAreOrdered, use_worth, used_by, used_heat, worth_of_uses}
 pub use Rattle.price_floor.specs.Views.{comes_below}
 pub use Rattle.price_floor.proofs.PlaceViews.{views_of}

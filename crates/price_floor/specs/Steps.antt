@@ -32,11 +32,17 @@ pub record AreAtMost (p q : StepPrices) : Type 0 where
   pub top : p.top ≤ℤ q.top
   pub below : (v : View) → p.below v ≤ℤ q.below v
 
--- step prices for each source, as it gives heat or takes it: where a match is not forbidden the cold source's are
--- nowhere above the hot source's
-pub record AreOrderedPrices (case : Case) (least : ℤ) (views : List View) (prices : Side → Source → StepPrices) : Type 0 where
-  pub falls : (on : Side) (s : Source) → FallTo least views (prices on s)
-  pub ordered : (hot cold : Source) → is_forbidden case.forbids hot cold ≡ false → AreAtMost (prices side.Cold cold) (prices side.Hot hot)
+-- step prices for each source, as it gives heat or takes it, along the same views and down to the same least price
+pub record Tariff : Type 0 where
+  pub least : ℤ
+  pub views : List View
+  pub prices : Side → Source → StepPrices
+
+-- they fall to the least price; where a match is not forbidden the cold source's are nowhere above the hot source's
+pub record IsOrderedTariff (case : Case) (tariff : Tariff) : Type 0 where
+  pub falls : (on : Side) (s : Source) → FallTo tariff.least tariff.views (tariff.prices on s)
+  pub ordered : (hot cold : Source) → is_forbidden case.forbids hot cold ≡ false
+      → AreAtMost (tariff.prices side.Cold cold) (tariff.prices side.Hot hot)
 
 -- ---- what heat is worth
 

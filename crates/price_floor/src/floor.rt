@@ -14,13 +14,14 @@ ghost use Rattle.network_audit.specs.Valid.{IsValidNetwork};
 ghost use Rattle.networks.specs.Shape.{HasShape};
 ghost use Rattle.price_floor.specs.Floor.{IsReachOf};
 
-use grid::{Parts, case_parts};
+use grid::Parts;
 use heat_flow::{Cut, Prices, Reach, is_cut, value_of};
 use network_audit::Auditor;
 use networks::Network;
+use problem_table::targets;
 use std::alloc::{AllocError, Global};
 use stream_case::Case;
-use transport::{Answer, least_case};
+use transport::case_cost;
 
 /// The value of prices that support the heat flows of the case: a cost that no accepted network is
 /// below, in price units times W.
@@ -42,8 +43,8 @@ pub fn floor_of(
     ensures value { result ≡ value_of parts.now.hot parts.now.cold prices.now.hot prices.now.cold }
     ensures floor { IsAtMost (whole result) (cost_of case.now network.now) }
 {
-    // What the auditor knows: the network that it has accepted is valid.
-    let _joints = auditor.joints();
+    // The network that the auditor has accepted is valid.
+    auditor.knows_its_network();
     value_of(parts, prices)
 }
 
@@ -65,7 +66,7 @@ pub fn cut_stands(
         parts.now.hot parts.now.cold cut.now }
     ensures never { result ≡ false }
 {
-    let _joints = auditor.joints();
+    auditor.knows_its_network();
     is_cut(parts, reach, cut)
 }
 
@@ -78,10 +79,9 @@ pub fn cost_floor(alloc: Global, case: &Case, network: &Network) -> Result<i128,
     ensures least { IfOk result (IsLeastCostOf case.now) }
     ensures floor { IfOk result (λ floor. IsAtMost (whole floor) (cost_of case.now network.now)) }
 {
-    let parts = case_parts(alloc, case)?;
-    match least_case(alloc, case, &parts)? {
-        Answer::Least { cost, .. } => Ok(cost),
+    match case_cost(alloc, case, targets(case))? {
+        Ok(cost) => Ok(cost),
         // No cut stands beside a valid network.
-        Answer::Stuck(_) => unreachable!(),
+        Err(_) => unreachable!(),
     }
 }

@@ -9,5 +9,5 @@ mod target;
 
 pub use deficit::{deficit_above, deficit_from, deficit_of};
 pub use pinch::pinches;
-pub use reference::{reference_from, reference_place};
+pub use reference::{Reference, reference_from, reference_of, reference_place};
 pub use target::{Target, targets};

@@ -6,6 +6,15 @@ ghost use Rattle.problem_table.specs.Deficit.{hot_target, IsReferencePlace, Coun
 use crate::target::{hot_target, is_tight, is_tight_over};
 use stream_case::{Case, Stream};
 
+/// Where the heat of a network is watched: heat that goes across this place is lost.
+#[derive(Clone, Copy, Debug, PartialEq, Eq)]
+pub struct Reference {
+    /// The reference place, a shifted temperature in tenths of °C.
+    pub place: i32,
+    /// Whether a latent stream at the place itself counts as above it.
+    pub from_itself: bool,
+}
+
 /// The reference place of the streams of a case: `reference_place_of` of these.
 pub fn reference_place(case: &Case) -> i32
     requires { HasValidStreams case.now.streams }
@@ -24,14 +33,37 @@ pub fn reference_from(case: &Case) -> bool
     reference_from_of(case.streams.as_slice())
 }
 
-/// Whether the deficit above the reference place isn't the hot target, so that a latent stream at
-/// the place itself counts as above it.
+/// The same of streams.
 pub(crate) fn reference_from_of(streams: &[Stream]) -> bool
     requires { HasValidStreams streams.now }
     ensures { (place : ℤ) → IsReferencePlace streams.now place
         → (IsTrue result ↔ CountsFromItself streams.now place) }
 {
+    counts_from_itself(streams, reference_place_of(streams))
+}
+
+/// The reference place of the streams of a case, with whether it counts from itself: the two in one
+/// search.
+pub fn reference_of(case: &Case) -> Reference
+    requires { HasValidStreams case.now.streams }
+    ensures place { IsReferencePlace case.now.streams result.place }
+    ensures from_itself { IsTrue result.from_itself
+        ↔ CountsFromItself case.now.streams result.place }
+{
+    let streams = case.streams.as_slice();
     let place = reference_place_of(streams);
+    let from_itself = counts_from_itself(streams, place);
+    Reference { place, from_itself }
+}
+
+/// Whether the deficit above the reference place isn't the hot target, so that a latent stream at
+/// the place itself counts as above it.
+fn counts_from_itself(streams: &[Stream], place: i32) -> bool
+    requires streams { HasValidStreams streams.now }
+    requires place { IsReferencePlace streams.now place }
+    ensures { (other : ℤ) → IsReferencePlace streams.now other
+        → (IsTrue result ↔ CountsFromItself streams.now other) }
+{
     !is_tight_over(streams, hot_target(streams), false, place)
 }
 

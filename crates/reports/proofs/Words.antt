@@ -33,8 +33,8 @@ unfoldable pub use Rattle.network_text.specs.Printed.{text_of}
 pub use Rattle.network_text.specs.declared.fault.NetWhy.{NetWhy}
 pub use Rattle.networks.specs.declared.network.Network.{Network}
 pub use Rattle.penalties.specs.declared.list.PenaltyList.{PenaltyList}
-pub use Rattle.plants.specs.declared.site.Site.{Site}
-pub use Rattle.plants.specs.declared.table.SiteTable.{SiteTable}
+pub use Rattle.site_text.specs.declared.site.Site.{Site}
+pub use Rattle.site.specs.declared.table.SiteTable.{SiteTable}
 pub use Rattle.problem_table.specs.declared.target.Target.{Target}
 pub use Rattle.reports.specs.Audit.{penalty_line}
 pub use Rattle.reports.specs.Curves.{point_line}
@@ -51,7 +51,7 @@ unfoldable pub use Rattle.reports.specs.Text.{is_of_network, is_refusal, text}
 pub use Rattle.reports.specs.declared.names.SourceNames.{SourceNames}
 pub use Rattle.reports.specs.declared.shown.FileRole.{FileRole}
 pub use Rattle.reports.specs.declared.shown.Shown.{Shown}
-pub use Rattle.site.specs.declared.fault.SiteWhy.{SiteWhy}
+pub use Rattle.site_text.specs.declared.fault.SiteWhy.{SiteWhy}
 pub use Rattle.statements.proofs.PlainStatements.{comment-back, word_plain}
 pub use Rattle.statements.specs.Statements.{IsPlainField, Statement, statement_text}
 unfoldable pub use Rattle.statements.specs.Statements.{fields_text, is_statement, statements_of}
@@ -75,8 +75,8 @@ pub use Rattle.stream_case.specs.declared.source.Source.{Source}
 pub use Rattle.stream_case.specs.declared.stream.Stream.{Stream}
 pub use Rattle.stream_case.specs.declared.utility.Utility.{Utility}
 pub use Rattle.study.specs.declared.row.SweepRow.{SweepRow}
-pub use Rattle.study.specs.declared.study_fault.StudyWhy.{StudyWhy}
-pub use Rattle.study.specs.declared.study_item.Study.{Study}
-pub use Rattle.study.specs.declared.study_item.StudyAnswer.{StudyAnswer}
-pub use Rattle.study.specs.declared.study_item.StudyItem.{StudyItem}
+pub use Rattle.study_text.specs.declared.fault.StudyWhy.{StudyWhy}
+pub use Rattle.study_text.specs.declared.study.Study.{Study}
+pub use Rattle.study.specs.declared.study_answer.StudyAnswer.{StudyAnswer}
+pub use Rattle.study_text.specs.declared.study.StudyItem.{StudyItem}
 pub use Rattle.transport.specs.declared.answer.Answer.{Answer}

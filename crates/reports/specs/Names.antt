@@ -5,7 +5,7 @@ use Rattle.stream_case.specs.declared.case.Case.{Case}
 use Rattle.stream_case.specs.declared.source.Source.{Source}
 use Rattle.stream_case.specs.declared.source.Source.TheVariants.{Stream as of_stream, Utility as of_utility}
 use Rattle.stream_case.specs.declared.stream.Stream.{Stream}
-use Rattle.plants.specs.declared.site.Site.{Site}
+use Rattle.site_text.specs.declared.site.Site.{Site}
 use Rattle.reports.specs.declared.names.SourceNames.{SourceNames}
 
 -- the name of a source; nothing where there is no such source

@@ -4,12 +4,12 @@ use Rattle.std.specs.List.{flat_map}
 use Rattle.std.specs.Fmt.{signed_decimal}
 use Rattle.stream_case.specs.declared.case.Case.{Case}
 use Rattle.stream_case.specs.declared.source.Source.TheVariants.{Utility as of_utility}
-use Rattle.study.specs.declared.study_item.Segment.{Segment}
-use Rattle.study.specs.declared.study_item.Study.{Study}
-use Rattle.study.specs.declared.study_item.StudyAnswer.{StudyAnswer}
-use Rattle.study.specs.declared.study_item.StudyAnswer.TheVariants.{Cost, Segments}
-use Rattle.study.specs.declared.study_item.StudyItem.{StudyItem}
-use Rattle.study.specs.declared.study_item.StudyItem.TheVariants.{Scenario, Span}
+use Rattle.study.specs.declared.study_answer.Segment.{Segment}
+use Rattle.study_text.specs.declared.study.Study.{Study}
+use Rattle.study.specs.declared.study_answer.StudyAnswer.{StudyAnswer}
+use Rattle.study.specs.declared.study_answer.StudyAnswer.TheVariants.{Cost, Segments}
+use Rattle.study_text.specs.declared.study.StudyItem.{StudyItem}
+use Rattle.study_text.specs.declared.study.StudyItem.TheVariants.{Scenario, Span}
 use Rattle.reports.specs.Lines.{cost_line, infeasible_line, line}
 use Rattle.reports.specs.Names.{case_names, source_name}
 use Rattle.reports.specs.declared.names.SourceNames.{SourceNames}

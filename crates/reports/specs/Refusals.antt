@@ -7,10 +7,10 @@ use Rattle.certify.specs.declared.fault.ReportWhy.{ReportWhy}
 use Rattle.certify.specs.declared.fault.ReportWhy.TheVariants as report
 use Rattle.network_text.specs.declared.fault.NetWhy.{NetWhy}
 use Rattle.network_text.specs.declared.fault.NetWhy.TheVariants as net
-use Rattle.site.specs.declared.fault.SiteWhy.{SiteWhy}
-use Rattle.site.specs.declared.fault.SiteWhy.TheVariants as site
-use Rattle.study.specs.declared.study_fault.StudyWhy.{StudyWhy}
-use Rattle.study.specs.declared.study_fault.StudyWhy.TheVariants as study
+use Rattle.site_text.specs.declared.fault.SiteWhy.{SiteWhy}
+use Rattle.site_text.specs.declared.fault.SiteWhy.TheVariants as site
+use Rattle.study_text.specs.declared.fault.StudyWhy.{StudyWhy}
+use Rattle.study_text.specs.declared.fault.StudyWhy.TheVariants as study
 use Rattle.reports.specs.declared.shown.FileRole.{FileRole}
 use Rattle.reports.specs.declared.shown.FileRole.TheVariants.{Case, Network, Site, Report, Study}
 

@@ -5,8 +5,8 @@ use Rattle.stream_case.specs.declared.source.Side.TheVariants.{Hot, Cold}
 use Rattle.grid.specs.declared.parts.Parts.{Parts}
 use Rattle.heat_flow.specs.declared.flow.Transfer.{Transfer}
 use Rattle.heat_flow.specs.declared.prices.Prices.{Prices}
-use Rattle.plants.specs.declared.site.Site.{Site}
-use Rattle.plants.specs.declared.table.SiteTable.{SiteTable}
+use Rattle.site_text.specs.declared.site.Site.{Site}
+use Rattle.site.specs.declared.table.SiteTable.{SiteTable}
 use Rattle.transport.specs.declared.answer.Answer.{Answer}
 use Rattle.transport.specs.declared.answer.Answer.TheVariants.{Least, Stuck}
 use Rattle.reports.specs.Cut.{stuck_text}

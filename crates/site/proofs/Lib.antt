@@ -1,8 +1,5 @@
-pub mod Plants
-pub mod Tests
-pub mod Accepted
-pub mod PrintedRows
-pub mod PrintedSite
 pub mod TargetLemmas
-pub mod PrintedText
+pub mod PlaceLemmas
+pub mod ReachLemmas
+pub mod ProfileLemmas
 pub mod Words

@@ -2,7 +2,7 @@
 use Rattle.site.proofs.Words.{Answer, AreParts, AreParts-made, AreSiteParts, Cold, Contains, Hot, IsAnswer, IsSiteGrid, IsSiteTable, IsSiteTarget, IsValidSite}
 use Rattle.site.proofs.Words.{ListsFalling-unique, MOST_MAINS, MOST_PAIRS, MOST_SIDE_STREAMS, Part, Side, Site, SiteTable, count_on-add, fun_ext}
 use Rattle.site.proofs.Words.{length-le_falling, length-made, made_parts, mul-le-mul, reach_between, reaches, site_places, site_utilities, streams_of, ℤ}
-use Rattle.plants.proofs.PlaceLemmas.{HoldsPlaces-grid, length-site_places}
+use Rattle.site.proofs.PlaceLemmas.{HoldsPlaces-grid, length-site_places}
 use Rattle.std.proofs.Common.{Err, IfOk, List, Ok, Result, ap, arith, length, subst, subst₂, sym, ℕ, ◌*◌, ◌+◌, ◌∙◌, ◌≡◌, ◌≤◌}
 
 abbrev most_places : ℕ

@@ -1,63 +1,51 @@
 -- The words and lemmas from elsewhere that the proofs of this crate speak in, passed on from one place. Declares nothing.
-pub use Rattle.first_fault.proofs.CheckLemmas.{Passes, none_fails}
-pub use Rattle.first_fault.proofs.OneOutcome.{fault_or_value, no_value, one_fault, one_value}
-pub use Rattle.first_fault.proofs.Reading.{Reads, fault_here, one_more}
-pub use Rattle.first_fault.proofs.Steps.{Follows, Give, IsKept, all_give, given_has, nothing_gives, one_more_gives}
-pub use Rattle.first_fault.specs.Outcome.{given_by}
-pub use Rattle.grid.proofs.MakingLemmas.{AreParts-made}
-pub use Rattle.grid.proofs.SizeLemmas.{length-made}
-pub use Rattle.grid.proofs.Words.{AreParts, ListsFalling-unique, made_parts, mul-le-mul, own_side}
+pub use Rattle.grid.proofs.Words.{*ℤ--ℤ, All, All-cons, All-nil, All-weaker, AreStreams, Contains, Contains-cons, HoldsPlaces, IsPlaced, IsSensible}
+pub use Rattle.grid.proofs.Words.{IsValidStream, ListsFalling, append-nil, cases_lt, clamps, filter, get_or-map, heat_over-sensible, high_end, if◌then◌else◌}
+pub use Rattle.grid.proofs.Words.{int_max, int_sum_by, int_sum_by-same, ints, length-AreStreams, length-append, length-le_falling, length-map}
+pub use Rattle.grid.proofs.Words.{length-stream_ends, length_above, low_end, pos, same_side, shifted_level, slice_get-get_or, stream_ends, take_more, to_z-of_z}
+pub use Rattle.grid.proofs.Words.{ℤ, ◌*ℤ◌, ◌+ℤ◌, ◌-ℤ◌, ◌<ℤ◌, ◌≤ℤ◌}
 pub use Rattle.grid.specs.declared.part.Part.{Part}
-pub use Rattle.heat_flow.specs.Table.{reaches}
-pub use Rattle.plants.proofs.SiteLemmas.{All-plants, streams_of-more}
-pub use Rattle.plants.proofs.Words.{Contains, IsSiteGrid, IsValidSite, count_on-append, flat_map, flat_map-append, length-le_falling, list_any, reach_between}
-pub use Rattle.plants.proofs.Words.{site_places, site_utilities, streams_of}
-pub use Rattle.plants.specs.Site.{AreDistinct, ArePlants, IsUnreserved}
-pub use Rattle.plants.specs.SiteTable.{IsSiteTable}
-pub use Rattle.plants.specs.declared.limits.TheConstants.{MOST_PLANTS, MOST_SIDE_STREAMS}
-pub use Rattle.plants.specs.declared.site.Main.{Main}
-pub use Rattle.plants.specs.declared.site.Plant.{Plant}
-pub use Rattle.plants.specs.declared.site.Site.{Site}
-pub use Rattle.plants.specs.declared.table.SiteTable.{SiteTable}
-pub use Rattle.rows.proofs.PrintedNumbers.{contribution, flow_rate, number_read, temperature}
-pub use Rattle.rows.proofs.Seams.{All-seam, AllPairs-seam, length-seam}
-pub use Rattle.rows.proofs.Tests.{Decides-neither, Decides-none, passed-room, passed-within, room-passes, within-passes}
-pub use Rattle.rows.proofs.Words.{All-back, Decides-is_right_way, contribution_row, passed-name, stream_kind, stream_row}
-unfoldable pub use Rattle.rows.proofs.Words.{rows_of}
-pub use Rattle.rows.specs.Rows.{Row}
-pub use Rattle.rows.specs.Text.{rows_text}
-pub use Rattle.rows.specs.declared.fault.RowFault.{RowFault}
-pub use Rattle.site.specs.Answers.{HaveFewStreams}
-unfoldable pub use Rattle.site.specs.Checks.{end_checks, is_among, is_reserved}
-pub use Rattle.site.specs.Given.{Given, entry_by, main_in, nothing, plant_with, site_of, stream_in, with_entry, with_stream}
-pub use Rattle.stream_case.specs.Stream.{stream_with}
-unfoldable pub use Rattle.site.specs.Given.{kind_of}
-pub use Rattle.site.specs.Outcome.{IsOutcome, IsSite, end_fault, grammar}
-unfoldable pub use Rattle.site.specs.Printed.{main_row, plant_row, plant_rows, printed_rows}
-pub use Rattle.site.specs.Target.{AreSiteParts, IsSiteTarget}
-pub use Rattle.site.specs.declared.fault.SiteWhy.{SiteWhy}
-pub use Rattle.site.specs.declared.kind.Kind.{Kind}
-pub use Rattle.std.proofs.Math.ListN.{set}
-pub use Rattle.std.proofs.Math.Seq.{append_snoc}
-pub use Rattle.std.proofs.lemmas.List.{take-append-drop}
-pub use Rattle.std.proofs.lemmas.List.Elements.{All-push}
-pub use Rattle.std.proofs.lemmas.List.Folds.{list_any-append}
-pub use Rattle.std.proofs.lemmas.List.Sums.{sum_by_push}
-pub use Rattle.std.proofs.lemmas.Simd.{map-map}
-pub use Rattle.std.specs.Prelude.{vec_len}
-pub use Rattle.stream_case.proofs.CaseLemmas.{count_on-add}
-pub use Rattle.stream_case.proofs.NameTests.{name-passes}
-pub use Rattle.stream_case.proofs.Words.{All, All-append, All-cons, All-head, All-map, All-nil, All-tail, All-weaker, Decides-like, IsContribution, IsName}
-pub use Rattle.stream_case.proofs.Words.{IsSensible, IsTemperature, IsValidStream, all_pairs_push, append-nil, bytes_eq, codes, count_on, false≢true}
-pub use Rattle.stream_case.proofs.Words.{length-map, map-append, nat_tests, same_side, sum_by-append, sum_by-cons, ℤ}
-unfoldable pub use Rattle.stream_case.proofs.Words.{is_name}
-pub use Rattle.stream_case.specs.declared.limits.TheConstants.{MOST_MAINS}
+pub use Rattle.heat_flow.proofs.Blanks.{blank}
+pub use Rattle.heat_flow.proofs.Words.{get_or-flat_map, get_or_default, int_sum_by-more, length-take-le, list_any, nat_lt, nat_tests, negsuc, slice_get_past}
+pub use Rattle.heat_flow.proofs.Words.{take_all}
+pub use Rattle.site.specs.Directions.{IsPlantHeat, excess, is_beyond, plant_profile, raised}
+pub use Rattle.site.specs.Profiles.{heat_below, length_below, surplus_below}
+pub use Rattle.site.specs.Reach.{part_reaches, passes_through, plants_from, reach_between, reaches_within, stream_plants}
+pub use Rattle.site_text.specs.Site.{ArePlantStreams, IsValidSite, streams_of}
+pub use Rattle.site.specs.Table.{IsSiteGrid, boiler, cooling, gives_at, main_places, site_places, site_utilities, takes_at}
+pub use Rattle.site.specs.declared.profiles.Direction.{Direction}
+pub use Rattle.site_text.specs.declared.site.Main.{Main}
+pub use Rattle.site_text.specs.declared.site.Plant.{Plant}
+pub use Rattle.site_text.specs.declared.site.Site.{Site}
+pub use Rattle.problem_table.proofs.DeficitLemmas.{deficit_above-lowest}
+pub use Rattle.problem_table.proofs.EndLemmas.{IsOutermost-outermost}
+pub use Rattle.problem_table.proofs.Words.{All-take, AreEnds-IsValidStream, AreSensible, deficit_above, fold-append, heat_of, stream_ends-more, sum_side}
+pub use Rattle.std.proofs.lemmas.List.Concat.{flat_map-append}
+pub use Rattle.std.specs.Int.{int_min}
+pub use Rattle.std.specs.List.{flat_map}
+pub use Rattle.std.specs.Prelude.{fold, unsigned_abs}
+pub use Rattle.stream_case.proofs.CaseLemmas.{count_on-append}
+pub use Rattle.stream_case.proofs.EndLemmas.{stream_ends-append, stream_ends-between}
+pub use Rattle.stream_case.proofs.HeatLemmas.{heat_of-sensible}
+pub use Rattle.stream_case.proofs.Words.{All-drop, IsContribution, IsShifted, IsTemperature}
+pub use Rattle.stream_case.specs.Case.{greatest, least}
+pub use Rattle.stream_case.specs.Stream.{count_on, heat_above}
+pub use Rattle.stream_case.specs.declared.limits.TheConstants.{ALL_STREAMS_HEAT, MOST_PLACES}
 pub use Rattle.stream_case.specs.declared.source.Side.{Side}
 pub use Rattle.stream_case.specs.declared.source.Side.TheVariants.{Cold, Hot}
 pub use Rattle.stream_case.specs.declared.stream.Stream.{Stream}
-pub use Rattle.sums.proofs.CountLemmas.{count_by-map}
-pub use Rattle.sums.proofs.ListLemmas.{All-from_map}
+pub use Rattle.sums.proofs.SumLemmas.{int_sum_by-sub}
+pub use Rattle.grid.proofs.MakingLemmas.{AreParts-made}
+pub use Rattle.grid.proofs.SizeLemmas.{length-made}
+pub use Rattle.grid.proofs.Words.{AreParts, ListsFalling-unique, made_parts, mul-le-mul}
+pub use Rattle.heat_flow.specs.Table.{reaches}
+pub use mathlib.Core.Path.{fun_ext}
+pub use Rattle.site.specs.SiteTable.{IsSiteTable}
+pub use Rattle.site.specs.Target.{AreSiteParts, IsSiteTarget}
+pub use Rattle.site.specs.declared.table.SiteTable.{SiteTable}
+pub use Rattle.site_text.specs.declared.limits.TheConstants.{MOST_SIDE_STREAMS}
+pub use Rattle.stream_case.proofs.CaseLemmas.{count_on-add}
+pub use Rattle.stream_case.specs.declared.limits.TheConstants.{MOST_MAINS}
 pub use Rattle.transport.specs.Answer.{IsAnswer}
 pub use Rattle.transport.specs.declared.answer.Answer.{Answer}
 pub use Rattle.transport.specs.declared.least_cost.TheConstants.{MOST_PAIRS}
-pub use mathlib.Core.Path.{fun_ext}

@@ -1,6 +1,6 @@
-pub mod Given
-pub mod Checks
-pub mod Outcome
-pub mod Answers
-pub mod Printed
+pub mod Table
+pub mod Reach
+pub mod Profiles
+pub mod Directions
+pub mod SiteTable
 pub mod Target

@@ -5,10 +5,10 @@ use Rattle.grid.specs.Part.{AreParts}
 use Rattle.grid.specs.declared.part.Part.{Part}
 use Rattle.transport.specs.Answer.{IsAnswer}
 use Rattle.transport.specs.declared.answer.Answer.{Answer}
-use Rattle.plants.specs.Reach.{reach_between}
-use Rattle.plants.specs.Site.{streams_of}
-use Rattle.plants.specs.Table.{IsSiteGrid, site_utilities}
-use Rattle.plants.specs.declared.site.Site.{Site}
+use Rattle.site.specs.Reach.{reach_between}
+use Rattle.site_text.specs.Site.{streams_of}
+use Rattle.site.specs.Table.{IsSiteGrid, site_utilities}
+use Rattle.site_text.specs.declared.site.Site.{Site}
 
 -- the hot and the cold parts of a site on its grid
 pub record AreSiteParts (site : Site) (hot cold : List Part) : Type 0 where

@@ -3,14 +3,15 @@ ghost use Rattle.std.specs.Prelude.{List, IfOk};
 ghost use Rattle.grid.specs.declared.part.Part.{Part};
 ghost use Rattle.heat_flow.specs.Cuts.{HasNoFlow};
 ghost use Rattle.heat_flow.specs.Flow.{IsLeastCost};
-ghost use Rattle.plants.specs.Reach.{reach_between};
-ghost use Rattle.plants.specs.Site.{IsValidSite};
-ghost use Rattle.plants.specs.SiteTable.{IsSiteTable};
+ghost use Rattle.site.specs.Reach.{reach_between};
+ghost use Rattle.site_text.specs.Site.{IsValidSite};
+ghost use Rattle.site.specs.SiteTable.{IsSiteTable};
 ghost use Rattle.site.specs.Target.{AreSiteParts, IsSiteTarget};
 ghost use Rattle.transport.specs.Answer.{IfLeast, IfStuck};
 ghost use Rattle.heat_flow.specs.Certificate.{IsCertified, IsCutOf};
 
-use plants::{Site, SiteTable, site_parts};
+use crate::table::{SiteTable, site_parts};
+use site_text::Site;
 use std::alloc::{AllocError, Global};
 use transport::{Answer, least};
 

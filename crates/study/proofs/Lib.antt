@@ -1,7 +1,11 @@
+pub mod CostLines
+pub mod LeastCosts
+pub mod LineBounds
 pub mod NoCut
+pub mod OneAnswerList
 pub mod PartBounds
+pub mod PricedFlows
 pub mod SampleLemmas
-pub mod SpanLemmas
-pub mod StudyAccepted
+pub mod SegmentLemmas
 pub mod SweepLemmas
 pub mod Words

@@ -1,7 +1,8 @@
--- What some of the parts of a side have to have in all is no more than what all have to have; from it, that a case of standard utilities has no cut.
+-- A case that has a heat flow whatever its streams are: what some of the parts of a side have to have in all is no more than what all have to
+-- have, and the standard utilities have more.
 use Rattle.study.proofs.Words.{ALL_STREAMS_HEAT, All, All-drop, All-head, All-nil, All-weaker, AllPairs, AllPairs-head, AllPairs-nil, AllPairs-tail, one_times}
 use Rattle.study.proofs.Words.{AreCaseParts, AreParts, AreStandardParts, AreStandardParts-parts, Case, Cold, Forbid, Hot, IsComplete, IsCut, IsStandard}
-use Rattle.study.proofs.Words.{IsStandardPart, IsSupplied, IsUtilityHere, IsValid, Part, Side, Source, and_from, and_left, and_right, blank, both_reach}
+use Rattle.study.proofs.Words.{IsStandardPart, IsUtilityHere, IsValid, Part, Side, Source, and_from, and_left, and_right, blank, both_reach}
 use Rattle.study.proofs.Words.{both_ways, cases_eq, cases_lt, end_of, eq-eqb, heat_over, heat_over-between, if_between, if◌then◌else◌, int_eq, int_le-from}
 use Rattle.study.proofs.Words.{int_sum_by, int_sum_by-le, int_sum_by-not_negative, int_sum_from-le_each, int_sum_from-single, int_sum_from-zero, ints}
 use Rattle.study.proofs.Words.{is_forbidden, is_stream, joins, least_at, length-AreStreams, list_any_at, list_any_none, meets, ne_eqb, need_of, offer_of}
@@ -11,8 +12,21 @@ use Rattle.study.proofs.Words.{utility_part, ℤ, ◌+ℤ◌, ◌<ℤ◌, ◌==�
 use Rattle.std.proofs.Common.{Bool, List, Some, [], ap, ap₂, arith, drop, false, get_or, inr, length, not, refl, suc, sym, true, zero, ℕ, ⊎_elim, ◌&&◌, ◌<◌}
 use Rattle.std.proofs.Common.{◌||◌, ◌∙◌, ◌∷◌, ◌≡◌, ◌≢◌, ◌≤◌}
 use Rattle.std.specs.Option.{option_map_or}
+use Rattle.std.specs.Prelude.{IsTrue, ◌⊎◌}
 use Rattle.corner_flow.proofs.HeatLemmas.{above, from_place, from_stream, from_utility, is_reached}
 use Rattle.stream_case.specs.declared.source.Source.TheVariants.{Stream as of_stream, Utility as of_utility}
+
+-- it joins two streams
+abbrev pub JoinsStreams : Forbid → Type 0
+JoinsStreams f = IsTrue (is_stream f.hot) × IsTrue (is_stream f.cold)
+
+-- the utilities are just the two standard ones, and no forbidden match has one of them: `HOT` may heat each cold part, and `COLD` may cool
+-- each hot one
+pub record IsSupplied (c : Case) : Type 0 where
+  pub utilities :
+      (c.utilities ≡ standard_utility Hot c ∷ standard_utility Cold c ∷ [])
+      ⊎ (c.utilities ≡ standard_utility Cold c ∷ standard_utility Hot c ∷ [])
+  pub joins_streams : All JoinsStreams c.forbids
 
 -- a part that has to have some heat is there
 pub part_at : (parts : List Part) (i : ℕ) → pos 0 <ℤ least_at parts i → (p : Part) × (slice_get parts i ≡ Some p)
@@ -54,7 +68,8 @@ module _ (parts : List Part) (not_negative : All (λ p. pos 0 ≤ℤ p.least) pa
       int_sum_by-not_negative (λ p. p.least) (drop n parts) (All-drop (λ p. pos 0 ≤ℤ p.least) n parts not_negative)
   need-from n (m ∷ members) late ordered =
       let behind = AllPairs-head (λ i j. i < j) m members ordered in
-      let rest = need-from (suc m) members (All-weaker (λ i. m < i) (λ i. suc m ≤ i) (λ i less. omega (arith, less)) members behind)
+      let rest =
+      need-from (suc m) members (All-weaker (λ i. m < i) (λ i. suc m ≤ i) (λ i less. omega (arith, less)) members behind)
       (AllPairs-tail (λ i j. i < j) m members ordered) in
       let step = least_from-step parts m in
       let falls = least_from-falls n m (All-head (λ i. n ≤ i) m members late) in
@@ -107,7 +122,8 @@ offer-at_least side reach others members u p not_negative at met =
     let single = int_sum_from-single (λ j q. if j == u then p.most else pos 0) u 0 others p (omega arith) (omega (arith, within))
     (λ j q other. ap (λ b. if b then p.most else pos 0) (ne_eqb j u other)) in
     let own = ap (λ b. if b then p.most else pos 0) (eq-eqb u u refl) in
-    let each = int_sum_from-le_each (λ j q. if j == u then p.most else pos 0) (λ j q. if meets side reach members j then q.most else pos 0) others (λ j q other.
+    let each = int_sum_from-le_each (λ j q. if j == u then p.most else pos 0)
+    (λ j q. if meets side reach members j then q.most else pos 0) others (λ j q other.
     ⊎_elim (λ same.
     let left = ap (λ b. if b then p.most else pos 0) (eq-eqb j u same) in
     let right = ap (λ b. if b then q.most else pos 0) (ap (meets side reach members) same ∙ met) in
@@ -225,16 +241,18 @@ module _ (c : Case) (hot cold : List Part) (complete : IsComplete c) (supplied :
   pub no_cut : (side : Side) (members : List ℕ) → IsCut side (reach_between c hot cold) hot cold members → ⊥
   no_cut side [] cut =
       let short = cut.short in
-      let none =
-      int_sum_from-zero (λ j p. if meets side (reach_between c hot cold) [] j then p.most else pos 0) 0 (parts_of (opposite side) hot cold) (λ j p le. refl) in
+      let others = parts_of (opposite side) hot cold in
+      let none = int_sum_from-zero (λ j p. if meets side (reach_between c hot cold) [] j then p.most else pos 0) 0 others (λ j p le. refl) in
       omega (arith, ints)
   no_cut side (m ∷ members) cut =
       let reach = reach_between c hot cold in
       let mine = parts_of side hot cold in
       let (u, p, other, utility) = own_utility (opposite side) in
       let (q, at) = part_at mine m (All-head (λ i. pos 0 <ℤ least_at mine i) m members cut.needing) in
-      let met = list_any_at (λ i. joins side reach i u) (m ∷ members) 0 m (omega arith) (joins_utility side m u q p at other utility) in
-      let offer = offer-at_least side reach (parts_of (opposite side) hot cold) (m ∷ members) u p (mosts-not_negative (opposite side)) other met in
+      let joined = joins_utility side m u q p at other utility in
+      let met = list_any_at (λ i. joins side reach i u) (m ∷ members) 0 m (omega arith) joined in
+      let others = parts_of (opposite side) hot cold in
+      let offer = offer-at_least side reach others (m ∷ members) u p (mosts-not_negative (opposite side)) other met in
       let most = (utility_here (opposite side) u p other utility).most in
       let need = need-at_most mine (leasts-not_negative side) (m ∷ members) cut.ordered in
       let heat = leasts-at_most side in

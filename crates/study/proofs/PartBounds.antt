@@ -1,8 +1,9 @@
 -- How large the cost of a heat flow can be, and what parts keep where they are priced anew.
 use Rattle.study.proofs.Words.{All, All-cons, All-head, All-nil, All-set, All-slice_get, All-tail, AreOnGrid, Bool, Case, Cold, Hot, IsBounded, IsComplete}
-use Rattle.study.proofs.Words.{IsCost, IsLeastCost, IsOnPlaces, IsPlaced, IsPlaced-IsComplete, IsPrice, IsWithin, KeepsRanges, MOST_PARTS, Part, Side, Source}
+use Rattle.study.proofs.Words.{IsCost, IsLeastCost, IsOnPlaces, IsPrice, IsWithin, KeepsRanges, MOST_PARTS, Part, Side, Source}
 use Rattle.study.proofs.Words.{Transfer, Utility, case_prices, cases_lt, get_or_past, heat_at, int_sum_from, ints, pos, price_of, priced, priced_part}
 use Rattle.study.proofs.Words.{prices_with, product_within, side_cost, ℤ, ◌*ℤ◌}
+use Rattle.study_text.proofs.Accepted.{case_prices-within}
 use Rattle.std.proofs.Common.{List, Some, [], add-zero, ap, arith, length, map, refl, slice_get, subst, suc, sym, zero-add, ℕ, ⊎_elim, ◌*◌, ◌+◌, ◌∙◌, ◌∷◌, ◌≡◌}
 use Rattle.std.proofs.Common.{◌≤◌}
 use Rattle.stream_case.specs.declared.source.Source.TheVariants.{Stream as of_stream, Utility as of_utility}
@@ -29,7 +30,8 @@ side_within side parts ts bounded ranges =
     let heat = ranges a p at in
     let from = heat.from in
     let upto = heat.upto in
-    let bound = product_within p.price (heat_at side ts a) 1000000 1000000000000 own.price.from own.price.upto (omega (arith, ints)) (omega (arith, ints)) in
+    let bound = product_within p.price (heat_at side ts a) 1000000 1000000000000 own.price.from own.price.upto
+    (omega (arith, ints)) (omega (arith, ints)) in
     let within : IsWithin (pos (1000000 * 1000000000000)) (p.price *ℤ heat_at side ts a)
     = record { from = bound.0; upto = bound.1 } in
     rw zero-add within)
@@ -67,14 +69,6 @@ bounded-priced prices all parts h = all_priced IsBounded prices (λ p b. record 
 }) parts h
 
 -- ---- the prices of a case, with another price of one utility
-
-prices_of : (us : List Utility) → All IsPlaced us → All IsPrice (map (λ u. u.price) us)
-prices_of [] h = All-nil IsPrice
-prices_of (u ∷ us) h =
-    All-cons IsPrice u.price (map (λ v. v.price) us) (All-head IsPlaced u us h).price (prices_of us (All-tail IsPlaced u us h))
-
-pub case_prices-within : (c : Case) → IsComplete c → All IsPrice (case_prices c)
-case_prices-within c complete = prices_of c.utilities (IsPlaced-IsComplete c complete)
 
 pub prices-within : (c : Case) → IsComplete c → (i : ℕ) (p : ℤ) → IsPrice p → All IsPrice (prices_with c i p)
 prices-within c complete i p is = All-set IsPrice (case_prices c) i p is (case_prices-within c complete)

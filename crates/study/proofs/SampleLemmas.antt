@@ -1,20 +1,24 @@
 -- Samples: the states of the generator, the names of streams, that a sample is a valid case, and that it has one row.
-use Rattle.study.proofs.Words.{All, All-append, All-filter, All-from_get_or, All-map, All-nil, All-weaker, AllPairs, AllPairs-append, AllPairs-filter}
-use Rattle.study.proofs.Words.{AllPairs-map, Cold, FORBID_CHANCE, Forbid, HIGHEST_TEMPERATURE, HasValidStreams, Hot, IsComplete, IsInRange, IsName}
-use Rattle.study.proofs.Words.{IsRightlyNamed, IsSupplied, IsTemperature, IsTrue, IsUnreserved, IsValid, IsValidForbid, IsValidStream, JoinsStreams}
-use Rattle.study.proofs.Words.{MOST_SAMPLE_STREAMS, OneSampleRow, SampleRow, Side, Stream, append-nil, append_assoc, codes, completed_sample, count_by}
-use Rattle.study.proofs.Words.{count_by-le-length, count_by-map, count_on, decimal, draw, drawn_high, drawn_low, drawn_stream, drawn_streams, filter}
-use Rattle.study.proofs.Words.{filter-append, get_or-append-add, ints, is_ascii_alphanumeric, is_in_range, is_name_byte, least_temperature, length-append}
-use Rattle.study.proofs.Words.{length-filter, length-map, map-append, nat_tests, next_state, numerals_by_value, option_map, pair_of, pos, range_with_len}
-use Rattle.study.proofs.Words.{range_with_len-append, same_side, sample, side_of, slice_get, slice_get-append, slice_get-get_or, state_after, stream_name}
-use Rattle.study.proofs.Words.{sum_by-append, tells_by_index, ◌==◌}
-use Rattle.std.proofs.Common.{Bool, List, Some, [], ap, arith, cond, false, get_or, inl, length, map, refl, subst, suc, sym, true, zero, ℕ, ◌%◌, ◌*◌, ◌++◌, ◌+◌}
-use Rattle.std.proofs.Common.{◌<◌, ◌^◌, ◌∙◌, ◌∷◌, ◌≡◌, ◌≢◌, ◌≤◌}
+use Rattle.study.proofs.Words.{All, All-append, All-filter, All-from_get_or, All-map, All-nil, All-weaker, AllPairs}
+use Rattle.study.proofs.Words.{AllPairs-append, AllPairs-filter, AllPairs-map, Cold, FORBID_CHANCE, Forbid}
+use Rattle.study.proofs.Words.{HIGHEST_TEMPERATURE, HasValidStreams, Hot, IsComplete, IsInRange, IsName, IsRightlyNamed}
+use Rattle.study.proofs.Words.{IsTemperature, IsTrue, IsUnreserved, IsValid, IsValidForbid, IsValidStream}
+use Rattle.study.proofs.Words.{MOST_SAMPLE_STREAMS, OneSampleRow, SampleRow, Side, Stream, append-nil, append_assoc}
+use Rattle.study.proofs.Words.{codes, completed_sample, count_by, count_by-le-length, count_by-map, count_on, decimal}
+use Rattle.study.proofs.Words.{draw, drawn_high, drawn_low, drawn_stream, drawn_streams, filter, filter-append}
+use Rattle.study.proofs.Words.{get_or-append-add, ints, is_ascii_alphanumeric, is_in_range, is_name_byte}
+use Rattle.study.proofs.Words.{least_temperature, length-append, length-filter, length-map, map-append, nat_tests}
+use Rattle.study.proofs.Words.{next_state, numerals_by_value, option_map, pair_of, pos, range_with_len}
+use Rattle.study.proofs.Words.{range_with_len-append, same_side, sample, side_of, slice_get, slice_get-append}
+use Rattle.study.proofs.Words.{slice_get-get_or, state_after, stream_name, sum_by-append, tells_by_index, ◌==◌}
+use Rattle.std.proofs.Common.{Bool, List, Some, [], ap, arith, cond, false, get_or, inl, length, map, refl, subst, suc}
+use Rattle.std.proofs.Common.{sym, true, zero, ℕ, ◌%◌, ◌*◌, ◌++◌, ◌+◌, ◌<◌, ◌^◌, ◌∙◌, ◌∷◌, ◌≡◌, ◌≢◌, ◌≤◌}
 use Rattle.std.proofs.lemmas.Fmt.{decimal_injective, decimal_nonempty, digits_decimal, length-decimal-le}
-use Rattle.std.proofs.lemmas.List.FromFn.{get_or-map-range_with_len, get_or-range_with_len, length-map-range_with_len, length-range_with_len}
-use Rattle.std.proofs.lemmas.List.FromFn.{map-range_with_len_more}
+use Rattle.std.proofs.lemmas.List.FromFn.{get_or-map-range_with_len, get_or-range_with_len, length-map-range_with_len}
+use Rattle.std.proofs.lemmas.List.FromFn.{length-range_with_len, map-range_with_len_more}
 use Rattle.std.specs.Prelude.{unsigned_abs}
-use Rattle.study.proofs.SpanLemmas.{one_cost}
+use Rattle.study.proofs.NoCut.{IsSupplied, JoinsStreams}
+use Rattle.study.proofs.LeastCosts.{one_cost}
 use Rattle.stream_case.specs.declared.source.Source.TheVariants.{Stream as of_stream}
 use Rattle.study.specs.declared.limits.TheConstants.{FLOW_RATES, LEAST_HOT_TEMPERATURE, TEMPERATURES}
 
@@ -228,12 +232,14 @@ none_on f of other is = count_by-map (λ s. same_side s.side of) f is ∙ none_b
 few_on : (of : Side) (x y count : ℕ) → count ≤ MOST_SAMPLE_STREAMS
     → count_on of (drawn_streams Hot x count ++ drawn_streams Cold y count) ≤ count
 few_on Hot x y count small =
-    let both = sum_by-append (λ (s : Stream). cond (same_side s.side Hot) 1 0) (drawn_streams Hot x count) (drawn_streams Cold y count) in
+    let both =
+    sum_by-append (λ (s : Stream). cond (same_side s.side Hot) 1 0) (drawn_streams Hot x count) (drawn_streams Cold y count) in
     let hot = count_by-le-length (λ (s : Stream). same_side s.side Hot) (drawn_streams Hot x count) in
     let cold = none_on (made Cold y count small) Hot (λ i. refl) (range_with_len 0 count) in
     omega (arith, both, hot, cold, length-drawn Hot x count small)
 few_on Cold x y count small =
-    let both = sum_by-append (λ (s : Stream). cond (same_side s.side Cold) 1 0) (drawn_streams Hot x count) (drawn_streams Cold y count) in
+    let both =
+    sum_by-append (λ (s : Stream). cond (same_side s.side Cold) 1 0) (drawn_streams Hot x count) (drawn_streams Cold y count) in
     let hot = none_on (made Hot x count small) Cold (λ i. refl) (range_with_len 0 count) in
     let cold = count_by-le-length (λ (s : Stream). same_side s.side Cold) (drawn_streams Cold y count) in
     omega (arith, both, hot, cold, length-drawn Cold y count small)

@@ -1,13 +1,28 @@
--- Sweeps: a case has one row for each contribution, a sweep has one list of rows, and how many rows there are.
-use Rattle.study.proofs.Words.{*ℤ-≤ℤ_left, All-map, All-weaker, AllPairs, AreRows, Case, Forbid, HasValidStreams, IsComplete, IsContribution, IsLatent}
-use Rattle.study.proofs.Words.{IsRightlyNamed, IsSensible, IsSweepPlan, IsUnreserved, IsValid, IsValidForbid, IsValidStream, IsValidUtility, MOST_CONTRIBUTION}
-use Rattle.study.proofs.Words.{MOST_ROWS, OneRow, OneSweep, Source, Stream, SweepPlan, SweepRow, Utility, case_with, cases_lt, completed, contribution_at}
-use Rattle.study.proofs.Words.{count_by-map, has_row, ints, le-div_iff_mul-le, length-map, names_of, option_map, pos, same_lists, same_side, side_of, slice_get}
-use Rattle.study.proofs.Words.{slice_get-get_or, slice_get-map, stream_with, to_z-of_z, utility_with, with_contribution, ℤ, ◌*ℤ◌, ◌+ℤ◌, ◌-ℤ◌, ◌≤ℤ◌}
-use Rattle.study.proofs.SpanLemmas.{one_option}
-use Rattle.std.proofs.Common.{FitsSigned, List, None, Option, Some, [], ap, ap₂, arith, get_or, inl, inr, length, map, of_z, refl, subst, sym, to_z, w32, ℕ}
-use Rattle.std.proofs.Common.{⊎_elim, ◌*◌, ◌++◌, ◌+◌, ◌/◌, ◌<◌, ◌↔◌, ◌∙◌, ◌∷◌, ◌≡◌, ◌≢◌, ◌≤◌, ◌⊎◌}
+-- Sweeps: the cost of a row, a case has one row for each contribution, a sweep has one list of rows, and how many rows there are.
+use Rattle.study.proofs.Words.{*ℤ-≤ℤ_left, All-map, All-weaker, AllPairs, AreRows, Case, Cut, Forbid, HasValidStreams}
+use Rattle.study.proofs.Words.{IsCaseCost, IsCaseCut, IsComplete, IsContribution, IsCostOf, IsLatent, IsRightlyNamed}
+use Rattle.study.proofs.Words.{IsSensible, IsSweepPlan, IsUnreserved, IsValid, IsValidForbid, IsValidStream}
+use Rattle.study.proofs.Words.{IsValidUtility, MOST_CONTRIBUTION, MOST_ROWS, MatchResult, OneRow, OneSweep, Source}
+use Rattle.study.proofs.Words.{Stream, SweepPlan, SweepRow, Utility, case_with, cases_lt, completed, contribution_at}
+use Rattle.study.proofs.Words.{count_by-map, cut_side, cuts_refuse_flows, has_row, ints, le-div_iff_mul-le, length-map}
+use Rattle.study.proofs.Words.{names_of, option_map, pos, reach_between, result_ok, same_lists, same_side, side_of}
+use Rattle.study.proofs.Words.{slice_get, slice_get-get_or, slice_get-map, stream_with, to_z-of_z, utility_with}
+use Rattle.study.proofs.Words.{with_contribution, ℤ, ◌*ℤ◌, ◌+ℤ◌, ◌-ℤ◌, ◌≤ℤ◌}
+use Rattle.std.proofs.Common.{Err, FitsSigned, List, None, Ok, Option, Result, Some, [], ap, ap₂, arith, get_or, inl}
+use Rattle.std.proofs.Common.{inr, length, map, of_z, refl, subst, sym, to_z, w32, ℕ, ⊎_elim, ◌*◌, ◌++◌, ◌+◌, ◌/◌, ◌<◌}
+use Rattle.std.proofs.Common.{◌↔◌, ◌∙◌, ◌∷◌, ◌≡◌, ◌≢◌, ◌≤◌, ◌⊎◌}
+use Rattle.study.proofs.LeastCosts.{one_option}
 use Rattle.stream_case.specs.declared.source.Source.TheVariants.{Stream as of_stream, Utility as of_utility}
+
+-- a cut leaves no cost, since it leaves no heat flow
+pub IsCostOf-found : (c : Case) (found : Result ℤ Cut) → MatchResult found (IsCaseCost c) (IsCaseCut c)
+    → IsCostOf c (result_ok found)
+IsCostOf-found c (Ok cost) is = is.least
+IsCostOf-found c (Err cut) is = record {
+  some = is.some;
+  each = λ hot cold parts.
+      cuts_refuse_flows (reach_between c hot cold) hot cold (cut_side cut.kind) cut.parts (is.each hot cold parts).parts;
+}
 
 same_row : (row other : SweepRow) → row.contribution ≡ other.contribution → row.hot ≡ other.hot
     → row.cold ≡ other.cold → row.cost ≡ other.cost → row ≡ other

@@ -1,12 +1,17 @@
 -- The least cost of a case over the price of one utility, and its points.
-use Rattle.std.specs.Prelude.{ℕ, ◌<◌, length}
+use Rattle.std.specs.Prelude.{ℕ, ◌<◌, ℤ, length}
 use Rattle.stream_case.specs.Limits.{IsPrice}
 use Rattle.stream_case.specs.declared.case.Case.{Case}
 use Rattle.study.specs.CostRange.{IsCost}
 use Rattle.study.specs.PricedCase.{IsPricedCase}
-use Rattle.study.specs.Spans.{CostsWith, HasFlowWith}
+use Rattle.study.specs.Priced.{HasNoFlowAt, prices_with}
+use Rattle.study.specs.Segments.{CostsWith}
 use Rattle.study.specs.declared.cost_curve.CostCurve.{CostCurve}
 use Rattle.study.specs.declared.cost_curve.Point.{Point}
+
+-- the case has a heat flow, whatever the price of utility number i
+abbrev pub HasFlowWith : Case → ℕ → Type 0
+HasFlowWith c i = (p : ℤ) → HasNoFlowAt c (prices_with c i p) → ⊥
 
 -- a completed case that has a heat flow, with its parts, their net, and one of its utilities
 pub record IsCostCurve (curve : CostCurve) : Type 0 where

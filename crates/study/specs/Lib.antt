@@ -1,8 +1,8 @@
-pub mod Answer
 pub mod Cost
 pub mod CostCurve
 pub mod CostRange
 pub mod Draws
+pub mod Lines
 pub mod Plan
 pub mod Priced
 pub mod PricedCase
@@ -10,12 +10,5 @@ pub mod Row
 pub mod Sample
 pub mod SampleRow
 pub mod Segments
-pub mod Spans
-pub mod Study
-pub mod StudyAccepted
-pub mod StudyChecks
-pub mod StudyEntries
-pub mod StudyOutcome
-pub mod StudyRows
-pub mod Supplied
+pub mod StudyAnswers
 pub mod Sweep

@@ -9,6 +9,7 @@ use Rattle.heat_flow.specs.Cuts.{HasNoFlow}
 use Rattle.heat_flow.specs.Flow.{IsLeastCost}
 use Rattle.heat_flow.specs.Prices.{price_at}
 use Rattle.heat_flow.specs.Reach.{reach_between}
+use Rattle.study_text.specs.Study.{case_prices}
 
 -- the price of a source at these prices of the utilities, one for each in case order; a stream keeps its own
 abbrev pub price_of : List ℤ → Source → ℤ → ℤ
@@ -35,10 +36,6 @@ abbrev pub IsCostAt : Case → List ℤ → Option ℤ → Type 0
 IsCostAt c prices cost = MatchOption cost (HasNoFlowAt c prices) (IsLeastCostAt c prices)
 
 -- ---- the price of one utility
-
--- the prices of the utilities of the case
-abbrev pub case_prices : Case → List ℤ
-case_prices c = map (λ u. u.price) c.utilities
 
 -- the prices of the case, with p in place of that of utility number i
 abbrev pub prices_with : Case → ℕ → ℤ → List ℤ

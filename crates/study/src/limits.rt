@@ -1,4 +1,4 @@
-//! The numbers of samples, and the limits of sweeps and price studies (this project's rule).
+//! The numbers of samples, and the limits of sweeps and of workers (this project's rule).
 
 /// The multiplier of the generator, 7^5.
 pub const MULTIPLIER: u64 = 16_807;
@@ -35,9 +35,3 @@ pub const MOST_ROWS: u32 = 1000;
 
 /// The most workers.
 pub const MOST_WORKERS: u32 = 16;
-
-/// The most scenarios and spans of a price study together.
-pub const MOST_ITEMS: usize = 1000;
-
-/// The most prices of a span.
-pub const MOST_SPAN: i64 = 100_000;

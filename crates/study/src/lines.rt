@@ -2,7 +2,7 @@
 ghost use Rattle.std.specs.Prelude.{◌≡◌, pos, ◌+ℤ◌, ◌-ℤ◌, ◌≤ℤ◌, ◌<ℤ◌, All};
 ghost use Rattle.stream_case.specs.Limits.{IsPrice};
 ghost use Rattle.study.specs.CostCurve.{IsSmallPoint};
-ghost use Rattle.study.specs.Spans.{IsGap, IsSmallLine, line_at};
+ghost use Rattle.study.specs.Lines.{IsGap, IsSmallLine, line_at};
 
 use crate::cost_curve::Point;
 

@@ -1,11 +1,12 @@
 //! The least cost of a case at other prices of its utilities.
-ghost use Rattle.std.specs.Prelude.{◌≡◌, ◌<◌, length, map, All, IfOk, IfSome};
+ghost use Rattle.std.specs.Prelude.{◌≡◌, ◌<◌, length, All, IfOk, IfSome};
 ghost use Rattle.stream_case.specs.Limits.{IsPrice};
 ghost use Rattle.study.specs.Priced.{priced, priced_part, prices_with};
 
 use grid::{Part, Parts};
 use std::alloc::{AllocError, Global};
-use stream_case::{Case, Items, Source, Utility};
+use stream_case::{Case, Items, Source};
+use study_text::case_prices;
 use transport::{Answer, CaseNet};
 
 /// A completed case with its parts and their net, all made once for many prices of its utilities.
@@ -53,19 +54,12 @@ fn priced_parts(alloc: Global, prices: &[i64], parts: &Parts) -> Result<Parts, A
     })
 }
 
-/// The prices of the utilities of the case.
-pub(crate) fn case_prices(alloc: Global, utilities: &[Utility]) -> Result<Vec<i64>, AllocError>
-    ensures { IfOk result (λ prices. prices.items ≡ map (λ u. u.price) utilities.now) }
-{
-    utilities.iter().map(|utility| utility.price).collect(alloc)
-}
-
 /// The prices of the case with this price of one utility, by its index.
 fn prices_with(alloc: Global, case: &Case, utility: u32, price: i64) -> Result<Vec<i64>, AllocError>
     requires { utility < length case.now.utilities }
     ensures { IfOk result (λ prices. prices.items ≡ prices_with case.now utility price) }
 {
-    let mut prices = case_prices(alloc, case.utilities.as_slice())?;
+    let mut prices = case_prices(alloc, case)?;
     prices[utility as usize] = price;
     Ok(prices)
 }

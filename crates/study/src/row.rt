@@ -5,10 +5,10 @@ ghost use Rattle.stream_case.specs.Limits.{IsContribution};
 ghost use Rattle.study.specs.Row.{IsRow};
 
 use crate::contribution::with_contribution;
-use crate::cost::least_cost;
 use problem_table::targets;
 use std::alloc::{AllocError, Global};
 use stream_case::{Case, complete};
+use transport::case_cost;
 
 /// What a contribution of all sources makes of a case: the targets in W, and the least cost of a
 /// heat flow, or none where there is no heat flow.
@@ -34,11 +34,11 @@ pub(crate) fn sweep_row(
     let given = with_contribution(alloc, case, contribution)?;
     let case = complete(alloc, &given)?;
     let targets = targets(&case);
-    let cost = least_cost(alloc, &case, targets)?;
+    let found = case_cost(alloc, &case, targets)?;
     Ok(SweepRow {
         contribution,
         hot: targets.hot,
         cold: targets.cold,
-        cost,
+        cost: found.ok(),
     })
 }

@@ -4,10 +4,10 @@ ghost use Rattle.study.specs.declared.limits.TheConstants.{MOST_SAMPLE_NUMBER, M
 ghost use Rattle.study.specs.SampleRow.{IsSampleRow, OneSampleRow};
 
 use crate::sample::sample_case;
-use crate::supplied::supplied_cost;
 use problem_table::targets;
 use std::alloc::{AllocError, Global};
 use stream_case::complete;
+use transport::case_cost;
 
 /// What the completed sample of a number needs, in W, and what it costs at least.
 #[derive(Clone, Copy, Debug, PartialEq, Eq)]
@@ -29,12 +29,16 @@ pub fn sample_row(alloc: Global, number: u32, count: u32) -> Result<SampleRow, A
     let given = sample_case(alloc, number, count)?;
     let case = complete(alloc, &given)?;
     let targets = targets(&case);
-    let cost = supplied_cost(alloc, &case, targets)?;
-    Ok(SampleRow {
-        hot: targets.hot,
-        cold: targets.cold,
-        cost,
-    })
+    match case_cost(alloc, &case, targets)? {
+        Ok(cost) => Ok(SampleRow {
+            hot: targets.hot,
+            cold: targets.cold,
+            cost,
+        }),
+        // `HOT` may heat each cold part and `COLD` cool each hot one, and each has more heat than
+        // all streams of a case: so no cut stands.
+        Err(_) => unreachable!(),
+    }
 }
 
 /// A sample has one row.

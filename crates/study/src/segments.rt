@@ -3,13 +3,15 @@ ghost use Rattle.std.specs.Prelude.{◌≡◌, ◌<◌, pos, ◌+ℤ◌, ◌≤�
 ghost use Rattle.stream_case.specs.Limits.{IsPrice};
 ghost use Rattle.study.specs.CostCurve.{IsCostCurve, IsPointOf};
 ghost use Rattle.study.specs.PricedCase.{IsPricedCase};
-ghost use Rattle.study.specs.Spans.{AreCostSegments, IsCostSegment, IsLine, IsLineEnd};
-ghost use Rattle.study.specs.Study.{AreSpanSegments, IsSpan};
+ghost use Rattle.study.specs.Lines.{IsLine, IsLineEnd};
+ghost use Rattle.study.specs.Segments.{IsSegment};
+ghost use Rattle.study.specs.StudyAnswers.{AreSpanSegments};
+ghost use Rattle.study_text.specs.Study.{IsSpan};
 
 use crate::cost_curve::{CostCurve, Point};
 use crate::lines::{Line, line_at, next_price};
 use crate::priced::PricedCase;
-use crate::study_item::Segment;
+use crate::study_answer::Segment;
 use std::alloc::{AllocError, Global};
 use stream_case::Items;
 
@@ -106,7 +108,7 @@ fn segment_from(
     requires order { first.price ≤ℤ to }
     requires last { IsPrice to }
     ensures from { IfOk result (λ segment. segment.from ≡ first.price) }
-    ensures segment { IfOk result (IsCostSegment curve.now.priced.case.now curve.now.utility to) }
+    ensures segment { IfOk result (IsSegment curve.now.priced.case.now curve.now.utility to) }
     ensures ahead { All (IsPointOf curve.now) ahead.new.items }
 {
     if first.price == to {

@@ -3,15 +3,17 @@ ghost use Rattle.std.specs.Prelude.{◌≤◌, ◌<◌, length, IfOk};
 ghost use Rattle.stream_case.specs.Case.{IsComplete};
 ghost use Rattle.study.specs.declared.limits.TheConstants.{MOST_WORKERS};
 ghost use Rattle.study.specs.PricedCase.{IsPricedCase};
-ghost use Rattle.study.specs.Study.{AreAnswers, IsAnswerAt, IsItem, IsItemAnswer, IsStudy, OneAnswer, RisesFall};
+ghost use Rattle.study.specs.StudyAnswers.{AreAnswers, IsAnswerAt, IsItemAnswer, OneAnswer, RisesFall};
+ghost use Rattle.study_text.specs.Study.{IsItem, IsStudy};
 
 use crate::priced::PricedCase;
 use crate::segments::span_segments;
-use crate::study_item::{Study, StudyAnswer, StudyItem};
+use crate::study_answer::StudyAnswer;
 use grid::case_parts;
 use std::alloc::{AllocError, Global};
 use std::thread::Threads;
 use stream_case::{Case, Items};
+use study_text::{Study, StudyItem};
 use transport::CaseNet;
 use workers::{Gate, items_by_workers};
 

@@ -1,9 +1,9 @@
 -- One element more of the lists that loops make, and the offer of a cut part by part.
 use Rattle.transport.proofs.Words.{Case, Cold, Ends, Forbid, ForbidAlike, Hot, MOST_PARTS, Part, Parts, Side, Source, and-false, append-nil, blank, both_reach}
-use Rattle.transport.proofs.Words.{cons_if, cons_if-append, flat_map, flat_map_more, if◌then◌else◌, int_lt, int_lt-false, int_lt-from, joins, joins_part}
-use Rattle.transport.proofs.Words.{length-take-le, links_of_parts, list_any, list_any-append, list_any_more, map-append, meets, meets_part, names, needing_from}
+use Rattle.transport.proofs.Words.{both_pass, cons_if, cons_if-append, flat_map, flat_map_more, if◌then◌else◌, int_lt, int_lt-false, int_lt-from, joins}
+use Rattle.transport.proofs.Words.{length-take-le, links_of_parts, list_any, list_any-append, list_any_more, map-append, meets, names, needing_from}
 use Rattle.transport.proofs.Words.{opposite, or-false, parts_of, passes_heat, pos, potential_at, prices_of, range_with_len, range_with_len-append}
-use Rattle.transport.proofs.Words.{reach_between, refuses, same_source, slice_get, slice_get-get_or, spare_link, take_more, whole_link, ℤ, ◌-ℤ◌, ◌<ℤ◌, ◌≤ℤ◌}
+use Rattle.transport.proofs.Words.{reach_between, reach_unless, refuses, same_source, slice_get, slice_get-get_or, spare_link, take_more, whole_link, ℤ, ◌-ℤ◌, ◌<ℤ◌, ◌≤ℤ◌}
 use Rattle.std.proofs.Common.{Bool, List, None, Option, Some, [], add-zero, ap, append_assoc, ap₂, arith, false, get_or, length, map, not, refl, suc, sym, take}
 use Rattle.std.proofs.Common.{true, zero-add, ℕ, ◌&&◌, ◌++◌, ◌+◌, ◌<◌, ◌||◌, ◌∙◌, ◌∷◌, ◌≡◌, ◌≤◌}
 
@@ -146,39 +146,40 @@ list_any-same p q (x ∷ xs) h = ap₂ (λ a b. a || b) (h x) (list_any-same p q
 
 module _ (c : Case) where
   of_hot : (o : Option Part) (forbids : List Forbid) (q : Part) → ForbidAlike Cold q.source forbids c.forbids
-      → joins_part Hot forbids o q ≡ both_reach c o (Some q)
+      → both_pass forbids o (Some q) ≡ both_reach c o (Some q)
   of_hot None forbids q alike = refl
   of_hot (Some p) forbids q alike = ap (λ b. passes_heat p q && not b) (alike p.source)
 
   of_cold : (o : Option Part) (forbids : List Forbid) (q : Part) → ForbidAlike Hot q.source forbids c.forbids
-      → joins_part Cold forbids o q ≡ both_reach c (Some q) o
+      → both_pass forbids (Some q) o ≡ both_reach c (Some q) o
   of_cold None forbids q alike = refl
   of_cold (Some p) forbids q alike = ap (λ b. passes_heat q p && not b) (alike p.source)
 
   joins-by_part : (hot cold : List Part) (side : Side) (forbids : List Forbid) (i j : ℕ) (other : Part)
       → slice_get (parts_of (opposite side) hot cold) j ≡ Some other
       → ForbidAlike (opposite side) other.source forbids c.forbids
-      → joins_part side forbids (slice_get (parts_of side hot cold) i) other ≡ joins side (reach_between c hot cold) i j
+      → joins side (reach_unless forbids hot cold) i j ≡ joins side (reach_between c hot cold) i j
   joins-by_part hot cold Hot forbids i j other at alike =
-      of_hot (slice_get hot i) forbids other alike ∙ ap (both_reach c (slice_get hot i)) (sym at)
+      ap (both_pass forbids (slice_get hot i)) at ∙ of_hot (slice_get hot i) forbids other alike
+      ∙ ap (both_reach c (slice_get hot i)) (sym at)
   joins-by_part hot cold Cold forbids i j other at alike =
-      of_cold (slice_get cold i) forbids other alike ∙ ap (λ o. both_reach c o (slice_get cold i)) (sym at)
+      ap (λ o. both_pass forbids o (slice_get cold i)) at ∙ of_cold (slice_get cold i) forbids other alike
+      ∙ ap (λ o. both_reach c o (slice_get cold i)) (sym at)
 
   -- with the forbidden matches of its source alone
   pub meets-by_part : (hot cold : List Part) (side : Side) (forbids : List Forbid) (members : List ℕ) (j : ℕ) (other : Part)
       → slice_get (parts_of (opposite side) hot cold) j ≡ Some other
       → ForbidAlike (opposite side) other.source forbids c.forbids
-      → meets_part side forbids (parts_of side hot cold) members other ≡ meets side (reach_between c hot cold) members j
+      → meets side (reach_unless forbids hot cold) members j ≡ meets side (reach_between c hot cold) members j
   meets-by_part hot cold side forbids members j other at alike =
-      list_any-same (λ i. joins_part side forbids (slice_get (parts_of side hot cold) i) other) (λ i. joins side (reach_between c hot cold) i j) members
+      list_any-same (λ i. joins side (reach_unless forbids hot cold) i j) (λ i. joins side (reach_between c hot cold) i j) members
       (λ i. joins-by_part hot cold side forbids i j other at alike)
 
   -- so is what such a part offers
   pub offer-by_part : (hot cold : List Part) (side : Side) (forbids : List Forbid) (members : List ℕ) (j : ℕ)
       → j < length (parts_of (opposite side) hot cold)
       → ForbidAlike (opposite side) (get_or (parts_of (opposite side) hot cold) j blank).source forbids c.forbids →
-      (if meets_part side forbids (parts_of side hot cold) members (get_or (parts_of (opposite side) hot cold) j blank) then
-      (get_or (parts_of (opposite side) hot cold) j blank).most else pos 0)
+      (if meets side (reach_unless forbids hot cold) members j then (get_or (parts_of (opposite side) hot cold) j blank).most else pos 0)
       ≡ (if meets side (reach_between c hot cold) members j then (get_or (parts_of (opposite side) hot cold) j blank).most else pos 0)
   offer-by_part hot cold side forbids members j within alike =
       let others = parts_of (opposite side) hot cold in

@@ -3,6 +3,7 @@ pub use Rattle.chains.proofs.FlatMaps.{length-flat_map-le}
 pub use Rattle.chains.specs.Inner.{IsHeatOf, IsInner, IsInnerLink}
 pub use Rattle.chains.specs.Path.{IsPath, PathsAreReaches}
 pub use Rattle.chains.specs.Spread.{IsSpread}
+pub use Rattle.corner_flow.specs.Value.{IsValueBetween}
 pub use Rattle.flow_net.proofs.Duality.{falls_of_routing}
 pub use Rattle.flow_net.proofs.Sizes.{greatest-le, sizes}
 pub use Rattle.flow_net.proofs.Sums.{sum_below-same}
@@ -12,6 +13,7 @@ pub use Rattle.flow_net.specs.Sum.{sum_below}
 pub use Rattle.flow_net.specs.declared.limits.TheConstants.{MOST_ROOM}
 pub use Rattle.flow_net.specs.declared.net.Link.{Link}
 pub use Rattle.flow_net.specs.declared.net.Net.{Net}
+pub use Rattle.grid.proofs.OnGridLemmas.{parts_on_grid}
 pub use Rattle.grid.specs.Bounds.{IsBounded}
 pub use Rattle.grid.specs.declared.part.Part.{Part}
 pub use Rattle.grid.specs.declared.parts.Parts.{Parts}
@@ -69,12 +71,13 @@ pub use Rattle.sums.proofs.SumLemmas.{int_sum_from-zero}
 pub use Rattle.sums.specs.Pairing.{cons_if}
 pub use Rattle.sums.specs.Sum.{int_sum_by, int_sum_from}
 pub use Rattle.transport.specs.Answer.{IsAnswer}
+pub use Rattle.transport.specs.CaseCost.{IsCaseCost}
 pub use Rattle.transport.specs.Around.{BlocksMost, IsNodePotential, RoutesMost, ends_behind, links_between, links_of_parts, most_of, net_around, prices_of}
 pub use Rattle.transport.specs.Around.{spare_link, start_of, whole_link}
 pub use Rattle.transport.specs.Members.{IsCutWithin, IsSideHeat, is_picked, members_of, needing_from}
-pub use Rattle.transport.specs.Offer.{ForbidAlike, joins_part, meets_part, names, refuses}
+pub use Rattle.transport.specs.Offer.{ForbidAlike, both_pass, names, reach_unless, refuses}
 pub use Rattle.transport.specs.Pairs.{link_between, pair_link, pair_links, pair_net, row_links}
 pub use Rattle.transport.specs.Priced.{priced}
-pub use Rattle.transport.specs.declared.answer.Answer.TheVariants.{Stuck}
+pub use Rattle.transport.specs.declared.answer.Answer.TheVariants.{Least, Stuck}
 pub use Rattle.transport.specs.declared.least_cost.TheConstants.{MOST_PAIRS}
 pub use Rattle.transport.specs.declared.net.Ends.{Ends}

@@ -1,6 +1,8 @@
 pub mod Answer
 pub mod Around
+pub mod CaseCost
 pub mod CaseNet
+pub mod CornerAnswer
 pub mod Members
 pub mod Offer
 pub mod Pairs

@@ -1,6 +1,5 @@
 -- The offer of a cut of the parts of a case, with the forbidden matches of one part at a time.
 use Rattle.std.specs.Prelude.{◌≡◌, ℕ, Bool, false, not, ◌&&◌, List, Option, Some, None, slice_get}
-use Rattle.std.specs.List.{list_any}
 use Rattle.stream_case.specs.declared.source.Side.{Side}
 use Rattle.stream_case.specs.declared.source.Side.TheVariants.{Hot, Cold}
 use Rattle.stream_case.specs.declared.source.Source.{Source}
@@ -25,15 +24,11 @@ abbrev pub ForbidAlike : Side → Source → List Forbid → List Forbid → Typ
 ForbidAlike side source forbids others = (other : Source) → refuses side forbids source other ≡ refuses side others source other
 
 -- hot part p reaches cold part q, where these matches are forbidden
-abbrev pub passes_between : List Forbid → Part → Part → Bool
-passes_between forbids p q = passes_heat p q && not (is_forbidden forbids p.source q.source)
+abbrev pub both_pass : List Forbid → Option Part → Option Part → Bool
+both_pass forbids None q = false
+both_pass forbids (Some p) None = false
+both_pass forbids (Some p) (Some q) = passes_heat p q && not (is_forbidden forbids p.source q.source)
 
--- a part of this side, if there is one, and one of the other side reach
-abbrev pub joins_part : Side → List Forbid → Option Part → Part → Bool
-joins_part side forbids None other = false
-joins_part Hot forbids (Some p) other = passes_between forbids p other
-joins_part Cold forbids (Some p) other = passes_between forbids other p
-
--- a part of the other side reaches one of these parts of this side, or one of them reaches it
-abbrev pub meets_part : Side → List Forbid → List Part → List ℕ → Part → Bool
-meets_part side forbids own members other = list_any (λ i. joins_part side forbids (slice_get own i) other) members
+-- the hot part at index a reaches the cold part at index b, where these matches are forbidden
+abbrev pub reach_unless : List Forbid → List Part → List Part → ℕ → ℕ → Bool
+reach_unless forbids hot cold a b = both_pass forbids (slice_get hot a) (slice_get cold b)

@@ -1,7 +1,7 @@
 //! The cut of parts that shows that the most of all parts cannot be routed.
 ghost use Rattle.std.specs.Prelude.{◌≡◌, ℕ, ◌+◌, ◌≤◌, Bool, length, IfOk};
 ghost use Rattle.stream_case.specs.declared.limits.TheConstants.{MOST_PARTS};
-ghost use Rattle.heat_flow.specs.Cuts.{opposite, parts_of, cut_side, need_of};
+ghost use Rattle.heat_flow.specs.Cuts.{parts_of, cut_side, need_of};
 ghost use Rattle.chains.specs.declared.net.TheConstants.{MOST_INNER_LINKS, MOST_INNER_NODES};
 ghost use Rattle.chains.specs.Inner.{IsInner};
 ghost use Rattle.chains.specs.Path.{PathsAreReaches};
@@ -11,7 +11,7 @@ ghost use Rattle.transport.specs.Members.{is_picked, members_of, IsSideHeat, IsC
 use crate::net::ends_behind;
 use flow_net::Net;
 use grid::{Part, Parts};
-use heat_flow::{Cut, CutKind, need_of};
+use heat_flow::{Cut, CutKind, need_of, parts_of};
 use std::alloc::{AllocError, Global};
 use stream_case::Items;
 
@@ -89,26 +89,6 @@ pub(crate) fn blocked_members(
     }
 }
 
-/// The parts of the side whose parts a cut of this kind names.
-pub(crate) fn own_parts(kind: CutKind, parts: &Parts) -> &[Part]
-    ensures { result.now ≡ parts_of (cut_side kind) parts.now.hot parts.now.cold }
-{
-    match kind {
-        CutKind::Demand => parts.cold.as_slice(),
-        CutKind::Supply => parts.hot.as_slice(),
-    }
-}
-
-/// The parts of the other side.
-pub(crate) fn other_parts(kind: CutKind, parts: &Parts) -> &[Part]
-    ensures { result.now ≡ parts_of (opposite (cut_side kind)) parts.now.hot parts.now.cold }
-{
-    match kind {
-        CutKind::Demand => parts.hot.as_slice(),
-        CutKind::Supply => parts.cold.as_slice(),
-    }
-}
-
 /// The cut that names these parts, with what they need and this offer, in W.
 pub(crate) fn cut_of(parts: &Parts, members: Members, offer: i128) -> Cut
     requires needed { IsSideHeat
@@ -120,7 +100,8 @@ pub(crate) fn cut_of(parts: &Parts, members: Members, offer: i128) -> Cut
         ≡ need_of (parts_of (cut_side members.kind) parts.now.hot parts.now.cold) members.indexes }
     ensures offer { result.offer ≡ offer }
 {
-    let need = need_of(own_parts(members.kind, parts), members.indexes.as_slice());
+    let own = parts_of(members.kind.side(), parts);
+    let need = need_of(own, members.indexes.as_slice());
     Cut {
         kind: members.kind,
         parts: members.indexes,

@@ -10,7 +10,7 @@ ghost use Rattle.transport.specs.Priced.{priced};
 ghost use Rattle.transport.specs.Around.{IsNodePotential, RoutesMost};
 
 use crate::answer::Answer;
-use crate::cut::{blocked_members, cut_of, other_parts};
+use crate::cut::{blocked_members, cut_of};
 use crate::flow::front_of;
 use crate::pairs::pairs_of;
 use crate::prices::part_prices;
@@ -18,7 +18,7 @@ use crate::route::route;
 use chains::{Chains, spread};
 use flow_net::Solved;
 use grid::Parts;
-use heat_flow::{Flow, Reach, cost_of, offer_of};
+use heat_flow::{Flow, Reach, cost_of, offer_of, opposite, parts_of};
 use std::alloc::{AllocError, Global};
 use stream_case::Items;
 
@@ -91,9 +91,10 @@ pub fn least(alloc: Global, parts: &Parts, reach: &Reach) -> Result<Answer, Allo
         }
         Solved::Blocked { reached } => {
             let members = blocked_members(alloc, parts, &net, reached.as_slice())?;
-            let others = other_parts(members.kind, parts);
+            let side = members.kind.side();
+            let others = parts_of(opposite(side), parts);
             let indexes = members.indexes.as_slice();
-            let offer = offer_of(members.kind.side(), reach, others, indexes);
+            let offer = offer_of(side, reach, others, indexes);
             Ok(Answer::Stuck(cut_of(parts, members, offer)))
         }
     }

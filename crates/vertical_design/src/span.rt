@@ -2,7 +2,6 @@
 
 ghost use Rattle.std.specs.Prelude.{◌≡◌, ◌<◌, ◌^◌, ◌++◌, length, IfOk, OnOk};
 ghost use Rattle.std.specs.List.{enumerate_from, filter_map};
-ghost use Rattle.stream_case.specs.Source.{same_side};
 ghost use Rattle.stream_case.specs.Stream.{AreSensible, AreStreams};
 ghost use Rattle.problem_table.specs.Deficit.{cold_target, hot_target};
 ghost use Rattle.vertical_design.specs.Axis.{spans_of, stream_span, utility_span};

@@ -1,5 +1,5 @@
 //! The table and the profiles of sites that were worked by hand.
-ghost use Rattle.plants.specs.Site.{IsValidSite};
+ghost use Rattle.site_text.specs.Site.{IsValidSite};
 
 use crate::compare::{assert_lists, assert_same};
 use crate::grid_tests::{PartRow, rows_of};

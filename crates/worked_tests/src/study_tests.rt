@@ -13,7 +13,8 @@ use std::test::Fail;
 use std::thread;
 use stream_case::Side::{Cold, Hot};
 use stream_case::{Case, Forbid, Side, Source, Stream};
-use study::{OpenGate, SweepPlan, SweepRow, least_cost, sample_case, sweep};
+use study::{OpenGate, SweepPlan, SweepRow, sample_case, sweep};
+use transport::case_cost;
 
 /// A row: contribution, hot and cold target, and least cost.
 type Row = (i32, i64, i64, Option<i128>);
@@ -121,7 +122,7 @@ fn cost_of(alloc: Global, case: &Case) -> Result<(Target, Option<i128>), AllocEr
     requires { IsComplete case.now }
 {
     let targets = targets(case);
-    Ok((targets, least_cost(alloc, case, targets)?))
+    Ok((targets, case_cost(alloc, case, targets)?.ok()))
 }
 
 /// A sample of the first number: its hot and its cold streams each, what is drawn of the first

@@ -1,7 +1,7 @@
 //! Study files that are read and refused.
 ghost use Rattle.std.specs.Prelude.{IfOk};
 ghost use Rattle.stream_case.specs.Case.{IsComplete};
-ghost use Rattle.study.specs.Study.{IsStudy};
+ghost use Rattle.study_text.specs.Study.{IsStudy};
 
 use crate::compare::{assert_lists, assert_same};
 use crate::tables::{RESTRICTED, completed_case, name};

@@ -1,5 +1,5 @@
 -- Names, words and fractions are plain fields, and a printed fraction is read as itself.
-use Rattle.network_text.proofs.Words.{All-append, All-cons, All-weaker, Decides-is_within_limits, IsAnyName, IsPlainField, IsVisible, IsWithinLimits}
+use Rattle.network_text.proofs.Words.{All-append, All-cons, All-weaker, IsAnyName, IsPlainField, IsVisible, IsWithinLimits}
 use Rattle.network_text.proofs.Words.{MOST_DIGITS, Rational, after_first, before_first, bounded_back, denominator_in, fraction_in, fraction_text}
 use Rattle.network_text.proofs.Words.{get_or_append_left, get_or_at, is_slash, list_any, list_any-append, list_any_none, name_plain, nat_tests, natural_in}
 use Rattle.network_text.proofs.Words.{natural_read, integer_in, integer_read, or-true, position_or_len, position_or_len_is, ratio, ratio-self, signed_decimal}

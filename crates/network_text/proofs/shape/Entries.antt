@@ -1,6 +1,6 @@
 -- The shape of the network so far, and what an entry adds to it.
 use Rattle.network_text.proofs.Words.{All-from_recursion, All-nil, AreExchangers, AreMadeBeforeUse, AreMadeInOrder, AreNamed, ArePassedWhenDeclared}
-use Rattle.network_text.proofs.Words.{AreUsedOnce, Branch, Case, Decides-is_below, Decides-is_within_limits, Entry, Exchanger, ForSome, HasPositiveSize}
+use Rattle.network_text.proofs.Words.{AreUsedOnce, Branch, Case, Decides-is_below, Entry, Exchanger, ForSome, HasPositiveSize}
 use Rattle.network_text.proofs.Words.{IsAnyName, IsExchanger, IsFresh, IsOfOneStream, IsPositive, IsWithinLimits, Joins, Kind, Network, Passage, Passes}
 use Rattle.network_text.proofs.Words.{PassesDeclared, Rational, Side, Source, Statement, all_pairs_push, and_parts, bounded_within, branch_at, branch_named}
 use Rattle.network_text.proofs.Words.{bytes_decides, checks, cond_some, end_checks, end_entry, entry_by, entry_in, eqb-false, exchanger_at, exchanger_checks}
@@ -104,14 +104,14 @@ undeclared_each given name none k d within same =
 joined_by : (stream : ℕ) (o : Option Exchanger) → has_stream stream o ≡ true
     → (e : Exchanger) × (o ≡ Some e) × Joins e stream
 joined_by stream None has = cc has
-joined_by stream (Some e) has = (e, refl, by (or_cases (same_source e.hot own) (same_source e.cold own) has))
+joined_by stream (Some e) has =
+    let hot = same_source e.hot (source.Stream stream) in
+    let cold = same_source e.cold (source.Stream stream) in
+    (e, refl, by (or_cases hot cold has))
   where
-    own : Source
-    own = source.Stream stream
-
-    by : (same_source e.hot own ≡ true) ⊎ (same_source e.cold own ≡ true) → Joins e stream
-    by (inl hot) = inl (same_source-true e.hot own hot)
-    by (inr cold) = inr (same_source-true e.cold own cold)
+    by : (same_source e.hot (source.Stream stream) ≡ true) ⊎ (same_source e.cold (source.Stream stream) ≡ true) → Joins e stream
+    by (inl hot) = inl (same_source-true e.hot (source.Stream stream) hot)
+    by (inr cold) = inr (same_source-true e.cold (source.Stream stream) cold)
 
 -- an exchanger that a branch of the stream may pass
 pub joined : (given : Network) (exchanger stream : ℕ) → joins_stream given exchanger stream ≡ true → (e : Exchanger)

@@ -1,7 +1,8 @@
 use Rattle.corner_flow.proofs.FlowLemmas.{least_cost}
 use Rattle.corner_flow.proofs.HeatLemmas.{needs_heat}
+use Rattle.corner_flow.proofs.PriceLemmas.{target-value}
 use Rattle.corner_flow.proofs.SideLemmas.{AreStandardParts, AreStandardParts-parts}
-use Rattle.corner_flow.proofs.Words.{AreCaseParts, Cold, Hot, IsLeastCost, NeedsHeat, Part, ints, reach_between, some_parts, w128}
+use Rattle.corner_flow.proofs.Words.{AreCaseParts, Cold, Hot, IsLeastCost, IsValueBetween, NeedsHeat, Part, ints, reach_between, some_parts, w128}
 use Rattle.std.proofs.Common.{FitsSigned, List, arith, of_z, rules, subst, sym, to_z, w64, ◌∙◌, ◌≡◌}
 use Rattle.corner_flow.proofs.least.standard_cost.Goals as goal
 
@@ -18,6 +19,14 @@ returns-clause-least c = record {
   each =
       λ hot cold parts. subst (IsLeastCost (reach_between c.args.case.now hot cold) hot cold) (sym c.requires.hot_target ∙ sym (target_is c))
       (least_cost (standard c hot cold parts));
+}
+
+pub returns-clause-priced : goal.returns-clause-priced
+returns-clause-priced c = record {
+  some = some_parts c.args.case.now;
+  each = λ hot cold parts.
+      subst (IsValueBetween (reach_between c.args.case.now hot cold) hot cold) (sym c.requires.hot_target ∙ sym (target_is c))
+      (target-value (standard c hot cold parts));
 }
 
 pub returns-clause-hot_heat : goal.returns-clause-hot_heat

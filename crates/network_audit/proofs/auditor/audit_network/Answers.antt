@@ -1,6 +1,6 @@
 use Rattle.network_audit.proofs.JointLemmas.{found-all, length-joints}
 use Rattle.network_audit.proofs.HeatLemmas.{balance-is, balance_items-are, heats-are}
-use Rattle.network_audit.proofs.ValidLemmas.{found-behind, found-front}
+use Rattle.network_audit.proofs.ItemLemmas.{found-behind, found-front}
 use Rattle.network_audit.proofs.SumSteps.{length-numbers}
 use Rattle.network_audit.proofs.auditor.audit_network.Goals.{After-hot_target-target, In_default}
 use Rattle.network_audit.proofs.Words.{Finding, IsFinding, Item, all_heat_items, balance_in, balance_items, balance_of, balance_steps_in, exchanger_of}

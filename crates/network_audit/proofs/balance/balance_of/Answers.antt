@@ -1,6 +1,6 @@
 use Rattle.network_audit.proofs.Words.{Gives, Item, Place, Rational, Sum, cost_steps, enumerate_from, err_from_is_err_and, first_finding, heat_on_in}
 use Rattle.network_audit.proofs.Words.{heats_on_in, length-enumerate_from, minus, prices_in, rational_sum, rational_zero, sum_steps, value_formed}
-use Rattle.network_audit.proofs.ValidLemmas.{found-behind, found-formed, found-front, found-not_formed}
+use Rattle.network_audit.proofs.ItemLemmas.{found-behind, found-formed, found-front, found-not_formed}
 use Rattle.network_audit.proofs.SumSteps.{length-numbers}
 use Rattle.network_audit.proofs.balance.balance_of.Goals.{After-minus, In_ok-cold, In_ok-hot}
 use Rattle.std.proofs.Common.{List, Some, ap, arith, length, subst, sym, zero-add, ◌*◌, ◌++◌, ◌+◌, ◌∙◌, ◌≡◌, ◌≤◌}

@@ -2,7 +2,7 @@ use Rattle.network_audit.proofs.Words.{Gives, Step, Sum, enumerate_from, err_fro
 use Rattle.network_audit.proofs.Words.{times, value_formed, whole}
 use Rattle.network_audit.proofs.HeatLemmas.{price-here}
 use Rattle.network_audit.proofs.SumSteps.{IsPriced, cost-all, cost-is, cost-more, cost-not, priced-none}
-use Rattle.network_audit.proofs.ValidLemmas.{found-formed, found-not_formed}
+use Rattle.network_audit.proofs.ItemLemmas.{found-formed, found-not_formed}
 use Rattle.std.proofs.Common.{[], ap, arith, length, map, subst, sym, take, ◌+◌, ◌<◌, ◌∙◌, ◌∷◌, ◌≡◌, ◌≤◌}
 use Rattle.network_audit.proofs.balance.cost_of.Goals as goal
 

@@ -1,5 +1,5 @@
 use Rattle.network_audit.proofs.Words.{Gives, Rational, Step, Test, first_finding, is_below, is_reached, plus, side_items, value_formed, wanted_above}
-use Rattle.network_audit.proofs.ValidLemmas.{found-failed, found-formed, found-not_formed, found-nothing, found-passed}
+use Rattle.network_audit.proofs.ItemLemmas.{found-failed, found-formed, found-not_formed, found-nothing, found-passed}
 use Rattle.network_audit.proofs.exchangers.audit_exchanger.Goals.{After-plus, After-plus-2}
 use Rattle.std.proofs.Common.{Some, [], ap, not, subst, sym, ◌∙◌, ◌∷◌, ◌≡◌}
 use Rattle.network_audit.proofs.exchangers.audit_exchanger.Goals as goal

@@ -1,4 +1,4 @@
-use Rattle.network_audit.proofs.ValidLemmas.{found-append, found-nothing}
+use Rattle.network_audit.proofs.ItemLemmas.{found-append, found-nothing}
 use Rattle.network_audit.proofs.Words.{first-here, first-more, first-none, first_finding, joint_items, joint_items_at, side_items}
 use Rattle.std.proofs.Common.{None, Some, ap, arith, subst, sym, ◌∙◌, ◌≡◌}
 use Rattle.network_audit.proofs.exchangers.audit_exchangers.Goals as goal

@@ -1,4 +1,4 @@
-use Rattle.network_audit.proofs.ValidLemmas.{finding_or_none, one_finding, one_verdict}
+use Rattle.network_audit.proofs.FindingLemmas.{finding_or_none, one_finding, one_verdict}
 use Rattle.network_audit.proofs.laws.networks_have_one_verdict.Goals as goal
 
 pub returns-clause-one : goal.returns-clause-one

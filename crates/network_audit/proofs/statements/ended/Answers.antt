@@ -1,5 +1,5 @@
 use Rattle.network_audit.proofs.Words.{Rational, not-not, rational_eq}
-use Rattle.network_audit.proofs.ValidLemmas.{found-failed, found-nothing, found-passed}
+use Rattle.network_audit.proofs.ItemLemmas.{found-failed, found-nothing, found-passed}
 use Rattle.std.proofs.Common.{Bool, Some, ap, not, sym, ◌∙◌, ◌≡◌}
 use Rattle.network_audit.proofs.statements.ended.Goals as goal
 use Rattle.network_audit.specs.declared.findings.Finding.TheVariants as finding

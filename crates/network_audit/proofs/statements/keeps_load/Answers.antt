@@ -1,5 +1,5 @@
 use Rattle.network_audit.proofs.Words.{Rational, is_below, rational_zero, whole}
-use Rattle.network_audit.proofs.ValidLemmas.{found-failed, found-nothing, found-passed}
+use Rattle.network_audit.proofs.ItemLemmas.{found-failed, found-nothing, found-passed}
 use Rattle.network_audit.proofs.statements.keeps_load.Goals.{After-is_below, After-is_below-2}
 use Rattle.std.proofs.Common.{Some, ap, not, pos, sym, ◌∙◌, ◌≡◌}
 use Rattle.network_audit.proofs.statements.keeps_load.Goals as goal

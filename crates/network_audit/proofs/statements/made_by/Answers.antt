@@ -1,7 +1,7 @@
 use Rattle.network_audit.proofs.Words.{AreStreams-IsComplete, BranchValue, IsValidStream, NamesKnown, Rational, Side, all_at, branch_side, duty_at, end_items}
 use Rattle.network_audit.proofs.Words.{err_from_is_err_and, exchangers_of, first_finding, is_latent_branch, mix_items, mixed_value, pass_items, passed_value}
 use Rattle.network_audit.proofs.Words.{stream_at, uses, value_at}
-use Rattle.network_audit.proofs.ValidLemmas.{found-nothing}
+use Rattle.network_audit.proofs.ItemLemmas.{found-nothing}
 use Rattle.network_audit.proofs.JointLemmas.{duty-read, length-joints, value-read}
 use Rattle.network_audit.proofs.statements.made_by.Goals.{After-ended, After-mixed, After-passed, In-Pass, In-Some}
 use Rattle.std.proofs.Common.{All, Bool, None, Some, [], ap, arith, get_or, length, option_copied, refl, slice_get, subst, sym, ◌<◌, ◌∙◌, ◌∷◌, ◌≡◌}

@@ -1,5 +1,5 @@
 use Rattle.network_audit.proofs.Words.{Gives, Place, Step, first_finding, heat_of_both, mean_items, over, plus, positive-nonzero, value_formed}
-use Rattle.network_audit.proofs.ValidLemmas.{found-formed, found-not_formed, found-nothing}
+use Rattle.network_audit.proofs.ItemLemmas.{found-formed, found-not_formed, found-nothing}
 use Rattle.network_audit.proofs.statements.mean.Goals.{After-over, After-plus}
 use Rattle.std.proofs.Common.{[], ap₂, subst, ◌∙◌, ◌∷◌, ◌≡◌}
 use Rattle.network_audit.proofs.statements.mean.Goals as goal

@@ -1,6 +1,6 @@
 use Rattle.network_audit.proofs.Words.{Decides-rational_eq, IsBelow, err_from_is_err_and, first_finding, heat_of_both, mean_items, mixed_positive, over, plus}
 use Rattle.network_audit.proofs.Words.{rational_eq, rational_zero, value_formed}
-use Rattle.network_audit.proofs.ValidLemmas.{found-formed, found-not_formed, found-nothing}
+use Rattle.network_audit.proofs.ItemLemmas.{found-formed, found-not_formed, found-nothing}
 use Rattle.network_audit.proofs.JointLemmas.{even_mix}
 use Rattle.std.proofs.Common.{[], ap, false, if◌then◌else◌, subst, sym, true, ◌∙◌, ◌≡◌}
 use Rattle.network_audit.proofs.statements.mixed.Goals as goal

@@ -1,5 +1,5 @@
 use Rattle.network_audit.proofs.Words.{Gives, first_finding, load_items, moved, over, pass_items, positive-nonzero, value_formed}
-use Rattle.network_audit.proofs.ValidLemmas.{found-formed, found-not_formed}
+use Rattle.network_audit.proofs.ItemLemmas.{found-formed, found-not_formed}
 use Rattle.network_audit.proofs.statements.passed.Goals.{After-keeps_load, After-moved}
 use Rattle.std.proofs.Common.{ap, subst, sym, ◌∙◌, ◌≡◌}
 use Rattle.network_audit.proofs.statements.passed.Goals as goal

@@ -1,5 +1,5 @@
 use Rattle.network_audit.proofs.Words.{is_below, value_formed}
-use Rattle.network_audit.proofs.ValidLemmas.{found-failed, found-formed, found-not_formed, found-nothing, found-passed}
+use Rattle.network_audit.proofs.ItemLemmas.{found-failed, found-formed, found-not_formed, found-nothing, found-passed}
 use Rattle.std.proofs.Common.{false, true, ◌∙◌, ◌≡◌}
 use Rattle.network_audit.proofs.statements.split_rest.Goals as goal
 

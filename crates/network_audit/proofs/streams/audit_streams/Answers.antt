@@ -1,4 +1,4 @@
-use Rattle.network_audit.proofs.ValidLemmas.{found-append, found-failed, found-nothing, found-passed}
+use Rattle.network_audit.proofs.ItemLemmas.{found-append, found-failed, found-nothing, found-passed}
 use Rattle.network_audit.proofs.Words.{ends_stream, first-here, first-more, first-none, first_finding, is_ended, length-AreStreams, list_any, stream_items}
 use Rattle.network_audit.proofs.Words.{stream_items_at}
 use Rattle.std.proofs.Common.{None, Some, ap, arith, false, get_or, length, subst, sym, true, ◌<◌, ◌∙◌, ◌≡◌, ◌≤◌}

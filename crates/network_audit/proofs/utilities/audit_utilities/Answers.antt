@@ -1,4 +1,4 @@
-use Rattle.network_audit.proofs.ValidLemmas.{found-append, found-nothing}
+use Rattle.network_audit.proofs.ItemLemmas.{found-append, found-nothing}
 use Rattle.network_audit.proofs.JointLemmas.{heats-more}
 use Rattle.network_audit.proofs.Words.{all_heat_items, first-here, first-more, first-none, first_finding, heat_items, heats_in, take_all, take_more_set}
 use Rattle.std.proofs.Common.{None, Some, [], ap, arith, length, refl, subst, sym, take, ◌++◌, ◌∙◌, ◌∷◌, ◌≡◌, ◌≤◌}

@@ -1,4 +1,4 @@
-use Rattle.network_audit.proofs.ValidLemmas.{found-behind, found-front}
+use Rattle.network_audit.proofs.ItemLemmas.{found-behind, found-front}
 use Rattle.network_audit.proofs.Words.{first_finding, range_items}
 use Rattle.std.proofs.Common.{ap, sym, ◌∙◌}
 use Rattle.network_audit.proofs.utilities.audit_utility.Goals as goal

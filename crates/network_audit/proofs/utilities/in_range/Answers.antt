@@ -1,5 +1,5 @@
 use Rattle.network_audit.proofs.Words.{Rational, is_below, whole}
-use Rattle.network_audit.proofs.ValidLemmas.{found-failed, found-nothing, found-passed}
+use Rattle.network_audit.proofs.ItemLemmas.{found-failed, found-nothing, found-passed}
 use Rattle.std.proofs.Common.{Some, ap, false, not, sym, true, ◌∙◌, ◌≡◌}
 use Rattle.network_audit.proofs.utilities.in_range.Goals as goal
 use Rattle.network_audit.specs.declared.findings.Finding.TheVariants as finding

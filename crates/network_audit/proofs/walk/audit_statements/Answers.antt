@@ -1,4 +1,4 @@
-use Rattle.network_audit.proofs.ValidLemmas.{IsWalked, line_here, walked-all, walked-found, walked-more, walked-room, walked-start, walked-wide}
+use Rattle.network_audit.proofs.WalkLemmas.{IsWalked, line_here, walked-all, walked-found, walked-more, walked-room, walked-start, walked-wide}
 use Rattle.network_audit.proofs.walk.audit_statements.Goals.{After-line-item}
 use Rattle.network_audit.proofs.Words.{AreStreams-IsComplete, IsLineOf, IsValidStream, first_value, streams_first}
 use Rattle.std.proofs.Common.{All, ap, arith, length, map, subst, sym, take, ◌++◌, ◌+◌, ◌∙◌, ◌≡◌}

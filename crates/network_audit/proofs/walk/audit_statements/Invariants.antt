@@ -1,4 +1,4 @@
-use Rattle.network_audit.proofs.ValidLemmas.{IsWalked}
+use Rattle.network_audit.proofs.WalkLemmas.{IsWalked}
 use Rattle.network_audit.proofs.walk.audit_statements.Given as goal
 
 abbrev pub invariant-loop-index : goal.invariant-loop-index

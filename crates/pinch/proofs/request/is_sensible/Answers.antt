@@ -1,5 +1,5 @@
-use Rattle.std.proofs.Common.{Bool, List, arith, false, refl, subst, true, ◌≡◌}
-use Rattle.pinch.proofs.Words.{Any, AreSensible, IsLatent, IsSensible, IsTrue, Stream, ints, not, ◌↔◌}
+use Rattle.std.proofs.Common.{All, Bool, List, arith, false, refl, subst, sym, true, ◌≡◌}
+use Rattle.pinch.proofs.Words.{Any, AreSensible, AreStreams-IsComplete, IsLatent, IsSensible, IsTrue, IsValidStream, Stream, ints, not, ◌↔◌}
 use Rattle.pinch.proofs.request.is_sensible.Goals as goal
 
 -- a latent stream has a load
@@ -13,6 +13,10 @@ unless_latent : (streams : List Stream) (some : Bool) → (IsTrue some ↔ Any I
     → IsTrue (not some) ↔ AreSensible streams
 unless_latent streams true latent sensible = (λ is. cc, λ are. absurd (none_latent streams are (latent.0 refl)))
 unless_latent streams false latent sensible = (λ is. sensible refl, λ are. refl)
+
+pub has_latent-requires : goal.has_latent-requires
+has_latent-requires c =
+    subst (All IsValidStream) (sym c.as_slice.ensures) (AreStreams-IsComplete c.args.case.now c.requires).each
 
 pub returns : goal.returns
 returns c =

@@ -1,5 +1,6 @@
-use Rattle.pinch.proofs.Early.{without_text}
-use Rattle.pinch.proofs.Words.{EndsIn, by_text, case_file, reading_of}
+use Rattle.pinch.proofs.Early.{by_completed, without_text}
+use Rattle.pinch.proofs.Words.{EndsIn, case_file, reading_of, ready}
+use Rattle.pinch.specs.declared.request.Request.TheVariants.{OfCase}
 use Rattle.std.proofs.Common.{refl}
 use Rattle.pinch.proofs.request.request_task.Goals as goal
 
@@ -10,4 +11,5 @@ returns-in_err-case-clause-reads g c =
 
 pub returns-clause-reads : goal.returns-clause-reads
 unfolding EndsIn reading_of
-returns-clause-reads g c = by_text _ _ c.in_ok-case.ensures.case (refl, refl)
+returns-clause-reads g c =
+    by_completed _ (λ k. ready (OfCase k c.args.task)) _ _ _ _ _ c.in_ok-case.ensures.case (refl, refl)

@@ -17,7 +17,7 @@ returns-clause-exact c =
 
 pub returns-clause-never : goal.returns-clause-never
 returns-clause-never c =
-    let known = known_network _ _ _ c.requires.accepted c.joints-joints.ensures.known in
+    let known = known_network _ _ _ c.requires.accepted c.knows_its_network.ensures in
     let exact = returns-clause-exact c in
     false_from_ne_true _ (λ stands.
     no_cut-stands uses_ordered c.args.case.now c.args.network.now c.args.parts.now.hot c.args.parts.now.cold c.args.cut.now known.complete known.shape

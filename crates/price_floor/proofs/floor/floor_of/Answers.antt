@@ -6,7 +6,7 @@ use Rattle.price_floor.proofs.floor.floor_of.Goals as goal
 
 pub returns-clause-floor : goal.returns-clause-floor
 returns-clause-floor c =
-    let known = known_network _ _ _ c.requires.accepted c.joints-joints.ensures.known in
+    let known = known_network _ _ _ c.requires.accepted c.knows_its_network.ensures in
     let fits : FitsSigned w128 c.value_of.result = search rules in
     subst (λ value. IsAtMost (whole value) (cost_of c.args.case.now c.args.network.now))
     (sym c.value_of.ensures.value ∙ sym (to_z-of_z w128 c.value_of.result fits))

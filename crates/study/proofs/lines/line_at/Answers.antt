@@ -1,6 +1,6 @@
 use Rattle.std.proofs.Common.{arith, of_z, to_z, ◌≡◌}
 use Rattle.study.proofs.Words.{ints, w128, ◌-ℤ◌}
-use Rattle.study.proofs.SpanLemmas.{cost-fits, cost-told, rise-fits}
+use Rattle.study.proofs.LineBounds.{cost-fits, cost-told, rise-fits}
 use Rattle.study.proofs.lines.line_at.Goals as goal
 
 pub overflow_mul-result : goal.overflow_mul-result

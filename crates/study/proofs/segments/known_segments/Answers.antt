@@ -1,6 +1,6 @@
-use Rattle.std.proofs.Common.{arith, of_z, subst, subst₂, sym, to_z, w64, ◌≡◌}
-use Rattle.study.proofs.Words.{AreCostSegments, ints, pos, to_z-of_z, ◌+ℤ◌}
-use Rattle.study.proofs.SpanLemmas.{one_more_segment, span-segments}
+use Rattle.std.proofs.Common.{arith, inl, of_z, subst, subst₂, sym, to_z, w64, ◌≡◌}
+use Rattle.study.proofs.Words.{AreSegments, ints, pos, to_z-of_z, ◌+ℤ◌}
+use Rattle.study.proofs.SegmentLemmas.{one_more_segment}
 use Rattle.study.proofs.segments.known_segments.Goals as goal
 
 pub loop-next-smaller : goal.loop-next-smaller
@@ -37,7 +37,7 @@ loop-next-preserved c =
     record {
       from = omega (arith, ints);
       upto = omega (arith, ints);
-      segments = subst₂ (AreCostSegments case i to from) next (sym c.in_ok-push.ensures.ok)
+      segments = subst₂ (AreSegments case i to from) next (sym c.in_ok-push.ensures.ok)
           (one_more_segment case i to from (to_z w64 c.loop-next.next-bits) c.loop-next.segments segment c.loop-next.invariant.segments at is);
       ahead = c.in_ok-segment.ensures.ahead;
     }
@@ -52,6 +52,8 @@ returns c =
     let to_is = to_z-of_z w64 c.args.to c.ranges.to in
     let from_is = to_z-of_z w64 c.args.from c.ranges.from in
     let end : to_z w64 c.loop-next.next-bits ≡ c.args.to +ℤ pos 1 = grind (arith, ints) in
-    span-segments case i c.args.to c.args.from c.loop-next.segments
-    (subst₂ (λ to from. AreCostSegments case i to from (c.args.to +ℤ pos 1) c.loop-next.segments) to_is from_is (subst
-    (λ n. AreCostSegments case i (to_z w64 (of_z w64 c.args.to)) (to_z w64 (of_z w64 c.args.from)) n c.loop-next.segments) end c.loop-next.invariant.segments))
+    let segments = c.loop-next.segments in
+    let upto_end =
+    subst (λ next. AreSegments case i (to_z w64 (of_z w64 c.args.to)) (to_z w64 (of_z w64 c.args.from)) next segments) end
+    c.loop-next.invariant.segments in
+    inl (subst₂ (λ to from. AreSegments case i to from (c.args.to +ℤ pos 1) segments) to_is from_is upto_end)

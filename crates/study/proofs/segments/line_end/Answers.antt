@@ -1,6 +1,8 @@
 use Rattle.std.proofs.Common.{FitsSigned, arith, of_z, rules, subst, subst₂, sym, to_z, w64, ◌∙◌, ◌≡◌}
-use Rattle.study.proofs.Words.{All, All-push, All-weaker, CostsWith, IsPointOf, IsSmallPoint, ints, line_at, pos, priced, prices_with, w128, ◌+ℤ◌, ◌-ℤ◌, ◌≤ℤ◌}
-use Rattle.study.proofs.SpanLemmas.{line-second, one_cost}
+use Rattle.study.proofs.Words.{All, All-push, All-weaker, CostsWith, IsPointOf, IsSmallPoint, ints, line_at, pos}
+use Rattle.study.proofs.Words.{priced, prices_with, w128, ◌+ℤ◌, ◌-ℤ◌, ◌≤ℤ◌}
+use Rattle.study.proofs.LineBounds.{line-second}
+use Rattle.study.proofs.LeastCosts.{one_cost}
 use Rattle.study.proofs.segments.line_end.Goals as goal
 
 pub loop-off-init : goal.loop-off-init

@@ -1,6 +1,6 @@
 use Rattle.std.proofs.Common.{FitsSigned, arith, of_z, rules, subst, subst₂, sym, to_z, w64, ◌≡◌}
 use Rattle.study.proofs.Words.{CostsWith, IsCost, IsPrice, ints, pos, to_z-of_z, w128, ◌+ℤ◌, ◌-ℤ◌}
-use Rattle.study.proofs.SpanLemmas.{line_of}
+use Rattle.study.proofs.LineBounds.{line_of}
 use Rattle.study.proofs.segments.line_from.Goals as goal
 
 pub returns-clause-line : goal.returns-clause-line

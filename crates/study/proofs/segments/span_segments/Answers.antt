@@ -1,7 +1,7 @@
 use Rattle.std.proofs.Common.{FitsSigned, [], inr, of_z, rules, subst, sym, to_z, w64, ◌++◌, ◌∷◌}
 use Rattle.std.proofs.lemmas.List.Elements.{All-nil}
 use Rattle.study.proofs.Words.{All, All-push, CostsWith, IsCost, IsPoint, IsPrice, Point, to_z-of_z, w128}
-use Rattle.study.proofs.SpanLemmas.{has_flow, no_flow-moves}
+use Rattle.study.proofs.LeastCosts.{has_flow, no_flow-moves}
 use Rattle.study.proofs.segments.span_segments.Goals as goal
 
 pub known_segments-requires-clause-curve : goal.known_segments-requires-clause-curve
@@ -29,8 +29,9 @@ known_segments-requires-clause-ahead c =
       small = record { price = price; cost = subst IsCost cost_is range };
       least = subst (CostsWith case i from) cost_is found;
     } in
-    subst (All (IsPoint case i)) (sym c.in_ok-push-in-Some.ensures.items) (subst
-    (λ points. All (IsPoint case i) (points ++ point ∷ [])) (sym c.new-ahead.ensures.items) (All-push (IsPoint case i) [] point (All-nil (IsPoint case i)) is))
+    let one = All-push (IsPoint case i) [] point (All-nil (IsPoint case i)) is in
+    subst (All (IsPoint case i)) (sym c.in_ok-push-in-Some.ensures.items)
+    (subst (λ points. All (IsPoint case i) (points ++ point ∷ [])) (sym c.new-ahead.ensures.items) one)
 
 pub returns-in-None : goal.returns-in-None
 returns-in-None c = let none = rw c.in-None.is at c.in_ok-cost.ensures.cost in

@@ -1,4 +1,4 @@
-use Rattle.study.proofs.SpanLemmas.{one_answer_list}
+use Rattle.study.proofs.OneAnswerList.{one_answer_list}
 use Rattle.study.proofs.studies.answers_are_one.Goals as goal
 
 pub returns : goal.returns

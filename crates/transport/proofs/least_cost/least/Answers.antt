@@ -64,7 +64,7 @@ offer_is : (c : After-offer_of-offer)
 offer_is c =
     let fits : FitsSigned w128 c.offer_of-offer.result = search rules in
     to_z-of_z w128 c.offer_of-offer.result fits
-    ∙ rw (c.side.ensures, c.other_parts-others.ensures, c.as_slice-indexes.ensures) at c.offer_of-offer.ensures
+    ∙ rw (c.parts_of-others.ensures, c.opposite.ensures, c.side-side.ensures, c.as_slice-indexes.ensures) at c.offer_of-offer.ensures
 
 pub cut_of-requires-clause-needed : goal.cut_of-requires-clause-needed
 cut_of-requires-clause-needed c = (within (goal.at.cut_of-requires-clause-needed c).After-offer_of-offer).need

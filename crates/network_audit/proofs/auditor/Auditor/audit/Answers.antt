@@ -1,4 +1,5 @@
-use Rattle.network_audit.proofs.ValidLemmas.{excess_of_verdict, one_valuation_left, one_verdict, says_exactly, says_valid}
+use Rattle.network_audit.proofs.FindingLemmas.{one_verdict}
+use Rattle.network_audit.proofs.VerdictLemmas.{excess_of_verdict, one_valuation_left, says_exactly, says_valid}
 use Rattle.network_audit.proofs.auditor.Auditor.audit.Goals as goal
 
 pub returns-clause-only : goal.returns-clause-only

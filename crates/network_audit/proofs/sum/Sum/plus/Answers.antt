@@ -1,5 +1,5 @@
 use Rattle.network_audit.proofs.Words.{value_formed}
-use Rattle.network_audit.proofs.ValidLemmas.{found-formed, found-not_formed, found-nothing}
+use Rattle.network_audit.proofs.ItemLemmas.{found-formed, found-not_formed, found-nothing}
 use Rattle.std.proofs.Common.{◌+◌, ◌∙◌}
 use Rattle.network_audit.proofs.sum.Sum.plus.Goals as goal
 

@@ -1,5 +1,5 @@
-use Rattle.penalties.proofs.StepLemmas.{none_of_nothing}
-use Rattle.penalties.proofs.Words.{absorbed_by, absorbed_steps, first_too_fine, seen_height, seen_steps}
+use Rattle.network_audit.proofs.ItemLemmas.{found-nothing}
+use Rattle.penalties.proofs.Words.{absorbed_by, absorbed_steps, first_finding, seen_height, seen_steps}
 use Rattle.std.proofs.Common.{ap, ap₂, sym, ◌∙◌}
 use Rattle.penalties.proofs.heights.Survey.absorbed.Goals as goal
 
@@ -7,8 +7,8 @@ pub returns-in-Utility : goal.returns-in-Utility
 returns-in-Utility c =
     let s = c.args.self.now in
     let joint = c.args.joint.now in (
-      ap (λ of. first_too_fine (absorbed_steps (seen_height s) (seen_steps s) c.args.place of joint.taken)) c.in-Utility.is
-          ∙ none_of_nothing,
+      ap (λ of. first_finding (absorbed_steps (seen_height s) (seen_steps s) c.args.place of joint.taken)) c.in-Utility.is
+          ∙ found-nothing,
       c.whole.ensures ∙ sym (ap (λ of. absorbed_by (seen_height s) of joint.taken) c.in-Utility.is),
     )
 
@@ -16,7 +16,7 @@ pub returns-in-None : goal.returns-in-None
 returns-in-None c =
     let s = c.args.self.now in
     let joint = c.args.joint.now in (
-      ap₂ (λ of pass. first_too_fine (absorbed_steps (seen_height s) (seen_steps s) c.args.place of pass)) c.in_default.is c.in-None.is
-          ∙ none_of_nothing,
+      ap₂ (λ of pass. first_finding (absorbed_steps (seen_height s) (seen_steps s) c.args.place of pass)) c.in_default.is c.in-None.is
+          ∙ found-nothing,
       c.whole-in-None.ensures ∙ sym (ap₂ (λ of pass. absorbed_by (seen_height s) of pass) c.in_default.is c.in-None.is),
     )

@@ -1,13 +1,14 @@
-use Rattle.penalties.proofs.StepLemmas.{difference_formed, difference_not_formed, first_behind, first_front, handed_on}
+use Rattle.network_audit.proofs.ItemLemmas.{found-behind, found-front}
+use Rattle.penalties.proofs.StepLemmas.{difference_formed, difference_not_formed, handed_on}
 use Rattle.std.proofs.Common.{◌+◌, ◌∙◌}
 use Rattle.penalties.proofs.heights.Survey.loss.Goals as goal
 
 pub returns-in_err-high : goal.returns-in_err-high
-returns-in_err-high c = handed_on _ _ _ _ c.from_residual.ensures.1 (first_front _ _ _ c.in_err-high.ensures)
+returns-in_err-high c = handed_on _ _ _ _ c.from_residual.ensures.1 (found-front _ _ _ c.in_err-high.ensures)
 
 pub returns-in_err-low : goal.returns-in_err-low
 returns-in_err-low c =
-    handed_on _ _ _ _ c.from_residual-in_err-low.ensures.1 (first_behind _ _ c.in_ok-high.ensures.0 ∙ first_front _ _ _ c.in_err-low.ensures)
+    handed_on _ _ _ _ c.from_residual-in_err-low.ensures.1 (found-behind _ _ c.in_ok-high.ensures.0 ∙ found-front _ _ _ c.in_err-low.ensures)
 
 pub returns-in-Some : goal.returns-in-Some
 returns-in-Some c =

@@ -1,8 +1,9 @@
-use Rattle.study.proofs.Words.{Bool, Case, HasNoFlow, HoldsOfParts-some, IsCaseNet, IsCaseNet-alike, IsCost, IsLeastCost, IsLeastCostAt, Part}
-use Rattle.study.proofs.Words.{length-map, priced, priced_part, reach_between, to_z-of_z, w128, ℤ}
+use Rattle.study.proofs.Words.{Bool, Case, HasNoFlow, HoldsOfParts-some, IsCaseNet, IsCaseNet-alike, IsCost}
+use Rattle.study.proofs.Words.{IsLeastCost, IsLeastCostAt, Part, length-map, priced, priced_part, reach_between}
+use Rattle.study.proofs.Words.{to_z-of_z, w128, ℤ}
 use Rattle.std.proofs.Common.{FitsSigned, List, rules, subst, subst₂, sym, ℕ, ◌≡◌}
 use Rattle.study.proofs.PartBounds.{least_within}
-use Rattle.study.proofs.SpanLemmas.{reach-priced}
+use Rattle.study.proofs.PricedFlows.{reach-priced}
 use Rattle.study.proofs.priced.PricedCase.cost_at.Goals as goal
 
 pub answer-requires : goal.answer-requires
@@ -33,10 +34,14 @@ returns-in-Least-clause-cost c =
     let cost = c.in-Least.cost in
     let fits : FitsSigned w128 cost = search rules in
     let found = rw c.in-Least.is at c.in_ok-cost.ensures in
-    subst (IsLeastCostAt case prices) (sym (to_z-of_z w128 cost fits)) (HoldsOfParts-some case
-    (λ hot cold. IsLeastCost (reach_between case hot cold) (priced prices hot) (priced prices cold) cost) parts.hot parts.cold c.requires.priced.parts (by_case
-    (λ r hot cold. IsLeastCost r hot cold cost) case prices parts.hot parts.cold c.in_ok-priced.priced.hot c.in_ok-priced.priced.cold c.in_ok-priced.ensures.hot
-    c.in_ok-priced.ensures.cold found.least))
+    let made = c.in_ok-priced.priced in
+    let is = c.in_ok-priced.ensures in
+    let costs = λ (hot cold : List Part).
+    IsLeastCost (reach_between case hot cold) (priced prices hot) (priced prices cold) cost in
+    let least = by_case (λ r hot cold. IsLeastCost r hot cold cost) case prices parts.hot parts.cold made.hot made.cold
+    is.hot is.cold found.least in
+    subst (IsLeastCostAt case prices) (sym (to_z-of_z w128 cost fits))
+    (HoldsOfParts-some case costs parts.hot parts.cold c.requires.priced.parts least)
 
 pub returns-in-Least-clause-range : goal.returns-in-Least-clause-range
 returns-in-Least-clause-range c =
@@ -44,9 +49,9 @@ returns-in-Least-clause-range c =
     let fits : FitsSigned w128 cost = search rules in
     let found = rw c.in-Least.is at c.in_ok-cost.ensures in
     let parts = c.in_ok-priced.priced in
-    subst IsCost (sym (to_z-of_z w128 cost fits)) (least_within
-    (reach_between c.args.self.now.case.now parts.hot parts.cold) parts.hot parts.cold cost parts.few_hot parts.few_cold parts.hot_bounded parts.cold_bounded
-    found.least)
+    let reach = reach_between c.args.self.now.case.now parts.hot parts.cold in
+    subst IsCost (sym (to_z-of_z w128 cost fits)) (least_within reach parts.hot parts.cold cost parts.few_hot parts.few_cold
+    parts.hot_bounded parts.cold_bounded found.least)
 
 pub returns-clause-cost : goal.returns-clause-cost
 returns-clause-cost c =
@@ -54,6 +59,8 @@ returns-clause-cost c =
     let parts = c.args.self.now.parts.now in
     let prices = c.args.prices.now in
     let found = rw c.in-Stuck.is at c.in_ok-cost.ensures in
-    HoldsOfParts-some case (λ hot cold. HasNoFlow (reach_between case hot cold) (priced prices hot) (priced prices cold)) parts.hot parts.cold
-    c.requires.priced.parts (by_case HasNoFlow case prices parts.hot parts.cold c.in_ok-priced.priced.hot c.in_ok-priced.priced.cold
-    c.in_ok-priced.ensures.hot c.in_ok-priced.ensures.cold found.stuck_only)
+    let made = c.in_ok-priced.priced in
+    let is = c.in_ok-priced.ensures in
+    let none = λ (hot cold : List Part). HasNoFlow (reach_between case hot cold) (priced prices hot) (priced prices cold) in
+    HoldsOfParts-some case none parts.hot parts.cold c.requires.priced.parts
+    (by_case HasNoFlow case prices parts.hot parts.cold made.hot made.cold is.hot is.cold found.stuck_only)

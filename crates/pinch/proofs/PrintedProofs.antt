@@ -1,0 +1,73 @@
+-- A report that is the text of a proof is answered with yes.
+use Rattle.case_text.proofs.Accepted.{case-is_valid}
+use Rattle.pinch.proofs.Words.{Answered, Answers, Case, Checked, ChecksProof, Command, EndsIn, Holds, HoldsOfCut}
+use Rattle.pinch.proofs.Words.{HoldsOfFlow, HoldsProof, HoldsText, IsAnswer, IsAnswerOver, IsCheckOf, IsComplete, IsFirstOf, No, NoWhy}
+use Rattle.pinch.proofs.Words.{Part, Report, Request, Rose, ShelfState, Shown, Shows, ShowsCommand, Yes, case_file, completed, cut_causes, file}
+use Rattle.pinch.proofs.Words.{flow_causes, proofs-pass, reading_of, ready, report_file, rows_of, shown_check, status_of, text}
+use Rattle.pinch.proofs.Complete.{no_later_fault, of_held}
+use Rattle.pinch.proofs.Formats.{lawful_case, lawful_report}
+use Rattle.std.proofs.Common.{List, Ok, Option, Result, Some, [], ap, inl, inr, refl, subst, sym, ℕ, ◌∙◌, ◌∷◌, ◌≡◌}
+use Rattle.certify.specs.declared.report.Report.TheVariants as report
+use Rattle.pinch.specs.declared.command.Command.TheVariants as command
+use Rattle.pinch.specs.declared.request.Request.TheVariants as request
+
+-- ---- a report has one answer
+
+first_yes : (causes : List NoWhy) (Holds : NoWhy → Type 0) (checked : Checked) → IsFirstOf causes Holds Yes
+    → IsFirstOf causes Holds checked → checked ≡ Yes
+first_yes causes Holds Yes passes is = refl
+first_yes [] Holds (No why) passes is = absurd is
+first_yes (cause ∷ causes) Holds (No why) passes (inl fails) = absurd (fails.1 passes.0)
+first_yes (cause ∷ causes) Holds (No why) passes (inr later) = first_yes causes Holds (No why) passes.1 later.1
+
+yes_over : (c : Case) (hot cold : List Part) (r : Report) (checked : Checked) → IsAnswerOver c hot cold r Yes
+    → IsAnswerOver c hot cold r checked
+    → checked ≡ Yes
+yes_over c hot cold (report.Flow cost uses moves gives takes) checked passes is =
+    first_yes flow_causes (HoldsOfFlow c hot cold cost uses moves gives takes) checked passes is
+yes_over c hot cold (report.Cut kind need offer parts) checked passes is =
+    first_yes cut_causes (HoldsOfCut c hot cold kind need offer parts) checked passes is
+
+only_yes : (c : Case) (r : Report) (checked : Checked) → IsAnswer c r Yes → IsAnswer c r checked → checked ≡ Yes
+only_yes c r checked passes is =
+    let (hot, cold, are) = passes.some in
+    yes_over c hot cold r checked (passes.each hot cold are) (is.each hot cold are)
+
+-- so it is shown that the report proves what it says
+shown_yes : (c : Case) (r : Report) (shown : Shown) → IsAnswer c r Yes → IsCheckOf c r shown
+    → status_of shown ≡ Answered
+shown_yes c r shown passes is =
+    let checked = only_yes c r is.checked passes is.is_answer in
+    ap status_of (is.is ∙ ap (shown_check r) checked)
+
+-- ---- reading
+
+-- what the report's file says is answered with yes
+reads_yes : (c : Case) (name : List ℕ) (old new : ShelfState) (end : Result Request Shown) (shown : Shown)
+    → (Rose old.faults new.faults → ⊥)
+    → IsComplete c → HoldsProof old.files name c
+    → EndsIn (file report_file name (λ r. ready (request.Certify c r))) old new end → Shows end shown
+    → status_of shown ≡ Answered
+unfolding EndsIn Answers
+reads_yes c name old new end shown no_fault complete held ends shows =
+    let passed = proofs-pass c held.shown complete held.proof in
+    of_held report_file lawful_report name old new end no_fault (λ r. IsAnswer c r Yes)
+    (λ mid r. (end ≡ Ok (request.Certify c r)) × (new ≡ mid)) (status_of shown ≡ Answered)
+    (record { bytes = text held.shown; file = held.file; value = passed.report; says = passed.is; then = passed.answer })
+    (λ mid r keeps passes last. shown_yes c r shown passes (subst (λ e. Shows e shown) last.0 shows)) ends
+
+pub certified : (command : Option Command) (old new : ShelfState) (shown : Shown)
+    → ShowsCommand command old new shown → ChecksProof command old.files
+    → (Rose old.faults new.faults → ⊥) → status_of shown ≡ Answered
+unfolding reading_of EndsIn
+certified (Some (command.Certify case report)) old new shown is proof no_fault =
+    let valid = case-is_valid (rows_of proof.bytes) proof.value proof.says in
+    let held : HoldsText case_file old.files case (λ c. IsComplete (completed c) × HoldsProof old.files report (completed c))
+    =
+    record { bytes = proof.bytes; file = proof.file; value = proof.value; says = proof.says; then = ((proof.value, valid, refl), proof.then) } in
+    of_held case_file lawful_case case old new is.end no_fault (λ c. IsComplete (completed c) × HoldsProof old.files report (completed c)) _
+    (status_of shown ≡ Answered) held
+    (λ mid c keeps then ends.
+    reads_yes (completed c) report mid new is.end shown (no_later_fault old mid new keeps no_fault) then.0
+    (subst (λ files. HoldsProof files report (completed c)) (sym keeps.files) then.1) ends is.shows) is.reads
+certified other old new shown is proof no_fault = absurd proof

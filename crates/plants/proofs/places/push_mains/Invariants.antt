@@ -1,7 +1,0 @@
-use Rattle.plants.proofs.Words.{main_places}
-use Rattle.std.proofs.Common.{take, ◌++◌, ◌≡◌}
-use Rattle.plants.proofs.places.push_mains.Given as goal
-
-abbrev pub invariant-loop-main : goal.invariant-loop-main
-invariant-loop-main l =
-    l.places.items ≡ l.initial.places.items ++ main_places l.contribution (take l.main-index l.mains)

@@ -1,6 +1,0 @@
-use Rattle.site.proofs.Words.{HaveFewStreams}
-use Rattle.std.proofs.Common.{subst, sym}
-use Rattle.site.proofs.found.Found.count_streams.Goals as goal
-
-pub count_streams-requires : goal.count_streams-requires
-count_streams-requires c = subst HaveFewStreams (sym c.as_slice.ensures.value) c.self.invariant

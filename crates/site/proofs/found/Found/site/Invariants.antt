@@ -1,6 +1,0 @@
-use Rattle.site.proofs.Words.{plant_with}
-use Rattle.std.proofs.Common.{map, take, ◌≡◌}
-use Rattle.site.proofs.found.Found.site.Given as goal
-
-abbrev pub invariant-loop-plant : goal.invariant-loop-plant
-invariant-loop-plant l = l.plants.items ≡ map (plant_with l.contribution) (take l.plant-index l.given)

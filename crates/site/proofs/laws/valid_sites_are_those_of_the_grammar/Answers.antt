@@ -1,9 +1,0 @@
-use Rattle.site.proofs.Accepted.{site-is_valid}
-use Rattle.site.proofs.PrintedText.{text_back}
-use Rattle.site.proofs.laws.valid_sites_are_those_of_the_grammar.Goals as goal
-
-pub returns-clause-valid : goal.returns-clause-valid
-returns-clause-valid c = site-is_valid
-
-pub returns-clause-given : goal.returns-clause-given
-returns-clause-given c = text_back

@@ -1,0 +1,2 @@
+pub mod LastScenario
+pub mod Accepted

@@ -1,0 +1,6 @@
+use Rattle.transport.proofs.Words.{parts_on_grid}
+use Rattle.transport.proofs.case_flow.case_answer.Goals as goal
+
+pub least_case-requires-clause-parts : goal.least_case-requires-clause-parts
+least_case-requires-clause-parts c =
+    parts_on_grid c.args.case.now c.args.parts.now.hot c.args.parts.now.cold c.requires.parts
