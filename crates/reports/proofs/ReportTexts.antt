@@ -1,8 +1,8 @@
 -- The text of a heat flow or of a cut is that of the report that it makes.
 use Rattle.reports.proofs.Words.{All-head, All-tail, Case, Cold, Cut, CutKind, Demand, HaveParts, Hot, Part, Parts, Prices, Side, Source, Span, Statement}
-use Rattle.reports.proofs.Words.{Stream, Supply, Transfer, Utility, blank, case_names, codes, cut_line, cut_report, cut_side, fields_text, flat_map}
+use Rattle.reports.proofs.Words.{Stream, Supply, Transfer, Utility, blank, case_names, codes, cut_line, cut_report, fields_text, flat_map}
 use Rattle.reports.proofs.Words.{flat_map-append, flow_report, flow_text, line, made_from, member_line, move_line, move_of, named_at, option_map_or, own_parts}
-use Rattle.reports.proofs.Words.{part_at, part_text, parts_of, price_at, price_line, price_word, priced_by, side_parts, signed_decimal, slice_get-get_or}
+use Rattle.reports.proofs.Words.{part_at, part_text, parts_of, price_at, price_line, price_word, priced_by, signed_decimal, slice_get-get_or}
 use Rattle.reports.proofs.Words.{source_name, span_of, statement_text, stuck_text, texts_from, use_line, use_of, utility_heat}
 use Rattle.certify.specs.Printed.{cost_statement, cut_statement, move_statement, part_statement, priced_statement, report_text, use_statement}
 use Rattle.std.proofs.Common.{All, List, [], ap, append_assoc, ap₂, get_or, length, map, pos, refl, slice_get, suc, sym, zero, ℕ, ℤ, ◌++◌, ◌<◌, ◌∙◌, ◌∷◌, ◌≡◌}
@@ -63,14 +63,10 @@ cost_text : (cost : ℤ) → line (codes "cost") cost ≡ statement_text (cost_s
 unfolding fields_text
 cost_text cost = refl
 
-side_is : (side : Side) (parts : Parts) → side_parts side parts ≡ parts_of side parts.hot parts.cold
-side_is Hot parts = refl
-side_is Cold parts = refl
-
 use_text : (parts : Parts) (ts : List Transfer) (i : ℕ) (u : Utility)
     → use_line parts ts i u ≡ statement_text (use_statement (use_of parts.hot parts.cold ts i u))
 unfolding fields_text
-use_text parts ts i u = ap (λ ps. line (codes "use " ++ u.name) (utility_heat i u.side ps ts)) (side_is u.side parts)
+use_text parts ts i u = refl
 
 move_text : (c : Case) (parts : Parts) (t : Transfer) → t.hot < length parts.hot → t.cold < length parts.cold
     → move_line (case_names c) parts t ≡ statement_text (move_statement (move_of c parts.hot parts.cold t))
@@ -141,5 +137,4 @@ cut-text c parts cut within =
     let own = own_parts c parts.hot parts.cold cut.kind in
     let members = texts_each (member_line (case_names c) own) part_statement (named_at c own) cut.parts
     (λ k d inside. member_text c own (get_or cut.parts k d) (within k d inside)) in
-    ap₂ (λ first rest. codes "infeasible\n" ++ (first ++ rest)) (kind_line_text cut.kind cut.need cut.offer cut.parts)
-    (ap (λ ps. flat_map (member_line (case_names c) ps) cut.parts) (side_is (cut_side cut.kind) parts) ∙ members)
+    ap₂ (λ first rest. codes "infeasible\n" ++ (first ++ rest)) (kind_line_text cut.kind cut.need cut.offer cut.parts) members

@@ -1,20 +1,16 @@
 -- The words and lemmas from elsewhere that the proofs of this crate speak in, passed on from one place. Declares nothing.
-pub use Rattle.case_text.specs.declared.fault.CaseWhy.{CaseWhy}
 pub use Rattle.certify.proofs.PartSums.{needing-within}
 pub use Rattle.certify.proofs.Printed.{printed-again}
 pub use Rattle.certify.proofs.Said.{certified-pass, cuts-pass}
 pub use Rattle.certify.specs.Answers.{own_parts, span_of, use_of}
 pub use Rattle.certify.specs.Said.{cut_report, flow_report, made_from, move_of, named_at, priced_by}
-pub use Rattle.certify.specs.declared.fault.ReportWhy.{ReportWhy}
-pub use Rattle.certify.specs.declared.report.NoWhy.{NoWhy}
 pub use Rattle.certify.specs.declared.report.Span.{Span}
-pub use Rattle.curves.specs.declared.point.Point.{Point}
 pub use Rattle.grid.specs.Part.{AreCaseParts}
 pub use Rattle.grid.specs.declared.part.Part.{Part}
 pub use Rattle.grid.specs.declared.parts.Parts.{Parts}
 pub use Rattle.heat_flow.proofs.Blanks.{blank}
 pub use Rattle.heat_flow.specs.Certificate.{IsCertified, IsCutOf, utility_heat}
-pub use Rattle.heat_flow.specs.Cuts.{cut_side, parts_of}
+pub use Rattle.heat_flow.specs.Cuts.{parts_of}
 pub use Rattle.heat_flow.specs.Flow.{HaveParts}
 pub use Rattle.heat_flow.specs.Prices.{price_at}
 pub use Rattle.heat_flow.specs.Reach.{reach_between}
@@ -25,33 +21,23 @@ pub use Rattle.heat_flow.specs.declared.flow.Flow.{Flow}
 pub use Rattle.heat_flow.specs.declared.flow.Transfer.{Transfer}
 pub use Rattle.heat_flow.specs.declared.prices.Prices.{Prices}
 pub use Rattle.network_audit.proofs.BalanceWithin.{HasFractions}
-pub use Rattle.network_audit.specs.declared.findings.Place.{Place}
-pub use Rattle.network_audit.specs.declared.findings.Reason.{Reason}
 pub use Rattle.network_audit.specs.declared.verdict.Balance.{Balance}
 pub use Rattle.network_text.proofs.print.Fields.{fraction_plain}
 unfoldable pub use Rattle.network_text.specs.Printed.{text_of}
-pub use Rattle.network_text.specs.declared.fault.NetWhy.{NetWhy}
 pub use Rattle.networks.specs.declared.network.Network.{Network}
-pub use Rattle.penalties.specs.declared.list.PenaltyList.{PenaltyList}
-pub use Rattle.site_text.specs.declared.site.Site.{Site}
-pub use Rattle.site.specs.declared.table.SiteTable.{SiteTable}
-pub use Rattle.problem_table.specs.declared.target.Target.{Target}
 pub use Rattle.reports.specs.Audit.{penalty_line}
 pub use Rattle.reports.specs.Curves.{point_line}
 pub use Rattle.reports.specs.Cut.{cut_line, member_line, stuck_text}
 pub use Rattle.reports.specs.Design.{balance_comment, design_text}
-pub use Rattle.reports.specs.Flow.{flow_text, move_line, part_at, part_text, price_line, price_word, side_parts, use_line}
+pub use Rattle.reports.specs.Flow.{flow_text, move_line, part_at, part_text, price_line, price_word, use_line}
 pub use Rattle.reports.specs.Lines.{line, texts_from}
 pub use Rattle.reports.specs.Names.{case_names, source_name, stream_names}
 pub use Rattle.reports.specs.Prices.{item_lines, segment_line}
 pub use Rattle.reports.specs.Proofs.{IsAnsweredWithYes, PrintedProofsPass}
 pub use Rattle.reports.specs.Site.{profile_line}
 pub use Rattle.reports.specs.Sweep.{row_line}
-unfoldable pub use Rattle.reports.specs.Text.{is_of_network, is_refusal, text}
+unfoldable pub use Rattle.reports.specs.Text.{text}
 pub use Rattle.reports.specs.declared.names.SourceNames.{SourceNames}
-pub use Rattle.reports.specs.declared.shown.FileRole.{FileRole}
-pub use Rattle.reports.specs.declared.shown.Shown.{Shown}
-pub use Rattle.site_text.specs.declared.fault.SiteWhy.{SiteWhy}
 pub use Rattle.statements.proofs.PlainStatements.{comment-back, word_plain}
 pub use Rattle.statements.specs.Statements.{IsPlainField, Statement, statement_text}
 unfoldable pub use Rattle.statements.specs.Statements.{fields_text, is_statement, statements_of}
@@ -65,7 +51,7 @@ pub use Rattle.std.specs.Fmt.{signed_decimal}
 pub use Rattle.std.specs.Iterator.Adapters.{zip_first, zip_second}
 pub use Rattle.std.specs.List.{flat_map, list_all}
 pub use Rattle.std.specs.Option.{option_map_or}
-pub use Rattle.std.specs.Prelude.{IsTrue, codes, pos, slice_index_or, ℤ}
+pub use Rattle.std.specs.Prelude.{codes, pos, slice_index_or, ℤ}
 pub use Rattle.std.specs.Slice.Iter.{iter_rest}
 pub use Rattle.stream_case.specs.Case.{IsComplete}
 pub use Rattle.stream_case.specs.declared.case.Case.{Case}
@@ -74,9 +60,5 @@ pub use Rattle.stream_case.specs.declared.source.Side.TheVariants.{Cold, Hot}
 pub use Rattle.stream_case.specs.declared.source.Source.{Source}
 pub use Rattle.stream_case.specs.declared.stream.Stream.{Stream}
 pub use Rattle.stream_case.specs.declared.utility.Utility.{Utility}
-pub use Rattle.study.specs.declared.row.SweepRow.{SweepRow}
-pub use Rattle.study_text.specs.declared.fault.StudyWhy.{StudyWhy}
-pub use Rattle.study_text.specs.declared.study.Study.{Study}
 pub use Rattle.study.specs.declared.study_answer.StudyAnswer.{StudyAnswer}
 pub use Rattle.study_text.specs.declared.study.StudyItem.{StudyItem}
-pub use Rattle.transport.specs.declared.answer.Answer.{Answer}

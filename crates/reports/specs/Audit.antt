@@ -4,7 +4,6 @@ use Rattle.std.specs.List.{flat_map}
 use Rattle.std.specs.Fmt.{decimal}
 use Rattle.stream_case.specs.declared.case.Case.{Case}
 use Rattle.stream_case.specs.declared.source.Source.TheVariants.{Stream as of_stream, Utility as of_utility}
-use Rattle.stream_case.specs.Case.{source_name}
 use Rattle.fractions.specs.Rationals.{Rational, fraction_text}
 use Rattle.networks.specs.declared.network.Network.{Network}
 use Rattle.network_text.specs.Printed.{exchanger_name, exchanger_names}
@@ -17,13 +16,14 @@ use Rattle.penalties.specs.declared.list.Penalty.{Penalty}
 use Rattle.penalties.specs.declared.list.PenaltyList.{PenaltyList}
 use Rattle.penalties.specs.declared.list.PenaltyList.TheVariants as list
 use Rattle.reports.specs.Lines.{line}
+use Rattle.reports.specs.Names.{case_names, source_name}
 
 -- line LINE, stream NAME, exchanger NAME, utility NAME or balance
 abbrev pub place_text : Case → Network → Place → List ℕ
 place_text c network (place.Line number) = codes "line " ++ decimal number
-place_text c network (place.Stream index) = codes "stream " ++ source_name c (of_stream index)
+place_text c network (place.Stream index) = codes "stream " ++ source_name (case_names c) (of_stream index)
 place_text c network (place.Exchanger index) = codes "exchanger " ++ exchanger_name network index
-place_text c network (place.Utility index) = codes "utility " ++ source_name c (of_utility index)
+place_text c network (place.Utility index) = codes "utility " ++ source_name (case_names c) (of_utility index)
 place_text c network place.Balance = codes "balance"
 
 -- REASON found FOUND wanted WANTED

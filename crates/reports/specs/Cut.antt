@@ -7,8 +7,8 @@ use Rattle.grid.specs.declared.parts.Parts.{Parts}
 use Rattle.heat_flow.specs.declared.cut.Cut.{Cut}
 use Rattle.heat_flow.specs.declared.cut.CutKind.{CutKind}
 use Rattle.heat_flow.specs.declared.cut.CutKind.TheVariants.{Demand, Supply}
-use Rattle.heat_flow.specs.Cuts.{cut_side}
-use Rattle.reports.specs.Flow.{part_at, side_parts}
+use Rattle.heat_flow.specs.Cuts.{cut_side, parts_of}
+use Rattle.reports.specs.Flow.{part_at}
 use Rattle.reports.specs.Lines.{line}
 use Rattle.reports.specs.declared.names.SourceNames.{SourceNames}
 
@@ -27,4 +27,6 @@ member_line names parts index = codes "part " ++ (part_at names parts index ++ 1
 
 -- that there is no heat flow, the cut and its parts
 abbrev pub stuck_text : SourceNames → Parts → Cut → List ℕ
-stuck_text names parts cut = codes "infeasible\n" ++ cut_line cut ++ flat_map (member_line names (side_parts (cut_side cut.kind) parts)) cut.parts
+stuck_text names parts cut =
+    let own = parts_of (cut_side cut.kind) parts.hot parts.cold in
+    codes "infeasible\n" ++ cut_line cut ++ flat_map (member_line names own) cut.parts

@@ -12,6 +12,7 @@ use Rattle.grid.specs.declared.parts.Parts.{Parts}
 use Rattle.heat_flow.specs.declared.flow.Transfer.{Transfer}
 use Rattle.heat_flow.specs.declared.prices.Prices.{Prices}
 use Rattle.heat_flow.specs.Certificate.{utility_heat}
+use Rattle.heat_flow.specs.Cuts.{parts_of}
 use Rattle.heat_flow.specs.Prices.{price_at}
 use Rattle.reports.specs.Lines.{line, texts_from}
 use Rattle.reports.specs.Names.{case_names, source_name}
@@ -25,17 +26,13 @@ part_text names p = source_name names p.source ++ 32 ∷ (signed_decimal p.high 
 abbrev pub part_at : SourceNames → List Part → ℕ → List ℕ
 part_at names parts index = option_map_or (part_text names) (slice_get parts index) []
 
-abbrev pub side_parts : Side → Parts → List Part
-side_parts Hot parts = parts.hot
-side_parts Cold parts = parts.cold
-
 abbrev pub side_prices : Side → Prices → List ℤ
 side_prices Hot prices = prices.hot
 side_prices Cold prices = prices.cold
 
 -- use NAME HEAT
 abbrev pub use_line : Parts → List Transfer → ℕ → Utility → List ℕ
-use_line parts transfers i u = line (codes "use " ++ u.name) (utility_heat i u.side (side_parts u.side parts) transfers)
+use_line parts transfers i u = line (codes "use " ++ u.name) (utility_heat i u.side (parts_of u.side parts.hot parts.cold) transfers)
 
 -- move NAME HIGH LOW NAME HIGH LOW HEAT
 abbrev pub move_line : SourceNames → Parts → Transfer → List ℕ
@@ -51,7 +48,7 @@ abbrev pub price_line : SourceNames → Side → ℤ → Part → List ℕ
 price_line names side price p = line (price_word side ++ 32 ∷ part_text names p) price
 
 abbrev pub price_lines : SourceNames → Side → Parts → Prices → List ℕ
-price_lines names side parts prices = texts_from (λ i p. price_line names side (price_at (side_prices side prices) i) p) 0 (side_parts side parts)
+price_lines names side parts prices = texts_from (λ i p. price_line names side (price_at (side_prices side prices) i) p) 0 (parts_of side parts.hot parts.cold)
 
 -- the transfers and the prices
 abbrev pub certificate_lines : SourceNames → Parts → List Transfer → Prices → List ℕ

@@ -1,5 +1,5 @@
 -- The text of what is shown.
-use Rattle.std.specs.Prelude.{ℕ, Bool, true, false, List, ⊤, codes}
+use Rattle.std.specs.Prelude.{ℕ, List, ⊤, codes}
 use Rattle.stream_case.specs.Case.{IsComplete}
 use Rattle.networks.specs.Shape.{HasShape}
 use Rattle.reports.specs.Audit.{accepted_text, rejected_text, too_fine_text}
@@ -22,28 +22,6 @@ use Rattle.reports.specs.declared.shown.Shown.TheVariants.{Targets, Flow, Stuck,
 unfoldable pub IsPrintable : Shown → Type 0
 IsPrintable (Design case network balance) = IsComplete case × HasShape case network
 IsPrintable other = ⊤
-
--- a network is shown
-abbrev pub is_of_network : Shown → Bool
-is_of_network (Design case network balance) = true
-is_of_network (Accepted case network balance place floor penalties) = true
-is_of_network (Rejected case network place reason) = true
-is_of_network (TooFine case network place step) = true
-is_of_network other = false
-
--- words, a file, a row or a case are blamed
-abbrev pub is_refusal : Shown → Bool
-is_refusal BadWords = true
-is_refusal (BadCase row why) = true
-is_refusal NotStandard = true
-is_refusal Latent = true
-is_refusal (BadSite row why) = true
-is_refusal (BadNetwork line why) = true
-is_refusal (BadReport line why) = true
-is_refusal (BadStudy row why) = true
-is_refusal (TooLong file) = true
-is_refusal (ReadFault file) = true
-is_refusal other = false
 
 -- what the program prints of what is shown
 unfoldable pub text : Shown → List ℕ

@@ -1,11 +1,11 @@
 //! The texts of what an audit says of a network.
-ghost use Rattle.std.specs.Prelude.{◌≡◌, [], IfOk, slice_index_or, string_bytes};
+ghost use Rattle.std.specs.Prelude.{◌≡◌, IfOk, string_bytes};
 ghost use Rattle.std.specs.List.{flat_map};
 ghost use Rattle.network_text.specs.Printed.{exchanger_name};
 ghost use Rattle.reports.specs.Audit.{accepted_text, balance_lines, floor_lines, fraction_line, loss_text, measured_text, penalty_line, penalty_lines, place_text, reason_text, rejected_text, too_fine_text};
 
 use crate::line::line;
-use crate::source::source_name;
+use crate::names::{case_names, name_at};
 use fractions::Frac;
 use network_audit::{Balance, Place, Reason};
 use network_text::{Network, exchanger_names};
@@ -156,13 +156,15 @@ fn place_text(
     match place {
         Place::Line(number) => format!(in alloc; "line {number}"),
         Place::Stream(index) => {
-            format!(in alloc; "stream {}", source_name(case, Source::Stream(index)))
+            let names = case_names(alloc, case)?;
+            format!(in alloc; "stream {}", names.source_name(Source::Stream(index)))
         }
         Place::Exchanger(index) => {
             format!(in alloc; "exchanger {}", exchanger_name(alloc, network, index)?)
         }
         Place::Utility(index) => {
-            format!(in alloc; "utility {}", source_name(case, Source::Utility(index)))
+            let names = case_names(alloc, case)?;
+            format!(in alloc; "utility {}", names.source_name(Source::Utility(index)))
         }
         Place::Balance => String::from_str(alloc, "balance"),
     }
@@ -174,16 +176,6 @@ fn exchanger_name(alloc: Global, network: &Network, index: u32) -> Result<String
 {
     let names = exchanger_names(alloc, network)?;
     String::from_str(alloc, name_at(names.as_slice(), index))
-}
-
-/// The name at an index; nothing past the end.
-fn name_at(names: &[Name], index: u32) -> &str
-    ensures { result.now ≡ slice_index_or names.now index [] }
-{
-    match names.get(index as usize) {
-        Some(name) => name.as_str(),
-        None => "",
-    }
 }
 
 /// The name of a reason, with what was found and what was wanted.

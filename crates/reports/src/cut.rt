@@ -3,11 +3,11 @@ ghost use Rattle.std.specs.Prelude.{◌≡◌, IfOk, string_bytes};
 ghost use Rattle.std.specs.List.{flat_map};
 ghost use Rattle.reports.specs.Cut.{cut_line, cut_word, member_line, stuck_text};
 
-use crate::flow::{part_at, side_parts};
+use crate::flow::part_at;
 use crate::line::line;
 use crate::names::SourceNames;
 use grid::{Part, Parts};
-use heat_flow::{Cut, CutKind};
+use heat_flow::{Cut, CutKind, parts_of};
 use std::alloc::{AllocError, Global};
 
 /// That there is no heat flow, the cut with its need and its offer in W, and its parts.
@@ -19,7 +19,7 @@ pub fn stuck_text(
 ) -> Result<String, AllocError>
     ensures { IfOk result (λ text. string_bytes text ≡ stuck_text names.now parts.now cut.now) }
 {
-    let parts = side_parts(cut.kind.side(), parts);
+    let parts = parts_of(cut.kind.side(), parts);
     let mut text = String::from_str(alloc, "infeasible\n")?;
     text.push_str(&cut_line(alloc, cut)?)?;
     text.push_str(&member_lines(alloc, names, parts, cut.parts.as_slice())?)?;

@@ -2,12 +2,12 @@
 ghost use Rattle.std.specs.Prelude.{◌≡◌, ◌++◌, IfOk, codes, string_bytes};
 ghost use Rattle.std.specs.List.{flat_map};
 ghost use Rattle.reports.specs.Lines.{line, texts_from};
-ghost use Rattle.reports.specs.Flow.{part_text, part_at, side_parts, side_prices, use_line, move_line, price_word, price_line, price_lines, certificate_lines, flow_text};
+ghost use Rattle.reports.specs.Flow.{part_text, part_at, side_prices, use_line, move_line, price_word, price_line, price_lines, certificate_lines, flow_text};
 
 use crate::line::{line, number_at};
 use crate::names::{SourceNames, case_names};
 use grid::{Part, Parts};
-use heat_flow::{Prices, Transfer, utility_heat};
+use heat_flow::{Prices, Transfer, parts_of, utility_heat};
 use std::alloc::{AllocError, Global};
 use stream_case::{Case, Side, Utility};
 
@@ -57,19 +57,9 @@ fn use_line(
         ≡ use_line parts.now transfers.now index utility.now) }
 {
     let side = utility.side;
-    let heat = utility_heat(index, side, side_parts(side, parts), transfers);
+    let heat = utility_heat(index, side, parts_of(side, parts), transfers);
     let word = format!(in alloc; "use {}", utility.name)?;
     line(alloc, &word, heat)
-}
-
-/// The parts of a side.
-pub fn side_parts(side: Side, parts: &Parts) -> &[Part]
-    ensures { result.now ≡ side_parts side parts.now }
-{
-    match side {
-        Side::Hot => parts.hot.as_slice(),
-        Side::Cold => parts.cold.as_slice(),
-    }
 }
 
 /// The transfers and the prices of the parts, a line each.
@@ -131,7 +121,7 @@ fn price_lines(
 {
     let prices = side_prices(side, prices);
     let mut text = String::new(alloc);
-    for (index, part) in side_parts(side, parts).iter().enumerate() {
+    for (index, part) in parts_of(side, parts).iter().enumerate() {
         text.push_str(&price_line(alloc, names, side, number_at(prices, index), part)?)?;
     }
     Ok(text)

@@ -14,7 +14,6 @@ mod prices;
 mod refusal;
 mod sample;
 mod shown;
-mod source;
 mod sweep;
 mod targets;
 mod text;

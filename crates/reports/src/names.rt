@@ -26,7 +26,7 @@ impl SourceNames {
 }
 
 /// The name at an index of a list; nothing past its end.
-fn name_at(names: &[Name], index: u32) -> &str
+pub fn name_at(names: &[Name], index: u32) -> &str
     ensures { result.now ≡ slice_index_or names.now index [] }
 {
     match names.get(index as usize) {

@@ -1,6 +1,6 @@
 //! The texts of what is shown: lines that end with `\n`, with single spaces between fields.
-ghost use Rattle.std.specs.Prelude.{◌≡◌, string_bytes, IfOk, IsTrue};
-ghost use Rattle.reports.specs.Text.{is_of_network, is_refusal, text, IsPrintable};
+ghost use Rattle.std.specs.Prelude.{◌≡◌, IfOk};
+ghost use Rattle.reports.specs.Text.{text, IsPrintable};
 
 use crate::audit::{accepted_text, rejected_text, too_fine_text};
 use crate::certified::{certified_text, not_certified_text};
@@ -21,8 +21,8 @@ use crate::targets::targets_text;
 use crate::total_site::total_site_text;
 use std::alloc::{AllocError, Global};
 
-/// The exact text of what is shown. A network that is shown as a design has the shape that the
-/// grammar of networks asks for.
+/// The exact text of what is shown: a call for each variant. A network that is shown as a design
+/// has the shape that the grammar of networks asks for.
 #[tactic(auto, unfolding(crate::specs::Text::IsPrintable, crate::specs::Text::text))]
 pub fn text_of(alloc: Global, shown: &Shown) -> Result<Vec<u8>, AllocError>
     requires { IsPrintable shown.now }
@@ -48,40 +48,6 @@ pub fn text_of(alloc: Global, shown: &Shown) -> Result<Vec<u8>, AllocError>
         Shown::Curves { hot, cold, net } => {
             Ok(curves_text(alloc, hot.as_slice(), cold.as_slice(), net.as_slice())?.into_bytes())
         }
-        Shown::SiteShown {
-            site,
-            parts,
-            sinks,
-            sources,
-            answer,
-        } => Ok(total_site_text(alloc, site, parts, sinks, sources, answer)?.into_bytes()),
-        Shown::Sweep { rows } => Ok(sweep_text(alloc, rows.as_slice())?.into_bytes()),
-        Shown::Sample { hot, cold, cost } => {
-            Ok(sample_text(alloc, *hot, *cold, *cost)?.into_bytes())
-        }
-        Shown::Certified { cost } => Ok(certified_text(alloc, *cost)?.into_bytes()),
-        Shown::NotCertified { why } => Ok(not_certified_text(alloc, *why)?.into_bytes()),
-        Shown::Prices {
-            case,
-            study,
-            answers,
-        } => Ok(prices_text(alloc, case, study, answers.as_slice())?.into_bytes()),
-        Shown::Design { .. }
-        | Shown::Accepted { .. }
-        | Shown::Rejected { .. }
-        | Shown::TooFine { .. } => network_text(alloc, shown),
-        _ => Ok(refusal_text(alloc, shown)?.into_bytes()),
-    }
-}
-
-/// The text of a network that is shown.
-#[tactic(auto, unfolding(crate::specs::Text::IsPrintable, crate::specs::Text::text))]
-fn network_text(alloc: Global, shown: &Shown) -> Result<Vec<u8>, AllocError>
-    requires printable { IsPrintable shown.now }
-    requires network { IsTrue (is_of_network shown.now) }
-    ensures { IfOk result (λ printed. printed.items ≡ text shown.now) }
-{
-    match shown {
         Shown::Design {
             case,
             network,
@@ -110,27 +76,33 @@ fn network_text(alloc: Global, shown: &Shown) -> Result<Vec<u8>, AllocError>
             place,
             step,
         } => Ok(too_fine_text(alloc, case, network, *place, *step)?.into_bytes()),
-        _ => unreachable!(),
-    }
-}
-
-/// The text of what blames words, a file, a row or a case.
-#[tactic(auto, unfolding(crate::specs::Text::text))]
-fn refusal_text(alloc: Global, shown: &Shown) -> Result<String, AllocError>
-    requires { IsTrue (is_refusal shown.now) }
-    ensures { IfOk result (λ printed. string_bytes printed ≡ text shown.now) }
-{
-    match shown {
-        Shown::BadWords => String::from_str(alloc, WORDS),
-        Shown::BadCase { row, why } => bad_case_text(alloc, *row, *why),
-        Shown::NotStandard => String::from_str(alloc, NOT_STANDARD),
-        Shown::Latent => String::from_str(alloc, LATENT),
-        Shown::BadSite { row, why } => bad_site_text(alloc, *row, *why),
-        Shown::BadNetwork { line, why } => bad_network_text(alloc, *line, *why),
-        Shown::BadReport { line, why } => bad_report_text(alloc, *line, *why),
-        Shown::BadStudy { row, why } => bad_study_text(alloc, *row, *why),
-        Shown::TooLong { file } => file_text(alloc, "too long", *file),
-        Shown::ReadFault { file } => file_text(alloc, "read fault", *file),
-        _ => unreachable!(),
+        Shown::SiteShown {
+            site,
+            parts,
+            sinks,
+            sources,
+            answer,
+        } => Ok(total_site_text(alloc, site, parts, sinks, sources, answer)?.into_bytes()),
+        Shown::Sweep { rows } => Ok(sweep_text(alloc, rows.as_slice())?.into_bytes()),
+        Shown::Sample { hot, cold, cost } => {
+            Ok(sample_text(alloc, *hot, *cold, *cost)?.into_bytes())
+        }
+        Shown::Certified { cost } => Ok(certified_text(alloc, *cost)?.into_bytes()),
+        Shown::NotCertified { why } => Ok(not_certified_text(alloc, *why)?.into_bytes()),
+        Shown::Prices {
+            case,
+            study,
+            answers,
+        } => Ok(prices_text(alloc, case, study, answers.as_slice())?.into_bytes()),
+        Shown::BadWords => Ok(String::from_str(alloc, WORDS)?.into_bytes()),
+        Shown::BadCase { row, why } => Ok(bad_case_text(alloc, *row, *why)?.into_bytes()),
+        Shown::NotStandard => Ok(String::from_str(alloc, NOT_STANDARD)?.into_bytes()),
+        Shown::Latent => Ok(String::from_str(alloc, LATENT)?.into_bytes()),
+        Shown::BadSite { row, why } => Ok(bad_site_text(alloc, *row, *why)?.into_bytes()),
+        Shown::BadNetwork { line, why } => Ok(bad_network_text(alloc, *line, *why)?.into_bytes()),
+        Shown::BadReport { line, why } => Ok(bad_report_text(alloc, *line, *why)?.into_bytes()),
+        Shown::BadStudy { row, why } => Ok(bad_study_text(alloc, *row, *why)?.into_bytes()),
+        Shown::TooLong { file } => Ok(file_text(alloc, "too long", *file)?.into_bytes()),
+        Shown::ReadFault { file } => Ok(file_text(alloc, "read fault", *file)?.into_bytes()),
     }
 }

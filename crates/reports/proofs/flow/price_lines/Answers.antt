@@ -7,7 +7,7 @@ pub loop-index-preserved : goal.loop-index-preserved
 loop-index-preserved c =
     let f = λ (i : ℕ) (p : Part). price_line c.args.names.now c.args.side (price_at c.side_prices-prices.result.now i) p in
     let i = c.loop-index.index in
-    let parts = c.side_parts-part-items.result.now in
+    let parts = c.parts_of-part-items.result.now in
     let fits : FitsSigned w64 c.number_at.result = search rules in
     let price = to_z-of_z w64 c.number_at.result fits ∙ c.number_at.ensures in
     c.in_ok-push_str.ensures.bytes
