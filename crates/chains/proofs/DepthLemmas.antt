@@ -30,8 +30,11 @@ marked-more before used ranks i within rank_in so_far k k_in =
     = ap (λ rs. stands rs k) (take_more ranks i 0 within) ∙ list_any-append (λ r. eqb r k) (take i ranks) (rank ∷ []) in
     ⊎_elim
     (λ same.
-    let here = subst (λ n. get_or (set used rank true) n false ≡ true) same (get_or-set_same used rank true false rank_in) in
-    here ∙ sym (ap (λ b. was || b) (more ∙ ap (λ b. early || (b || false)) (eq-eqb rank k same) ∙ or-true early) ∙ or-true was))
+    let here_set = get_or-set_same used rank true false rank_in in
+    let here = subst (λ n. get_or (set used rank true) n false ≡ true) same here_set in
+    here
+    ∙ sym
+    (ap (λ b. was || b) (more ∙ ap (λ b. early || (b || false)) (eq-eqb rank k same) ∙ or-true early) ∙ or-true was))
     (λ other.
     let k_before : k < length used = omega (arith, k_in, length-set used rank true) in
     get_or-set_other used rank k true false (λ e. other (sym e)) ∙ so_far k k_before
@@ -44,7 +47,8 @@ module _ (ranks : List ℕ) where
   unfolding used_among
   used-more n =
       let itself = λ (k : ℕ). count_by-map (stands ranks) (λ (r : ℕ). r) (range_with_len 0 k) in
-      sym (itself (n + 1)) ∙ sum_by-map-range_with_len_more (λ r. cond (stands ranks r) 1 0) (λ r. r) 0 n n (omega arith)
+      sym (itself (n + 1))
+      ∙ sum_by-map-range_with_len_more (λ r. cond (stands ranks r) 1 0) (λ r. r) 0 n n (omega arith)
       ∙ ap (λ m. m + cond (stands ranks n) 1 0) (itself n)
 
   used-later : (n k : ℕ) → used_among ranks n ≤ used_among ranks (n + k)
@@ -91,8 +95,9 @@ module _ (places : List ℤ) (hot cold : List Part) where
 
   pub rank-le : (p q : Part) → Contains (hot ++ cold) q → depth p ≤ depth q → rank p ≤ rank q
   rank-le p q there le =
-      ⊎_elim (λ less. absurd (omega (arith, le, used-less (ranks_used places hot cold) (rank q) (rank p) (used-rank q there) less))) (λ upto. upto)
-      (cases_lt (rank q) (rank p))
+      ⊎_elim (λ less.
+      absurd (omega (arith, le, used-less (ranks_used places hot cold) (rank q) (rank p) (used-rank q there) less)))
+      (λ upto. upto) (cases_lt (rank q) (rank p))
 
   -- ---- how many nodes a chain has
 
@@ -123,14 +128,16 @@ module _ (places : List ℤ) (hot cold : List Part) where
   within_all : (parts : List Part) → ((p : Part) → Contains parts p → Contains (hot ++ cold) p) → All IsHigh parts
       → All (λ n. n < chain_length places hot cold) (map depth parts)
   within_all parts among high =
-      All-map (λ n. n < chain_length places hot cold) depth parts
-      (λ k d within. let p = get_or parts k d in depth-within p (among p (Contains-get_or parts k d within)) (high k d within))
+      All-map (λ n. n < chain_length places hot cold) depth parts (λ k d within.
+      let p = get_or parts k d in
+      depth-within p (among p (Contains-get_or parts k d within)) (high k d within))
 
   pub ranks_high : (n : ℕ) (parts : List Part) (ranks : List ℕ) → n ≡ rank_count places
       → ranks ≡ map rank parts → All IsHigh parts
       → All (λ r. r < n) ranks
   ranks_high n parts ranks count is high =
-      subst (All (λ r. r < n)) (sym is) (All-map (λ r. r < n) rank parts (λ k d within. omega (arith, count, high k d within)))
+      subst (All (λ r. r < n)) (sym is)
+      (All-map (λ r. r < n) rank parts (λ k d within. omega (arith, count, high k d within)))
 
   pub ranks_within : (parts : List Part) (ranks above : List ℕ) → ranks ≡ map rank parts
       → length above ≡ rank_count places + 1 → All IsHigh parts
@@ -159,7 +166,8 @@ module _ (places : List ℤ) (hot cold : List Part) where
       let last = ap (λ xs. get_or xs (rank_count places) 0) table
       ∙ get_or-map-range_with_len f 0 n (rank_count places) (rank_count places) 0 (omega arith) (omega arith) in
       let count : d.nodes ≡ chain_length places hot cold = nodes ∙ ap (λ m. max m 1) last in
-      let within = λ (depths : List ℕ) (all : All (λ m. m < chain_length places hot cold) depths). subst (λ m. All (λ x. x < m) depths) (sym count) all in
+      let within = λ (depths : List ℕ) (all : All (λ m. m < chain_length places hot cold) depths). subst
+      (λ m. All (λ x. x < m) depths) (sym count) all in
       record {
         hot_depths = hots;
         cold_depths = colds;

@@ -33,7 +33,8 @@ length-flat_map-le f most [] each = omega arith
 length-flat_map-le f most (x ∷ xs) each =
     omega (arith, length-append (f x) (flat_map f xs), each x, length-flat_map-le f most xs each)
 
-module _ {X Y : Type 0} (xs : List X) (i : ℕ) (x : X) (before after now : List Y) (within : i < length xs) (is : x ≡ get_or xs i x) where
+module _ {X Y : Type 0} (xs : List X) (i : ℕ) (x : X) (before after now : List Y) (within : i < length xs)
+    (is : x ≡ get_or xs i x) where
   pub flat_map-step : (f : X → List Y) → after ≡ before ++ flat_map f (take i xs) → now ≡ after ++ f x
       → now ≡ before ++ flat_map f (take (i + 1) xs)
   flat_map-step f so_far pushed =

@@ -1,5 +1,5 @@
 -- Shares in order, gathered into transfers one after the other.
-use Rattle.chains.proofs.SpreadLemmas.{if_add, int_sum_by-front, int_sum_by-permutation, int_sum_by-term}
+use Rattle.chains.proofs.ItemSums.{if_add, int_sum_by-front, int_sum_by-permutation, int_sum_by-term}
 use Rattle.chains.proofs.Words.{All, All-contains, All-head, All-permutation, All-pop, All-push, All-weaker, AllPairs, AllPairs-across, AllPairs-front}
 use Rattle.chains.proofs.Words.{AreGathered, AreOfOnePair, Bor, Called, Cold, ComputesKey, Contains, Contains-append_left, Contains-permutation, Contains-push}
 use Rattle.chains.proofs.Words.{Hot, IsAdded, IsJoined, IsNotAfter, IsPermutation, IsPermutation-sym, IsPushed, IsSortedByKey, Mut, Share, Side, Transfer}
@@ -17,14 +17,15 @@ use Rattle.std.proofs.Common.{◌==◌, ◌∙◌, ◌∷◌, ◌≡◌, ◌≤�
 pub not_after : (s t : Share) → is_lt (ordering_then (nat_cmp t.hot s.hot) (nat_cmp t.node s.node)) ≡ false
     → IsNotAfter s t
 not_after s t sorted =
-    by_ranked (t.hot < s.hot) (t.hot ≡ s.hot) (s.hot < t.hot) (nat_cmp t.hot s.hot) (ranked t.hot s.hot (nat_cmp t.hot s.hot) refl)
+    by_ranked (t.hot < s.hot) (t.hot ≡ s.hot) (s.hot < t.hot) (nat_cmp t.hot s.hot)
+    (ranked t.hot s.hot (nat_cmp t.hot s.hot) refl)
     (λ is less. absurd (false≢true (sym sorted ∙ ap (λ o. is_lt (ordering_then o (nat_cmp t.node s.node))) is)))
     (λ is same.
     let by_node = sym (ap (λ o. is_lt (ordering_then o (nat_cmp t.node s.node))) is) ∙ sorted in
-    by_ranked (t.node < s.node) (t.node ≡ s.node) (s.node < t.node) (nat_cmp t.node s.node) (ranked t.node s.node (nat_cmp t.node s.node) refl)
+    by_ranked (t.node < s.node) (t.node ≡ s.node) (s.node < t.node) (nat_cmp t.node s.node)
+    (ranked t.node s.node (nat_cmp t.node s.node) refl)
     (λ before less. absurd (false≢true (sym by_node ∙ ap is_lt before)))
-    (λ equal tied. inr (sym same, omega (arith, tied)))
-    (λ behind more. inr (sym same, omega (arith, more))))
+    (λ equal tied. inr (sym same, omega (arith, tied))) (λ behind more. inr (sym same, omega (arith, more))))
     (λ is more. inl more)
 
 not_after-trans : (s t u : Share) → IsNotAfter s t → IsNotAfter t u → IsNotAfter s u
@@ -43,12 +44,14 @@ Neighbours shares =
 
 -- from the sort by that key
 pub neighbours_from_sort : {F : Type 0} {g : Mut F (Bor Share × Unit {0}) (ℕ × ℕ)} {f : F} (shares : List Share)
-    → ((key : Share → ℕ × ℕ) → ComputesKey g key f → IsSortedByKey key (λ x y. ordering_then (nat_cmp x.0 y.0) (nat_cmp x.1 y.1)) shares)
+    → ((key : Share → ℕ × ℕ) → ComputesKey g key f
+    → IsSortedByKey key (λ x y. ordering_then (nat_cmp x.0 y.0) (nat_cmp x.1 y.1)) shares)
     → ((a : Bor Share × Unit {0}) (r : ℕ × ℕ) (f' : F) → Called g f a r f' → (r ≡ (a.0.now.hot, a.0.now.node)) × (f' ≡ f))
     → Neighbours shares
 neighbours_from_sort {g = g} {f = f} shares sorted h k d within =
-    not_after (get_or shares k d) (get_or shares (k + 1) d)
-    (sorted (λ s. (s.hot, s.node)) (always_returns_same g (λ a r. r ≡ (a.0.now.hot, a.0.now.node)) f h) k d (omega arith) within)
+    let returns_key = always_returns_same g (λ a r. r ≡ (a.0.now.hot, a.0.now.node)) f h in
+    let in_order = sorted (λ s. (s.hot, s.node)) returns_key k d (omega arith) within in
+    not_after (get_or shares k d) (get_or shares (k + 1) d) in_order
 
 not_after_later : (shares : List Share) → Neighbours shares → (n i : ℕ) (d : Share) → i + n < length shares
     → IsNotAfter (get_or shares i d) (get_or shares (i + n) d)
@@ -58,9 +61,11 @@ not_after_later shares next zero i d within =
     inr (ap (λ k. (get_or shares k d).hot) at, omega (arith, same))
 not_after_later shares next (suc n) i d within =
     let step : i + suc n ≡ i + n + 1 = omega arith in
-    subst (λ k. IsNotAfter (get_or shares i d) (get_or shares k d)) (sym step)
-    (not_after-trans (get_or shares i d) (get_or shares (i + n) d) (get_or shares (i + n + 1) d) (not_after_later shares next n i d (omega (arith, within)))
-    (next (i + n) d (omega (arith, within))))
+    let to_later = not_after_later shares next n i d (omega (arith, within)) in
+    let to_next = next (i + n) d (omega (arith, within)) in
+    let not_after =
+    not_after-trans (get_or shares i d) (get_or shares (i + n) d) (get_or shares (i + n + 1) d) to_later to_next in
+    subst (λ k. IsNotAfter (get_or shares i d) (get_or shares k d)) (sym step) not_after
 
 -- the shares in front of one are not after it
 earlier : (shares : List Share) → Neighbours shares → (i : ℕ) (d : Share) → i < length shares
@@ -69,15 +74,18 @@ earlier shares next i d within k e early =
     let inside : k < i = omega (arith, early, length-take-le i shares (omega (arith, within))) in
     let on : k + (i - k) ≡ i = omega (arith, inside) in
     let both = not_after_later shares next (i - k) k e (omega (arith, within, on)) in
-    subst₂ IsNotAfter (sym (get_or-take i shares k e inside)) (ap (λ n. get_or shares n e) on ∙ get_or_default shares i e d within) both
+    let at_k = sym (get_or-take i shares k e inside) in
+    let at_i = ap (λ n. get_or shares n e) on ∙ get_or_default shares i e d within in
+    subst₂ IsNotAfter at_k at_i both
 
 -- ---- a transfer added
 
 -- the same cold part, by its node
 same_cold : (node hots b : ℕ) → hots ≤ node → ((node - hots) == b) ≡ (node == (hots + b))
 same_cold node hots b behind =
-    ⊎_elim (λ e. eq-eqb (node - hots) b (omega (arith, e)) ∙ sym (eq-eqb node (hots + b) e))
-    (λ other. ne_eqb (node - hots) b (λ e. other (omega (arith, e, behind))) ∙ sym (ne_eqb node (hots + b) other)) (cases_eq node (hots + b))
+    ⊎_elim (λ e. eq-eqb (node - hots) b (omega (arith, e)) ∙ sym (eq-eqb node (hots + b) e)) (λ other.
+    ne_eqb (node - hots) b (λ e. other (omega (arith, e, behind))) ∙ sym (ne_eqb node (hots + b) other))
+    (cases_eq node (hots + b))
 
 index_of_pair : (side : Side) (s t : Transfer) → AreOfOnePair s t → part_index side s ≡ part_index side t
 index_of_pair Hot s t same = same.0
@@ -117,8 +125,11 @@ is_joined old n last t heat long read one_pair sum =
       old_is =
           sym (take_all (n + 1) old (omega (arith, long)))
           ∙ (take_more old n last within ∙ ap (λ x. take n old ++ x ∷ []) (sym read));
-      new_is = sym (take_all (n + 1) (set old n more) (omega (arith, long, length-set old n more)))
-          ∙ (take_more_set old n more within ∙ ap (λ z. take n old ++ record { hot = last.hot; cold = last.cold; heat = z } ∷ []) sum);
+      new_is =
+          let all_taken = take_all (n + 1) (set old n more) (omega (arith, long, length-set old n more)) in
+          sym all_taken
+          ∙ (take_more_set old n more within
+          ∙ ap (λ z. take n old ++ record { hot = last.hot; cold = last.cold; heat = z } ∷ []) sum);
     }
 
 -- the share at an index of shares in order
@@ -156,8 +167,8 @@ module _ (hots : ℕ) where
   abbrev HasShare : List Share → Transfer → Type 0
   HasShare shares t = (s : Share) × Contains shares s × (s.hot ≡ t.hot) × (s.node ≡ hots + t.cold)
 
-  module _ (most : ℤ) (shares : List Share) (i : ℕ) (s : Share) (at : IsShareAt hots most shares i s) (transfers new : List Transfer)
-      (before : AreGathered hots (take i shares) transfers) where
+  module _ (most : ℤ) (shares : List Share) (i : ℕ) (s : Share) (at : IsShareAt hots most shares i s)
+      (transfers new : List Transfer) (before : AreGathered hots (take i shares) transfers) where
     abbrev t : Transfer
     t = transfer_of hots s
 
@@ -167,19 +178,27 @@ module _ (hots : ℕ) where
 
     more_shares : (u : Transfer) → HasShare (take i shares) u → HasShare (take (i + 1) shares) u
     more_shares u (r, stands, hot, node) =
-        (r, subst (λ xs. Contains xs r) (sym front_is) (Contains-append_left (take i shares) (s ∷ []) r stands), hot, node)
+        let in_front = Contains-append_left (take i shares) (s ∷ []) r stands in
+        (r, subst (λ xs. Contains xs r) (sym front_is) in_front, hot, node)
 
     this_share : (u : Transfer) → AreOfOnePair u t → HasShare (take (i + 1) shares) u
-    this_share u pair = let cold = pair.1 in
-        (s, subst (λ xs. Contains xs s) (sym front_is) (Contains-push (take i shares) s), sym pair.0, omega (arith, cold, at.at_cold))
+    this_share u pair = let cold = pair.1 in (
+      s,
+      subst (λ xs. Contains xs s) (sym front_is) (Contains-push (take i shares) s),
+      sym pair.0,
+      omega (arith, cold, at.at_cold),
+    )
 
     -- the transfers so far are not after it
     so_far : All (λ u. (u.hot < t.hot) ⊎ ((u.hot ≡ t.hot) × (u.cold ≤ t.cold))) transfers
     so_far k d k_in =
         let (r, stands, hot, node) = before.pairs k d k_in in
+        let before_i = earlier shares at.next i s at.within in
         let order = All-contains (λ v. IsNotAfter v s) (take i shares) r
-        (subst (λ v. All (λ w. IsNotAfter w v) (take i shares)) (at.is s) (earlier shares at.next i s at.within)) stands in
-        ⊎_elim (λ less. inl (omega (arith, less, hot))) (λ same. let low = same.1 in inr (sym hot ∙ same.0, omega (arith, low, node, at.at_cold))) order
+        (subst (λ v. All (λ w. IsNotAfter w v) (take i shares)) (at.is s) before_i) stands in
+        ⊎_elim (λ less. inl (omega (arith, less, hot))) (λ same.
+        let low = same.1 in
+        inr (sym hot ∙ same.0, omega (arith, low, node, at.at_cold))) order
 
     sum_more : (f : Share → ℤ) → int_sum_by f (take (i + 1) shares) ≡ int_sum_by f (take i shares) +ℤ f s
     sum_more f = int_sum_by-more f shares i s at.within ∙ ap (λ u. int_sum_by f (take i shares) +ℤ f u) (at.is s)
@@ -216,21 +235,29 @@ module _ (hots : ℕ) where
         let by_last : precedes (get_or transfers last d) t =
         ⊎_elim (λ less. inl less)
         (λ same. let low = same.1 in
-        inr (same.0, ⊎_elim (λ e. absurd (another (same.0, e))) (λ other. omega (arith, low, other)) (cases_eq (get_or transfers last d).cold t.cold)))
+        inr (
+          same.0,
+          ⊎_elim (λ e. absurd (another (same.0, e))) (λ other. omega (arith, low, other))
+              (cases_eq (get_or transfers last d).cold t.cold),
+        ))
         (so_far last d (omega (arith, k_in))) in
-        ⊎_elim (λ e. subst (λ n. precedes (get_or transfers n d) t) (sym e) by_last)
-        (λ other. precedes-trans (get_or transfers k d) (get_or transfers last d) t (before.ordered k last d (omega (arith, k_in, other)) (omega (arith, k_in)))
-        by_last) (cases_eq k last)
+        ⊎_elim (λ e. subst (λ n. precedes (get_or transfers n d) t) (sym e) by_last) (λ other.
+        let before_last = before.ordered k last d (omega (arith, k_in, other)) (omega (arith, k_in)) in
+        precedes-trans (get_or transfers k d) (get_or transfers last d) t before_last by_last) (cases_eq k last)
 
     pub AreGathered-more : IsAdded transfers t new → AreGathered hots (take (i + 1) shares) new
     AreGathered-more (inr pushed) = record {
       positive =
-          subst (All (λ u. pos 0 <ℤ u.heat)) (sym pushed.new_is) (All-push (λ u. pos 0 <ℤ u.heat) transfers t before.positive at.some);
+          let all_positive = All-push (λ u. pos 0 <ℤ u.heat) transfers t before.positive at.some in
+          subst (All (λ u. pos 0 <ℤ u.heat)) (sym pushed.new_is) all_positive;
       ordered =
-          subst (AllPairs precedes) (sym pushed.new_is) (all_pairs_push precedes transfers t before.ordered (behind pushed));
-      pairs = subst (All (HasShare (take (i + 1) shares))) (sym pushed.new_is)
-          (All-push (HasShare (take (i + 1) shares)) transfers t
-          (All-weaker (HasShare (take i shares)) (HasShare (take (i + 1) shares)) more_shares transfers before.pairs) (this_share t (refl, refl)));
+          let all_ordered = all_pairs_push precedes transfers t before.ordered (behind pushed) in
+          subst (AllPairs precedes) (sym pushed.new_is) all_ordered;
+      pairs =
+          let old_pairs =
+          All-weaker (HasShare (take i shares)) (HasShare (take (i + 1) shares)) more_shares transfers before.pairs in
+          let all_pairs = All-push (HasShare (take (i + 1) shares)) transfers t old_pairs (this_share t (refl, refl)) in
+          subst (All (HasShare (take (i + 1) shares))) (sym pushed.new_is) all_pairs;
       given = given_more (inr pushed);
       taken = taken_more (inr pushed);
     }
@@ -238,18 +265,27 @@ module _ (hots : ℕ) where
         let front = joined.front in
         let last = joined.last in
         let more : Transfer = record last { heat = last.heat +ℤ t.heat } in
-        let positive = All-pop (λ (u : Transfer). pos 0 <ℤ u.heat) transfers front (Some last) joined.old_is before.positive in
+        let positive =
+        All-pop (λ (u : Transfer). pos 0 <ℤ u.heat) transfers front (Some last) joined.old_is before.positive in
         let pairs = All-pop (HasShare (take i shares)) transfers front (Some last) joined.old_is before.pairs in
         let ordered = subst (AllPairs precedes) joined.old_is before.ordered in
         record {
-          positive = subst (All (λ u. pos 0 <ℤ u.heat)) (sym joined.new_is)
-              (All-push (λ u. pos 0 <ℤ u.heat) front more positive.0 (let had = positive.1 in omega (arith, ints, had, at.some)));
-          ordered = subst (AllPairs precedes) (sym joined.new_is)
-              (all_pairs_push precedes front more (AllPairs-front precedes front (last ∷ []) ordered)
-              (λ k d k_in. All-head (precedes (get_or front k d)) last [] (AllPairs-across precedes front (last ∷ []) k d ordered k_in)));
-          pairs = subst (All (HasShare (take (i + 1) shares))) (sym joined.new_is)
-              (All-push (HasShare (take (i + 1) shares)) front more
-              (All-weaker (HasShare (take i shares)) (HasShare (take (i + 1) shares)) more_shares front pairs.0) (this_share more joined.one_pair));
+          positive =
+              let all_positive = All-push (λ u. pos 0 <ℤ u.heat) front more positive.0
+              (let had = positive.1 in omega (arith, ints, had, at.some)) in
+              subst (All (λ u. pos 0 <ℤ u.heat)) (sym joined.new_is) all_positive;
+          ordered =
+              let front_ordered = AllPairs-front precedes front (last ∷ []) ordered in
+              let all_ordered = all_pairs_push precedes front more front_ordered (λ k d k_in.
+              All-head (precedes (get_or front k d)) last []
+              (AllPairs-across precedes front (last ∷ []) k d ordered k_in)) in
+              subst (AllPairs precedes) (sym joined.new_is) all_ordered;
+          pairs =
+              let old_pairs =
+              All-weaker (HasShare (take i shares)) (HasShare (take (i + 1) shares)) more_shares front pairs.0 in
+              let all_pairs =
+              All-push (HasShare (take (i + 1) shares)) front more old_pairs (this_share more joined.one_pair) in
+              subst (All (HasShare (take (i + 1) shares))) (sym joined.new_is) all_pairs;
           given = given_more (inl joined);
           taken = taken_more (inl joined);
         }
@@ -262,14 +298,16 @@ module _ (hots : ℕ) where
         let g = λ (v : Share). if v.hot == s.hot then v.heat else pos 0 in
         let term = int_sum_by-term f transfers
         (λ j c j_in. let had = before.positive j c j_in in
-        (if_between ((get_or transfers j c).hot == s.hot) (get_or transfers j c).heat (omega (arith, ints, had))).0) k d k_in in
+        (if_between ((get_or transfers j c).hot == s.hot) (get_or transfers j c).heat (omega (arith, ints, had))).0) k d
+        k_in in
         let one = ap (λ b. if b then u.heat else pos 0) (eq-eqb u.hot s.hot same) in
         let two = ap (λ b. if b then s.heat else pos 0) (eq-eqb s.hot s.hot refl) in
         let gathered = before.given s.hot in
         let more = held_more s.hot in
         let fits = at.fits in
-        let upto = int_sum_by-front g (i + 1) shares
-        (λ j c j_in. let had = at.positive j c j_in in (if_between ((get_or shares j c).hot == s.hot) (get_or shares j c).heat (omega (arith, ints, had))).0) in
+        let upto = int_sum_by-front g (i + 1) shares (λ j c j_in.
+        let had = at.positive j c j_in in
+        (if_between ((get_or shares j c).hot == s.hot) (get_or shares j c).heat (omega (arith, ints, had))).0) in
         omega (arith, ints)
 
   -- gathered in one order, gathered in any
@@ -279,10 +317,14 @@ module _ (hots : ℕ) where
   AreGathered-permutation shares sorted transfers same gathered = record {
     positive = gathered.positive;
     ordered = gathered.ordered;
-    pairs = All-weaker (HasShare sorted) (HasShare shares)
-        (λ t has. (has.0, Contains-permutation sorted shares has.0 (IsPermutation-sym shares sorted same) has.1, has.2, has.3)) transfers gathered.pairs;
+    pairs =
+        All-weaker (HasShare sorted) (HasShare shares) (λ t has.
+        (has.0, Contains-permutation sorted shares has.0 (IsPermutation-sym shares sorted same) has.1, has.2, has.3))
+        transfers gathered.pairs;
     given =
         λ a. gathered.given a ∙ int_sum_by-permutation (λ s. if s.hot == a then s.heat else pos 0) shares sorted same;
     taken =
-        λ b. gathered.taken b ∙ int_sum_by-permutation (λ s. if s.node == (hots + b) then s.heat else pos 0) shares sorted same;
+        λ b.
+        gathered.taken b
+        ∙ int_sum_by-permutation (λ s. if s.node == (hots + b) then s.heat else pos 0) shares sorted same;
   }

@@ -21,8 +21,9 @@ module _ {X : Type 0} where
     ordered = all_pairs_push (λ a b. a ≢ b) xs x h.ordered (λ k d within e. new (subst P e (h.each k d within)));
     each = All-push Q xs x (All-weaker P Q there xs h.each) own;
     every =
-        λ y q. ⊎_elim (λ p. Contains-append_left xs (x ∷ []) y (h.every y p)) (λ e. subst (Contains (xs ++ x ∷ [])) (sym e) (Contains-push xs x))
-        (back y q);
+        λ y q.
+        ⊎_elim (λ p. Contains-append_left xs (x ∷ []) y (h.every y p)) (λ e.
+        subst (Contains (xs ++ x ∷ [])) (sym e) (Contains-push xs x)) (back y q);
   }
 
   -- ---- what a loop over such a list has kept so far
@@ -31,23 +32,28 @@ module _ {X : Type 0} where
   abbrev pub KeptSoFar : (X → Type 0) → List X → ℕ → List X → Type 0
   KeptSoFar P xs n kept = ListsOnce (λ x. Contains (take n xs) x × P x) kept
 
-  module _ (P : X → Type 0) (xs : List X) (differ : AllPairs (λ a b. a ≢ b) xs) (i : ℕ) (within : i < length xs) (x : X) (is : x ≡ get_or xs i x)
-      (kept : List X) (before : KeptSoFar P xs i kept) where
+  module _ (P : X → Type 0) (xs : List X) (differ : AllPairs (λ a b. a ≢ b) xs) (i : ℕ)
+      (within : i < length xs) (x : X) (is : x ≡ get_or xs i x) (kept : List X) (before : KeptSoFar P xs i kept) where
     pub kept-push : P x → KeptSoFar P xs (i + 1) (kept ++ x ∷ [])
     kept-push own =
-        subst (λ ys. ListsOnce (λ y. Contains ys y × P y) (kept ++ x ∷ [])) (sym (taken-more xs i x within is))
-        (once-push (λ y. Contains (take i xs) y × P y) (λ y. Contains (take i xs ++ x ∷ []) y × P y) kept x before
-        (λ h. All-contains (λ y. y ≢ get_or xs i x) (take i xs) x (AllPairs-before (λ a b. a ≢ b) xs i x differ within) h.0 is)
+        let before_i = AllPairs-before (λ a b. a ≢ b) xs i x differ within in
+        let listed = once-push (λ y. Contains (take i xs) y × P y) (λ y. Contains (take i xs ++ x ∷ []) y × P y) kept x
+        before (λ h. All-contains (λ y. y ≢ get_or xs i x) (take i xs) x before_i h.0 is)
         (Contains-push (take i xs) x, own) (λ y h. (Contains-append_left (take i xs) (x ∷ []) y h.0, h.1))
-        (λ y h. ⊎_elim (λ early. inl (early, h.1)) (λ last. inr (sym last)) (Contains-push_cases (take i xs) x y h.0)))
+        (λ y h.
+        ⊎_elim (λ early. inl (early, h.1)) (λ last. inr (sym last)) (Contains-push_cases (take i xs) x y h.0)) in
+        subst (λ ys. ListsOnce (λ y. Contains ys y × P y) (kept ++ x ∷ [])) (sym (taken-more xs i x within is)) listed
 
     pub kept-pass : (P x → ⊥) → KeptSoFar P xs (i + 1) kept
     kept-pass other =
-        subst (λ ys. ListsOnce (λ y. Contains ys y × P y) kept) (sym (taken-more xs i x within is))
-        (Lists-same (λ a b. a ≢ b) (λ y. Contains (take i xs) y × P y) (λ y. Contains (take i xs ++ x ∷ []) y × P y) kept
+        let listed = Lists-same (λ a b. a ≢ b) (λ y. Contains (take i xs) y × P y)
+        (λ y. Contains (take i xs ++ x ∷ []) y × P y) kept
         (λ y h. (Contains-append_left (take i xs) (x ∷ []) y h.0, h.1))
-        (λ y h. ⊎_elim (λ early. (early, h.1)) (λ last. absurd (other (subst P (sym last) h.1))) (Contains-push_cases (take i xs) x y h.0))
-        before)
+        (λ y h.
+        ⊎_elim (λ early. (early, h.1)) (λ last. absurd (other (subst P (sym last) h.1)))
+        (Contains-push_cases (take i xs) x y h.0))
+        before in
+        subst (λ ys. ListsOnce (λ y. Contains ys y × P y) kept) (sym (taken-more xs i x within is)) listed
 
 -- The lists of the sources on a side.
 
@@ -70,10 +76,10 @@ module _ {X : Type 0} (side_in : X → Side) (source : ℕ → Source) (side : S
 
   each_is : (xs : List X) → All (IsAt xs) (from 0 xs)
   each_is xs =
-      All-flat_map (IsAt xs) of_item (enumerate_from 0 xs) (All-enumerated (λ p. All (IsAt xs) (of_item p)) xs
-      (λ i x at.
-      All-cons_if (IsAt xs) (on x) (source i) [] (λ is. (i, refl, ap (option_map side_in) at ∙ ap Some (same_side-true (side_in x) side is)))
-      (All-nil (IsAt xs))))
+      let each_item = All-enumerated (λ p. All (IsAt xs) (of_item p)) xs (λ i x at.
+      All-cons_if (IsAt xs) (on x) (source i) [] (λ is.
+      (i, refl, ap (option_map side_in) at ∙ ap Some (same_side-true (side_in x) side is))) (All-nil (IsAt xs))) in
+      All-flat_map (IsAt xs) of_item (enumerate_from 0 xs) each_item
 
   every_is : (xs : List X) (i : ℕ) → option_map side_in (slice_get xs i) ≡ Some side → Contains (from 0 xs) (source i)
   every_is xs i = at (slice_get xs i) refl
@@ -97,14 +103,21 @@ module _ {X : Type 0} (side_in : X → Side) (source : ℕ → Source) (side : S
       by : ((test ≡ true) × (now ≡ after ++ source i ∷ [])) ⊎ ((test ≡ false) × (now ≡ after))
           → now ≡ after ++ of_item (i, x)
       by (inl (on_it, more)) =
-          more ∙ ap (λ b. after ++ cons_if b (source i) []) (sym (ap (λ a. same_side a side) (there on_it) ∙ own_side side))
+          let own = ap (λ a. same_side a side) (there on_it) ∙ own_side side in
+          more ∙ ap (λ b. after ++ cons_if b (source i) []) (sym own)
       by (inr (off_it, kept)) = kept ∙ sym (append-nil after) ∙ ap (λ b. after ++ cons_if b (source i) [])
           (sym (false_from_ne_true (on x) (λ e. false≢true (sym off_it ∙ own (same_side-true (side_in x) side e)))))
 
   few_on : (n : ℕ) (xs : List X) → length (from n xs) ≤ count_by on xs
   few_on n [] = omega arith
   few_on n (x ∷ xs) =
-      omega (arith, count_by-cons on x xs, length-append (of_item (n, x)) (from (n + 1) xs), few_on (n + 1) xs, one_or_none (on x) (source n))
+      omega (
+        arith,
+        count_by-cons on x xs,
+        length-append (of_item (n, x)) (from (n + 1) xs),
+        few_on (n + 1) xs,
+        one_or_none (on x) (source n),
+      )
     where
       one_or_none : (b : Bool) (s : Source) → length (cons_if b s []) ≡ cond b 1 0
       one_or_none true s = refl
@@ -117,17 +130,23 @@ module _ {X : Type 0} (side_in : X → Side) (source : ℕ → Source) (side : S
   each_late : (n : ℕ) (xs : List X) → All (IsLate n) (from n xs)
   each_late n [] = All-nil (IsLate n)
   each_late n (x ∷ xs) =
-      All-append (IsLate n) (of_item (n, x)) (from (n + 1) xs) (All-cons_if (IsLate n) (on x) (source n) [] (λ is. (n, omega arith, refl)) (All-nil (IsLate n)))
-      (All-weaker (IsLate (n + 1)) (IsLate n) (λ s h. (h.0, omega (arith, h.1), h.2)) (from (n + 1) xs) (each_late (n + 1) xs))
+      let this_late = All-cons_if (IsLate n) (on x) (source n) [] (λ is. (n, omega arith, refl)) (All-nil (IsLate n)) in
+      let others_late = All-weaker (IsLate (n + 1)) (IsLate n) (λ s h. (h.0, omega (arith, h.1), h.2)) (from (n + 1) xs)
+      (each_late (n + 1) xs) in
+      All-append (IsLate n) (of_item (n, x)) (from (n + 1) xs) this_late others_late
 
   once : ((i j : ℕ) → source i ≡ source j → i ≡ j) → (n : ℕ) (xs : List X) → AllPairs Differ (from n xs)
   once one n [] = AllPairs-nil Differ
   once one n (x ∷ xs) =
       let later = from (n + 1) xs in
-      let differ = λ (s : Source) (h : IsLate (n + 1) s) (e : source n ≡ s). absurd (omega (arith, h.1, one n h.0 (e ∙ h.2))) in
-      AllPairs-append Differ (of_item (n, x)) later (AllPairs-cons_if Differ (on x) (source n) [] (λ is. All-nil (Differ (source n))) (AllPairs-nil Differ))
-      (once one (n + 1) xs) (All-cons_if (λ a. All (Differ a) later) (on x) (source n) []
-      (λ is. All-weaker (IsLate (n + 1)) (Differ (source n)) differ later (each_late (n + 1) xs)) (All-nil (λ a. All (Differ a) later)))
+      let differ =
+      λ (s : Source) (h : IsLate (n + 1) s) (e : source n ≡ s). absurd (omega (arith, h.1, one n h.0 (e ∙ h.2))) in
+      let this_once =
+      AllPairs-cons_if Differ (on x) (source n) [] (λ is. All-nil (Differ (source n))) (AllPairs-nil Differ) in
+      let this_differs = All-cons_if (λ a. All (Differ a) later) (on x) (source n) []
+      (λ is. All-weaker (IsLate (n + 1)) (Differ (source n)) differ later (each_late (n + 1) xs))
+      (All-nil (λ a. All (Differ a) later)) in
+      AllPairs-append Differ (of_item (n, x)) later this_once (once one (n + 1) xs) this_differs
 
 module _ (streams : List Stream) (utilities : List Utility) (side : Side) where
   abbrev IsOn : Source → Type 0
@@ -135,7 +154,8 @@ module _ (streams : List Stream) (utilities : List Utility) (side : Side) where
 
   every_on : (source : Source) → IsOn source → Contains (streams_on side streams ++ utilities_on side utilities) source
   every_on (of_stream i) is =
-      Contains-append_left (streams_on side streams) (utilities_on side utilities) (of_stream i) (every_is (λ (s : Stream). s.side) of_stream side streams i is)
+      let in_streams = every_is (λ (s : Stream). s.side) of_stream side streams i is in
+      Contains-append_left (streams_on side streams) (utilities_on side utilities) (of_stream i) in_streams
   every_on (of_utility i) is =
       Contains-append_right (streams_on side streams) (utilities_on side utilities) (of_utility i)
       (every_is (λ (u : Utility). u.side) of_utility side utilities i is)
@@ -148,22 +168,31 @@ module _ (streams : List Stream) (utilities : List Utility) (side : Side) where
       let of_utilities = each_is (λ (u : Utility). u.side) of_utility side utilities in
       let IsFirst = IsAt (λ (s : Stream). s.side) of_stream side streams in
       let IsOther = IsAt (λ (u : Utility). u.side) of_utility side utilities in
-      let differ = λ (s : Source) (h : IsFirst s). All-weaker IsOther (Differ s) (λ u k e. (cc (e, h.1, k.1))) others of_utilities in
+      let differ =
+      λ (s : Source) (h : IsFirst s). All-weaker IsOther (Differ s) (λ u k e. (cc (e, h.1, k.1))) others of_utilities in
       record {
         listed = record {
           ordered =
-              AllPairs-append Differ firsts others (once (λ (s : Stream). s.side) of_stream side (λ i j e. (cc)) 0 streams)
-              (once (λ (u : Utility). u.side) of_utility side (λ i j e. (cc)) 0 utilities)
-              (All-weaker IsFirst (λ a. All (Differ a) others) differ firsts of_streams);
+              let streams_once = once (λ (s : Stream). s.side) of_stream side (λ i j e. (cc)) 0 streams in
+              let utilities_once = once (λ (u : Utility). u.side) of_utility side (λ i j e. (cc)) 0 utilities in
+              let kinds_differ = All-weaker IsFirst (λ a. All (Differ a) others) differ firsts of_streams in
+              AllPairs-append Differ firsts others streams_once utilities_once kinds_differ;
           each =
-              All-append IsOn firsts others (All-weaker IsFirst IsOn (λ s h. subst IsOn (sym h.1) h.2) firsts of_streams)
-              (All-weaker IsOther IsOn (λ u h. subst IsOn (sym h.1) h.2) others of_utilities);
+              let streams_on_side = All-weaker IsFirst IsOn (λ s h. subst IsOn (sym h.1) h.2) firsts of_streams in
+              let utilities_on_side = All-weaker IsOther IsOn (λ u h. subst IsOn (sym h.1) h.2) others of_utilities in
+              All-append IsOn firsts others streams_on_side utilities_on_side;
           every = every_on;
         };
         few =
             let all = count_by-le-length (λ (u : Utility). same_side u.side side) utilities in
             let both = length-append firsts others in
-            omega (arith, few_on (λ (s : Stream). s.side) of_stream side 0 streams, few_on (λ (u : Utility). u.side) of_utility side 0 utilities, all, both);
+            omega (
+              arith,
+              few_on (λ (s : Stream). s.side) of_stream side 0 streams,
+              few_on (λ (u : Utility). u.side) of_utility side 0 utilities,
+              all,
+              both,
+            );
       }
 
 -- Groups of hot sources, one hot source after another.
@@ -191,10 +220,15 @@ pub record HoldsGroups (c : Case) (early : List Source) (first nodes : ℕ) (gro
   pub in_line : StandInLine first nodes groups
   pub few : length groups ≤ length early
 
-module _ (c : Case) (early : List Source) (first nodes : ℕ) (groups : List Group) (h : HoldsGroups c early first nodes groups) (source : Source) where
+module _ (c : Case) (early : List Source) (first nodes : ℕ) (groups : List Group)
+    (h : HoldsGroups c early first nodes groups) (source : Source) where
   more_early : (g : Group) → IsGroupFrom c early g → IsGroupFrom c (early ++ source ∷ []) g
   more_early g k =
-      record { first = k.first; is_early = Contains-append_left early (source ∷ []) k.first k.is_early; sources = k.sources }
+      record {
+        first = k.first;
+        is_early = Contains-append_left early (source ∷ []) k.first k.is_early;
+        sources = k.sources;
+      }
 
   -- a source that stands in a group
   pub groups-pass : StandsInOne groups source → HoldsGroups c (early ++ source ∷ []) first nodes groups
@@ -231,20 +265,25 @@ module _ (c : Case) (early : List Source) (first nodes : ℕ) (groups : List Gro
           each = All-push (IsGroupFrom c (early ++ source ∷ [])) groups g
               (All-weaker (IsGroupFrom c early) (IsGroupFrom c (early ++ source ∷ [])) more_early groups h.each)
               (record { first = source; is_early = Contains-push early source; sources = sources });
-          every = All-push (StandsInOne (groups ++ g ∷ [])) early source
-              (All-weaker (StandsInOne groups) (StandsInOne (groups ++ g ∷ [])) still early h.every) (Any-push (λ f. Contains f.sources source) groups g own);
-          apart = all_pairs_push (AreApart c) groups g h.apart
-              (λ k d within. apart_from (get_or groups k d) (k, within, get_or_default groups k (get_or groups k d) d within));
+          every =
+              let old_stand = All-weaker (StandsInOne groups) (StandsInOne (groups ++ g ∷ [])) still early h.every in
+              let new_stands = Any-push (λ f. Contains f.sources source) groups g own in
+              All-push (StandsInOne (groups ++ g ∷ [])) early source old_stand new_stands;
+          apart =
+              all_pairs_push (AreApart c) groups g h.apart (λ k d within.
+              apart_from (get_or groups k d) (k, within, get_or_default groups k (get_or groups k d) d within));
           in_line =
-              λ i f at. ⊎_elim (λ here. h.in_line i f here) (λ last. ap (λ f. f.first_node) last.1 ∙ node ∙ ap (λ n. first + n * nodes) (sym last.0))
+              λ i f at.
+              ⊎_elim (λ here. h.in_line i f here) (λ last.
+              ap (λ f. f.first_node) last.1 ∙ node ∙ ap (λ n. first + n * nodes) (sym last.0))
               (slice_get_push groups g i f at);
           few = omega (arith, h.few, length_push early source, length_push groups g);
         }
 
 -- ---- steps of the loop
 
-module _ (c : Case) (hot : List Source) (first nodes : ℕ) (i : ℕ) (within : i < length hot) (source : Source) (is : source ≡ get_or hot i source)
-    (groups : List Group) (h : HoldsGroups c (take i hot) first nodes groups) where
+module _ (c : Case) (hot : List Source) (first nodes : ℕ) (i : ℕ) (within : i < length hot) (source : Source)
+    (is : source ≡ get_or hot i source) (groups : List Group) (h : HoldsGroups c (take i hot) first nodes groups) where
   pub groups-old : (now : List Group) → now ≡ groups → StandsInOne groups source
       → HoldsGroups c (take (i + 1) hot) first nodes now
   groups-old now same stands =
@@ -261,26 +300,31 @@ module _ (c : Case) (hot : List Source) (first nodes : ℕ) (i : ℕ) (within : 
 
 -- ---- the whole
 
-module _ (c : Case) (hot : List Source) (lists : ListsOnce (λ source. side_of c source ≡ Some Hot) hot) (first nodes : ℕ) (groups : List Group)
-    (h : HoldsGroups c hot first nodes groups) where
+module _ (c : Case) (hot : List Source) (lists : ListsOnce (λ source. side_of c source ≡ Some Hot) hot)
+    (first nodes : ℕ) (groups : List Group) (h : HoldsGroups c hot first nodes groups) where
   from_of : (i : ℕ) (g : Group) → slice_get groups i ≡ Some g → IsGroupFrom c hot g
   from_of i g at = All-slice_get (IsGroupFrom c hot) groups i g h.each at
 
   never_same : (i j : ℕ) (p q : Source) → i < j → StandsIn groups i p → StandsIn groups j q → HaveSamePartners c p q → ⊥
   never_same i j p q before (f, f_at, in_f) (g, g_at, in_g) same =
-      h.apart i j f before (slice_get_within groups j g g_at) p q (subst (λ k. Contains k.sources p) (sym (get_or_from_slice_get groups i f f f_at)) in_f)
-      (subst (λ k. Contains k.sources q) (sym (get_or_from_slice_get groups j g f g_at)) in_g) same
+      let same_f = get_or_from_slice_get groups i f f f_at in
+      let same_g = get_or_from_slice_get groups j g f g_at in
+      h.apart i j f before (slice_get_within groups j g g_at) p q (subst (λ k. Contains k.sources p) (sym same_f) in_f)
+      (subst (λ k. Contains k.sources q) (sym same_g) in_g) same
 
   pub AreGroups-holds : AreGroups c groups
   AreGroups-holds = record {
     hot = λ i source (g, at, found). let from = from_of i g at in
         (All-contains (IsLike c from.first) g.sources source from.sources.each found).side;
     some =
-        λ source side. let (k, g, within, is, found) = All-contains (StandsInOne groups) hot source h.every (lists.every source side) in
+        λ source side.
+        let (k, g, within, is, found) =
+        All-contains (StandsInOne groups) hot source h.every (lists.every source side) in
         (k, (g, slice_get_read groups (length groups) k g refl within (sym is), found));
     filled = All-weaker (IsGroupFrom c hot) (λ g. 0 < length g.sources) some_source groups h.each;
     once =
-        All-weaker (IsGroupFrom c hot) (λ g. AllPairs (λ p q. p ≢ q) g.sources) (λ g from. from.sources.ordered) groups h.each;
+        All-weaker (IsGroupFrom c hot) (λ g. AllPairs (λ p q. p ≢ q) g.sources) (λ g from. from.sources.ordered) groups
+        h.each;
     alike = λ i j p q in_i in_j. (together i j p q in_i in_j, apart i j p q in_i in_j);
   }
     where
@@ -295,7 +339,8 @@ module _ (c : Case) (hot : List Source) (lists : ListsOnce (λ source. side_of c
           let from = from_of i f f_at in
           let one : f ≡ g = same_Some f g (sym f_at ∙ ap (slice_get groups) e ∙ g_at) in
           let of_p = (All-contains (IsLike c from.first) f.sources p from.sources.each in_f).alike in
-          let of_q = (All-contains (IsLike c from.first) f.sources q from.sources.each (subst (λ k. Contains k.sources q) (sym one) in_g)).alike in
+          let of_q = (All-contains (IsLike c from.first) f.sources q from.sources.each
+          (subst (λ k. Contains k.sources q) (sym one) in_g)).alike in
           λ cold side. sym (of_p cold side) ∙ of_q cold side
 
       apart : (i j : ℕ) (p q : Source) → StandsIn groups i p → StandsIn groups j q → HaveSamePartners c p q → i ≡ j
@@ -310,7 +355,15 @@ pub few_groups : (c : Case) (hot items : List Source) (first nodes i : ℕ) (gro
     → IsComplete c → AreSources c.streams c.utilities Hot hot
     → items ≡ hot → HoldsGroups c (take i items) first nodes groups → length groups ≤ MOST_STREAMS + ALL_UTILITIES
 few_groups c hot items first nodes i groups complete sources is h =
-    omega (arith, sources.few, h.few, (AreStreams-IsComplete c complete).few Hot, length-utilities c complete, length-take i items, ap length is)
+    omega (
+      arith,
+      sources.few,
+      h.few,
+      (AreStreams-IsComplete c complete).few Hot,
+      length-utilities c complete,
+      length-take i items,
+      ap length is,
+    )
 
 -- so their chains have few nodes
 pub few_chain_nodes : (groups nodes : ℕ) → groups ≤ MOST_STREAMS + ALL_UTILITIES → nodes ≤ 2 * MOST_PLACES

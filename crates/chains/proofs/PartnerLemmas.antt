@@ -8,7 +8,7 @@ use Rattle.std.proofs.Common.{true, ℕ, ⊎_elim, ◌&&◌, ◌+◌, ◌-◌, �
 use Rattle.chains.proofs.Words.{first_node_of, range_with_len}
 use Rattle.std.proofs.lemmas.Bool.Decides.{Decides-ltb}
 use Rattle.std.proofs.lemmas.List.FromFn.{get_or-map-range_with_len}
-use Rattle.chains.proofs.NetLemmas.{permitted-all, permitted-each}
+use Rattle.chains.proofs.ChainLinks.{permitted-all, permitted-each}
 use Rattle.stream_case.specs.declared.case.Forbid.{Forbid}
 use Rattle.stream_case.specs.declared.source.Source.TheVariants.{Stream as of_stream, Utility as of_utility}
 
@@ -24,7 +24,8 @@ module _ (c : Case) where
 
   pub source_at-index : (source : Source) → IsSourceOf c source → source_at c (source_index c source) ≡ source
   source_at-index (of_stream i) there =
-      ap (λ b. if b then of_stream i else of_utility (i - length c.streams)) ((Decides-ltb i (length c.streams)).1 there)
+      let is_stream = (Decides-ltb i (length c.streams)).1 there in
+      ap (λ b. if b then of_stream i else of_utility (i - length c.streams)) is_stream
   source_at-index (of_utility i) there =
       let n = length c.streams in
       let back : (n + i) - n ≡ i = omega arith in
@@ -39,32 +40,40 @@ module _ (c : Case) where
 
   -- what stands at a source in a list of the first nodes of all sources
   pub first_nodes-at : (groups : List Group) (nodes : List (Option ℕ))
-      → nodes ≡ map (λ index. first_node_of groups (source_at c index)) (range_with_len 0 (length c.streams + length c.utilities))
+      → nodes
+      ≡ map (λ index. first_node_of groups (source_at c index))
+      (range_with_len 0 (length c.streams + length c.utilities))
       → (source : Source) → IsSourceOf c source
       → get_or nodes (source_index c source) None ≡ first_node_of groups source
   first_nodes-at groups nodes are source there =
       let index = source_index c source in
       let node = λ (i : ℕ). first_node_of groups (source_at c i) in
+      let within = source_index-within source there in
       ap (λ xs. get_or xs index None) are
-      ∙ get_or-map-range_with_len node 0 (length c.streams + length c.utilities) index index None (source_index-within source there) (omega arith)
+      ∙ get_or-map-range_with_len node 0 (length c.streams + length c.utilities) index index None within (omega arith)
       ∙ ap (first_node_of groups) (source_at-index source there)
 
   -- ---- two hot sources
 
-  module _ (p q : Source) (xs ys : List Bool) (of_p : ArePermissions c c.forbids p xs) (of_q : ArePermissions c c.forbids q ys) where
+  module _ (p q : Source) (xs ys : List Bool) (of_p : ArePermissions c c.forbids p xs)
+      (of_q : ArePermissions c c.forbids q ys) where
     pub HaveSamePartners-same : xs ≡ ys → HaveSamePartners c p q
     HaveSamePartners-same same cold side =
         let there = source_on Cold cold side in
         let at = λ (allowed : List Bool). get_or allowed (source_index c cold) false in
-        not-same (is_forbidden c.forbids p cold) (is_forbidden c.forbids q cold) (sym (of_p.each cold there) ∙ ap at same ∙ of_q.each cold there)
+        let same_answers = sym (of_p.each cold there) ∙ ap at same ∙ of_q.each cold there in
+        not-same (is_forbidden c.forbids p cold) (is_forbidden c.forbids q cold) same_answers
 
     module _ (complete : IsComplete c) where
       -- a source that is not cold stands in no forbidden match as the cold one
       no_match : (hot source : Source) → (side_of c source ≡ Some Cold → ⊥) → is_forbidden c.forbids hot source ≡ false
       no_match hot source other = false_from_ne_true (is_forbidden c.forbids hot source) (λ yes.
-          let (k, f, within, is, both) = Any-from_list_any (λ (f : Forbid). same_source f.hot hot && same_source f.cold source) c.forbids yes in
-          let valid = All-contains (IsValidForbid c) c.forbids f (StaysValid-IsComplete c complete).forbids (k, within, is) in
-          let same = same_source-true f.cold source (and_parts (same_source f.hot hot) (same_source f.cold source) both).1 in
+          let (k, f, within, is, both) =
+          Any-from_list_any (λ (f : Forbid). same_source f.hot hot && same_source f.cold source) c.forbids yes in
+          let forbids = (StaysValid-IsComplete c complete).forbids in
+          let valid = All-contains (IsValidForbid c) c.forbids f forbids (k, within, is) in
+          let same =
+          same_source-true f.cold source (and_parts (same_source f.hot hot) (same_source f.cold source) both).1 in
           other (subst (λ s. side_of c s ≡ Some Cold) same valid.1))
 
       alike_at : HaveSamePartners c p q → (source : Source)
@@ -112,7 +121,9 @@ module _ (c : Case) where
     where
       by : (b : Bool) → is_forbidden c.forbids hot cold ≡ b → not b ≡ is_permitted c g cold
       by true refused =
-          sym (false_from_ne_true (is_permitted c g cold) (λ free. false≢true (sym (permitted-each c g cold hot free found) ∙ refused)))
+          let not_free = false_from_ne_true (is_permitted c g cold) (λ free.
+          false≢true (sym (permitted-each c g cold hot free found) ∙ refused)) in
+          sym not_free
       by false free = sym (permitted-all c g cold (λ other there. group.alike other hot there found cold side ∙ free))
 
   pub ArePermitted-first : (g : Group) → IsGroup c g → (first : Source) → Contains g.sources first

@@ -33,9 +33,9 @@ module _ (places : List ℤ) (falls : AllPairs (λ a b. b <ℤ a) places) (t : �
   IsParted-falls i j d upto within above =
       ⊎_elim (λ less. let fall = falls i j d less within in
       let high = int_lt-true t (get_or places j d) above in
-      int_lt-from t (get_or places i d) (omega (arith, ints)))
-      (λ past. let same : j ≡ i = omega (arith, upto, past) in subst (λ n. int_lt t (get_or places n d) ≡ true) same above)
-      (cases_lt i j)
+      int_lt-from t (get_or places i d) (omega (arith, ints))) (λ past.
+      let same : j ≡ i = omega (arith, upto, past) in
+      subst (λ n. int_lt t (get_or places n d) ≡ true) same above) (cases_lt i j)
 
   -- those before the index are above the temperature, those from it on are not
   module _ (k : ℕ) (early : (j : ℕ) (d : ℤ) → j < k → int_lt t (get_or places j d) ≡ true)

@@ -14,13 +14,17 @@ module _ (nodes : ℕ) where
       → strides_within nodes room (stride ∷ strides) ≡ stride ∷ strides_within nodes (room - count stride) strides
   unfolding strides_within
   within-fits room stride strides fits =
-      ap (λ b. if b then stride ∷ strides_within nodes (room - count stride) strides else strides_within nodes room strides) (le-leb (count stride) room fits)
+      ap (λ b.
+      if b then stride ∷ strides_within nodes (room - count stride) strides else strides_within nodes room strides)
+      (le-leb (count stride) room fits)
 
   within-misses : (room stride : ℕ) (strides : List ℕ) → room < count stride
       → strides_within nodes room (stride ∷ strides) ≡ strides_within nodes room strides
   unfolding strides_within
   within-misses room stride strides late =
-      ap (λ b. if b then stride ∷ strides_within nodes (room - count stride) strides else strides_within nodes room strides) (lt-leb (count stride) room late)
+      ap (λ b.
+      if b then stride ∷ strides_within nodes (room - count stride) strides else strides_within nodes room strides)
+      (lt-leb (count stride) room late)
 
   within-none : (room : ℕ) → strides_within nodes room [] ≡ []
   unfolding strides_within
@@ -66,11 +70,13 @@ module _ (first nodes : ℕ) where
   few-within room (stride ∷ strides) =
       ⊎_elim
       (λ late.
-      let same = ap (λ ss. length (flat_map (stride_links first nodes) ss)) (within-misses nodes room stride strides late) in
+      let skipped = within-misses nodes room stride strides late in
+      let same = ap (λ ss. length (flat_map (stride_links first nodes) ss)) skipped in
       omega (arith, same, few-within room strides))
       (λ fits.
       let rest = links_within (room - count nodes stride) strides in
-      let same = ap (λ ss. length (flat_map (stride_links first nodes) ss)) (within-fits nodes room stride strides fits) in
+      let taken = within-fits nodes room stride strides fits in
+      let same = ap (λ ss. length (flat_map (stride_links first nodes) ss)) taken in
       let both = length-append (stride_links first nodes stride) rest in
       let own = length-map-range_with_len (stride_link first stride) 0 (count nodes stride) in
       omega (arith, same, both, own, few-within (room - count nodes stride) strides, fits))
@@ -93,11 +99,13 @@ module _ (first nodes : ℕ) where
       = omega (arith, early, length-map-range_with_len (stride_link first 1) 0 (count nodes 1)) in
       let fits = within-fits nodes room 1 (drop 1 STRIDES) (omega (arith, le)) in
       let there = subst (λ ss. Contains ss 1) (sym fits) (0, omega arith, refl) in
-      Contains-flat_map (stride_links first nodes) (strides_within nodes room STRIDES) 1 next there (r, among, stands ∙ same)
+      Contains-flat_map (stride_links first nodes) (strides_within nodes room STRIDES) 1 next there
+      (r, among, stands ∙ same)
 
   -- ---- what a loop over the strides has still to append
 
-  module _ (strides : List ℕ) (i stride room : ℕ) (within : i < length strides) (is : stride ≡ get_or strides i 0) (before whole after : List Link)
+  module _ (strides : List ℕ) (i stride room : ℕ) (within : i < length strides)
+      (is : stride ≡ get_or strides i 0) (before whole after : List Link)
       (so_far : before ++ links_within room (drop i strides) ≡ whole) where
     here : links_within room (drop i strides) ≡ links_within room (stride ∷ drop (i + 1) strides)
     here =
@@ -117,7 +125,8 @@ module _ (first nodes : ℕ) where
     pub stride-misses : room < count nodes stride → after ≡ before
         → after ++ links_within room (drop (i + 1) strides) ≡ whole
     stride-misses late kept =
-        let next = here ∙ ap (flat_map (stride_links first nodes)) (within-misses nodes room stride (drop (i + 1) strides) late) in
+        let skipped = within-misses nodes room stride (drop (i + 1) strides) late in
+        let next = here ∙ ap (flat_map (stride_links first nodes)) skipped in
         ap (λ links. links ++ links_within room (drop (i + 1) strides)) kept
         ∙ ap (λ links. before ++ links) (sym next) ∙ so_far
 

@@ -71,7 +71,8 @@ are_of_streams branches front next first stream (course ∷ courses) all here ow
       λ j low n more high. ap (λ bs. stream_at bs j) all
           ∙ numbered-stream front later first stream k j (omega (arith, low, here))
           (omega (arith, more, high, here)),
-      are_of_streams branches (front ++ made) (next + k) (first + k) (stream + 1) courses (all ∙ sym (append_assoc front made later))
+      let parts = all ∙ sym (append_assoc front made later) in
+          are_of_streams branches (front ++ made) (next + k) (first + k) (stream + 1) courses parts
           (omega (arith, here, length-append front made, length-numbered first stream k)) (λ i inside.
           let further : stream + suc i ≡ stream + 1 + i = omega arith in
           subst (λ n. stream_at branches n ≡ n) further (own (suc i) (omega (arith, inside)))),
@@ -90,20 +91,25 @@ led_of_streams case network [] next stream own each = tt
 led_of_streams case network (course ∷ courses) next stream own each =
     let last = next + course_branches (shares_along course) in
     let none : stream + 0 ≡ stream = omega arith in (
-      subst (λ k. (s : Stream) × (slice_get case.streams k ≡ Some s) × IsLedStream network s course) none (each 0 course refl),
+      subst (λ k. (s : Stream) × (slice_get case.streams k ≡ Some s) × IsLedStream network s course) none
+          (each 0 course refl),
       own.0 next (omega arith) (omega arith),
-      λ branch low high. own.1 branch low last (omega (arith, high)) (omega arith),
-      led_of_streams case network courses last (stream + 1) own.2 (λ k other there.
-          subst (λ n. (s : Stream) × (slice_get case.streams n ≡ Some s) × IsLedStream network s other) (omega arith) (each (suc k) other there)),
+      λ branch low high. own.1 branch low last
+          (omega (arith, high)) (omega arith),
+      led_of_streams case network courses last (stream + 1) own.2
+          (λ k other there.
+          subst (λ n. (s : Stream) × (slice_get case.streams n ≡ Some s) × IsLedStream network s other) (omega arith)
+          (each (suc k) other there)),
     )
 
-pub are_led : (case : Case) (network : Network) (courses : List (List LedStage)) (before : List Branch) (first next stream : ℕ)
+pub are_led : (case : Case) (network : Network) (courses : List (List LedStage)) (before : List Branch)
+    (first next stream : ℕ)
     → network.branches ≡ before ++ made_branches first stream (courses_along courses) → length before ≡ next
     → ((number : ℕ) → number < length case.streams → stream_at network.branches number ≡ number)
-    → IsEachLed case network stream courses
-    → AreLedFrom case network next stream courses
+    → IsEachLed case network stream courses → AreLedFrom case network next stream courses
 are_led case network courses before first next stream are long own each =
-    led_of_streams case network courses next stream (are_of_streams network.branches before next first stream (courses_along courses) are long (λ i inside.
+    led_of_streams case network courses next stream
+    (are_of_streams network.branches before next first stream (courses_along courses) are long (λ i inside.
     let within : i < length courses = omega (arith, inside, length-map courses shares_along) in
     let (s, at, led) = each i (get_or courses i []) (slice_get-get_or courses i [] within) in
     own (stream + i) (slice_get_within case.streams (stream + i) s at))) each

@@ -36,7 +36,8 @@ course_ends network stream course lines next own others =
     walk_course S B (λ s. Unit {0}) (λ b. 0) (λ s. 0) (λ shares. Unit {0}) keep next last
     (λ k low n more high. others k low (omega (arith, more, high))) next stream 0
     (0 + (sum_by (λ shares. sum_by (λ (s : Share). 0) shares) course + 0)) course lines (λ k d within. tt)
-    (λ k d within j e inside. tt) (omega arith) (omega arith) (λ n low high. own) (omega arith) (λ b of_b. ap (λ k. k ∷ streams_of network lines) of_b)
+    (λ k d within j e inside. tt) (omega arith) (omega arith) (λ n low high. own) (omega arith)
+    (λ b of_b. ap (λ k. k ∷ streams_of network lines) of_b)
 
 courses_end : (case : Case) (network : Network) (courses : List (List LedStage)) (next stream : ℕ)
     → AreLedFrom case network next stream courses
@@ -60,5 +61,8 @@ each_ended case network declared courses next none lines_are led stream within =
     ∙ ap (map (stream_at network.branches)) (no_end-first declared (courses_lines next 0 (courses_along courses)) none)
     ∙ courses_end case network courses next 0 led in
     let long = ap length all ∙ length-range_with_len 0 (length courses) in
-    let number : 0 + stream ≡ stream = omega arith in
-    (stream, omega (arith, long, within), ap (λ ks. get_or ks stream stream) all ∙ get_or-range_with_len 0 (length courses) stream stream within ∙ number)
+    let number : 0 + stream ≡ stream = omega arith in (
+      stream,
+      omega (arith, long, within),
+      ap (λ ks. get_or ks stream stream) all ∙ get_or-range_with_len 0 (length courses) stream stream within ∙ number,
+    )

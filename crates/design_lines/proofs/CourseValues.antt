@@ -38,16 +38,20 @@ pub mixes_end : (after size : Rational) (shares : List Share) (values : Valuatio
     → Carries (values ++ mix_values after size shares) end (value_of (plus size (size_of shares)) after)
 mixes_end after size [] values first end carries none some =
     let same : end ≡ first = none refl in
+    let carried = carries_more values [] first (value_of size after) carries in
     subst (λ k. Carries (values ++ []) k (value_of (plus size rational_zero) after)) (sym same)
-    (subst (λ a. Carries (values ++ []) first (value_of a after)) (sym (plus-zero size)) (carries_more values [] first (value_of size after) carries))
+    (subst (λ a. Carries (values ++ []) first (value_of a after)) (sym (plus-zero size)) carried)
 mixes_end after size (s ∷ shares) values first end carries none some =
     let both = plus size s.cp in
     let one : List BranchValue = value_of both after ∷ [] in
     let number : end + 1 ≡ length values + (length shares + 1) = omega (arith, some (omega arith)) in
-    let rest = mixes_end after both shares (values ++ one) (length values) end (carries_new values one 0 (length values) (omega arith) (omega arith))
+    let carries_both = carries_new values one 0 (length values) (omega arith) (omega arith) in
+    let rest = mixes_end after both shares (values ++ one) (length values) end carries_both
     (λ last. omega (arith, number, last)) (λ more. omega (arith, number, length-append values one)) in
-    subst (λ a. Carries (values ++ value_of both after ∷ mix_values after both shares) end (value_of a after)) (plus_assoc size s.cp (size_of shares))
-    (subst (λ vs. Carries vs end (value_of (plus both (size_of shares)) after)) (append_assoc values one (mix_values after both shares)) rest)
+    let same_values = append_assoc values one (mix_values after both shares) in
+    subst (λ a. Carries (values ++ value_of both after ∷ mix_values after both shares) end (value_of a after))
+    (plus_assoc size s.cp (size_of shares))
+    (subst (λ vs. Carries vs end (value_of (plus both (size_of shares)) after)) same_values rest)
 
 -- ---- a stage
 
@@ -70,8 +74,10 @@ module _ (case : Case) (network : Network) (R : ℕ → ℕ → Rational → Rat
 
   -- its lines make its values, and its last branch is the whole stream in the state after it
   pub record IsStageMade (values : Valuation) (next from : ℕ) (stage : LedStage) : Type 0 where
-    pub made : MakeAndRun case network R values (stage_lines next from stage.shares) (stage_values stage.before stage.after stage.shares)
-    pub ends : Carries (values ++ stage_values stage.before stage.after stage.shares) (stage_end next stage.shares) (value_of (full_size s) stage.after)
+    pub made : MakeAndRun case network R values (stage_lines next from stage.shares)
+        (stage_values stage.before stage.after stage.shares)
+    pub ends : Carries (values ++ stage_values stage.before stage.after stage.shares) (stage_end next stage.shares)
+        (value_of (full_size s) stage.after)
     pub next_is : stage_end next stage.shares + 1
         ≡ length (values ++ stage_values stage.before stage.after stage.shares)
 
@@ -95,16 +101,24 @@ module _ (case : Case) (network : Network) (R : ℕ → ℕ → Rational → Rat
       let split_makes = splits_make case network R before all values next from is.start whole_size led.positive in
       let behind_is : behind ≡ length (values ++ divided)
       = omega (arith, is.start, length-append values divided, length-split_values before all) in
-      let pass_makes = passes_make case network R stream s.side before after behind branches all (values ++ divided) behind_is split_makes.1 of_stream side_is
-      led.positive led.duties is.runs in
+      let pass_makes = passes_make case network R stream s.side before after behind branches all (values ++ divided)
+      behind_is split_makes.1 of_stream side_is led.positive led.duties is.runs in
       let from_there = pass_makes.1 in
       let mixed_from : behind + length all ≡ length ((values ++ divided) ++ passed) =
-      omega (arith, behind_is, length-append (values ++ divided) passed, length-map all (λ (a : Share). share_value after a)) in
-      let mix_makes = mixes_make case network R after (length all - 1) (behind + length all) behind (behind + 1) first.cp shares ((values ++ divided) ++ passed)
-      (omega arith) mixed_from from_there.0 from_there.1 (first_positive first shares led.positive) (others_positive first shares led.positive) in
+      omega (
+        arith,
+        behind_is,
+        length-append (values ++ divided) passed,
+        length-map all (λ (a : Share). share_value after a),
+      ) in
+      let first_above = first_positive first shares led.positive in
+      let others_above = others_positive first shares led.positive in
+      let mix_makes = mixes_make case network R after (length all - 1) (behind + length all) behind (behind + 1)
+      first.cp shares ((values ++ divided) ++ passed) (omega arith) mixed_from from_there.0 from_there.1 first_above
+      others_above in
       let end = stage_end next all in
-      let last = mixes_end after first.cp shares ((values ++ divided) ++ passed) behind end from_there.0 (λ none. omega (arith, none))
-      (λ some. omega (arith, mixed_from, some)) in
+      let last = mixes_end after first.cp shares ((values ++ divided) ++ passed) behind end from_there.0
+      (λ none. omega (arith, none)) (λ some. omega (arith, mixed_from, some)) in
       let joined : ((values ++ divided) ++ passed) ++ mixed ≡ values ++ (divided ++ (passed ++ mixed))
       = append_assoc (values ++ divided) passed mixed
       ∙ append_assoc values divided (passed ++ mixed) in
@@ -115,7 +129,12 @@ module _ (case : Case) (network : Network) (R : ℕ → ℕ → Rational → Rat
         ends = subst (λ vs. Carries vs end (value_of (full_size s) after)) joined
             (subst (λ a. Carries (((values ++ divided) ++ passed) ++ mixed) end (value_of a after)) led.sizes last);
         next_is =
-            omega (arith, mixed_from, length-append ((values ++ divided) ++ passed) mixed, length-mix_values after first.cp shares)
+            omega (
+              arith,
+              mixed_from,
+              length-append ((values ++ divided) ++ passed) mixed,
+              length-mix_values after first.cp shares,
+            )
             ∙ ap length joined;
       }
     where
@@ -161,7 +180,8 @@ module _ (case : Case) (network : Network) (R : ℕ → ℕ → Rational → Rat
       → IsCourseMade values next from stages
   course_made [] values next from t is = record {
     made =
-        run_line case network R values (line.End from) [] [] [] refl (full_end values from t is.own is.carries is.ends) (λ final more at. tt)
+        let ends = full_end values from t is.own is.carries is.ends in
+        run_line case network R values (line.End from) [] [] [] refl ends (λ final more at. tt)
         (run_none case network R (values ++ []));
     next_is = omega (arith, is.start) ∙ ap length (sym (append-nil values));
   }
@@ -192,7 +212,8 @@ module _ (case : Case) (network : Network) (R : ℕ → ℕ → Rational → Rat
       }) in
       record {
         made =
-            run_append case network R values (stage_lines next from stage.shares) later_lines made (course_values stages) one.made rest.made;
+            run_append case network R values (stage_lines next from stage.shares) later_lines made
+            (course_values stages) one.made rest.made;
         next_is = omega (arith, rest.next_is) ∙ ap length (append_assoc values made (course_values stages));
       }
 
@@ -233,13 +254,15 @@ module _ (case : Case) (network : Network) (R : ℕ → ℕ → Rational → Rat
         others = led.2;
         runs = subst (λ k. All (StageRuns case network R k) course) (omega arith) (runs 0 course refl);
       }) in
-      let rest = made_courses courses (values ++ made) last (stream + 1) one.next_is (own_more case values made own) led.3 (λ k other there.
-      subst (λ n. All (StageRuns case network R n) other) (omega arith) (runs (suc k) other there)) in
-      run_append case network R values (course_lines next stream (shares_along course)) later_lines made (courses_values courses) one.made rest
+      let rest = made_courses courses (values ++ made) last (stream + 1) one.next_is (own_more case values made own)
+      led.3
+      (λ k other there. subst (λ n. All (StageRuns case network R n) other) (omega arith) (runs (suc k) other there)) in
+      run_append case network R values (course_lines next stream (shares_along course)) later_lines made
+      (courses_values courses) one.made rest
 
-pub courses_made : (case : Case) (network : Network) (courses : List (List LedStage)) (values : Valuation) (next stream : ℕ)
-    → next ≡ length values
-    → HaveOwn case values → AreLedFrom case network next stream courses
+pub courses_made : (case : Case) (network : Network) (courses : List (List LedStage)) (values : Valuation)
+    (next stream : ℕ)
+    → next ≡ length values → HaveOwn case values → AreLedFrom case network next stream courses
     → Make case network values (courses_lines next stream (courses_along courses)) (courses_values courses)
 courses_made case network courses values next stream start own led =
     (made_courses case network (λ k exchanger before after. Unit {0}) courses values next stream start own led

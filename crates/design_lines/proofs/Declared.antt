@@ -17,7 +17,8 @@ courses_none next stream courses =
       end = λ n from lines more. more;
       none = λ is n lines more. more;
     } in
-    walk_simply (λ n lines. filter_map exchanger_of lines ≡ []) (λ shares. Unit {0}) none next stream courses (λ i d within k e inside. tt) refl
+    walk_simply (λ n lines. filter_map exchanger_of lines ≡ []) (λ shares. Unit {0}) none next stream courses
+    (λ i d within k e inside. tt) refl
 
 -- ---- the drawn network
 
@@ -30,8 +31,9 @@ pub exchangers_of-drawn : (case : Case) (exchangers : List Exchanger) (courses :
 unfolding exchangers_of
 exchangers_of-drawn case exchangers courses =
     let declared = map declared_line exchangers in
+    let no_others = courses_none (length case.streams) 0 courses in
     filter_map-append exchanger_of declared (courses_lines (length case.streams) 0 courses)
-    ∙ ap (λ (es : List Exchanger). filter_map exchanger_of declared ++ es) (courses_none (length case.streams) 0 courses)
+    ∙ ap (λ (es : List Exchanger). filter_map exchanger_of declared ++ es) no_others
     ∙ append-nil (filter_map exchanger_of declared) ∙ declared_all exchangers
 
 -- a line behind declarations: what was declared before it is what stood before them, and they
@@ -42,7 +44,8 @@ declared_then : (branches : List Branch) (before exchangers : List Exchanger) (l
     → PassesDeclared branches (before ++ filter_map exchanger_of (take index (map declared_line exchangers ++ lines))) l
 declared_then branches before [] lines none each index l at =
     let nothing : filter_map exchanger_of (take index lines) ≡ [] = none_before lines index none in
-    subst (λ es. PassesDeclared branches (before ++ es) l) (sym nothing) (all_at (PassesDeclared branches (before ++ [])) lines index l each at)
+    let passes = all_at (PassesDeclared branches (before ++ [])) lines index l each at in
+    subst (λ es. PassesDeclared branches (before ++ es) l) (sym nothing) passes
   where
     none_before : (ls : List Line) (i : ℕ) → filter_map exchanger_of ls ≡ [] → filter_map exchanger_of (take i ls) ≡ []
     none_before ls zero is = refl
@@ -56,11 +59,15 @@ declared_then branches before (e ∷ exchangers) lines none each zero l at =
     let same : declared_line e ≡ l = cc at in subst (PassesDeclared branches (before ++ [])) same tt
 declared_then branches before (e ∷ exchangers) lines none each (suc index) l at =
     let joined = append_assoc before (e ∷ []) exchangers in
-    subst (λ es. PassesDeclared branches es l) (append_assoc before (e ∷ []) (filter_map exchanger_of (take index (map declared_line exchangers ++ lines))))
-    (declared_then branches (before ++ e ∷ []) exchangers lines none (subst (λ es. All (PassesDeclared branches es) lines) (sym joined) each) index l at)
+    let declared_later = declared_then branches (before ++ e ∷ []) exchangers lines none
+    (subst (λ es. All (PassesDeclared branches es) lines) (sym joined) each) index l at in
+    subst (λ es. PassesDeclared branches es l)
+    (append_assoc before (e ∷ []) (filter_map exchanger_of (take index (map declared_line exchangers ++ lines))))
+    declared_later
 
 pub ArePassedWhenDeclared-drawn : (case : Case) (exchangers : List Exchanger) (courses : List Course)
-    → All (PassesDeclared (drawn case exchangers courses).branches exchangers) (courses_lines (length case.streams) 0 courses)
+    → All (PassesDeclared (drawn case exchangers courses).branches exchangers)
+    (courses_lines (length case.streams) 0 courses)
     → ArePassedWhenDeclared (drawn case exchangers courses)
 unfolding exchangers_of
 ArePassedWhenDeclared-drawn case exchangers courses each index l at =

@@ -67,15 +67,16 @@ next_item xs i x within is =
 -- ---- a course
 
 -- the lines so far and those that are left are the lines of the course; the branch that is led is `at`, and the next one is `free`
-pub record IsCourseLed (course : Course) (stream next : ℕ) (old : List Line) (number : ℕ) (lines : List Line) (free at : ℕ) : Type 0 where
+pub record IsCourseLed (course : Course) (stream next : ℕ) (old : List Line) (number : ℕ) (lines : List Line)
+    (free at : ℕ) : Type 0 where
   pub drawn : lines ++ course_lines free at (drop number course) ≡ old ++ course_lines next stream course
   pub many : free + course_branches (drop number course) ≡ next + course_branches course
 
 -- ---- all courses
 
 -- the lines and branches so far and those that are left are those of all courses
-pub record AreCoursesLed (courses : List Course) (own : ℕ) (old_lines : List Line) (old_branches : List Branch) (number : ℕ) (lines : List Line)
-    (branches : List Branch) : Type 0 where
+pub record AreCoursesLed (courses : List Course) (own : ℕ) (old_lines : List Line)
+    (old_branches : List Branch) (number : ℕ) (lines : List Line) (branches : List Branch) : Type 0 where
   pub drawn : lines ++ courses_lines (length branches) number (drop number courses)
       ≡ old_lines ++ courses_lines own 0 courses
   pub made : branches ++ made_branches (length branches - own) number (drop number courses)
@@ -94,7 +95,8 @@ module _ (courses : List Course) (own : ℕ) (old_lines : List Line) (old_branch
         least = omega (arith, count);
       }
 
-  module _ (number : ℕ) (lines : List Line) (branches : List Branch) (led : AreCoursesLed courses own old_lines old_branches number lines branches) where
+  module _ (number : ℕ) (lines : List Line) (branches : List Branch)
+      (led : AreCoursesLed courses own old_lines old_branches number lines branches) where
     pub courses_next : (after_lines : List Line) (after_branches : List Branch) (course : Course) (free : ℕ)
         → drop number courses ≡ course ∷ drop (number + 1) courses
         → after_lines ≡ lines ++ course_lines (length branches) number course
@@ -118,8 +120,10 @@ module _ (courses : List Course) (own : ℕ) (old_lines : List Line) (old_branch
               ∙ ap (λ (j : ℕ). (lines ++ course_lines n number course) ++ courses_lines j (number + 1) rest) long
               ∙ append_assoc lines (course_lines n number course) (courses_lines (n + k) (number + 1) rest)
               ∙ ap (λ (cs : List Course). lines ++ courses_lines n number cs) (sym left) ∙ led.drawn;
-          made = ap (λ (bs : List Branch). bs ++ made_branches (length after_branches - own) (number + 1) rest) parts
-              ∙ ap (λ (j : ℕ). (branches ++ numbered (n - own) number k) ++ made_branches j (number + 1) rest) (omega (arith, long, led.least))
+          made =
+              ap (λ (bs : List Branch). bs ++ made_branches (length after_branches - own) (number + 1) rest) parts
+              ∙ ap (λ (j : ℕ). (branches ++ numbered (n - own) number k) ++ made_branches j (number + 1) rest)
+              (omega (arith, long, led.least))
               ∙ append_assoc branches (numbered (n - own) number k) (made_branches (n - own + k) (number + 1) rest)
               ∙ ap (λ (cs : List Course). branches ++ made_branches (n - own) number cs) (sym left) ∙ led.made;
           many = omega (arith, long, many);
@@ -131,7 +135,9 @@ module _ (courses : List Course) (own : ℕ) (old_lines : List Line) (old_branch
         → (lines ≡ old_lines ++ courses_lines own 0 courses) × (branches ≡ old_branches ++ made_branches 0 0 courses)
     courses_end upto =
         let none = drop_all number courses upto in (
-          sym (append-nil lines) ∙ ap (λ (cs : List Course). lines ++ courses_lines (length branches) number cs) (sym none) ∙ led.drawn,
+          sym (append-nil lines)
+              ∙ ap (λ (cs : List Course). lines ++ courses_lines (length branches) number cs) (sym none)
+              ∙ led.drawn,
           sym (append-nil branches)
               ∙ ap (λ (cs : List Course). branches ++ made_branches (length branches - own) number cs) (sym none)
               ∙ led.made,

@@ -26,7 +26,14 @@ few-stage next from shares =
     let ps = passes behind divided shares in
     let ms = mixes (n - 1) (behind + n) behind (behind + 1) in
     let mixed = few-mixes (n - 1) (behind + n) behind (behind + 1) in
-    omega (arith, length-append (splits next from shares) (ps ++ ms), length-append ps ms, few-splits next from shares, few-passes behind divided shares, mixed)
+    omega (
+      arith,
+      length-append (splits next from shares) (ps ++ ms),
+      length-append ps ms,
+      few-splits next from shares,
+      few-passes behind divided shares,
+      mixed,
+    )
 
 few-course : (next from : ℕ) (course : Course)
     → length (course_lines next from course) ≤ 3 * sum_by (λ ss. length ss) course + 1
@@ -35,14 +42,27 @@ few-course next from (shares ∷ stages) =
     let last = stage_end next shares in
     let later = course_lines (last + 1) last stages in
     let sum = sum_by-cons (λ (ss : List Share). length ss) shares stages in
-    omega (arith, length-append (stage_lines next from shares) later, few-stage next from shares, few-course (last + 1) last stages, sum)
+    omega (
+      arith,
+      length-append (stage_lines next from shares) later,
+      few-stage next from shares,
+      few-course (last + 1) last stages,
+      sum,
+    )
 
 -- the lines of courses, by their shares together
 pub few-courses : (next stream : ℕ) (courses : List Course)
-    → length (courses_lines next stream courses) ≤ 3 * sum_by (λ course. sum_by (λ ss. length ss) course) courses + length courses
+    → length (courses_lines next stream courses) ≤ 3 * sum_by (λ course.
+    sum_by (λ ss. length ss) course) courses + length courses
 few-courses next stream [] = omega arith
 few-courses next stream (course ∷ courses) =
     let k = course_branches course in
     let later = courses_lines (next + k) (stream + 1) courses in
     let sum = sum_by-cons (λ (c : Course). sum_by (λ ss. length ss) c) course courses in
-    omega (arith, length-append (course_lines next stream course) later, few-course next stream course, few-courses (next + k) (stream + 1) courses, sum)
+    omega (
+      arith,
+      length-append (course_lines next stream course) later,
+      few-course next stream course,
+      few-courses (next + k) (stream + 1) courses,
+      sum,
+    )

@@ -13,6 +13,10 @@ pub mod CourseValues
 pub mod DrawSteps
 pub mod NumberedItems
 pub mod SensibleStreams
+pub mod MadeBranches
+pub mod UsedOnce
+pub mod BranchNames
+pub mod LinesOfCourses
 pub mod Shaped
 pub mod Words
 pub mod StageValues

@@ -57,8 +57,9 @@ module _ {X Y : Type 0} (own : X → Bool) (kept : ℕ × X → Option Y) (item 
       let later = filter_map kept (enumerate_from (n + 1) xs) in
       let rest = kept_hold P (n + 1) xs (λ i y at is_own.
       subst (λ (k : ℕ). P (item k y)) (omega arith) (each (suc i) y at is_own)) in
-      subst (λ (o : Option Y). All P (cons_option o later)) (sym (is_kept n x))
-      (All-kept P (own x) (item n x) later (λ is_own. subst (λ (k : ℕ). P (item k x)) (omega arith) (each 0 x refl is_own)) rest)
+      let kept_later = All-kept P (own x) (item n x) later (λ is_own.
+      subst (λ (k : ℕ). P (item k x)) (omega arith) (each 0 x refl is_own)) rest in
+      subst (λ (o : Option Y). All P (cons_option o later)) (sym (is_kept n x)) kept_later
 
 -- a sum is the same over the turned list
 pub sum_by-reverse : {X : Type 0} (f : X → ℕ) (xs : List X) → sum_by f (reverse xs) ≡ sum_by f xs

@@ -39,4 +39,8 @@ numbered_names-differ {X} f xs named few =
     let one = ap name (get_or-enumerate_from 0 xs i d (omega (arith, before, inside))) ∙ named (0 + i) _ in
     let other = ap name (get_or-enumerate_from 0 xs j d inside) ∙ named (0 + j) _ in
     λ same. let digits : decimal (0 + i + 1) ≡ decimal (0 + j + 1) = cc (sym one ∙ same ∙ other) in
-    absurd (omega (arith, number_of_decimal (0 + i) (0 + j) (omega (arith, before, inside, few)) (omega (arith, inside, few)) digits, before)))
+    absurd (omega (
+      arith,
+      number_of_decimal (0 + i) (0 + j) (omega (arith, before, inside, few)) (omega (arith, inside, few)) digits,
+      before,
+    )))

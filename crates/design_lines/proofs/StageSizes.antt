@@ -60,7 +60,8 @@ module _ (d : ℕ) (full before after : Rational) where
         rest_positive = others_positive s shares positive;
         rest_least = later;
         rest_most =
-            at_most_trans (size_of shares) (plus s.cp (size_of shares)) full (at_most-plus_left s.cp (size_of shares) least) most;
+            let upto_both = at_most-plus_left s.cp (size_of shares) least in
+            at_most_trans (size_of shares) (plus s.cp (size_of shares)) full upto_both most;
       }
 
   splits_sized : (shares : List Share) → AreOver d shares → ArePositive shares
@@ -71,18 +72,31 @@ module _ (d : ℕ) (full before after : Rational) where
       let rest = t ∷ shares in
       let is = is_first s rest over positive most in
       let left : BranchValue = record { cp = size_of rest; t = before } in
-      All-cons (IsStageBranch d full before after) (share_value before s) (left ∷ split_values before rest)
-      (record { over = is.first_over; least = is.first_least; most = is.first_most; state = inl refl }) (All-cons (IsStageBranch d full before after) _ _
-      (record { over = over-size d rest is.rest_over; least = is.rest_least; most = is.rest_most; state = inl refl })
-      (splits_sized (t ∷ shares) is.rest_over is.rest_positive is.rest_most))
+      let later = splits_sized (t ∷ shares) is.rest_over is.rest_positive is.rest_most in
+      All-cons (IsStageBranch d full before after) (share_value before s) (left ∷ split_values before rest) (record {
+        over = is.first_over;
+        least = is.first_least;
+        most = is.first_most;
+        state = inl refl;
+      }) (All-cons (IsStageBranch d full before after) _ _ (record {
+        over = over-size d rest is.rest_over;
+        least = is.rest_least;
+        most = is.rest_most;
+        state = inl refl;
+      }) later)
 
   passes_sized : (shares : List Share) → AreOver d shares → ArePositive shares
       → IsAtMost (size_of shares) full → AreBranches (pass_values after shares)
   passes_sized [] over positive most = All-nil (IsStageBranch d full before after)
   passes_sized (s ∷ shares) over positive most =
       let is = is_first s shares over positive most in
-      All-cons (IsStageBranch d full before after) _ _ (record { over = is.first_over; least = is.first_least; most = is.first_most; state = inr refl })
-      (passes_sized shares is.rest_over is.rest_positive is.rest_most)
+      let later = passes_sized shares is.rest_over is.rest_positive is.rest_most in
+      All-cons (IsStageBranch d full before after) _ _ (record {
+        over = is.first_over;
+        least = is.first_least;
+        most = is.first_most;
+        state = inr refl;
+      }) later
 
   mixes_sized : (size : Rational) (shares : List Share) → IsOver d size → IsAtMost rational_zero size
       → AreOver d shares → ArePositive shares
@@ -93,11 +107,20 @@ module _ (d : ℕ) (full before after : Rational) where
       let mixed : BranchValue = record { cp = both; t = after } in
       let later = size_not_negative shares (others_positive s shares positive) in
       let both_over = over-plus d size s.cp size_over (All-head (λ (a : Share). IsOver d a.cp) s shares over) in
-      let both_least = not_negative-plus size s.cp least (at_most_from_below rational_zero s.cp (first_positive s shares positive)) in
+      let some = at_most_from_below rational_zero s.cp (first_positive s shares positive) in
+      let both_least = not_negative-plus size s.cp least some in
       let all_most = subst (λ a. IsAtMost a full) (sym (plus_assoc size s.cp (size_of shares))) most in
-      let both_most = at_most_trans both (plus both (size_of shares)) full (at_most-plus_right both (size_of shares) later) all_most in
-      All-cons (IsStageBranch d full before after) _ _ (record { over = both_over; least = both_least; most = both_most; state = inr refl })
-      (mixes_sized both shares both_over both_least (All-tail (λ (a : Share). IsOver d a.cp) s shares over) (others_positive s shares positive) all_most)
+      let upto_all = at_most-plus_right both (size_of shares) later in
+      let both_most = at_most_trans both (plus both (size_of shares)) full upto_all all_most in
+      let others_over = All-tail (λ (a : Share). IsOver d a.cp) s shares over in
+      let others_above = others_positive s shares positive in
+      let later = mixes_sized both shares both_over both_least others_over others_above all_most in
+      All-cons (IsStageBranch d full before after) _ _ (record {
+        over = both_over;
+        least = both_least;
+        most = both_most;
+        state = inr refl;
+      }) later
 
   joins_sized : (shares : List Share) → AreOver d shares → ArePositive shares
       → IsAtMost (size_of shares) full → AreBranches (joined_values after shares)
@@ -112,8 +135,11 @@ module _ (d : ℕ) (full before after : Rational) where
       → AreBranches (stage_values before after shares)
   stage_sized shares over positive sizes =
       let most = at_most_from_same (size_of shares) full sizes in
-      All-append (IsStageBranch d full before after) _ _ (splits_sized shares over positive most)
-      (All-append (IsStageBranch d full before after) _ _ (passes_sized shares over positive most) (joins_sized shares over positive most))
+      let splits_hold = splits_sized shares over positive most in
+      let passes_hold = passes_sized shares over positive most in
+      let joins_hold = joins_sized shares over positive most in
+      All-append (IsStageBranch d full before after) _ _ splits_hold
+      (All-append (IsStageBranch d full before after) _ _ passes_hold joins_hold)
 
 -- ---- all stages
 
@@ -128,9 +154,15 @@ module _ (P : BranchValue → Type 0) where
   pub course_holds : (stages : List LedStage) → All StageHolds stages → CourseHolds stages
   course_holds [] each = All-nil P
   course_holds (stage ∷ stages) each =
-      All-append P _ _ (All-head StageHolds stage stages each) (course_holds stages (All-tail StageHolds stage stages each))
+      let first_holds = All-head StageHolds stage stages each in
+      let others = All-tail StageHolds stage stages each in
+      let others_hold = course_holds stages others in
+      All-append P _ _ first_holds others_hold
 
   pub courses_hold : (courses : List (List LedStage)) → All CourseHolds courses → All P (courses_values courses)
   courses_hold [] each = All-nil P
   courses_hold (course ∷ courses) each =
-      All-append P _ _ (All-head CourseHolds course courses each) (courses_hold courses (All-tail CourseHolds course courses each))
+      let first_holds = All-head CourseHolds course courses each in
+      let others = All-tail CourseHolds course courses each in
+      let others_hold = courses_hold courses others in
+      All-append P _ _ first_holds others_hold

@@ -22,7 +22,8 @@ abbrev pub split_values : Rational → List Share → List BranchValue
 split_values before [] = []
 split_values before (s ∷ []) = []
 split_values before (s ∷ t ∷ shares) =
-    record { cp = s.cp; t = before } ∷ record { cp = size_of (t ∷ shares); t = before } ∷ split_values before (t ∷ shares)
+    record { cp = s.cp; t = before } ∷ record { cp = size_of (t ∷ shares); t = before }
+    ∷ split_values before (t ∷ shares)
 
 -- the passes make each share, in the state behind its exchanger
 abbrev pub pass_values : Rational → List Share → List BranchValue
@@ -110,6 +111,7 @@ AllCanFollow case network values (l ∷ lines) =
     CanFollow case network values l × AllCanFollow case network (values ++ made_values case network values l) lines
 
 -- the lines make these values, one behind the other
-pub record Make (case : Case) (network : Network) (values : Valuation) (lines : List Line) (made : List BranchValue) : Type 0 where
+pub record Make (case : Case) (network : Network) (values : Valuation) (lines : List Line)
+    (made : List BranchValue) : Type 0 where
   pub made_is : values_after case network values lines ≡ values ++ made
   pub follow : AllCanFollow case network values lines

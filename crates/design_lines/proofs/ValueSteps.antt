@@ -78,7 +78,8 @@ size_positive s shares positive = positive-plus s.cp (size_of shares) (first_pos
 
 less_than_both : (a b : Rational) → IsBelow rational_zero b → IsBelow a (plus a b)
 less_than_both a b positive =
-    subst (λ x. IsBelow x (plus a b)) (zero-plus a) (subst (IsBelow (plus rational_zero a)) (plus_comm b a) (below-plus rational_zero b a positive))
+    let below = below-plus rational_zero b a positive in
+    subst (λ x. IsBelow x (plus a b)) (zero-plus a) (subst (IsBelow (plus rational_zero a)) (plus_comm b a) below)
 
 rest_left : (a b : Rational) → minus (plus a b) a ≡ b
 rest_left a b = ap (λ x. minus x a) (plus_comm a b) ∙ minus-plus b a
@@ -121,7 +122,8 @@ module _ (case : Case) (network : Network) where
         values_after-append values lines more ∙ ap (λ vs. values_after case network vs more) first.made_is
         ∙ second.made_is ∙ append_assoc values one two;
     follow =
-        AllCanFollow-append values lines more first.follow (subst (λ vs. AllCanFollow case network vs more) (sym first.made_is) second.follow);
+        AllCanFollow-append values lines more first.follow
+        (subst (λ vs. AllCanFollow case network vs more) (sym first.made_is) second.follow);
   }
 
 -- ---- the states between which passes run
@@ -156,7 +158,9 @@ module _ (case : Case) (network : Network) (R : ℕ → ℕ → Rational → Rat
     makes = make_line case network values l lines one rest makes can later.makes;
     runs = λ final more is.
         let moved = is ∙ ap (λ vs. values ++ vs) (append_assoc one rest more) in
-        All-cons (RunsAs final) l lines (run final (rest ++ more) moved) (later.runs final more (moved ∙ sym (append_assoc values one (rest ++ more))));
+        let moved_on = moved ∙ sym (append_assoc values one (rest ++ more)) in
+        let later_run = later.runs final more moved_on in
+        All-cons (RunsAs final) l lines (run final (rest ++ more) moved) later_run;
   }
 
   pub run_append : (values : Valuation) (lines others : List Line) (one two : List BranchValue)
@@ -174,14 +178,20 @@ module _ (case : Case) (network : Network) (R : ℕ → ℕ → Rational → Rat
 
   -- splits, behind which each branch carries its share
   pub splits_make : (before : Rational) (shares : List Share) (values : Valuation) (next from : ℕ)
-      → next ≡ length values
-      → Carries values from (record { cp = size_of shares; t = before }) → ArePositive shares
+      → next ≡ length values → Carries values from (record { cp = size_of shares; t = before }) → ArePositive shares
       → MakeAndRun values (splits next from shares) (split_values before shares)
-      × CarryShares (values ++ split_values before shares) before (share_branches next (rest_branch next from shares) shares) shares
+      × CarryShares (values ++ split_values before shares) before
+      (share_branches next (rest_branch next from shares) shares) shares
   splits_make before [] values next from start carries positive = (run_none values, tt)
   splits_make before (s ∷ []) values next from start carries positive =
-      let V : Rational → BranchValue = λ a. record { cp = a; t = before } in
-      (run_none values, (carries_more values [] from (share_value before s) (subst (λ a. Carries values from (V a)) (plus-zero s.cp) carries), tt))
+      let V : Rational → BranchValue = λ a. record { cp = a; t = before } in (
+        run_none values,
+        (
+          carries_more values [] from (share_value before s)
+              (subst (λ a. Carries values from (V a)) (plus-zero s.cp) carries),
+          tt,
+        ),
+      )
   splits_make before (s ∷ t ∷ shares) values next from start carries positive =
       let rest = size_of (t ∷ shares) in
       let more = split_values before (t ∷ shares) in
@@ -192,30 +202,37 @@ module _ (case : Case) (network : Network) (R : ℕ → ℕ → Rational → Rat
       ∙ ap (λ (a : Rational). share_value before s ∷ record { cp = a; t = before } ∷ []) (rest_left s.cp rest) in
       let room = subst (λ (v : BranchValue). IsBelow s.cp v.cp) (sym carries.is)
       (less_than_both s.cp rest (size_positive t shares (others_positive s (t ∷ shares) positive))) in
-      let later = splits_make before (t ∷ shares) (values ++ both) (next + 2) (next + 1) (omega (arith, start, length-append values both))
-      (carries_new values both 1 (next + 1) (omega (arith, start)) (omega arith)) (others_positive s (t ∷ shares) positive) in
+      let carries_both = carries_new values both 1 (next + 1) (omega (arith, start)) (omega arith) in
+      let others_above = others_positive s (t ∷ shares) positive in
+      let later = splits_make before (t ∷ shares) (values ++ both) (next + 2) (next + 1)
+      (omega (arith, start, length-append values both)) carries_both others_above in
       let branches = share_branches (next + 2) (rest_branch (next + 2) (next + 1) (t ∷ shares)) (t ∷ shares) in
       let rests = subst (λ vs. CarryShares vs before branches (t ∷ shares)) (append_assoc values both more) later.1 in
-      let made = run_line values (line.Split from next s.cp (next + 1)) (splits (next + 2) (next + 1) (t ∷ shares)) both more divided room
-      (λ final more is. tt) later.0 in
-      (made, (carries_new values (share_value before s ∷ left ∷ more) 0 next (omega (arith, start)) (omega arith), rests))
+      let made = run_line values (line.Split from next s.cp (next + 1)) (splits (next + 2) (next + 1) (t ∷ shares)) both
+      more divided room (λ final more is. tt) later.0 in (
+        made,
+        (carries_new values (share_value before s ∷ left ∷ more) 0 next (omega (arith, start)) (omega arith), rests),
+      )
 
   -- ---- passes
 
-  pub passes_make : (stream : ℕ) (of : Side) (before after : Rational) (to : ℕ) (branches : List ℕ) (shares : List Share) (values : Valuation)
+  pub passes_make : (stream : ℕ) (of : Side) (before after : Rational) (to : ℕ) (branches : List ℕ)
+      (shares : List Share) (values : Valuation)
       → to ≡ length values → CarryShares values before branches shares
       → All (λ b. stream_at network.branches b ≡ stream) branches
       → ((b : ℕ) → stream_at network.branches b ≡ stream → branch_side case network b ≡ of) → ArePositive shares
       → All (λ s. times s.cp (change of before after) ≡ duty_at network s.exchanger) shares
       → All (λ a. R stream a.exchanger before after) shares
-      → MakeAndRun values (passes to branches shares) (pass_values after shares) × CarryFrom (values ++ pass_values after shares) after to shares
+      → MakeAndRun values (passes to branches shares) (pass_values after shares)
+      × CarryFrom (values ++ pass_values after shares) after to shares
   passes_make stream of before after to [] [] values start carry own side_is positive duties runs =
       (run_none values, tt)
   passes_make stream of before after to [] (s ∷ shares) values start carry own side_is positive duties runs =
       absurd carry
   passes_make stream of before after to (branch ∷ branches) [] values start carry own side_is positive duties runs =
       absurd carry
-  passes_make stream of before after to (branch ∷ branches) (s ∷ shares) values start carry own side_is positive duties runs =
+  passes_make stream of before after to (branch ∷ branches) (s ∷ shares) values start carry own side_is positive
+      duties runs =
       let D : Share → Type 0 = λ a. times a.cp (change of before after) ≡ duty_at network a.exchanger in
       let S : ℕ → Type 0 = λ b. stream_at network.branches b ≡ stream in
       let Q : Share → Type 0 = λ a. R stream a.exchanger before after in
@@ -228,28 +245,34 @@ module _ (case : Case) (network : Network) (R : ℕ → ℕ → Rational → Rat
       ap (λ side. passed_value side (value_at values branch) duty) (side_is branch here)
       ∙ ap (λ v. passed_value of v duty) carry.0.is
       ∙ sym (pass_determined of (share_value before s) behind duty (first_positive s shares positive) pass) in
-      let later = passes_make stream of before after (to + 1) branches shares (values ++ behind ∷ []) (omega (arith, start, length-append values (behind ∷ [])))
-      (carry_more values (behind ∷ []) before branches shares carry.1) (All-tail S branch branches own) side_is (others_positive s shares positive)
-      (All-tail D s shares duties) (All-tail Q s shares runs) in
-      let made = run_line values (line.Pass branch s.exchanger to) (passes (to + 1) branches shares) (behind ∷ []) (pass_values after shares)
-      (ap (λ (v : BranchValue). v ∷ []) one) tt (λ final more is.
-      let early = subst (λ vs. Carries vs branch (share_value before s)) (sym is) (carries_more values (behind ∷ more) branch (share_value before s) carry.0) in
-      let late = subst (λ vs. Carries vs to behind) (sym is) (carries_new values (behind ∷ more) 0 to (omega (arith, start)) (omega arith)) in
+      let carry_others = carry_more values (behind ∷ []) before branches shares carry.1 in
+      let others_above = others_positive s shares positive in
+      let later = passes_make stream of before after (to + 1) branches shares (values ++ behind ∷ [])
+      (omega (arith, start, length-append values (behind ∷ []))) carry_others (All-tail S branch branches own) side_is
+      others_above (All-tail D s shares duties) (All-tail Q s shares runs) in
+      let made = run_line values (line.Pass branch s.exchanger to) (passes (to + 1) branches shares) (behind ∷ [])
+      (pass_values after shares) (ap (λ (v : BranchValue). v ∷ []) one) tt (λ final more is.
+      let carried = carries_more values (behind ∷ more) branch (share_value before s) carry.0 in
+      let early = subst (λ vs. Carries vs branch (share_value before s)) (sym is) carried in
+      let carried = carries_new values (behind ∷ more) 0 to (omega (arith, start)) (omega arith) in
+      let late = subst (λ vs. Carries vs to behind) (sym is) carried in
       let from_is : before ≡ (value_at final branch).t = sym (ap (λ (v : BranchValue). v.t) early.is) in
       let to_is : after ≡ (value_at final to).t = sym (ap (λ (v : BranchValue). v.t) late.is) in
       subst (λ k. R k s.exchanger (value_at final branch).t (value_at final to).t) (sym here)
-      (subst (λ x. R stream s.exchanger x (value_at final to).t) from_is (subst (λ x. R stream s.exchanger before x) to_is (All-head Q s shares runs))))
+      (subst (λ x. R stream s.exchanger x (value_at final to).t) from_is
+      (subst (λ x. R stream s.exchanger before x) to_is (All-head Q s shares runs))))
       later.0 in
-      let rests = subst (λ vs. CarryFrom vs after (to + 1) shares) (append_assoc values (behind ∷ []) (pass_values after shares)) later.1 in
+      let same_values = append_assoc values (behind ∷ []) (pass_values after shares) in
+      let rests = subst (λ vs. CarryFrom vs after (to + 1) shares) same_values later.1 in
       (made, (carries_new values (behind ∷ pass_values after shares) 0 to (omega (arith, start)) (omega arith), rests))
 
   -- ---- mixes
 
-  pub mixes_make : (after : Rational) (n to first second : ℕ) (size : Rational) (shares : List Share) (values : Valuation)
-      → n ≡ length shares
-      → to ≡ length values → Carries values first (record { cp = size; t = after })
-      → CarryFrom values after second shares → IsBelow rational_zero size
-      → ArePositive shares → MakeAndRun values (mixes n to first second) (mix_values after size shares)
+  pub mixes_make : (after : Rational) (n to first second : ℕ) (size : Rational) (shares : List Share)
+      (values : Valuation)
+      → n ≡ length shares → to ≡ length values → Carries values first (record { cp = size; t = after })
+      → CarryFrom values after second shares → IsBelow rational_zero size → ArePositive shares
+      → MakeAndRun values (mixes n to first second) (mix_values after size shares)
   mixes_make after zero to first second size [] values many start one others above positive = run_none values
   mixes_make after zero to first second size (s ∷ shares) values many start one others above positive =
       absurd (omega (arith, many))
@@ -263,8 +286,12 @@ module _ (case : Case) (network : Network) (R : ℕ → ℕ → Rational → Rat
       let made : mixed_value (value_at values first) (value_at values second) ≡ both =
       ap (λ v. mixed_value v (value_at values second)) one.is ∙ ap (mixed_value branch) others.0.is
       ∙ sym (mix_determined branch (share_value after s) both above_both mix) in
-      run_line values (line.Mix first second to) (mixes n (to + 1) to (second + 1)) (both ∷ []) (mix_values after (plus size s.cp) shares)
-      (ap (λ (v : BranchValue). v ∷ []) made) tt (λ final more is. tt)
-      (mixes_make after n (to + 1) to (second + 1) (plus size s.cp) shares (values ++ both ∷ []) (omega (arith, many))
-      (omega (arith, start, length-append values (both ∷ []))) (carries_new values (both ∷ []) 0 to (omega (arith, start)) (omega arith))
-      (carry_more values (both ∷ []) after (range_with_len (second + 1) (length shares)) shares others.1) above_both (others_positive s shares positive))
+      let carries_both = carries_new values (both ∷ []) 0 to (omega (arith, start)) (omega arith) in
+      let carry_others =
+      carry_more values (both ∷ []) after (range_with_len (second + 1) (length shares)) shares others.1 in
+      let others_above = others_positive s shares positive in
+      let later = mixes_make after n (to + 1) to (second + 1) (plus size s.cp) shares (values ++ both ∷ [])
+      (omega (arith, many)) (omega (arith, start, length-append values (both ∷ []))) carries_both carry_others
+      above_both others_above in
+      run_line values (line.Mix first second to) (mixes n (to + 1) to (second + 1)) (both ∷ [])
+      (mix_values after (plus size s.cp) shares) (ap (λ (v : BranchValue). v ∷ []) made) tt (λ final more is. tt) later

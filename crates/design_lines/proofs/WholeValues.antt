@@ -50,7 +50,8 @@ module _ (case : Case) (network : Network) (shape : HasShape case network) where
   end_stays (line.Pass from exchanger to) values final same used can = All-nil (IsFullEnd case network final)
   end_stays (line.Mix first second to) values final same used can = All-nil (IsFullEnd case network final)
   end_stays (line.End branch) values final same used can =
-      All-cons (IsFullEnd case network final) branch [] (λ s here. same branch (used 0 0 (omega arith)) ∙ can s here) (All-nil (IsFullEnd case network final))
+      All-cons (IsFullEnd case network final) branch [] (λ s here. same branch (used 0 0 (omega arith)) ∙ can s here)
+      (All-nil (IsFullEnd case network final))
 
   record AreValued (values : Valuation) (lines : List Line) : Type 0 where
     valuation : IsWholeValuation case network (values_after case network values lines)
@@ -72,8 +73,10 @@ module _ (case : Case) (network : Network) (shape : HasShape case network) where
       let here = slice_get-get_or network.lines n l within ∙ ap (λ (a : Line). Some a) at in
       let made = made_values case network values l in
       let next = valuation_more case network n values l shape here is (can_leave values l follow.0) in
-      let rest = valued lines (before ++ l ∷ []) (values ++ made) (parts ∙ sym (append_assoc before (l ∷ []) lines))
-      (subst (λ k. IsValuation case network k (values ++ made)) (omega (arith, length-append before (l ∷ []))) next) follow.1 in
+      let parts_on = parts ∙ sym (append_assoc before (l ∷ []) lines) in
+      let rest = valued lines (before ++ l ∷ []) (values ++ made) parts_on
+      (subst (λ k. IsValuation case network k (values ++ made)) (omega (arith, length-append before (l ∷ []))) next)
+      follow.1 in
       let final = values_after case network (values ++ made) lines in
       let used = subst (λ m. All (λ b. b < m) (uses l)) (sym is.count) (line_of shape n l here).numbers.used in
       record {
@@ -91,7 +94,8 @@ module _ (case : Case) (network : Network) (shape : HasShape case network) where
       → Make case network (map first_value case.streams) network.lines made → AreValues made
   unfolding ended_by
   values_made made complete make =
-      let all = valued network.lines [] (map first_value case.streams) refl (valuation_start case network complete) make.follow in
+      let start = valuation_start case network complete in
+      let all = valued network.lines [] (map first_value case.streams) refl start make.follow in
       record {
         valuation = subst (IsWholeValuation case network) make.made_is all.valuation;
         full = subst (λ vs. All (IsFullEnd case network vs) (flat_map ends network.lines)) make.made_is all.full;

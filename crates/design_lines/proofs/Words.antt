@@ -18,7 +18,9 @@ pub use Rattle.network_values.specs.Values.{IsFullEnd, IsMix, IsPass, IsValuatio
 pub use Rattle.network_values.specs.Values.{full_size, last_state, last_value, no_value, value_at}
 unfoldable pub use Rattle.network_values.specs.Values.{branch_side, duty_at, ended_by, ended_streams}
 pub use Rattle.network_values.specs.declared.values.BranchValue.{BranchValue}
-pub use Rattle.networks.proofs.Lists.{All-front, AllPairs-map, all_at, enumerate_from-push}
+pub use Rattle.stream_case.proofs.ListLemmas.{All-front}
+pub use Rattle.sums.proofs.OrderLemmas.{AllPairs-map}
+pub use Rattle.networks.proofs.Lists.{all_at, enumerate_from-push}
 pub use Rattle.networks.proofs.OfShape.{count-passages, line_of, many_own, stream_at-get_or}
 pub use Rattle.networks.specs.Lines.{Exchanger, exchanger_of, is_pass_of, makes, own_branch, uses}
 unfoldable pub use Rattle.networks.specs.Lines.{exchangers_of, made_by, names_of, own_branches, stream_at, used_by}

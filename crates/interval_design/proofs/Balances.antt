@@ -33,7 +33,8 @@ exchangers-are hot cold n (t ∷ ts) = ap (λ es. exchanger_of hot cold (n, t) �
 -- the exchanger of a transfer has the utility
 abbrev pub joins_utility : List Part → List Part → ℕ → Transfer → Bool
 joins_utility hot cold index t =
-    same_source (source_in hot t.hot) (source.Utility index) || same_source (source_in cold t.cold) (source.Utility index)
+    same_source (source_in hot t.hot) (source.Utility index) || same_source (source_in cold t.cold)
+    (source.Utility index)
 
 -- the heat of a transfer with the utility
 abbrev pub utility_heat : List Part → List Part → ℕ → Transfer → ℤ
@@ -46,7 +47,8 @@ pub record HaveSum (duties : List Rational) (count : ℕ) (heat : ℤ) : Type 0 
   pub each : All (IsSized 1 (unsigned_abs MOST_HEAT)) duties
 
 one_more : (b : Bool) (heat rest : ℤ) (count : ℕ) (duties : List Rational) → IsHeat heat → HaveSum duties count rest
-    → HaveSum (cons_option (if b then Some (whole heat) else None) duties) (suc count) ((if b then heat else pos 0) +ℤ rest)
+    → HaveSum (cons_option (if b then Some (whole heat) else None) duties) (suc count)
+    ((if b then heat else pos 0) +ℤ rest)
 one_more true heat rest count duties is have =
     record {
       sum = ap (plus (whole heat)) have.sum ∙ whole-plus heat rest;
@@ -65,21 +67,26 @@ duties_have hot cold index n [] heats =
     record { sum = refl; few = omega arith; each = All-nil (IsSized 1 (unsigned_abs MOST_HEAT)) }
 duties_have hot cold index n (t ∷ ts) heats =
     let duties = filter_map (duty_with index) (map (exchanger_of hot cold) (enumerate_from (n + 1) ts)) in
+    let first_heat = All-head (λ (u : Transfer). IsHeat u.heat) t ts heats in
+    let other_heats = All-tail (λ (u : Transfer). IsHeat u.heat) t ts heats in
+    let others_have = duties_have hot cold index (n + 1) ts other_heats in
     one_more (joins_utility hot cold index t) t.heat (int_sum_by (utility_heat hot cold index) ts) (length ts) duties
-    (All-head (λ (u : Transfer). IsHeat u.heat) t ts heats) (duties_have hot cold index (n + 1) ts (All-tail (λ (u : Transfer). IsHeat u.heat) t ts heats))
+    first_heat others_have
 
 -- the heat of a utility in the network
 pub heats-have : (hot cold : List Part) (ts : List Transfer) (index : ℕ) → All (λ t. IsHeat t.heat) ts
     → HaveSum (heats_with (part_sources hot) (part_sources cold) (map (exchange_of hot cold) ts) index) (length ts)
     (int_sum_by (utility_heat hot cold index) ts)
 heats-have hot cold ts index heats =
-    subst (λ es. HaveSum (filter_map (duty_with index) es) (length ts) (int_sum_by (utility_heat hot cold index) ts)) (sym (exchangers-are hot cold 0 ts))
-    (duties_have hot cold index 0 ts heats)
+    let exchangers = sym (exchangers-are hot cold 0 ts) in
+    let have = duties_have hot cold index 0 ts heats in
+    subst (λ es.
+    HaveSum (filter_map (duty_with index) es) (length ts) (int_sum_by (utility_heat hot cold index) ts)) exchangers have
 
 -- ---- within the range
 
-module _ (case : Case) (hot cold : List Part) (ts : List Transfer) (given : IsCaseFlow case hot cold ts) (index : ℕ) (u : Utility)
-    (here : slice_get case.utilities index ≡ Some u) where
+module _ (case : Case) (hot cold : List Part) (ts : List Transfer) (given : IsCaseFlow case hot cold ts)
+    (index : ℕ) (u : Utility) (here : slice_get case.utilities index ≡ Some u) where
   abbrev own : Source
   own = source.Utility index
 
@@ -98,11 +105,12 @@ module _ (case : Case) (hot cold : List Part) (ts : List Transfer) (given : IsCa
       false_from_ne_true (same_source q.source own) (λ holds.
       let grid = places case hot cold ts given in
       let part = part_on case hot cold ts given of b q at in
-      let is = part_of_utility {streams = case.streams} grid of index u q here part (same_source-true q.source own holds) in
+      let own_source = same_source-true q.source own holds in
+      let is = part_of_utility {streams = case.streams} grid of index u q here part own_source in
       let twice = at ∙ ap (λ (r : Part). Some r) is in
-      other (one_place {utilities = case.utilities} grid of parts b a (utility_part index u) (side_parts case hot cold ts given of) twice there))
-      ∙ sym (ne_eqb b a other))
-      (cases_eq b a)
+      let same_place = one_place {utilities = case.utilities} grid of parts b a (utility_part index u)
+      (side_parts case hot cold ts given of) twice there in
+      other same_place) ∙ sym (ne_eqb b a other)) (cases_eq b a)
 
   -- a source of the other side is not the utility
   other_source : (of : Side) (b : ℕ) → u.side ≢ of → b < length (on_side of hot cold)
@@ -124,12 +132,16 @@ module _ (case : Case) (hot cold : List Part) (ts : List Transfer) (given : IsCa
   its_transfer side.Hot a number t side_is there at =
       let within = All-slice_get (λ (v : Transfer). v.hot < length hot) ts number t given.flow.hot_indexes at in
       let cold_within = All-slice_get (λ (v : Transfer). v.cold < length cold) ts number t given.flow.cold_indexes at in
-      let other = other_source side.Cold t.cold (λ same. let clash : side.Hot ≡ side.Cold = sym side_is ∙ same in cc clash) cold_within in
+      let other = other_source side.Cold t.cold (λ same.
+      let clash : side.Hot ≡ side.Cold = sym side_is ∙ same in
+      cc clash) cold_within in
       (λ i. own_place side.Hot a t.hot there within i || other i) ∙ or_none (t.hot == a)
   its_transfer side.Cold a number t side_is there at =
       let within = All-slice_get (λ (v : Transfer). v.cold < length cold) ts number t given.flow.cold_indexes at in
       let hot_within = All-slice_get (λ (v : Transfer). v.hot < length hot) ts number t given.flow.hot_indexes at in
-      let other = other_source side.Hot t.hot (λ same. let clash : side.Cold ≡ side.Hot = sym side_is ∙ same in cc clash) hot_within in
+      let other = other_source side.Hot t.hot (λ same.
+      let clash : side.Cold ≡ side.Hot = sym side_is ∙ same in
+      cc clash) hot_within in
       λ i. other i || own_place side.Cold a t.cold there within i
 
   pub utility_has_heat : length ts ≤ most_transfers
@@ -143,7 +155,8 @@ module _ (case : Case) (hot cold : List Part) (ts : List Transfer) (given : IsCa
       let there = slice_get-get_or (on_side of hot cold) a part within ∙ ap (λ (q : Part). Some q) is in
       let range = side_ranges case hot cold ts given of a part there in
       let sum : int_sum_by (utility_heat hot cold index) ts ≡ heat_at of ts a =
-      int_sum_by-same (utility_heat hot cold index) (λ t. if part_index of t == a then t.heat else pos 0) ts (λ k d inside.
+      int_sum_by-same (utility_heat hot cold index) (λ t. if part_index of t == a then t.heat else pos 0) ts
+      (λ k d inside.
       let t = get_or ts k d in
       ap (λ b. if b then t.heat else pos 0) (its_transfer of a k t refl there (slice_get-get_or ts k d inside))) in
       let have = heats-have hot cold ts index given.heats in
@@ -154,9 +167,15 @@ module _ (case : Case) (hot cold : List Part) (ts : List Transfer) (given : IsCa
         most = unsigned_abs MOST_HEAT;
         groups = duties ∷ [];
         are = sym (append-nil duties);
-        each = All-cons (IsWholeGroup 1 (unsigned_abs MOST_HEAT)) duties []
-            (record { over = 1; some = omega arith; upto = omega arith; each = have.each; sum = heat_at of ts a; is = total })
-            (All-nil (IsWholeGroup 1 (unsigned_abs MOST_HEAT)));
+        each =
+            All-cons (IsWholeGroup 1 (unsigned_abs MOST_HEAT)) duties [] (record {
+              over = 1;
+              some = omega arith;
+              upto = omega arith;
+              each = have.each;
+              sum = heat_at of ts a;
+              is = total;
+            }) (All-nil (IsWholeGroup 1 (unsigned_abs MOST_HEAT)));
         small = omega arith;
         few = omega arith;
         heat = heat_at of ts a;
@@ -184,8 +203,11 @@ heat-by-transfers : (of : Side) (parts : List Part) (ts : List Transfer) → Hav
     → utilities_heat of parts ts ≡ int_sum_by (λ t. part_heat parts (part_index of t) t.heat) ts
 heat-by-transfers of parts ts within =
     let weight : ℕ → ℤ = λ a. weight_of (source_in parts a) in
-    int_sum_from-same_each (λ a p. if is_stream p.source then pos 0 else heat_at of ts a) (λ a p. weight a *ℤ heat_at of ts a) parts
-    (λ a p at. weighed (is_stream p.source) (heat_at of ts a) ∙ ap (λ x. weight_of x *ℤ heat_at of ts a) (sym (source_there parts a p at)))
+    int_sum_from-same_each (λ a p. if is_stream p.source then pos 0 else heat_at of ts a)
+    (λ a p. weight a *ℤ heat_at of ts a) parts
+    (λ a p at.
+    weighed (is_stream p.source) (heat_at of ts a)
+    ∙ ap (λ x. weight_of x *ℤ heat_at of ts a) (sym (source_there parts a p at)))
     ∙ int_sum_from-grouped (part_index of) (λ t. t.heat) weight parts ts within
     ∙ int_sum_by-same (λ t. weight (part_index of t) *ℤ t.heat) (λ t. part_heat parts (part_index of t) t.heat) ts
     (λ k d inside. let t = get_or ts k d in sym (weighed (is_stream (source_in parts (part_index of t))) t.heat))
@@ -206,7 +228,8 @@ exchanger-sum hot cold f g same n (t ∷ ts) =
 side-heat : (of : Side) (hot cold parts : List Part) (ts : List Transfer) (source_on : Exchanger → Source)
     → HaveParts of parts ts
     → ((n : ℕ) (t : Transfer) → source_on (exchanger_of hot cold (n, t)) ≡ source_in parts (part_index of t))
-    → rational_sum_by (λ x. utility_duty x.duty (source_on x)) (exchangers_for (part_sources hot) (part_sources cold) (map (exchange_of hot cold) ts))
+    → rational_sum_by (λ x. utility_duty x.duty (source_on x))
+    (exchangers_for (part_sources hot) (part_sources cold) (map (exchange_of hot cold) ts))
     ≡ whole (utilities_heat of parts ts)
 side-heat of hot cold parts ts source_on within same =
     ap (rational_sum_by (λ x. utility_duty x.duty (source_on x))) (exchangers-are hot cold 0 ts)
@@ -229,9 +252,13 @@ part-worth : (case : Case) (grid : List ℤ) (of : Side) (p : Part) (heat : ℤ)
     → IsPartOf case.streams case.utilities grid of p
     → int_sum_from (worth p.source heat) 0 case.utilities ≡ p.price *ℤ heat
 part-worth case grid of p heat (inl (i, s, is)) =
-    ap (λ a. int_sum_from (worth a heat) 0 case.utilities) (ap (λ (q : Part). q.source) is.is)
-    ∙ int_sum_from-zero (worth (source.Stream i) heat) 0 case.utilities (λ j u from. worth-none (source.Stream i) heat j u refl)
-    ∙ sym (zero_times p.price heat (ap (λ (q : Part). q.price) is.is))
+    let source_is = ap (λ (q : Part). q.source) is.is in
+    let price_is = ap (λ (q : Part). q.price) is.is in
+    let nothing = zero_times p.price heat price_is in
+    ap (λ a. int_sum_from (worth a heat) 0 case.utilities) source_is
+    ∙ int_sum_from-zero (worth (source.Stream i) heat) 0 case.utilities (λ j u from.
+    worth-none (source.Stream i) heat j u refl)
+    ∙ sym nothing
 part-worth case grid of p heat (inr (i, u, is)) =
     let within = slice_get_within case.utilities i u is.utility in
     let first : i - 0 ≡ i = omega arith in
@@ -293,11 +320,15 @@ module _ (case : Case) (hot cold : List Part) (ts : List Transfer) (given : IsCa
       let cold_within = All-slice_get (λ (u : Transfer). u.cold < length cold) ts number t given.flow.cold_indexes at in
       let hot_side = source_side case hot cold ts given side.Hot t.hot hot_within in
       let cold_side = source_side case hot cold ts given side.Cold t.cold cold_within in
+      let hot_worth = index-worth side.Hot t.hot t.heat hot_within in
+      let cold_worth = index-worth side.Cold t.cold t.heat cold_within in
       sum-enumerated (λ e. utility_worth e t) 0 case.utilities
-      ∙ int_sum_from-same (λ i u. utility_worth (i, u) t) (λ i u. worth a t.heat i u +ℤ worth b t.heat i u) 0 case.utilities
-      (λ i u. apart (same_source a (source.Utility i)) (same_source b (source.Utility i)) u.price t.heat (differ case a b i hot_side cold_side))
-      ∙ int_sum_from-add (worth a t.heat) (worth b t.heat) 0 case.utilities
-      ∙ ap₂ ◌+ℤ◌ (index-worth side.Hot t.hot t.heat hot_within) (index-worth side.Cold t.cold t.heat cold_within)
+      ∙ int_sum_from-same (λ i u. utility_worth (i, u) t) (λ i u. worth a t.heat i u +ℤ worth b t.heat i u) 0
+      case.utilities
+      (λ i u.
+      apart (same_source a (source.Utility i)) (same_source b (source.Utility i)) u.price t.heat
+      (differ case a b i hot_side cold_side))
+      ∙ int_sum_from-add (worth a t.heat) (worth b t.heat) 0 case.utilities ∙ ap₂ ◌+ℤ◌ hot_worth cold_worth
 
   utility-worth : (e : ℕ × Utility) (us : List Transfer)
       → e.1.price *ℤ int_sum_by (utility_heat hot cold e.0) us ≡ int_sum_by (utility_worth e) us
@@ -313,19 +344,21 @@ module _ (case : Case) (hot cold : List Part) (ts : List Transfer) (given : IsCa
       let priced : ℕ × Utility → ℤ = λ e. int_sum_by (utility_worth e) ts in
       let hot_cost : Transfer → ℤ = λ t. part_price hot t.hot *ℤ t.heat in
       let cold_cost : Transfer → ℤ = λ t. part_price cold t.cold *ℤ t.heat in
-      rational_sum_by-same (λ e. times (whole e.1.price) (rational_sum (heats_with (part_sources hot) (part_sources cold) (map (exchange_of hot cold) ts) e.0)))
+      rational_sum_by-same (λ e.
+      times (whole e.1.price)
+      (rational_sum (heats_with (part_sources hot) (part_sources cold) (map (exchange_of hot cold) ts) e.0)))
       (λ e. whole (priced e)) us (λ k d within.
       let e = get_or us k d in
       ap (times (whole e.1.price)) (heats-have hot cold ts e.0 given.heats).sum
-      ∙ whole-times e.1.price (int_sum_by (utility_heat hot cold e.0) ts)
-      ∙ ap whole (utility-worth e ts))
+      ∙ whole-times e.1.price (int_sum_by (utility_heat hot cold e.0) ts) ∙ ap whole (utility-worth e ts))
       ∙ rational_sum_by-whole priced (int_sum_by priced) refl (λ e es. refl) us
       ∙ ap whole
       (int_sum_by-swap utility_worth us ts
       ∙ int_sum_by-same (λ t. int_sum_by (λ e. utility_worth e t) us) (λ t. hot_cost t +ℤ cold_cost t) ts
       (λ k d within. transfer-worth k (get_or ts k d) (slice_get-get_or ts k d within))
       ∙ int_sum_by-add hot_cost cold_cost ts
-      ∙ ap₂ ◌+ℤ◌ (side_cost-transfers side.Hot hot ts given.flow.hot_indexes) (side_cost-transfers side.Cold cold ts given.flow.cold_indexes))
+      ∙ ap₂ ◌+ℤ◌ (side_cost-transfers side.Hot hot ts given.flow.hot_indexes)
+      (side_cost-transfers side.Cold cold ts given.flow.cold_indexes))
 
   pub balance-is : exchange_balance case (part_sources hot) (part_sources cold) (map (exchange_of hot cold) ts)
       ≡ flow_balance case hot cold ts
@@ -367,8 +400,10 @@ side-cost : (case : Case) (grid : List ℤ) (of : Side) (parts : List Part) (ts 
     → AreParts case.streams case.utilities grid of parts
     → side_cost of parts ts ≡ int_sum_from (λ a p. standard_cost of p.source (heat_at of ts a)) 0 parts
 side-cost case grid of parts ts standard are =
-    int_sum_from-same_each (λ a p. p.price *ℤ heat_at of ts a) (λ a p. standard_cost of p.source (heat_at of ts a)) parts
-    (λ a p at. part-cost case grid of p (heat_at of ts a) standard (All-slice_get (IsPartOf case.streams case.utilities grid of) parts a p are.each at))
+    int_sum_from-same_each (λ a p. p.price *ℤ heat_at of ts a) (λ a p. standard_cost of p.source (heat_at of ts a))
+    parts (λ a p at.
+    let is_part = All-slice_get (IsPartOf case.streams case.utilities grid of) parts a p are.each at in
+    part-cost case grid of p (heat_at of ts a) standard is_part)
 
 -- the cost of a standard flow is what its hot utility gives
 standard-cost : (case : Case) (hot cold : List Part) (ts : List Transfer) → IsStandard case → AreCaseParts case hot cold

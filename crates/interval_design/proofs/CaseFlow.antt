@@ -20,7 +20,8 @@ source_in parts index = source_at (part_sources parts) index
 pub source_there : (parts : List Part) (index : ℕ) (p : Part) → slice_get parts index ≡ Some p
     → source_in parts index ≡ p.source
 source_there parts index p at =
-    ap (λ o. unwrap_or o (source.Stream 0)) (slice_get-map (λ (q : Part). q.source) parts index ∙ ap (option_map (λ (q : Part). q.source)) at)
+    let mapped = slice_get-map (λ (q : Part). q.source) parts index ∙ ap (option_map (λ (q : Part). q.source)) at in
+    ap (λ o. unwrap_or o (source.Stream 0)) mapped
 
 pub record IsCaseFlow (case : Case) (hot cold : List Part) (ts : List Transfer) : Type 0 where
   pub complete : IsComplete case
@@ -54,7 +55,8 @@ module _ (case : Case) (hot cold : List Part) (ts : List Transfer) (given : IsCa
   pub part_on : (of : Side) (index : ℕ) (p : Part) → slice_get (on_side of hot cold) index ≡ Some p
       → IsPartOf case.streams case.utilities places of p
   part_on of index p at =
-      All-slice_get (IsPartOf case.streams case.utilities places of) (on_side of hot cold) index p (side_parts of).each at
+      All-slice_get (IsPartOf case.streams case.utilities places of) (on_side of hot cold) index p (side_parts of).each
+      at
 
   pub source_side : (of : Side) (index : ℕ) → index < length (on_side of hot cold)
       → side_of case (source_in (on_side of hot cold) index) ≡ Some of
@@ -70,7 +72,10 @@ pub pairs_at : {X : Type 0} (R : X → X → Type 0) (xs : List X) (i j : ℕ) (
     → slice_get xs i ≡ Some x → slice_get xs j ≡ Some y
     → i < j → R x y
 pairs_at R xs i j x y pairs one other less =
-    subst₂ R (get_or_from_slice_get xs i x y one) (get_or_from_slice_get xs j y y other) (pairs i j y less (slice_get_within xs j y other))
+    let first_is = get_or_from_slice_get xs i x y one in
+    let second_is = get_or_from_slice_get xs j y y other in
+    let related = pairs i j y less (slice_get_within xs j y other) in
+    subst₂ R first_is second_is related
 
 -- ---- the place of a part
 
@@ -140,7 +145,8 @@ index-le-key : (columns : ℕ) (ts : List Transfer) → AllPairs precedes ts →
 index-le-key columns ts pairs cold zero d within = omega arith
 index-le-key columns ts pairs cold (suc i) d within =
     let before = index-le-key columns ts pairs cold i d (omega arith) in
-    let rise = key-rises columns (get_or ts i d) (get_or ts (suc i) d) (cold i d (omega arith)) (pairs i (suc i) d (omega arith) within) in
+    let ordered = pairs i (suc i) d (omega arith) within in
+    let rise = key-rises columns (get_or ts i d) (get_or ts (suc i) d) (cold i d (omega arith)) ordered in
     omega arith
 
 key-below : (rows columns : ℕ) (t : Transfer) → t.hot < rows → t.cold < columns → key columns t < rows * columns

@@ -1,6 +1,10 @@
 pub mod Balances
 pub mod CaseFlow
 pub mod Premises
+pub mod PartStates
+pub mod PartShares
+pub mod StreamPieces
+pub mod MeetingParts
 pub mod StreamCourses
 pub mod Words
 pub mod PartPieces

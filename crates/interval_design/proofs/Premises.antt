@@ -11,8 +11,12 @@ use Rattle.interval_design.proofs.Words.{temperature, unshifted, whole, whole-pl
 use Rattle.std.proofs.Common.{All, AllPairs, Bool, List, Some, ap, arith, false, get_or, inl, inr, length, map, pos, refl, slice_get, subst, subst₂, sym, true}
 use Rattle.std.proofs.Common.{ℕ, ℤ, ⊎_elim, ◌+ℤ◌, ◌-ℤ◌, ◌<ℤ◌, ◌<◌, ◌^◌, ◌∙◌, ◌≡◌, ◌≤ℤ◌, ◌≤◌, ◌⊎◌}
 use Rattle.interval_design.proofs.CaseFlow.{IsCaseFlow, most_transfers, part_on, part_there, places, places_fall, valid_stream}
-use Rattle.interval_design.proofs.StreamCourses.{LiesAtLevel, LiesOnInterval, entered-sensible, fits, high_end-latent, joined, left-sensible, lies}
-use Rattle.interval_design.proofs.StreamCourses.{own_heat, piece_falls, state_is, stream_piece}
+use Rattle.interval_design.proofs.PartStates.{LiesAtLevel, LiesOnInterval, entered-sensible, high_end-latent, left-sensible, lies}
+use Rattle.interval_design.proofs.PartShares.{fits}
+use Rattle.interval_design.proofs.StreamCourses.{joined}
+use Rattle.interval_design.proofs.PartShares.{piece_falls, state_is}
+use Rattle.interval_design.proofs.StreamPieces.{stream_piece}
+use Rattle.interval_design.proofs.StreamCourses.{own_heat}
 use Rattle.interval_design.proofs.Balances.{utility_has_heat}
 use Rattle.stream_case.specs.declared.source.Side.TheVariants as side
 use Rattle.stream_case.specs.declared.source.Source.TheVariants as source
@@ -33,7 +37,9 @@ at_level : (case : Case) (of : Side) (p : Part) (level contribution : ℤ) (stat
     → temperature case p.source state ≡ whole level → (place : ℤ) → place ≡ shifted of level contribution
     → temperature case p.source state ≡ place_temperature case of p.source place
 at_level case of p level contribution state contribution_is fixed place is =
-    fixed ∙ sym (ap (λ c. whole (unshifted of place c)) contribution_is ∙ ap (λ x. whole (unshifted of x contribution)) is ∙ ap whole (back of))
+    let as_shifted = ap (λ c. whole (unshifted of place c)) contribution_is
+    ∙ ap (λ x. whole (unshifted of x contribution)) is ∙ ap whole (back of) in
+    fixed ∙ sym as_shifted
   where
     back : (on : Side) → unshifted on (shifted on level contribution) contribution ≡ level
     back side.Hot = omega (arith, ints)
@@ -47,12 +53,15 @@ level_warm : (case : Case) (of : Side) (p : Part) (level contribution : ℤ)
     → IsWarm case of p
 level_warm case of p level contribution contribution_is fixed high low = record {
   entered =
-      at_level case of p level contribution (piece_of case p).before contribution_is (fixed (piece_of case p).before) (entered_at of p) (ends of).0;
+      at_level case of p level contribution (piece_of case p).before contribution_is (fixed (piece_of case p).before)
+      (entered_at of p) (ends of).0;
   left =
-      at_level case of p level contribution (piece_of case p).after contribution_is (fixed (piece_of case p).after) (left_at of p) (ends of).1;
+      at_level case of p level contribution (piece_of case p).after contribution_is (fixed (piece_of case p).after)
+      (left_at of p) (ends of).1;
 }
   where
-    ends : (on : Side) → (entered_at on p ≡ shifted of level contribution) × (left_at on p ≡ shifted of level contribution)
+    ends : (on : Side)
+        → (entered_at on p ≡ shifted of level contribution) × (left_at on p ≡ shifted of level contribution)
     ends side.Hot = (high, low)
     ends side.Cold = (low, high)
 
@@ -93,15 +102,19 @@ module _ (case : Case) (grid : List ℤ) (of : Side) (p : Part) (falls : AllPair
 
   part_warm : IsComplete case → IsPartOf case.streams case.utilities grid of p → IsWarm case of p
   part_warm complete (inl (number, s, is)) =
-      stream_warm number s (All-slice_get IsValidStream case.streams number s (AreStreams-IsComplete case complete).each is.stream) is
+      let valid =
+      All-slice_get IsValidStream case.streams number s (AreStreams-IsComplete case complete).each is.stream in
+      stream_warm number s valid is
   part_warm complete (inr (index, u, is)) =
       let own = ap (λ (q : Part). q.source) is.is in
       let contribution = ap (contribution_of case) own
       ∙ ap (λ o. option_map_or (λ (v : Utility). v.contribution) o (pos 0)) is.utility in
-      level_warm case of p u.level u.contribution contribution
-      (λ state. ap (λ a. temperature case a state) own ∙ ap (λ o. whole (option_map_or (λ (v : Utility). v.level) o (pos 0))) is.utility)
-      (ap (λ (q : Part). q.high) is.is ∙ ap (λ d. shifted d u.level u.contribution) is.side_is)
-      (ap (λ (q : Part). q.low) is.is ∙ ap (λ d. shifted d u.level u.contribution) is.side_is)
+      let high_is = ap (λ (q : Part). q.high) is.is ∙ ap (λ d. shifted d u.level u.contribution) is.side_is in
+      let low_is = ap (λ (q : Part). q.low) is.is ∙ ap (λ d. shifted d u.level u.contribution) is.side_is in
+      level_warm case of p u.level u.contribution contribution (λ state.
+      ap (λ a. temperature case a state) own
+      ∙ ap (λ o. whole (option_map_or (λ (v : Utility). v.level) o (pos 0))) is.utility)
+      high_is low_is
 
   part_order : IsPartOf case.streams case.utilities grid of p → p.low ≤ℤ p.high
   part_order (inl (i, s, is)) = piece_falls s p falls is.piece
@@ -109,7 +122,8 @@ module _ (case : Case) (grid : List ℤ) (of : Side) (p : Part) (falls : AllPair
 
   part_narrow : IsComplete case → IsPartOf case.streams case.utilities grid of p → width_of p < 2 ^ 32
   part_narrow complete (inl (number, s, is)) =
-      let valid = All-slice_get IsValidStream case.streams number s (AreStreams-IsComplete case complete).each is.stream in
+      let each = (AreStreams-IsComplete case complete).each in
+      let valid = All-slice_get IsValidStream case.streams number s each is.stream in
       let narrow = (fits grid s p valid falls is).narrow in omega arith
   part_narrow complete (inr (i, u, is)) =
       omega (arith, ints, ap (λ (q : Part). q.high) is.is, ap (λ (q : Part). q.low) is.is)
@@ -138,8 +152,10 @@ apart taken given low high hot_contribution cold_contribution taken_is given_is 
     let approach = hot_contribution +ℤ cold_contribution in
     let sum : plus taken (whole approach) ≡ whole ((low -ℤ cold_contribution) +ℤ approach) =
     ap (λ x. plus x (whole approach)) taken_is ∙ whole-plus (low -ℤ cold_contribution) approach in
-    subst (λ x. IsAtMost x given) (sym sum) (subst (IsAtMost (whole ((low -ℤ cold_contribution) +ℤ approach))) (sym given_is)
-    (at_most-whole ((low -ℤ cold_contribution) +ℤ approach) (high +ℤ hot_contribution) (omega (arith, ints))))
+    let apart =
+    at_most-whole ((low -ℤ cold_contribution) +ℤ approach) (high +ℤ hot_contribution) (omega (arith, ints)) in
+    subst (λ x. IsAtMost x given) (sym sum)
+    (subst (IsAtMost (whole ((low -ℤ cold_contribution) +ℤ approach))) (sym given_is) apart)
 
 -- ---- transfers
 
@@ -157,8 +173,17 @@ joined_parts case hot cold t hot_within cold_within reach =
     let (q, cold_part) = part_there cold t.cold cold_within in
     let reached : reach_between case hot cold t.hot t.cold ≡ part_reaches case p q
     = λ i. both_reach case (hot_part i) (cold_part i) in
-    let both = and_parts (passes_heat p q) (not (is_forbidden case.forbids p.source q.source)) (sym reached ∙ reach) in
-    (p, q, record { hot_part = hot_part; cold_part = cold_part; passes = both.0; permitted = refused (is_forbidden case.forbids p.source q.source) both.1 })
+    let forbidden = is_forbidden case.forbids p.source q.source in
+    let both = and_parts (passes_heat p q) (not forbidden) (sym reached ∙ reach) in (
+      p,
+      q,
+      record {
+        hot_part = hot_part;
+        cold_part = cold_part;
+        passes = both.0;
+        permitted = refused forbidden both.1;
+      },
+    )
   where
     refused : (b : Bool) → not b ≡ true → b ≡ false
     refused true holds = cc holds
@@ -187,25 +212,33 @@ module _ (case : Case) (hot cold : List Part) (ts : List Transfer) (given : IsCa
       let falls = places_fall case hot cold ts given in
       let giving = part_warm case grid side.Hot p falls given.complete hot_part in
       let taking = part_warm case grid side.Cold q falls given.complete cold_part in
-      let order = passes-order p q (part_order case grid side.Hot p falls hot_part) (part_order case grid side.Cold q falls cold_part) passes in
-      let keeps = λ (taken gives : Rational) (low high : ℤ). apart taken gives low high (contribution_of case p.source) (contribution_of case q.source) in
+      let hot_order = part_order case grid side.Hot p falls hot_part in
+      let cold_order = part_order case grid side.Cold q falls cold_part in
+      let order = passes-order p q hot_order cold_order passes in
+      let keeps = λ (taken gives : Rational) (low high : ℤ). apart taken gives low high (contribution_of case p.source)
+      (contribution_of case q.source) in
       let warm = λ (r : Part) (state : Rational). temperature case r.source state in
       record {
         hot_end =
-            keeps (warm q (piece_of case q).after) (warm p (piece_of case p).before) q.high p.high taking.left giving.entered order.0;
+            keeps (warm q (piece_of case q).after) (warm p (piece_of case p).before) q.high p.high taking.left
+            giving.entered order.0;
         cold_end =
-            keeps (warm q (piece_of case q).before) (warm p (piece_of case p).after) q.low p.low taking.entered giving.left order.1;
+            keeps (warm q (piece_of case q).before) (warm p (piece_of case p).after) q.low p.low taking.entered
+            giving.left order.1;
       }
 
   -- each exchange joins a hot and a cold piece that may meet
-  pub exchanges_join : All (JoinsPieces case (map (piece_of case) hot) (map (piece_of case) cold)) (map (exchange_of hot cold) ts)
+  pub exchanges_join : All (JoinsPieces case (map (piece_of case) hot) (map (piece_of case) cold))
+      (map (exchange_of hot cold) ts)
   exchanges_join =
-      All-map (JoinsPieces case (map (piece_of case) hot) (map (piece_of case) cold)) (exchange_of hot cold) ts (λ k d within.
+      All-map (JoinsPieces case (map (piece_of case) hot) (map (piece_of case) cold)) (exchange_of hot cold) ts
+      (λ k d within.
       let t = get_or ts k d in
       let positive = given.flow.positive k d within in
       let heat = given.heats k d within in
       let flow = given.flow in
-      let (p, q, joined) = joined_parts case hot cold t (flow.hot_indexes k d within) (flow.cold_indexes k d within) (flow.joined k d within) in
+      let (p, q, joined) = joined_parts case hot cold t (flow.hot_indexes k d within) (flow.cold_indexes k d within)
+      (flow.joined k d within) in
       let hot_part = part_on case hot cold ts given side.Hot t.hot p joined.hot_part in
       let cold_part = part_on case hot cold ts given side.Cold t.cold q joined.cold_part in
       let falls = places_fall case hot cold ts given in
@@ -218,10 +251,14 @@ module _ (case : Case) (hot cold : List Part) (ts : List Transfer) (given : IsCa
         hot_side = side_of_part case grid side.Hot p hot_part;
         cold_side = side_of_part case grid side.Cold q cold_part;
         heat = record { above = positive; within = within-whole t.heat (omega (arith, ints, heat.from, heat.upto)) };
-        hot_size = has_size (ratio t.heat (width_at hot t.hot)) p.source
-            (size-positive t.heat hot t.hot p joined.hot_part (part_narrow case grid side.Hot p falls given.complete hot_part) positive heat);
-        cold_size = has_size (ratio t.heat (width_at cold t.cold)) q.source
-            (size-positive t.heat cold t.cold q joined.cold_part (part_narrow case grid side.Cold q falls given.complete cold_part) positive heat);
+        hot_size =
+            let narrow = part_narrow case grid side.Hot p falls given.complete hot_part in
+            let size = size-positive t.heat hot t.hot p joined.hot_part narrow positive heat in
+            has_size (ratio t.heat (width_at hot t.hot)) p.source size;
+        cold_size =
+            let narrow = part_narrow case grid side.Cold q falls given.complete cold_part in
+            let size = size-positive t.heat cold t.cold q joined.cold_part narrow positive heat in
+            has_size (ratio t.heat (width_at cold t.cold)) q.source size;
         permitted = joined.permitted;
         apart = pieces_apart p q hot_part cold_part joined.passes;
       })
@@ -238,19 +275,21 @@ piece_on-exchange side.Hot hot cold t = refl
 piece_on-exchange side.Cold hot cold t = refl
 
 -- the pieces of exchanges stand among the sources
-pub pieces_within : (of : Side) (hot cold : List Part) (ts : List Transfer) (sources : List Source) (exchanges : List Exchange)
+pub pieces_within : (of : Side) (hot cold : List Part) (ts : List Transfer) (sources : List Source)
+    (exchanges : List Exchange)
     → sources ≡ part_sources (on_side of hot cold) → exchanges ≡ map (exchange_of hot cold) ts
-    → HaveParts of (on_side of hot cold) ts
-    → All (λ e. piece_on of e < length sources) exchanges
+    → HaveParts of (on_side of hot cold) ts → All (λ e. piece_on of e < length sources) exchanges
 pieces_within of hot cold ts sources exchanges sources_are exchanges_are have =
-    subst₂ (λ (ss : List Source) (es : List Exchange). All (λ e. piece_on of e < length ss) es) (sym sources_are) (sym exchanges_are)
+    subst₂ (λ (ss : List Source) (es : List Exchange). All (λ e. piece_on of e < length ss) es) (sym sources_are)
+    (sym exchanges_are)
     (All-map (λ e. piece_on of e < length (part_sources (on_side of hot cold))) (exchange_of hot cold) ts (λ k d within.
     let long = length-map (on_side of hot cold) (λ (p : Part). p.source) in
     let index = have k d within in
     let same = piece_on-exchange of hot cold (get_or ts k d) in
     omega arith))
 
-module _ (case : Case) (hot cold : List Part) (ts : List Transfer) (given : IsCaseFlow case hot cold ts) (few : length ts ≤ most_transfers) where
+module _ (case : Case) (hot cold : List Part) (ts : List Transfer) (given : IsCaseFlow case hot cold ts)
+    (few : length ts ≤ most_transfers) where
   abbrev hots : List Piece
   hots = map (piece_of case) hot
 
@@ -267,9 +306,10 @@ module _ (case : Case) (hot cold : List Part) (ts : List Transfer) (given : IsCa
       let (part, at, is) = mapped_item (piece_of case) (on_side s.side hot cold) index p
       (ap (λ ps. slice_get ps index) (sym (on_side-ap s.side (map (piece_of case)) hot cold)) ∙ there) in
       let source_is = ap (λ (q : Piece). q.source) is ∙ own in
-      subst (λ q. IsStreamPiece s.side exchanges index q s) is
-      (stream_piece case hot cold ts stream s here (valid_stream case hot cold ts given stream s here) index part at source_is
-      (own_heat case hot cold ts given stream s here index part at source_is))
+      let valid = valid_stream case hot cold ts given stream s here in
+      let heat = own_heat case hot cold ts given stream s here index part at source_is in
+      let piece = stream_piece case hot cold ts stream s here valid index part at source_is heat in
+      subst (λ q. IsStreamPiece s.side exchanges index q s) is piece
 
   pub flow_led : AreLedPieces case hots colds exchanges
   flow_led = record {
@@ -277,6 +317,8 @@ module _ (case : Case) (hot cold : List Part) (ts : List Transfer) (given : IsCa
     pieces = λ stream s index p here there own used. stream_led stream s index p here there own;
     joined = λ stream s here. joined case hot cold ts given stream s here;
     utilities =
-        λ index u here. subst₂ (λ hs cs. HasUtilityHeat hs cs exchanges index u) (sym (sources-are case hot)) (sym (sources-are case cold))
-        (utility_has_heat case hot cold ts given index u here few);
+        λ index u here.
+        let has_heat = utility_has_heat case hot cold ts given index u here few in
+        subst₂ (λ hs cs. HasUtilityHeat hs cs exchanges index u) (sym (sources-are case hot))
+        (sym (sources-are case cold)) has_heat;
   }

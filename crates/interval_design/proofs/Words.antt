@@ -13,7 +13,7 @@ unfoldable pub use Rattle.fractions.specs.Rationals.{minus, plus, ratio, times}
 pub use Rattle.grid.proofs.MakingLemmas.{HoldsPlaces-IsGrid, holds_ends}
 pub use Rattle.grid.proofs.OnGridLemmas.{side_of_part}
 pub use Rattle.grid.proofs.PlaceLemmas.{interval_below, interval_ends, interval_falls}
-pub use Rattle.grid.proofs.StandardUtilities.{own_utility}
+pub use Rattle.stream_case.proofs.StandardUtilities.{own_utility}
 pub use Rattle.grid.specs.Bounds.{IsBounded}
 pub use Rattle.grid.specs.Part.{AreCaseParts, AreParts, IsInterval, IsPartOf, IsPiece, IsStreamPart, comes_before, comes_before_source, piece_heat, stream_part}
 pub use Rattle.grid.specs.Part.{utility_part}

@@ -1,182 +1,29 @@
--- The network of pieces carries the states of its pieces, each stream from its first state to its last; so where the pieces are led it is valid, and its
--- audit has no finding.
-use Rattle.pieces.proofs.Words.{All-append, All-map, All-weaker, AreFormed, AreLedFrom, AreLedPieces, AreSmall, AreStreams-IsComplete, AreValues, Case, Contains}
-use Rattle.pieces.proofs.Words.{Course, EachRuns, Exchange, Exchanger, HIGHEST_LEVEL, HasRoom, HasShape, HasUtilityHeat, HaveWholeHeats, IsComplete, IsInRange}
-use Rattle.pieces.proofs.Words.{IsLedNetwork, IsLedStage, IsLedStream, IsOfOneStream, IsPermitted, IsPlaced, IsPlaced-IsComplete, IsRoomy, IsSized}
-use Rattle.pieces.proofs.Words.{IsStreamPiece, IsValidNetwork, IsValidStream, LedStage, Line, MOST_LINES, MOST_LOAD, Make, Network, Piece, RunsAs, RunsThrough}
-use Rattle.pieces.proofs.Words.{Share, Side, Source, StageRuns, Stream, Utility, all_at, at_most-whole, at_most_trans, balance_of, cost_of, courses_along}
-use Rattle.pieces.proofs.Words.{courses_lines, courses_made, courses_of, courses_run, courses_values, declared_line, declared_make, duties_with, duty_with}
-use Rattle.pieces.proofs.Words.{each_ended, enters-run, enumerate_from, exchange_balance, exchangers_of, filter_map, first_state-sized, full_size-sized}
-use Rattle.pieces.proofs.Words.{grouped_utility_formed, heat-sized, heat_with, heats_with, hot_target, is_forbidden, is_latent_branch-is, leaves-run}
-use Rattle.pieces.proofs.Words.{led_course, led_piece, length-enumerate_from, length-map, level_in, loads_kept, made_branches, make_append}
-use Rattle.pieces.proofs.Words.{many_own, network_of, no_end-declared, no_finding_from_room, on_side, own_branches, own_start, piece_on, positive-is, ratio-one}
-use Rattle.pieces.proofs.Words.{same_Some, shares_of, side_of, size_on, sized-between, sized_change, sized_roomy, sources_of, stage_values, take_all}
-use Rattle.pieces.proofs.Words.{temperature, the_pass_of, unwrap_or, utility_items_at, utility_part, values_made}
-use Rattle.std.proofs.Common.{All, List, None, Option, Some, [], ap, append-nil, ap₂, arith, get_or, length, map, option_map, pos, refl, slice_get, subst}
-use Rattle.std.proofs.Common.{subst₂, sym, unsigned_abs, ℕ, ℤ, ⊎_elim, ◌*◌, ◌++◌, ◌+◌, ◌<◌, ◌∙◌, ◌≡◌, ◌≤◌}
+-- Where the pieces are led, the network of pieces is valid, and its audit has no finding.
+use Rattle.pieces.proofs.Words.{All-append, All-map, All-weaker, AreFormed, AreLedPieces, AreSmall, AreStreams-IsComplete, Case, Exchange, Exchanger}
+use Rattle.pieces.proofs.Words.{HIGHEST_LEVEL, HasRoom, HasUtilityHeat, HaveWholeHeats, IsComplete, IsInRange, IsLedNetwork, IsOfOneStream}
+use Rattle.pieces.proofs.Words.{IsPermitted, IsPlaced, IsPlaced-IsComplete, IsRoomy, IsSized, IsValidNetwork, IsValidStream, Line, MOST_LINES}
+use Rattle.pieces.proofs.Words.{MOST_LOAD, Network, Piece, RunsAs, RunsThrough, Share, Side, Source, Stream, Utility, all_at, at_most-whole}
+use Rattle.pieces.proofs.Words.{at_most_trans, balance_of, cost_of, courses_values, duties_with, duty_with, enters-run, enumerate_from}
+use Rattle.pieces.proofs.Words.{exchange_balance, exchangers_of, filter_map, first_state-sized, full_size-sized, grouped_utility_formed, heat-sized}
+use Rattle.pieces.proofs.Words.{heat_with, heats_with, hot_target, is_forbidden, is_latent_branch-is, leaves-run, led_course, led_piece, level_in}
+use Rattle.pieces.proofs.Words.{loads_kept, network_of, no_finding_from_room, on_side, piece_on, ratio-one, same_Some, shares_of, side_of}
+use Rattle.pieces.proofs.Words.{sized-between, sized_change, sized_roomy, sources_of, stage_values, take_all, temperature, the_pass_of, unwrap_or}
+use Rattle.pieces.proofs.Words.{utility_items_at, utility_part}
+use Rattle.std.proofs.Common.{All, List, None, Option, Some, ap, ap₂, arith, get_or, length, map, option_map, pos, refl, slice_get, subst, subst₂}
+use Rattle.std.proofs.Common.{sym, unsigned_abs, ℕ, ℤ, ⊎_elim, ◌*◌, ◌+◌, ◌∙◌, ◌≡◌, ◌≤◌}
 use Rattle.pieces.proofs.PieceShape.{CanBeLed, HasShape-pieces, declared_here, exchanger-at, exchanger-joins, exchanger_for, exchangers_of-network_of}
-use Rattle.pieces.proofs.PieceShape.{joined-at, piece-for, size-for}
-pub use Rattle.pieces.proofs.PieceShape.{exchangers_of-network_of, length-network_of}
-use Rattle.pieces.proofs.PieceStages.{All-numbered, courses_along-led, led_courses, each-share, each-stage, numbered-each, source_at-piece}
-use Rattle.design_lines.proofs.BranchStreams.{IsEachLed, are_led, stream_at-own}
+use Rattle.pieces.proofs.PieceShape.{joined-at, piece-for}
+use Rattle.pieces.proofs.PieceStages.{All-numbered, numbered-each, source_at-piece}
 use Rattle.design_lines.proofs.StageSizes.{CourseHolds, IsOver, IsStageBranch, StageHolds, course_holds, courses_hold, stage_sized}
-use Rattle.fractions.specs.Rationals.{IsAtMost, IsBelow, IsWithinLimits, Rational, minus, plus, ratio, rational_sum, rational_sum_by, rational_zero, times}
-use Rattle.fractions.specs.Rationals.{whole}
-use Rattle.network_values.specs.Sides.{KeepApproaches, KeepsApproach, SideRun, approach_of, enters, fixed_level, leaves, level_or, pass_run, passed_run}
-use Rattle.network_values.specs.Sides.{run_between, side_run}
-use Rattle.network_values.specs.Values.{IsPartOfLoad, KeepLoads, PassKeepsLoad, Valuation, branch_side, change, duty_at, duty_of, ended_streams, first_value}
-use Rattle.network_values.specs.Values.{full_size, value_at}
+use Rattle.fractions.specs.Rationals.{IsAtMost, IsWithinLimits, Rational, minus, plus, ratio, rational_sum, rational_sum_by, times, whole}
+use Rattle.network_values.specs.Sides.{KeepApproaches, KeepsApproach, SideRun, approach_of, enters, fixed_level, leaves, level_or, pass_run}
+use Rattle.network_values.specs.Sides.{passed_run, run_between, side_run}
+use Rattle.network_values.specs.Values.{IsPartOfLoad, KeepLoads, PassKeepsLoad, Valuation, branch_side, change, first_value, full_size, value_at}
+use Rattle.pieces.proofs.CarriedStates.{IsRun, network_here, courses_here, values_here, IsOwnPiece, stage-led, each-piece, network-valued, streams-ended}
+use Rattle.pieces.proofs.CarriedStates.{passes-run}
 use Rattle.networks.specs.declared.network.Line.TheVariants as line
 use Rattle.stream_case.specs.declared.source.Side.TheVariants as side
 use Rattle.stream_case.specs.declared.source.Source.TheVariants as source
-
-module _ {case : Case} {hot cold : List Piece} {exchanges : List Exchange} (can : CanBeLed case hot cold exchanges) where
-  abbrev pub network_here : Network
-  network_here = network_of case (sources_of hot) (sources_of cold) exchanges
-
-  abbrev pub courses_here : List (List LedStage)
-  courses_here = led_courses exchanges hot cold case
-
-  abbrev pub values_here : Valuation
-  values_here = map first_value case.streams ++ courses_values courses_here
-
-  -- the lines declare the exchangers and then lead the streams
-  lines-are : network_here.lines
-      ≡ map declared_line (declared_here can) ++ courses_lines (length case.streams) 0 (courses_along courses_here)
-  unfolding network_of
-  lines-are =
-      ap (λ cs. map declared_line (declared_here can) ++ courses_lines (length case.streams) 0 cs) (sym (courses_along-led exchanges hot cold case))
-
-  -- ---- streams that are led
-
-  duty-is : (number : ℕ) (e : Exchange) → slice_get exchanges number ≡ Some e → duty_at network_here number ≡ e.heat
-  unfolding duty_at
-  duty-is number e at =
-      ap (λ (xs : List Exchanger). duty_of (slice_get xs number)) (exchangers_of-network_of case (sources_of hot) (sources_of cold) exchanges)
-      ∙ ap duty_of (exchanger-at can number e at)
-
-  -- a piece of a stream that exchanges heat
-  pub record IsOwnPiece (stream : ℕ) (s : Stream) (index : ℕ) (p : Piece) : Type 0 where
-    pub there : slice_get (on_side s.side hot cold) index ≡ Some p
-    pub own : p.source ≡ source.Stream stream
-    pub some : 0 < length (shares_of s.side index exchanges)
-    pub is : IsStreamPiece s.side exchanges index p s
-
-  pub stage-led : (stream : ℕ) (s : Stream) (index : ℕ) (p : Piece) → IsOwnPiece stream s index p
-      → IsLedStage network_here s.side (full_size s) (led_piece s.side exchanges (index, p))
-  stage-led stream s index p piece = record {
-    some = piece.some;
-    positive = each-share exchanges (λ a. IsBelow rational_zero a.cp) s.side index (λ number e at on.
-        let there = ap (slice_get (on_side s.side hot cold)) on ∙ piece.there in
-        positive-is (size_on s.side e) (size-for can s.side number e p stream at there piece.own).above);
-    sizes = piece.is.sizes;
-    duties =
-        each-share exchanges (λ a. times a.cp (change s.side p.before p.after) ≡ duty_at network_here a.exchanger) s.side index
-        (λ number e at on. piece.is.heats number e at on ∙ sym (duty-is number e at));
-  }
-
-  -- what holds of each piece of a stream that exchanges heat holds of each stage of its course
-  pub each-piece : (P : LedStage → Type 0) (stream : ℕ) (s : Stream) → slice_get case.streams stream ≡ Some s
-      → ((index : ℕ) (p : Piece) → IsOwnPiece stream s index p → P (led_piece s.side exchanges (index, p)))
-      → All P (led_course hot cold exchanges (stream, s))
-  each-piece P stream s here each =
-      each-stage exchanges P s.side (on_side s.side hot cold) stream
-      (λ index p there own some.
-      each index p (record { there = there; own = own; some = some; is = can.led.pieces stream s index p here there own some }))
-
-  each-led : IsEachLed case network_here 0 courses_here
-  each-led =
-      let IsLed = λ (k : ℕ) (course : List LedStage). (s : Stream) × (slice_get case.streams (0 + k) ≡ Some s) × IsLedStream network_here s course in
-      numbered-each (led_course hot cold exchanges) case.streams IsLed (λ k s here.
-      let number : k ≡ 0 + k = omega arith in
-      let joined = can.led.joined k s here in (
-        s,
-        ap (slice_get case.streams) (sym number) ∙ here,
-        record {
-          led =
-              each-piece (IsLedStage network_here s.side (full_size s)) k s here (λ index p piece. stage-led k s index p piece);
-          joined = joined.meet;
-          ends = joined.ends;
-        },
-      ))
-
-  all-led : AreLedFrom case network_here (length case.streams) 0 courses_here
-  unfolding network_of
-  all-led =
-      are_led case network_here courses_here (own_branches case) 0 (length case.streams) 0
-      (ap (λ (cs : List Course). own_branches case ++ made_branches 0 0 cs) (sym (courses_along-led exchanges hot cold case)))
-      (many_own case) (stream_at-own case (made_branches 0 0 (courses_of case (sources_of hot) (sources_of cold) exchanges))) each-led
-
-  -- ---- values
-
-  -- the lines of the network make the values of the courses
-  network-makes : Make case network_here (map first_value case.streams) network_here.lines (courses_values courses_here)
-  network-makes =
-      let start = map first_value case.streams in
-      let made = courses_values courses_here in
-      let led = courses_lines (length case.streams) 0 (courses_along courses_here) in
-      let many = sym (length-map case.streams first_value) in
-      let drawn = courses_made case network_here courses_here start (length case.streams) 0 many (own_start case) all-led in
-      subst (λ ls. Make case network_here start ls made) (sym lines-are)
-      (make_append case network_here start (map declared_line (declared_here can)) led [] made (declared_make case network_here start (declared_here can))
-      (subst (λ (vs : Valuation). Make case network_here vs led made) (sym (append-nil start)) drawn))
-
-  -- they are its valuation, and each end has its whole stream in its last state
-  pub network-valued : (shape : HasShape case network_here)
-      → AreValues case network_here shape (courses_values courses_here)
-  network-valued shape = values_made case network_here shape (courses_values courses_here) can.complete network-makes
-
-  pub streams-ended : (stream : ℕ) → stream < length case.streams → Contains (ended_streams network_here) stream
-  streams-ended stream within =
-      let many = length-map (enumerate_from 0 case.streams) (led_course hot cold exchanges) in
-      each_ended case network_here (map declared_line (declared_here can)) courses_here (length case.streams) (no_end-declared (declared_here can))
-      lines-are all-led stream (omega (arith, within, many, length-enumerate_from 0 case.streams))
-
-  -- ---- passes
-
-  -- a stream passes an exchanger from the one state of the piece of its exchange to the other
-  pub record IsRun (stream exchanger : ℕ) (before after : Rational) : Type 0 where
-    pub s : Stream
-    pub here : slice_get case.streams stream ≡ Some s
-    pub e : Exchange
-    pub at : slice_get exchanges exchanger ≡ Some e
-    pub p : Piece
-    pub there : slice_get (on_side s.side hot cold) (piece_on s.side e) ≡ Some p
-    pub is : IsStreamPiece s.side exchanges (piece_on s.side e) p s
-    pub before_is : before ≡ p.before
-    pub after_is : after ≡ p.after
-
-  each-runs : EachRuns case network_here IsRun 0 courses_here
-  each-runs =
-      let Runs = λ (k : ℕ). StageRuns case network_here IsRun (0 + k) in
-      numbered-each (led_course hot cold exchanges) case.streams (λ k. All (Runs k)) (λ k s here.
-      let number : k ≡ 0 + k = omega arith in
-      each-piece (Runs k) k s here (λ index p piece.
-      each-share exchanges (λ a. IsRun (0 + k) a.exchanger p.before p.after) s.side index (λ i e at on. record {
-        s = s;
-        here = ap (slice_get case.streams) (sym number) ∙ here;
-        e = e;
-        at = at;
-        p = p;
-        there = ap (slice_get (on_side s.side hot cold)) on ∙ piece.there;
-        is = subst (λ j. IsStreamPiece s.side exchanges j p s) (sym on) piece.is;
-        before_is = refl;
-        after_is = refl;
-      })))
-
-  pub passes-run : All (RunsAs case network_here IsRun values_here) network_here.lines
-  passes-run =
-      let Runs = RunsAs case network_here IsRun values_here in
-      let start = map first_value case.streams in
-      let made = courses_values courses_here in
-      let n = length case.streams in
-      let many = sym (length-map case.streams first_value) in
-      let all : values_here ≡ start ++ (made ++ []) = ap (λ vs. start ++ vs) (sym (append-nil made)) in
-      let runs = courses_run case network_here IsRun courses_here start [] values_here n 0 many (own_start case) all-led each-runs all in
-      subst (All Runs) (sym lines-are) (All-append Runs (map declared_line (declared_here can)) (courses_lines n 0 (courses_along courses_here))
-      (All-map Runs declared_line (declared_here can) (λ k x within. tt)) runs)
-
--- ---- the balance is that of the exchanges
 
 pub balance-network_of : (case : Case) (hot cold : List Source) (exchanges : List Exchange)
     → balance_of case (network_of case hot cold exchanges) ≡ exchange_balance case hot cold exchanges
@@ -188,7 +35,8 @@ balance-network_of case hot cold exchanges =
       cold = rational_sum_by (λ x. utility_part x.duty x.cold) (are i);
       excess = minus (rational_sum_by (λ x. utility_part x.duty x.hot) (are i)) (whole (hot_target case.streams));
       cost =
-          rational_sum_by (λ e. times (whole e.1.price) (rational_sum (filter_map (duty_with e.0) (are i)))) (enumerate_from 0 case.utilities);
+          rational_sum_by (λ e. times (whole e.1.price) (rational_sum (filter_map (duty_with e.0) (are i))))
+          (enumerate_from 0 case.utilities);
     }
 
 -- ---- what holds of any source and of any stream
@@ -211,10 +59,20 @@ first-roomy s valid =
     let size = unsigned_abs MOST_LOAD in
     let state = unsigned_abs HIGHEST_LEVEL in
     let small : AreSmall 1 size 1 state =
-    record { size_den = omega arith; state_den = omega arith; dens = omega arith; size = omega arith; state = omega arith; heat = omega arith } in
-    sized_roomy 1 size 1 state (first_value s) small (full_size-sized s valid size (omega arith)) (first_state-sized s valid state (omega arith))
+    record {
+      size_den = omega arith;
+      state_den = omega arith;
+      dens = omega arith;
+      size = omega arith;
+      state = omega arith;
+      heat = omega arith;
+    } in
+    let sized = full_size-sized s valid size (omega arith) in
+    let state_sized = first_state-sized s valid state (omega arith) in
+    sized_roomy 1 size 1 state (first_value s) small sized state_sized
 
-module _ {case : Case} {hot cold : List Piece} {exchanges : List Exchange} (can : CanBeLed case hot cold exchanges) where
+module _ {case : Case} {hot cold : List Piece} {exchanges : List Exchange}
+    (can : CanBeLed case hot cold exchanges) where
   abbrev network : Network
   network = network_here can
 
@@ -243,11 +101,13 @@ module _ {case : Case} {hot cold : List Piece} {exchanges : List Exchange} (can 
       let declared = ap (λ (xs : List Exchanger). slice_get xs number) exchangers-are
       ∙ exchanger-at can number e is.at in
       let joins = exchanger-joins can of number e p stream is.there own in
-      let (from, to, index, pass) = the_pass_of (HasShape-pieces can) number stream (exchanger_for can (number, e)) declared joins in
+      let (from, to, index, pass) =
+      the_pass_of (HasShape-pieces can) number stream (exchanger_for can (number, e)) declared joins in
       let first = value_at values from in
       let second = value_at values to in
       let run : IsRun can _ number first.t second.t =
-      all_at (RunsAs case network (IsRun can) values) network.lines index (line.Pass from number to) (passes-run can) pass.here in
+      all_at (RunsAs case network (IsRun can) values) network.lines index (line.Pass from number to) (passes-run can)
+      pass.here in
       let here : slice_get case.streams stream ≡ Some run.s
       = ap (slice_get case.streams) (sym pass.of_stream) ∙ run.here in
       let side_is : run.s.side ≡ of
@@ -270,10 +130,13 @@ module _ {case : Case} {hot cold : List Piece} {exchanges : List Exchange} (can 
       → Goes of (side_run case network values number a) (temperature case a p.before) (temperature case a p.after)
   unfolding side_run
   source-goes of number e p (source.Stream k) is own =
-      levelled of (passed_run case network values number (source.Stream k)) p.before p.after (fixed_level case (source.Stream k))
-      (λ none. stream-goes of number e p k is own)
+      let run = passed_run case network values number (source.Stream k) in
+      let level = fixed_level case (source.Stream k) in
+      levelled of run p.before p.after level (λ none. stream-goes of number e p k is own)
   source-goes of number e p (source.Utility k) is own =
-      levelled of (passed_run case network values number (source.Utility k)) p.before p.after (fixed_level case (source.Utility k)) (λ none. cc none)
+      let run = passed_run case network values number (source.Utility k) in
+      let level = fixed_level case (source.Utility k) in
+      levelled of run p.before p.after level (λ none. cc none)
 
   runs-through : (of : Side) (number : ℕ) (e : Exchange) (p : Piece) → slice_get exchanges number ≡ Some e
       → slice_get (on_side of hot cold) (piece_on of e) ≡ Some p → RunsThrough case network values number of p
@@ -295,11 +158,15 @@ module _ {case : Case} {hot cold : List Piece} {exchanges : List Exchange} (can 
       let apart = λ (u v : Rational). IsAtMost (plus u (whole (approach_of case a.source b.source))) v in
       record {
         hot_end =
-            subst₂ (λ x y. IsAtMost (plus (leaves side.Cold (run y)) (whole (approach_of case x y))) (enters side.Hot (run x))) a_is b_is
-            (subst₂ apart (sym taking.leaves) (sym giving.enters) j.apart.hot_end);
+            let hot_end = subst₂ apart (sym taking.leaves) (sym giving.enters) j.apart.hot_end in
+            subst₂ (λ x y.
+            IsAtMost (plus (leaves side.Cold (run y)) (whole (approach_of case x y))) (enters side.Hot (run x))) a_is
+            b_is hot_end;
         cold_end =
-            subst₂ (λ x y. IsAtMost (plus (enters side.Cold (run y)) (whole (approach_of case x y))) (leaves side.Hot (run x))) a_is b_is
-            (subst₂ apart (sym taking.enters) (sym giving.leaves) j.apart.cold_end);
+            let cold_end = subst₂ apart (sym taking.enters) (sym giving.leaves) j.apart.cold_end in
+            subst₂ (λ x y.
+            IsAtMost (plus (enters side.Cold (run y)) (whole (approach_of case x y))) (leaves side.Hot (run x))) a_is
+            b_is cold_end;
       }
 
   keeps-approaches : KeepApproaches case network values
@@ -321,32 +188,40 @@ module _ {case : Case} {hot cold : List Piece} {exchanges : List Exchange} (can 
       let n = fine.most_state in
       let shares = shares_of s.side index exchanges in
       let IsRatio = λ (a : Share). (num : ℤ) × (a.cp ≡ ratio num d) in
-      let over = All-weaker IsRatio (λ (a : Share). IsOver d a.cp) (λ a (num, same). record { num = num; is = same }) shares fine.sizes in
+      let over = All-weaker IsRatio (λ (a : Share). IsOver d a.cp) (λ a (num, same).
+      record { num = num; is = same }) shares fine.sizes in
       All-weaker (IsStageBranch d full p.before p.after) IsRoomy (λ v branch.
       let most = at_most_trans v.cp full (whole (pos m)) branch.most fine.most in
-      sized_roomy d m e n v fine.small (sized-between d m v.cp branch.over.num fine.small.size_den branch.over.is branch.least most)
-      (⊎_elim (λ same. subst (IsSized e n) (sym same) fine.before) (λ same. subst (IsSized e n) (sym same) fine.after) branch.state))
-      (stage_values p.before p.after shares) (stage_sized d full p.before p.after shares over (stage-led can stream s index p piece).positive piece.is.sizes)
+      let sized = sized-between d m v.cp branch.over.num fine.small.size_den branch.over.is branch.least most in
+      sized_roomy d m e n v fine.small sized
+      (⊎_elim (λ same. subst (IsSized e n) (sym same) fine.before) (λ same.
+      subst (IsSized e n) (sym same) fine.after) branch.state))
+      (stage_values p.before p.after shares)
+      (stage_sized d full p.before p.after shares over (stage-led can stream s index p piece).positive piece.is.sizes)
 
   branches-roomy : All IsRoomy values
   branches-roomy =
       let valid = (AreStreams-IsComplete case can.complete).each in
-      All-append IsRoomy (map first_value case.streams) (courses_values (courses_here can))
-      (All-map IsRoomy first_value case.streams (λ k s inside. first-roomy (get_or case.streams k s) (valid k s inside)))
-      (courses_hold IsRoomy (courses_here can) (All-numbered (led_course hot cold exchanges) case.streams (CourseHolds IsRoomy) (λ k s here.
+      let first_roomy = All-map IsRoomy first_value case.streams (λ k s inside.
+      first-roomy (get_or case.streams k s) (valid k s inside)) in
+      let each_roomy = All-numbered (led_course hot cold exchanges) case.streams (CourseHolds IsRoomy) (λ k s here.
       course_holds IsRoomy (led_course hot cold exchanges (k, s))
-      (each-piece can (StageHolds IsRoomy) k s here (λ index p piece. stage-roomy k s index p piece)))))
+      (each-piece can (StageHolds IsRoomy) k s here (λ index p piece. stage-roomy k s index p piece))) in
+      let made_roomy = courses_hold IsRoomy (courses_here can) each_roomy in
+      All-append IsRoomy (map first_value case.streams) (courses_values (courses_here can)) first_roomy made_roomy
 
   has-room : HasRoom case network values
   has-room = record {
     branches = branches-roomy;
     changes = λ k from exchanger to here.
         let run : IsRun can _ exchanger (value_at values from).t (value_at values to).t =
-        all_at (RunsAs case network (IsRun can) values) network.lines k (line.Pass from exchanger to) (passes-run can) here in
+        all_at (RunsAs case network (IsRun can) values) network.lines k (line.Pass from exchanger to) (passes-run can)
+        here in
         let fine = run.is.fine in
         let of = branch_side case network from in
-        subst₂ (λ t u. IsWithinLimits (change of t u)) (sym run.before_is) (sym run.after_is)
-        (sized_change fine.size_den fine.most_size fine.state_den fine.most_state of run.p.before run.p.after fine.small fine.before fine.after);
+        let change_within = sized_change fine.size_den fine.most_size fine.state_den fine.most_state of run.p.before
+        run.p.after fine.small fine.before fine.after in
+        subst₂ (λ t u. IsWithinLimits (change of t u)) (sym run.before_is) (sym run.after_is) change_within;
   }
 
   -- ---- loads
@@ -397,7 +272,8 @@ module _ {case : Case} {hot cold : List Piece} {exchanges : List Exchange} (can 
       → AreFormed (utility_items_at network (index, u))
   sums-formed index u here =
       let has = can.led.utilities index u here in
-      grouped_utility_formed has.den has.most has.small network index u has.groups (duties-are index ∙ has.are) has.few has.each
+      grouped_utility_formed has.den has.most has.small network index u has.groups (duties-are index ∙ has.are) has.few
+      has.each
 
   -- ---- the law
 
@@ -435,7 +311,8 @@ module _ {case : Case} {hot cold : List Piece} {exchanges : List Exchange} (can 
         cold_runs = runs-through side.Cold;
         valid = valid-network;
         accepted =
-            no_finding_from_room case network values can.complete shape valuation valid-network has-room heats-whole sums-formed;
+            no_finding_from_room case network values can.complete shape valuation valid-network has-room heats-whole
+            sums-formed;
       }
 
 pub led_network : (case : Case) (hot cold : List Piece) (exchanges : List Exchange) → IsComplete case

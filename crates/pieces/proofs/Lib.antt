@@ -1,3 +1,4 @@
+pub mod CarriedStates
 pub mod Law
 pub mod PieceStages
 pub mod PieceShape

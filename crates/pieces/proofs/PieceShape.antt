@@ -51,7 +51,12 @@ module _ {X : Type 0} where
   one_at weight j n i [] is = refl
   one_at weight j n zero (x ∷ xs) is =
       let all = sum_by-cons (λ (e : ℕ × X). cond (j == e.0) (weight e.1) 0) (n, x) (enumerate_from (n + 1) xs) in
-      omega (arith, cond-true (j == n) (weight x) 0 (eq-eqb j n (omega (arith, is))), all, none_at weight j (n + 1) xs (omega (arith, is)))
+      omega (
+        arith,
+        cond-true (j == n) (weight x) 0 (eq-eqb j n (omega (arith, is))),
+        all,
+        none_at weight j (n + 1) xs (omega (arith, is)),
+      )
   one_at weight j n (suc i) (x ∷ xs) is =
       let none = cond-false (j == n) (weight x) 0 (ne_eqb j n (λ same. absurd (omega (arith, is, same)))) in
       let all = sum_by-cons (λ (e : ℕ × X). cond (j == e.0) (weight e.1) 0) (n, x) (enumerate_from (n + 1) xs) in
@@ -79,7 +84,13 @@ module _ {X Y : Type 0} where
   sum-kept f test item h is [] = refl
   sum-kept f test item h is (x ∷ xs) =
       let one = ap (λ (o : Option Y). sum_by f (cons_option o (filter_map h xs))) (is x) in
-      omega (arith, one, by (test x) (item x) (filter_map h xs), sum_by-cons (λ (z : X). cond (test z) (f (item z)) 0) x xs, sum-kept f test item h is xs)
+      omega (
+        arith,
+        one,
+        by (test x) (item x) (filter_map h xs),
+        sum_by-cons (λ (z : X). cond (test z) (f (item z)) 0) x xs,
+        sum-kept f test item h is xs,
+      )
     where
       by : (b : Bool) (y : Y) (rest : List Y)
           → sum_by f (cons_option (if b then Some y else None) rest) ≡ cond b (f y) 0 + sum_by f rest
@@ -104,10 +115,13 @@ module _ (f : Share → ℕ) (of : Side) (exchanges : List Exchange) (stream : �
   used false shares = refl
   used true [] = refl
   used true (s ∷ shares) =
-      cond-true (nat_lt 0 (length (s ∷ shares))) (sum_by f (s ∷ shares)) 0 (lt-ltb 0 (length (s ∷ shares)) (omega arith))
+      let some = lt-ltb 0 (length (s ∷ shares)) (omega arith) in
+      cond-true (nat_lt 0 (length (s ∷ shares))) (sum_by f (s ∷ shares)) 0 some
 
-  shares-sum : (sources : List Source) → sum_by (sum_by f) (course_of of sources exchanges stream)
-      ≡ sum_by (λ x. option_map_or (is_own stream (f (share_for of x))) (slice_get sources (piece_on of x.1)) 0) (enumerate_from 0 exchanges)
+  shares-sum : (sources : List Source)
+      → sum_by (sum_by f) (course_of of sources exchanges stream)
+      ≡ sum_by (λ x. option_map_or (is_own stream (f (share_for of x))) (slice_get sources (piece_on of x.1)) 0)
+      (enumerate_from 0 exchanges)
   unfolding shares_of is_own
   shares-sum sources =
       let es = enumerate_from 0 sources in
@@ -117,28 +131,33 @@ module _ (f : Share → ℕ) (of : Side) (exchanges : List Exchange) (stream : �
       let weight = λ (x : ℕ × Exchange). f (share_for of x) in
       let shares = λ (e : ℕ × Source). shares_of of e.0 exchanges in
       let here = λ (e : ℕ × Source) (x : ℕ × Exchange). cond (own e) (cond (at x == e.0) (weight x) 0) 0 in
-      sum-kept (sum_by f) (λ e. is_stage of exchanges stream e.0 e.1) shares (stage_of of exchanges stream) (λ e. refl) (on_the_way of es)
+      sum-kept (sum_by f) (λ e. is_stage of exchanges stream e.0 e.1) shares (stage_of of exchanges stream) (λ e. refl)
+      (on_the_way of es)
       ∙ sum-way (λ e. cond (is_stage of exchanges stream e.0 e.1) (sum_by f (shares e)) 0) of es
-      ∙ sum-same (λ e. cond (is_stage of exchanges stream e.0 e.1) (sum_by f (shares e)) 0) (λ e. sum_by (here e) xs) es (λ e.
-      used (own e) (shares e)
-      ∙ ap (λ n. cond (own e) n 0) (sum-kept f (λ x. at x == e.0) (share_for of) (share_of of e.0) (λ x. refl) xs)
+      ∙ sum-same (λ e. cond (is_stage of exchanges stream e.0 e.1) (sum_by f (shares e)) 0) (λ e. sum_by (here e) xs) es
+      (λ e.
+      let kept = sum-kept f (λ x. at x == e.0) (share_for of) (share_of of e.0) (λ x. refl) xs in
+      used (own e) (shares e) ∙ ap (λ n. cond (own e) n 0) kept
       ∙ sum-test (own e) (λ x. cond (at x == e.0) (weight x) 0) xs)
       ∙ sum_by-swap here es xs
-      ∙ sum-same (λ x. sum_by (λ e. here e x) es) (λ x. option_map_or (is_own stream (weight x)) (slice_get sources (at x)) 0) xs (λ x.
-      sum-same (λ e. here e x) (λ e. cond (at x == e.0) (is_own stream (weight x) e.1) 0) es (λ e. swap_tests (own e) (at x == e.0) (weight x))
+      ∙ sum-same (λ x. sum_by (λ e. here e x) es)
+      (λ x. option_map_or (is_own stream (weight x)) (slice_get sources (at x)) 0) xs
+      (λ x.
+      sum-same (λ e. here e x) (λ e. cond (at x == e.0) (is_own stream (weight x) e.1) 0) es
+      (λ e. swap_tests (own e) (at x == e.0) (weight x))
       ∙ one_at (is_own stream (weight x)) (at x) 0 (at x) sources (omega arith))
 
 -- an exchange has one share in the course of its stream
-pub turns-course : (of : Side) (sources : List Source) (exchanges : List Exchange) (number : ℕ) (e : Exchange) (stream : ℕ) (a : Source)
+pub turns-course : (of : Side) (sources : List Source) (exchanges : List Exchange) (number : ℕ) (e : Exchange)
+    (stream : ℕ) (a : Source)
     → slice_get exchanges number ≡ Some e → slice_get sources (piece_on of e) ≡ Some a
-    → same_source a (source.Stream stream) ≡ true
-    → turns number (course_of of sources exchanges stream) ≡ 1
+    → same_source a (source.Stream stream) ≡ true → turns number (course_of of sources exchanges stream) ≡ 1
 unfolding is_own
 turns-course of sources exchanges number e stream a at there own =
     let own_at = λ (n : ℕ) (x : Exchange). option_map_or (is_own stream n) (slice_get sources (piece_on of x)) 0 in
     shares-sum (λ s. cond (number == s.exchanger) 1 0) of exchanges stream sources
-    ∙ sum-same (λ x. own_at (cond (number == x.0) 1 0) x.1) (λ x. cond (number == x.0) (own_at 1 x.1) 0) (enumerate_from 0 exchanges)
-    (λ x. by (slice_get sources (piece_on of x.1)) (number == x.0))
+    ∙ sum-same (λ x. own_at (cond (number == x.0) 1 0) x.1) (λ x. cond (number == x.0) (own_at 1 x.1) 0)
+    (enumerate_from 0 exchanges) (λ x. by (slice_get sources (piece_on of x.1)) (number == x.0))
     ∙ one_at (own_at 1) number 0 number exchanges (omega arith) ∙ ap (λ o. option_map_or (own_at 1) o 0) at
     ∙ ap (λ o. option_map_or (is_own stream 1) o 0) there ∙ ap {B = ℕ} (λ b. cond b 1 0) own
   where
@@ -172,9 +191,12 @@ unfolding sizes
 sizes-side of sources exchanges streams =
     let es = enumerate_from 0 streams in
     let xs = enumerate_from 0 exchanges in
-    let own = λ (e : ℕ × Stream) (x : ℕ × Exchange). option_map_or (is_own e.0 1) (slice_get sources (piece_on of x.1)) 0 in
-    let all = sum-same (λ e. sizes (course_of of sources exchanges e.0)) (λ e. sum_by (own e) xs) es (λ e. shares-sum (λ s. 1) of exchanges e.0 sources) in
-    let most = sum_by-le (λ x. sum_by (λ e. own e x) es) 1 xs (λ k x within. one_stream (slice_get sources (piece_on of (get_or xs k x).1)) streams) in
+    let own =
+    λ (e : ℕ × Stream) (x : ℕ × Exchange). option_map_or (is_own e.0 1) (slice_get sources (piece_on of x.1)) 0 in
+    let all = sum-same (λ e. sizes (course_of of sources exchanges e.0)) (λ e. sum_by (own e) xs) es (λ e.
+    shares-sum (λ s. 1) of exchanges e.0 sources) in
+    let most = sum_by-le (λ x. sum_by (λ e. own e x) es) 1 xs (λ k x within.
+    one_stream (slice_get sources (piece_on of (get_or xs k x).1)) streams) in
     omega (arith, all, sum_by-swap own es xs, most, length-enumerate_from 0 exchanges)
 
 -- each exchange has a share on each side at most
@@ -183,7 +205,8 @@ few-sizes : (case : Case) (hot cold : List Source) (exchanges : List Exchange)
 few-sizes case hot cold exchanges =
     let es = enumerate_from 0 case.streams in
     let at = λ (of : Side) (e : ℕ × Stream). sizes (course_of of (on_side of hot cold) exchanges e.0) in
-    let each = sum_by-le-sum_by (λ e. sizes (stream_course hot cold exchanges e)) (λ e. at side.Hot e + at side.Cold e) es (λ e. by e.1.side e.0) in
+    let each = sum_by-le-sum_by (λ e. sizes (stream_course hot cold exchanges e)) (λ e. at side.Hot e + at side.Cold e)
+    es (λ e. by e.1.side e.0) in
     let all = sum_by-map sizes (stream_course hot cold exchanges) es in
     let both = sum-add (at side.Hot) (at side.Cold) es in
     let hots = sizes-side side.Hot hot exchanges case.streams in
@@ -216,13 +239,20 @@ branches-course [] some = omega arith
 branches-course (shares ∷ stages) some =
     let IsUsed : List Share → Type 0 = λ ss. 0 < length ss in
     let rest = branches-course stages (All-tail IsUsed shares stages some) in
-    omega (arith, All-head IsUsed shares stages some, rest, size-length shares, sum_by-cons (sum_by (λ (s : Share). 1)) shares stages)
+    omega (
+      arith,
+      All-head IsUsed shares stages some,
+      rest,
+      size-length shares,
+      sum_by-cons (sum_by (λ (s : Share). 1)) shares stages,
+    )
 
 branches-courses : (courses : List Course) → All AreStages courses → all_branches courses ≤ 4 * sum_by sizes courses
 branches-courses [] some = omega arith
 branches-courses (course ∷ courses) some =
     let rest = branches-courses courses (All-tail AreStages course courses some) in
-    omega (arith, branches-course course (All-head AreStages course courses some), rest, sum_by-cons sizes course courses)
+    let some_here = All-head AreStages course courses some in
+    omega (arith, branches-course course some_here, rest, sum_by-cons sizes course courses)
 
 pub few-branches : (case : Case) (hot cold : List Source) (exchanges : List Exchange)
     → All AreStages (courses_of case hot cold exchanges)
@@ -255,7 +285,16 @@ length-network_of case hot cold exchanges =
     let names = length-map (enumerate_from 0 exchanges) (exchanger_of hot cold) in
     let few = few-courses (length case.streams) 0 courses in
     let shares = few-shares case hot cold exchanges in
-    omega (arith, lines, declarations, names, length-enumerate_from 0 exchanges, few, shares, length-courses_of case hot cold exchanges)
+    omega (
+      arith,
+      lines,
+      declarations,
+      names,
+      length-enumerate_from 0 exchanges,
+      few,
+      shares,
+      length-courses_of case hot cold exchanges,
+    )
 
 -- ---- exchanges of pieces
 
@@ -287,7 +326,8 @@ side-joined : (x : Exchanger) (stream : ℕ) → Joins x stream → (of : Side) 
 side-joined x stream (inl from) = (side.Hot, from)
 side-joined x stream (inr from) = (side.Cold, from)
 
-module _ {case : Case} {hot cold : List Piece} {exchanges : List Exchange} (can : CanBeLed case hot cold exchanges) where
+module _ {case : Case} {hot cold : List Piece} {exchanges : List Exchange}
+    (can : CanBeLed case hot cold exchanges) where
   abbrev pub exchanger_for : ℕ × Exchange → Exchanger
   exchanger_for = exchanger_of (sources_of hot) (sources_of cold)
 
@@ -354,15 +394,23 @@ module _ {case : Case} {hot cold : List Piece} {exchanges : List Exchange} (can 
       let led = led_course hot cold exchanges (stream, s) in
       let IsUsed : List Share → Type 0 = λ ss. 0 < length ss in
       let IsOwn : List Share → Type 0 = λ ss. All (IsShareOf declared_here stream) ss in
-      let used = each-stage exchanges (λ stage. IsUsed stage.shares) s.side pieces stream (λ index p there own some. some) in
+      let used =
+      each-stage exchanges (λ stage. IsUsed stage.shares) s.side pieces stream (λ index p there own some. some) in
       let owned = each-stage exchanges (λ stage. IsOwn stage.shares) s.side pieces stream (λ index p there own some.
       each-share exchanges (IsShareOf declared_here stream) s.side index (λ number e at on. record {
         size = size-for s.side number e p stream at (ap (slice_get pieces) on ∙ there) own;
         joined =
-            (exchanger_for (number, e), exchanger-at number e at, exchanger-joins s.side number e p stream (ap (slice_get pieces) on ∙ there) own);
+            let there_is = ap (slice_get pieces) on ∙ there in (
+              exchanger_for (number, e),
+              exchanger-at number e at,
+              exchanger-joins s.side number e p stream there_is own,
+            );
       })) in
-      subst (IsCourseOf declared_here stream) (shares_along-course exchanges hot cold stream s)
-      (record { stages = All-map IsUsed (λ stage. stage.shares) led used; shares = All-map IsOwn (λ stage. stage.shares) led owned })
+      let along = shares_along-course exchanges hot cold stream s in
+      subst (IsCourseOf declared_here stream) along (record {
+        stages = All-map IsUsed (λ stage. stage.shares) led used;
+        shares = All-map IsOwn (λ stage. stage.shares) led owned;
+      })
 
   -- the exchanger of an exchange stands in one share of the course of each of its streams
   once : (number stream : ℕ) (e : Exchange) (s : Stream) → slice_get exchanges number ≡ Some e
@@ -386,7 +434,8 @@ module _ {case : Case} {hot cold : List Piece} {exchanges : List Exchange} (can 
   pub HasShape-pieces : HasShape case (network_of case (sources_of hot) (sources_of cold) exchanges)
   unfolding network_of
   HasShape-pieces =
-      HasShape-drawn case declared_here (courses_of case (sources_of hot) (sources_of cold) exchanges) can.complete (record {
+      HasShape-drawn case declared_here (courses_of case (sources_of hot) (sources_of cold) exchanges) can.complete
+      (record {
         declared = all-exchangers;
         distinct = numbered_names-differ exchanger_for exchanges (λ k e. refl) (omega (arith, can.few));
         all = length-courses_of case (sources_of hot) (sources_of cold) exchanges;

@@ -13,7 +13,8 @@ use Rattle.stream_case.specs.declared.source.Source.TheVariants as source
 
 -- ---- items that are kept, one by one
 
-module _ {X Y : Type 0} (h : X → Option Y) (xs : List X) (i : ℕ) (x : X) (within : i < length xs) (here : x ≡ get_or xs i x) where
+module _ {X Y : Type 0} (h : X → Option Y) (xs : List X) (i : ℕ) (x : X) (within : i < length xs)
+    (here : x ≡ get_or xs i x) where
   pub one_more : filter_map h (take (i + 1) xs) ≡ filter_map h (take i xs) ++ option_to_list (h x)
   one_more =
       ap (filter_map h) (take_more xs i x within ∙ ap (λ (y : X). take i xs ++ y ∷ []) (sym here))
@@ -29,8 +30,11 @@ module _ (of : Side) (sources : List Source) (stream index : ℕ) (own : is_of_s
       ∙ ap (cons_option (share_of of index (number, e))) (own_kept es)
     where
       by : (b : Bool) (piece : ℕ) → is_of_stream sources stream piece ≡ b
-          → filter_map (share_at index) (cons_option (if b then Some (piece, share_for of (number, e)) else None) (filter_map (own_share of sources stream) es))
-          ≡ cons_option (share_at index (piece, share_for of (number, e))) (filter_map (share_at index) (filter_map (own_share of sources stream) es))
+          → filter_map (share_at index)
+          (cons_option (if b then Some (piece, share_for of (number, e)) else None)
+          (filter_map (own_share of sources stream) es))
+          ≡ cons_option (share_at index (piece, share_for of (number, e)))
+          (filter_map (share_at index) (filter_map (own_share of sources stream) es))
       by true piece is = refl
       by false piece is =
           let kept = filter_map (share_at index) (filter_map (own_share of sources stream) es) in
@@ -44,7 +48,8 @@ module _ (of : Side) (sources : List Source) (stream index : ℕ) (own : is_of_s
 
 -- ---- numbered items
 
-module _ {X Y : Type 0} (h : ℕ × X → Option Y) (xs : List X) (i : ℕ) (x : X) (within : i < length xs) (here : x ≡ get_or xs i x) where
+module _ {X Y : Type 0} (h : ℕ × X → Option Y) (xs : List X) (i : ℕ) (x : X) (within : i < length xs)
+    (here : x ≡ get_or xs i x) where
   pub kept-skip : h (i, x) ≡ None
       → filter_map h (enumerate_from 0 (take (i + 1) xs)) ≡ filter_map h (enumerate_from 0 (take i xs))
   kept-skip none =
@@ -86,8 +91,10 @@ pub no_items : {X Y : Type 0} (h : ℕ × X → Option Y) (b : ℕ) (xs : List X
 no_items h b [] none = refl
 no_items h b (z ∷ xs) none =
     let first : b ≡ b + 0 = omega arith in
-    ap (λ o. cons_option o (filter_map h (enumerate_from (b + 1) xs))) (ap (λ i. h (i, z)) first ∙ none 0 z refl)
-    ∙ no_items h (b + 1) xs (λ j w at. let next : b + 1 + j ≡ b + suc j = omega arith in ap (λ i. h (i, w)) next ∙ none (suc j) w at)
+    let nothing_here = ap (λ i. h (i, z)) first ∙ none 0 z refl in
+    ap (λ o. cons_option o (filter_map h (enumerate_from (b + 1) xs))) nothing_here
+    ∙ no_items h (b + 1) xs
+    (λ j w at. let next : b + 1 + j ≡ b + suc j = omega arith in ap (λ i. h (i, w)) next ∙ none (suc j) w at)
 
 -- what is kept of a list of which one item alone is kept
 pub only_item : {X Y : Type 0} (h : ℕ × X → Option Y) (b : ℕ) (xs : List X) (k : ℕ) (x : X) (y : Y)
@@ -96,8 +103,11 @@ pub only_item : {X Y : Type 0} (h : ℕ × X → Option Y) (b : ℕ) (xs : List 
     → filter_map h (enumerate_from b xs) ≡ y ∷ []
 only_item h b [] k x y there kept others = cc there
 only_item {X} {Y} h b (z ∷ xs) zero x y there kept others =
-    ap (λ o. cons_option o (filter_map h (enumerate_from (b + 1) xs))) (own ∙ kept) ∙ ap (λ (ys : List Y). y ∷ ys)
-    (no_items h (b + 1) xs (λ j w at. let next : b + 1 + j ≡ b + suc j = omega arith in ap (λ i. h (i, w)) next ∙ others (suc j) w at (λ same. cc same)))
+    let no_others = no_items h (b + 1) xs (λ j w at.
+    let next : b + 1 + j ≡ b + suc j = omega arith in
+    ap (λ i. h (i, w)) next ∙ others (suc j) w at (λ same. cc same)) in
+    ap (λ o. cons_option o (filter_map h (enumerate_from (b + 1) xs))) (own ∙ kept)
+    ∙ ap (λ (ys : List Y). y ∷ ys) no_others
   where
     own : h (b, z) ≡ h (b + 0, x)
     own =
@@ -107,9 +117,12 @@ only_item {X} {Y} h b (z ∷ xs) zero x y there kept others =
 only_item h b (z ∷ xs) (suc k) x y there kept others =
     let none : b ≡ b + 0 = omega arith in
     let next : b + suc k ≡ b + 1 + k = omega arith in
-    ap (λ o. cons_option o (filter_map h (enumerate_from (b + 1) xs))) (ap (λ i. h (i, z)) none ∙ others 0 z refl (λ same. cc same))
-    ∙ only_item h (b + 1) xs k x y there (ap (λ i. h (i, x)) (sym next) ∙ kept)
-    (λ j w at other. let later : b + 1 + j ≡ b + suc j = omega arith in ap (λ i. h (i, w)) later ∙ others (suc j) w at (λ same. other (omega (arith, same))))
+    let not_here = ap (λ i. h (i, z)) none ∙ others 0 z refl (λ same. cc same) in
+    let is_kept = ap (λ i. h (i, x)) (sym next) ∙ kept in
+    ap (λ o. cons_option o (filter_map h (enumerate_from (b + 1) xs))) not_here
+    ∙ only_item h (b + 1) xs k x y there is_kept (λ j w at other.
+    let later : b + 1 + j ≡ b + suc j = omega arith in
+    ap (λ i. h (i, w)) later ∙ others (suc j) w at (λ same. other (omega (arith, same))))
 
 module _ {X Y : Type 0} (P : Y → Type 0) (h : ℕ × X → Option Y) where
   one-kept : (o : Option Y) (rest : List Y) → ((y : Y) → o ≡ Some y → P y) → All P rest → All P (cons_option o rest)
@@ -128,7 +141,9 @@ module _ {X Y : Type 0} (P : Y → Type 0) (h : ℕ × X → Option Y) where
       → ((i : ℕ) (x : X) (y : Y) → slice_get xs i ≡ Some x → h (i, x) ≡ Some y → P y)
       → All P (filter_map h (on_the_way of (enumerate_from 0 xs)))
   kept-all of xs each =
-      kept-each (on_the_way of (enumerate_from 0 xs)) (All-way Gives of (enumerate_from 0 xs) (All-enumerated Gives xs (λ i x at. λ y is. each i x y at is)))
+      let each_gives = All-enumerated Gives xs (λ i x at. λ y is. each i x y at is) in
+      let all_give = All-way Gives of (enumerate_from 0 xs) each_gives in
+      kept-each (on_the_way of (enumerate_from 0 xs)) all_give
 
 -- what each item makes with its number
 module _ {X Y : Type 0} (f : ℕ × X → Y) (xs : List X) where
@@ -174,7 +189,8 @@ module _ (exchanges : List Exchange) where
   unfolding shares_of
   each-share P of index each =
       let share : ℕ → Exchange → Share = λ k e. record { exchanger = k; cp = size_on of e } in
-      kept_hold (λ (e : Exchange). piece_on of e == index) (share_of of index) share (λ k e. refl) P 0 exchanges (λ i e at own.
+      kept_hold (λ (e : Exchange). piece_on of e == index) (share_of of index) share (λ k e. refl) P 0 exchanges
+      (λ i e at own.
       let number : i ≡ 0 + i = omega arith in
       subst (λ k. P (share k e)) number (each i e at (eqb-true (piece_on of e) index own)))
 
@@ -184,22 +200,27 @@ module _ (exchanges : List Exchange) where
       kept-all IsUsed (stage_of of exchanges stream) of sources (λ i a kept at is.
       let shares = shares_of of i exchanges in
       let (holds, same) = cond_some (is_stage of exchanges stream i a) shares kept is in
-      subst IsUsed same (ltb-true 0 (length shares) (and_parts (same_source a (source.Stream stream)) (nat_lt 0 (length shares)) holds).1))
+      let used = (and_parts (same_source a (source.Stream stream)) (nat_lt 0 (length shares)) holds).1 in
+      subst IsUsed same (ltb-true 0 (length shares) used))
 
   pub courses-used : (case : Case) (hot cold : List Source) → All AreStages (courses_of case hot cold exchanges)
   courses-used case hot cold =
-      All-numbered (stream_course hot cold exchanges) case.streams AreStages (λ k s here. stages-used s.side (on_side s.side hot cold) k)
+      All-numbered (stream_course hot cold exchanges) case.streams AreStages (λ k s here.
+      stages-used s.side (on_side s.side hot cold) k)
 
   pub each-stage : (P : LedStage → Type 0) (of : Side) (pieces : List Piece) (stream : ℕ)
-      → ((index : ℕ) (p : Piece) → slice_get pieces index ≡ Some p → p.source ≡ source.Stream stream → 0 < length (shares_of of index exchanges)
-      → P (led_piece of exchanges (index, p)))
+      → ((index : ℕ) (p : Piece) → slice_get pieces index ≡ Some p → p.source ≡ source.Stream stream
+      → 0 < length (shares_of of index exchanges) → P (led_piece of exchanges (index, p)))
       → All P (filter_map (led_stage of exchanges stream) (on_the_way of (enumerate_from 0 pieces)))
   each-stage P of pieces stream each =
       kept-all P (led_stage of exchanges stream) of pieces (λ i p stage at is.
       let shares = shares_of of i exchanges in
-      let (holds, same) = cond_some (is_stage of exchanges stream i p.source) (led_piece of exchanges (i, p)) stage is in
+      let (holds, same) =
+      cond_some (is_stage of exchanges stream i p.source) (led_piece of exchanges (i, p)) stage is in
       let (own, some) = and_parts (same_source p.source (source.Stream stream)) (nat_lt 0 (length shares)) holds in
-      subst P same (each i p at (same_source-true p.source (source.Stream stream) own) (ltb-true 0 (length shares) some)))
+      let own_source = same_source-true p.source (source.Stream stream) own in
+      let holds_here = each i p at own_source (ltb-true 0 (length shares) some) in
+      subst P same holds_here)
 
   -- ---- the courses that are led are those that are drawn
 
@@ -208,7 +229,8 @@ module _ (exchanges : List Exchange) where
       ≡ filter_map (λ e. stage_of of exchanges stream (e.0, e.1.source)) es
   led_shares of stream [] = refl
   led_shares of stream ((i, p) ∷ es) =
-      by (is_stage of exchanges stream i p.source) (led_piece of exchanges (i, p)) (filter_map (led_stage of exchanges stream) es)
+      by (is_stage of exchanges stream i p.source) (led_piece of exchanges (i, p))
+      (filter_map (led_stage of exchanges stream) es)
       ∙ ap (cons_option (stage_of of exchanges stream (i, p.source))) (led_shares of stream es)
     where
       by : (b : Bool) (stage : LedStage) (rest : List LedStage)

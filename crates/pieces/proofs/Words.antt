@@ -6,7 +6,9 @@ pub use Rattle.design_lines.proofs.FewLines.{few-courses}
 pub use Rattle.design_lines.proofs.ListLemmas.{filter_map-enumerate_more, item_there, kept_hold, map-enumerate_more, sum_by-reverse}
 pub use Rattle.design_lines.proofs.NameLemmas.{IsName-exchanger_name}
 pub use Rattle.design_lines.proofs.NumberedItems.{numbered-item, numbered_names-differ, slice_get-numbered}
-pub use Rattle.design_lines.proofs.PassRuns.{EachRuns, RunsAs, StageRuns, courses_run, enters-run, leaves-run}
+pub use Rattle.design_lines.proofs.CourseValues.{EachRuns}
+pub use Rattle.design_lines.proofs.ValueSteps.{RunsAs, StageRuns}
+pub use Rattle.design_lines.proofs.PassRuns.{courses_run, enters-run, leaves-run}
 pub use Rattle.design_lines.proofs.Shaped.{HasShape-drawn}
 pub use Rattle.design_lines.proofs.ValueSteps.{make_append}
 pub use Rattle.design_lines.proofs.WholeValues.{AreValues, declared_make, own_start, values_made}
@@ -22,9 +24,11 @@ pub use Rattle.fractions.specs.Rationals.{Rational}
 pub use Rattle.network_audit.proofs.FormedLemmas.{AreFormed}
 pub use Rattle.network_audit.proofs.GroupSums.{grouped_utility_formed}
 pub use Rattle.network_audit.proofs.HeatLemmas.{source_on}
-pub use Rattle.network_audit.proofs.LineSteps.{AreSmall, HasRoom, IsRoomy, sized_change, sized_roomy}
+pub use Rattle.network_audit.specs.Sized.{AreSmall}
+pub use Rattle.network_audit.proofs.LineSteps.{HasRoom, IsRoomy, sized_change, sized_roomy}
 pub use Rattle.network_audit.proofs.NoFinding.{no_finding_from_room}
-pub use Rattle.network_audit.proofs.Sized.{IsSized, sized-between}
+pub use Rattle.network_audit.specs.Sized.{IsSized}
+pub use Rattle.network_audit.proofs.Sized.{sized-between}
 pub use Rattle.network_audit.proofs.StreamSizes.{first_state-sized, full_size-sized}
 pub use Rattle.network_audit.proofs.SumBounds.{HaveWholeHeats, heat-sized}
 pub use Rattle.network_audit.specs.AllItems.{utility_items_at}

@@ -9,8 +9,12 @@ use Rattle.transport.proofs.Words.{needing_from, net_around, offer_of, opposite,
 use Rattle.transport.proofs.Words.{spare_link, whole_link, ℤ, ◌+ℤ◌, ◌-ℤ◌, ◌<ℤ◌, ◌≤ℤ◌}
 use Rattle.std.proofs.Common.{Bool, List, [], add-zero, ap, ap₂, arith, false, length, not, refl, subst, subst₂, suc, sym, true, zero-add, ℕ, ⊎_elim, ◌&&◌, ◌+◌}
 use Rattle.std.proofs.Common.{◌<◌, ◌∙◌, ◌∷◌, ◌≡◌, ◌≤◌}
-use Rattle.transport.proofs.NetAround.{IsAround, between_at, between_is, between_sum, ends, int_sum_from-not_negative, int_sum_from-term, limits_around}
-use Rattle.transport.proofs.NetAround.{most_within, mosts, no_link, parts_sum, room_around, sum_around, sum_over_links}
+use Rattle.transport.proofs.IndexedSums.{int_sum_from-not_negative, int_sum_from-term}
+use Rattle.transport.proofs.NetAround.{between_at, between_is, between_sum, ends}
+use Rattle.transport.proofs.AroundLimits.{IsAround, limits_around}
+use Rattle.transport.proofs.IndexedSums.{mosts, sum_over_links}
+use Rattle.transport.proofs.NetAround.{no_link, parts_sum, sum_around}
+use Rattle.transport.proofs.AroundLimits.{most_within, room_around}
 
 -- ---- a shortage leaves a cut
 

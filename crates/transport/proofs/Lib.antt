@@ -1,6 +1,14 @@
 pub mod CaseNetLemmas
 pub mod CutLemmas
 pub mod LoopLemmas
+pub mod IndexedSums
 pub mod NetAround
-pub mod RoutingLemmas
+pub mod AroundLimits
+pub mod PairNet
+pub mod RoutingFalls
+pub mod ExchangedHeat
+pub mod InnerFlow
+pub mod CertifiedCost
+pub mod PotentialPrices
+pub mod RoutedHeat
 pub mod Words

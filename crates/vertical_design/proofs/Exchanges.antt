@@ -1,156 +1,26 @@
--- Each exchange is that of two pieces that meet in an interval: their sizes and heat, what a piece's exchanges add up to, and that both pieces face each other.
-use Rattle.vertical_design.proofs.Words.{*ℤ_comm, All-flat_map, All-head, All-map, All-range, All-tail, AreFacing, Contains-slice_get, Exchange, IsAtUtility}
-use Rattle.vertical_design.proofs.Words.{IsGap, IsMet, IsPositive, IsSensibleStream, Option, Pair, Rational, Share, Side, Source, Span, Stream, Utility, all_at}
-use Rattle.vertical_design.proofs.Words.{amounts_in, cases_eq, cons_option, contribution_of, curve_heat, enumerate_from, eq-eqb, eqb-true, exchanges_at}
-use Rattle.vertical_design.proofs.Words.{exchanges_between, filter, filter_map, fixed_level, fixed_level-sensible, flow_in, int_le, int_sum_by, intervals_of}
-use Rattle.vertical_design.proofs.Words.{ints, level_in, match_of, matches_in, ne_eqb, on_scale, own_side, pairs_of, piece_on, plus, plus-ratio_same_den}
-use Rattle.vertical_design.proofs.Words.{positive-ratio, positive_num, ratio, ratio-multiple, ratio-zero, rational_sum, same_Some, same_side, share_of}
-use Rattle.vertical_design.proofs.Words.{shares_of, side_flow, side_of, size_of, size_on, slice_get-get_or, slice_get_within, spans_of, times, times-ratio}
-use Rattle.vertical_design.proofs.Words.{unsigned_abs, unsigned_abs-mul, utility_from, utility_to, whole, within-ratio, zero_times, ◌&&◌, ◌*ℤ◌, ◌-ℤ◌}
-use Rattle.std.proofs.Common.{All, Bool, List, None, Some, [], ap, ap₂, arith, cond, false, get_or, if◌then◌else◌, inl, inr, length, option_map, pos, refl}
-use Rattle.std.proofs.Common.{slice_get, subst, subst₂, suc, sym, true, ℕ, ℤ, ⊎_elim, ◌*◌, ◌+◌, ◌-◌, ◌<ℤ◌, ◌<◌, ◌==◌, ◌^◌, ◌∙◌, ◌∷◌, ◌≡◌, ◌≢◌, ◌≤ℤ◌}
-use Rattle.vertical_design.proofs.Intervals.{Faces, IsWithinRange, RunsIn, found, on_scale-actual, piece_in, piece_there, pieces, scale_at, scale_at_utility}
-use Rattle.vertical_design.proofs.Intervals.{scale_is, scale_within, scales_face, shifted_state, size_above, size_is, state_at}
-use Rattle.vertical_design.proofs.OverlapLists.{IsShare, ListsOverlaps-pairs_of, duty-within, filter_map-map, filter_map-rows, index_on, none_kept, only_row}
-use Rattle.vertical_design.proofs.OverlapLists.{other, own_amounts, own_share, same_place, share-within}
-use Rattle.vertical_design.proofs.SpanSources.{Axis, IsSourceSpan, cut_below, flow_above, flow_at, high_at, is_axis, low_at, reaches, span_of, span_sources}
-use Rattle.vertical_design.proofs.SpanSources.{spans_are, streams_are}
+-- The pieces of an exchange face each other: in its interval both sides have the same heats.
+use Rattle.vertical_design.proofs.Words.{*ℤ_comm, All-flat_map, All-map, All-range, AreFacing, Contains-slice_get, Exchange, IsAtUtility, IsMet}
+use Rattle.vertical_design.proofs.Words.{IsSensibleStream, Pair, Rational, Side, Source, Span, Stream, Utility, all_at, amounts_in, contribution_of}
+use Rattle.vertical_design.proofs.Words.{curve_heat, exchanges_at, exchanges_between, filter, filter_map, fixed_level, fixed_level-sensible, flow_in}
+use Rattle.vertical_design.proofs.Words.{int_sum_by, intervals_of, ints, level_in, match_of, matches_in, ne_eqb, on_scale, own_side, pairs_of}
+use Rattle.vertical_design.proofs.Words.{piece_on, ratio, rational_sum, same_Some, same_side, shares_of, side_of, size_of, size_on, slice_get-get_or}
+use Rattle.vertical_design.proofs.Words.{slice_get_within, spans_of, times, unsigned_abs, utility_from, utility_to, whole, ◌*ℤ◌, ◌-ℤ◌}
+use Rattle.std.proofs.Common.{All, List, None, Some, [], ap, ap₂, arith, get_or, if◌then◌else◌, inl, inr, length, option_map, pos, refl, slice_get}
+use Rattle.std.proofs.Common.{subst, subst₂, sym, ℕ, ℤ, ◌*◌, ◌+◌, ◌-◌, ◌<ℤ◌, ◌<◌, ◌==◌, ◌∙◌, ◌≡◌, ◌≢◌, ◌≤ℤ◌}
+use Rattle.vertical_design.proofs.FacingPieces.{Faces, IsWithinRange, found, shifted_state}
+use Rattle.vertical_design.proofs.Intervals.{RunsIn, on_scale-actual, piece_in, piece_there, pieces, scale_at, scale_at_utility, scale_is}
+use Rattle.vertical_design.proofs.Intervals.{scale_within, scales_face, state_at}
+use Rattle.vertical_design.proofs.OverlapLists.{ListsOverlaps-pairs_of}
+use Rattle.vertical_design.proofs.FlowLimits.{IsShare, share-within}
+use Rattle.vertical_design.proofs.SharedFlows.{index_on, other, own_amounts, own_share}
+use Rattle.vertical_design.proofs.RowLists.{filter_map-map, filter_map-rows, none_kept, only_row, same_place}
+use Rattle.vertical_design.proofs.AxisLemmas.{is_axis}
+use Rattle.vertical_design.proofs.SpanSources.{IsSourceSpan, span_of, span_sources}
+use Rattle.vertical_design.proofs.CaseAxis.{Axis, cut_below, flow_above, flow_at, high_at, low_at, spans_are, streams_are}
+use Rattle.vertical_design.proofs.MatchSizes.{share_heat, running}
+use Rattle.vertical_design.proofs.PieceShares.{parts_sum, own_size, size_shares, same_test, whole_flow}
 use Rattle.stream_case.specs.declared.source.Side.TheVariants as side
 use Rattle.stream_case.specs.declared.source.Source.TheVariants as source
-
--- ---- sizes and heats
-
-fraction-positive : (num den : ℤ) → pos 0 <ℤ num → num ≤ℤ pos (2 ^ 76) → pos 0 <ℤ den → den ≤ℤ pos (2 ^ 48)
-    → IsPositive (ratio num (unsigned_abs den))
-fraction-positive num den num_above num_upto den_above den_upto =
-    let some = size_above den den_above in
-    record {
-      above = positive_num (ratio num (unsigned_abs den)) (positive-ratio num (unsigned_abs den) some num_above);
-      within =
-          within-ratio num (unsigned_abs den) some (omega (arith, ints, num_above, num_upto)) (omega (arith, ints, den_above, den_upto));
-    }
-
-pub record IsPositiveExchange (e : Exchange) : Type 0 where
-  pub heat : IsPositive e.heat
-  pub hot_size : IsPositive e.hot_size
-  pub cold_size : IsPositive e.cold_size
-
--- a share over the other side's flow, times the heat over the own side's flow
-share_heat : (share heat own other : ℤ) → pos 0 <ℤ own → pos 0 <ℤ other
-    → times (ratio share (unsigned_abs other)) (ratio heat (unsigned_abs own))
-    ≡ ratio (heat *ℤ share) (unsigned_abs (own *ℤ other))
-share_heat share heat own other some more =
-    times-ratio share heat (unsigned_abs other) (unsigned_abs own) (size_above other more) (size_above own some)
-    ∙ ap₂ ratio (*ℤ_comm share heat) (turned (unsigned_abs other) (unsigned_abs own) ∙ sym (unsigned_abs-mul own other))
-  where
-    turned : (a b : ℕ) → a * b ≡ b * a
-    turned a b = omega arith
-
-module _ (number : ℕ) (low high : ℤ) (hot cold : List Span) where
-  abbrev made : Pair → Exchange
-  made p = match_of number low high hot cold p
-
-  pub positive-match : (p : Pair) → IsGap low high → IsShare low high hot cold p → IsPositiveExchange (made p)
-  positive-match p gap is =
-      let duty = duty-within low high p.amount (side_flow low high hot) (side_flow low high cold) gap is.above is.upto is.hot_flow is.cold_flow in
-      record {
-        heat = fraction-positive ((high -ℤ low) *ℤ p.amount)
-            (side_flow low high hot *ℤ side_flow low high cold) duty.num_above duty.num_upto duty.den_from duty.den_upto;
-        hot_size =
-            fraction-positive p.amount (side_flow low high cold) is.above (omega (arith, ints, is.upto)) (omega (arith, ints, is.cold_flow.from))
-            (omega (arith, ints, is.cold_flow.upto));
-        cold_size =
-            fraction-positive p.amount (side_flow low high hot) is.above (omega (arith, ints, is.upto)) (omega (arith, ints, is.hot_flow.from))
-            (omega (arith, ints, is.hot_flow.upto));
-      }
-
--- what offers something runs
-running : (low high : ℤ) (a : Span) (across : ℤ) → pos 0 <ℤ (flow_in low high a *ℤ across)
-    → (a.from ≤ℤ low) × (high ≤ℤ a.to)
-running low high a across above = by (int_le a.from low && int_le high a.to) refl above
-  where
-    by : (b : Bool) → (int_le a.from low && int_le high a.to) ≡ b
-        → pos 0 <ℤ ((if b then a.cp else pos 0) *ℤ across) → (a.from ≤ℤ low) × (high ≤ℤ a.to)
-    by true is some = reaches a.from a.to low high is
-    by false is some =
-        let none = zero_times (pos 0) across refl in
-        absurd (omega (arith, ints, some, none))
-
--- What the exchanges of a piece add up to: the shares of the piece of a source are the flow that it has in its interval.
-
--- parts of one denominator that are kept of pairs
-pub parts_sum : (h : Pair → Option Rational) (own : Pair → Bool) (part : Pair → ℤ) (d : ℕ) (ps : List Pair)
-    → All (λ p. h p ≡ (if own p then Some (ratio (part p) d) else None)) ps
-    → rational_sum (filter_map h ps) ≡ ratio (int_sum_by part (filter own ps)) d
-parts_sum h own part d [] are = sym (ratio-zero d)
-parts_sum h own part d (p ∷ ps) are =
-    let R : Pair → Type 0 = λ q. h q ≡ (if own q then Some (ratio (part q) d) else None) in
-    ap (λ o. rational_sum (cons_option o (filter_map h ps))) (All-head R p ps are)
-    ∙ by (own p) (parts_sum h own part d ps (All-tail R p ps are))
-  where
-    by : (b : Bool) → rational_sum (filter_map h ps) ≡ ratio (int_sum_by part (filter own ps)) d
-        → rational_sum (cons_option (if b then Some (ratio (part p) d) else None) (filter_map h ps))
-        ≡ ratio (int_sum_by part (cond b (p ∷ filter own ps) (filter own ps))) d
-    by false rest = rest
-    by true rest = ap (plus (ratio (part p) d)) rest ∙ plus-ratio_same_den (part p) (int_sum_by part (filter own ps)) d
-
--- ---- the shares of a piece
-
--- the size of a share, without its number
-abbrev own_size : Side → ℕ → Exchange → Option Rational
-own_size of index e = if piece_on of e == index then Some (size_on of e) else None
-
-size_shares : (of : Side) (index n : ℕ) (es : List Exchange)
-    → size_of (filter_map (share_of of index) (enumerate_from n es))
-    ≡ rational_sum (filter_map (own_size of index) es)
-size_shares of index n [] = refl
-size_shares of index n (e ∷ es) =
-    by (piece_on of e == index) (filter_map (share_of of index) (enumerate_from (n + 1) es)) (filter_map (own_size of index) es)
-    (size_shares of index (n + 1) es)
-  where
-    by : (b : Bool) (shares : List Share) (sizes : List Rational) → size_of shares ≡ rational_sum sizes
-        → size_of (cons_option (if b then Some (record { exchanger = n; cp = size_on of e }) else None) shares)
-        ≡ rational_sum (cons_option (if b then Some (size_on of e) else None) sizes)
-    by true shares sizes is = ap (plus (size_on of e)) is
-    by false shares sizes is = is
-
--- a piece that has a share has an exchange
-share_there : (of : Side) (index n : ℕ) (es : List Exchange)
-    → 0 < length (filter_map (share_of of index) (enumerate_from n es))
-    → (i : ℕ) × (e : Exchange) × (slice_get es i ≡ Some e) × (piece_on of e ≡ index)
-share_there of index n [] some = absurd (omega (arith, some))
-share_there of index n (e ∷ es) some = by (piece_on of e == index) refl some (share_there of index (n + 1) es)
-  where
-    rest : List Share
-    rest = filter_map (share_of of index) (enumerate_from (n + 1) es)
-
-    by : (b : Bool) → (piece_on of e == index) ≡ b
-        → 0 < length (cons_option (if b then Some (record { exchanger = n; cp = size_on of e }) else None) rest)
-        → (0 < length rest → (i : ℕ) × (x : Exchange) × (slice_get es i ≡ Some x) × (piece_on of x ≡ index))
-        → (i : ℕ) × (x : Exchange) × (slice_get (e ∷ es) i ≡ Some x) × (piece_on of x ≡ index)
-    by true own here on = (0, e, refl, eqb-true (piece_on of e) index own)
-    by false own later on = let (i, x, at, is) = on later in (suc i, x, at, is)
-
-pub exchange_there : (of : Side) (index : ℕ) (es : List Exchange) → 0 < length (shares_of of index es)
-    → (i : ℕ) × (e : Exchange) × (slice_get es i ≡ Some e) × (piece_on of e ≡ index)
-unfolding shares_of
-exchange_there of index es some = share_there of index 0 es some
-
--- ---- a piece of an interval
-
--- equal places in one row
-same_test : (row i k : ℕ) → (row + i == row + k) ≡ (i == k)
-same_test row i k =
-    ⊎_elim (λ same. eq-eqb (row + i) (row + k) (ap (λ n. row + n) same) ∙ sym (eq-eqb i k same))
-    (λ other. ne_eqb (row + i) (row + k) (λ same. other (omega (arith, same))) ∙ sym (ne_eqb i k other)) (cases_eq i k)
-
-whole_flow : (flow other : ℤ) → pos 0 <ℤ other → ratio (flow *ℤ other) (unsigned_abs other) ≡ whole flow
-whole_flow flow other above =
-    let size = size_is other above in
-    ap (λ z. ratio (flow *ℤ z) (unsigned_abs other)) size
-    ∙ ratio-multiple flow (unsigned_abs other) (omega (arith, ints, above, size))
-
--- The pieces of an exchange face each other: in its interval both sides have the same heats.
 
 module _ (axis : Axis) where
   abbrev hot : List Span
@@ -171,7 +41,8 @@ module _ (axis : Axis) where
   pub share_in : (number : ℕ) (p : Pair) → IsMetIn number p
       → IsShare (low_at axis number) (high_at axis number) hot cold p
   share_in number p met =
-      share-within (low_at axis number) (high_at axis number) hot cold p (spans_are axis side.Hot) (spans_are axis side.Cold) met
+      share-within (low_at axis number) (high_at axis number) hot cold p (spans_are axis side.Hot)
+      (spans_are axis side.Cold) met
 
   -- its branch on a side has the share over the flow of the other side, and gives or takes its heat over the interval
   pub size_match : (of : Side) (number : ℕ) (p : Pair)
@@ -186,11 +57,13 @@ module _ (axis : Axis) where
       → times (size_on of (match_in number p)) (over_at of number)
       ≡ (match_in number p).heat
   heat_match side.Hot number p met =
-      share_heat p.amount (high_at axis number -ℤ low_at axis number) (flow_at axis side.Hot number) (flow_at axis side.Cold number)
-      (omega (arith, ints, (share_in number p met).hot_flow.from)) (omega (arith, ints, (share_in number p met).cold_flow.from))
+      share_heat p.amount (high_at axis number -ℤ low_at axis number) (flow_at axis side.Hot number)
+      (flow_at axis side.Cold number) (omega (arith, ints, (share_in number p met).hot_flow.from))
+      (omega (arith, ints, (share_in number p met).cold_flow.from))
   heat_match side.Cold number p met =
-      share_heat p.amount (high_at axis number -ℤ low_at axis number) (flow_at axis side.Cold number) (flow_at axis side.Hot number)
-      (omega (arith, ints, (share_in number p met).cold_flow.from)) (omega (arith, ints, (share_in number p met).hot_flow.from))
+      share_heat p.amount (high_at axis number -ℤ low_at axis number) (flow_at axis side.Cold number)
+      (flow_at axis side.Hot number) (omega (arith, ints, (share_in number p met).cold_flow.from))
+      (omega (arith, ints, (share_in number p met).hot_flow.from))
       ∙ ap (λ z. ratio ((high_at axis number -ℤ low_at axis number) *ℤ p.amount) (unsigned_abs z))
       (*ℤ_comm (flow_at axis side.Cold number) (flow_at axis side.Hot number))
 
@@ -248,7 +121,8 @@ module _ (axis : Axis) where
       let a = get_or (spans_of of axis.case) k none in
       let found = slice_get-get_or (spans_of of axis.case) k none (index_within of number p met) in
       let upto = share_upto of number k a found p met refl in
-      let runs = running (low_at axis number) (high_at axis number) a (flow_at axis (other of) number) (omega (arith, ints, met.positive, upto)) in
+      let runs = running (low_at axis number) (high_at axis number) a (flow_at axis (other of) number)
+      (omega (arith, ints, met.positive, upto)) in
       record {
         span = a;
         there = found;
@@ -272,8 +146,10 @@ module _ (axis : Axis) where
   own_span of a stream s (inl (n, r, made)) own here =
       let both : source.Stream n ≡ source.Stream stream = sym (ap (λ (x : Span). x.source) made.is) ∙ own in
       let same : n ≡ stream = cc both in
-      let stream_is : r ≡ s = same_Some r s (sym made.here ∙ ap (slice_get axis.case.streams) same ∙ here) in
-      (made.is ∙ (λ i. span_of of axis.case.streams (same i) (stream_is i)), ap (λ (x : Stream). x.side) (sym stream_is) ∙ made.side_is)
+      let stream_is : r ≡ s = same_Some r s (sym made.here ∙ ap (slice_get axis.case.streams) same ∙ here) in (
+        made.is ∙ (λ i. span_of of axis.case.streams (same i) (stream_is i)),
+        ap (λ (x : Stream). x.side) (sym stream_is) ∙ made.side_is,
+      )
   own_span of a stream s (inr (n, u, made)) own here =
       let both : source.Utility n ≡ source.Stream stream = sym (ap (λ (x : Span). x.source) made.is) ∙ own in
       absurd (cc both)
@@ -292,16 +168,20 @@ module _ (axis : Axis) where
 
   pub utility_runs : (of : Side) (number index utility : ℕ) (is : RunsSpan of number index)
       → is.span.source ≡ source.Utility utility
-      → (utility_from of axis.case.streams ≤ℤ low_at axis number) × (high_at axis number ≤ℤ utility_to of axis.case.streams)
+      → (utility_from of axis.case.streams ≤ℤ low_at axis number)
+      × (high_at axis number ≤ℤ utility_to of axis.case.streams)
   utility_runs of number index utility is own = by is.kind
     where
       by : IsSourceSpan axis.case of is.span
-          → (utility_from of axis.case.streams ≤ℤ low_at axis number) × (high_at axis number ≤ℤ utility_to of axis.case.streams)
+          → (utility_from of axis.case.streams ≤ℤ low_at axis number)
+          × (high_at axis number ≤ℤ utility_to of axis.case.streams)
       by (inl (n, r, made)) =
           let both : source.Stream n ≡ source.Utility utility = sym (ap (λ (x : Span). x.source) made.is) ∙ own in
           absurd (cc both)
-      by (inr (n, u, made)) =
-          (subst (λ (x : Span). x.from ≤ℤ low_at axis number) made.is is.from, subst (λ (x : Span). high_at axis number ≤ℤ x.to) made.is is.upto)
+      by (inr (n, u, made)) = (
+        subst (λ (x : Span). x.from ≤ℤ low_at axis number) made.is is.from,
+        subst (λ (x : Span). high_at axis number ≤ℤ x.to) made.is is.upto,
+      )
 
   -- ---- the piece of an exchange on a side
 
@@ -323,7 +203,8 @@ module _ (axis : Axis) where
 
   abbrev pub pairs_at : ℕ → List Pair
   pairs_at number =
-      pairs_of (amounts_in (low_at axis number) (high_at axis number) hot cold) (amounts_in (low_at axis number) (high_at axis number) cold hot)
+      pairs_of (amounts_in (low_at axis number) (high_at axis number) hot cold)
+      (amounts_in (low_at axis number) (high_at axis number) cold hot)
 
   pub pairs_meet : (number : ℕ) → All (IsMetIn number) (pairs_at number)
   pairs_meet number = (ListsOverlaps-pairs_of (amounts_in (low_at axis number) (high_at axis number) hot cold)
@@ -370,15 +251,19 @@ module _ (axis : Axis) where
       let index = number * many of + k in
       let flow = flow_at axis (other of) number in
       size_shares of index 0 exchanges
-      ∙ ap rational_sum (filter_map-rows (own_size of index) (exchanges_at hot cold axis.cuts) (intervals_of axis.cuts)
-      ∙ only_row (λ n. filter_map (own_size of index) (exchanges_at hot cold axis.cuts n)) 0 (length axis.cuts - 1) number (omega arith) (omega (arith, within))
+      ∙ ap rational_sum
+      (filter_map-rows (own_size of index) (exchanges_at hot cold axis.cuts) (intervals_of axis.cuts)
+      ∙ only_row (λ n. filter_map (own_size of index) (exchanges_at hot cold axis.cuts n)) 0 (length axis.cuts - 1)
+      number (omega arith) (omega (arith, within))
       (λ m other. others_none of number m k (slice_get_within (spans_of of axis.case) k a there) other)
       ∙ filter_map-map (own_size of index) (match_in number) (pairs_at number))
-      ∙ parts_sum (λ p. own_size of index (match_in number p)) (λ p. index_on of p == k) (λ p. p.amount) (unsigned_abs flow) (pairs_at number) (λ j p there.
+      ∙ parts_sum (λ p. own_size of index (match_in number p)) (λ p. index_on of p == k) (λ p. p.amount)
+      (unsigned_abs flow) (pairs_at number) (λ j p there.
       let q = get_or (pairs_at number) j p in
       ap₂ (λ b x. if b then Some x else None) (own_test of number k q) (size_match of number q))
       ∙ ap (λ z. ratio z (unsigned_abs flow)) (shared_out of number k a there)
-      ∙ whole_flow (flow_in (low_at axis number) (high_at axis number) a) flow (flow_above axis number within (other of))
+      ∙ whole_flow (flow_in (low_at axis number) (high_at axis number) a) flow
+      (flow_above axis number within (other of))
 
   -- the shifted temperature of a span's source at a heat of an interval
   abbrev shifted_at : Side → ℕ → ℤ → Span → Rational
@@ -389,10 +274,15 @@ module _ (axis : Axis) where
       → slice_get axis.case.streams stream ≡ Some s
       → (q : ℤ) → shifted_at of number q a ≡ scale_at axis of number q
   shifted_stream of number stream s a own here q =
-      let free = fixed_level-sensible axis.case stream s here (all_at IsSensibleStream axis.case.streams stream s (streams_are axis).each here).sensible in
-      ap (λ b. on_scale of (level_in (state_at axis of number q a) (fixed_level axis.case b)) (contribution_of axis.case a.source)) own
+      let free = fixed_level-sensible axis.case stream s here
+      (all_at IsSensibleStream axis.case.streams stream s (streams_are axis).each here).sensible in
+      let contribution = contribution_of axis.case a.source in
+      ap (λ b.
+      on_scale of (level_in (state_at axis of number q a) (fixed_level axis.case b))
+      (contribution_of axis.case a.source))
+      own
       ∙ ap (λ o. on_scale of (level_in (state_at axis of number q a) o) (contribution_of axis.case a.source)) free
-      ∙ on_scale-actual of (scale_at axis of number q) (contribution_of axis.case a.source)
+      ∙ on_scale-actual of (scale_at axis of number q) contribution
 
   module _ (number : ℕ) (within : number < length axis.cuts - 1) where
     abbrev low : ℤ
@@ -410,8 +300,12 @@ module _ (axis : Axis) where
         → IsWithinRange s (shifted_at of number low is.span) (shifted_at of number high is.span)
     in_range of k is i s own here =
         let runs = stream_runs of number k i s is own here in
-        subst₂ (IsWithinRange s) (sym (shifted_stream of number i s is.span own here low)) (sym (shifted_stream of number i s is.span own here high))
-        (scale_within axis.case.streams (streams_are axis) low high of _ (scale_at axis of number) s (scale_is axis of number within s runs) falls runs)
+        let low_is = shifted_stream of number i s is.span own here low in
+        let high_is = shifted_stream of number i s is.span own here high in
+        let scale_here = scale_is axis of number within s runs in
+        subst₂ (IsWithinRange s) (sym low_is) (sym high_is)
+        (scale_within axis.case.streams (streams_are axis) low high of _ (scale_at axis of number) s scale_here falls
+        runs)
 
     abbrev FaceAt : Span → Span → ℤ → Source → Source → Type 0
     FaceAt a b q x y =
@@ -424,15 +318,19 @@ module _ (axis : Axis) where
     face_at j k hot cold q from upto = by hot.kind cold.kind
       where
         -- a stream of a side where the utility of the other one lies
-        beside : (of other : Side) (m n : ℕ) (is : RunsSpan of number m) (lies : RunsSpan other number n) (i u : ℕ) (s : Stream)
+        beside : (of other : Side) (m n : ℕ) (is : RunsSpan of number m) (lies : RunsSpan other number n) (i u : ℕ)
+            (s : Stream)
             → is.span.source ≡ source.Stream i → slice_get axis.case.streams i ≡ Some s
             → lies.span.source ≡ source.Utility u
             → IsAtUtility other axis.case.streams (curve_heat of axis.case.streams (shifted_at of number q is.span))
         beside of other m n is lies i u s own here at =
             let ends = utility_runs other number n u lies at in
-            subst (λ t. IsAtUtility other axis.case.streams (curve_heat of axis.case.streams t)) (sym (shifted_stream of number i s is.span own here q))
+            let shifted_is = shifted_stream of number i s is.span own here q in
+            let runs = stream_runs of number m i s is own here in
+            let scale_here = scale_is axis of number within s runs in
+            subst (λ t. IsAtUtility other axis.case.streams (curve_heat of axis.case.streams t)) (sym shifted_is)
             (scale_at_utility axis.case.streams (streams_are axis) low high of other _ (scale_at axis of number)
-            (scale_is axis of number within s (stream_runs of number m i s is own here)) ends.0 ends.1 q from upto)
+            scale_here ends.0 ends.1 q from upto)
 
         by : IsSourceSpan axis.case side.Hot hot.span → IsSourceSpan axis.case side.Cold cold.span
             → FaceAt hot.span cold.span q hot.span.source cold.span.source
@@ -441,19 +339,25 @@ module _ (axis : Axis) where
             let b = ap (λ (x : Span). x.source) other.is in
             let hot_runs = stream_runs side.Hot number j i s hot a one.here in
             let cold_runs = stream_runs side.Cold number k n r cold b other.here in
-            let face = scales_face axis.case.streams (streams_are axis) low high _ _ (scale_at axis side.Hot number) (scale_at axis side.Cold number)
-            (scale_is axis side.Hot number within s hot_runs) (scale_is axis side.Cold number within r cold_runs) q from upto in
+            let hot_scale = scale_is axis side.Hot number within s hot_runs in
+            let cold_scale = scale_is axis side.Cold number within r cold_runs in
+            let face = scales_face axis.case.streams (streams_are axis) low high _ _ (scale_at axis side.Hot number)
+            (scale_at axis side.Cold number) hot_scale cold_scale q from upto in
+            let hot_shifted = shifted_stream side.Hot number i s hot.span a one.here q in
+            let cold_shifted = shifted_stream side.Cold number n r cold.span b other.here q in
             subst₂ (FaceAt hot.span cold.span q) (sym a) (sym b)
-            (ap (curve_heat side.Hot axis.case.streams) (shifted_stream side.Hot number i s hot.span a one.here q) ∙ face
-            ∙ sym (ap (curve_heat side.Cold axis.case.streams) (shifted_stream side.Cold number n r cold.span b other.here q)))
+            (ap (curve_heat side.Hot axis.case.streams) hot_shifted ∙ face
+            ∙ sym (ap (curve_heat side.Cold axis.case.streams) cold_shifted))
         by (inl (i, s, one)) (inr (n, u, other)) =
             let a = ap (λ (x : Span). x.source) one.is in
             let b = ap (λ (x : Span). x.source) other.is in
-            subst₂ (FaceAt hot.span cold.span q) (sym a) (sym b) (beside side.Hot side.Cold j k hot cold i n s a one.here b)
+            let faced = beside side.Hot side.Cold j k hot cold i n s a one.here b in
+            subst₂ (FaceAt hot.span cold.span q) (sym a) (sym b) faced
         by (inr (i, u, one)) (inl (n, r, other)) =
             let a = ap (λ (x : Span). x.source) one.is in
             let b = ap (λ (x : Span). x.source) other.is in
-            subst₂ (FaceAt hot.span cold.span q) (sym a) (sym b) (beside side.Cold side.Hot k j cold hot n i r b other.here a)
+            let faced = beside side.Cold side.Hot k j cold hot n i r b other.here a in
+            subst₂ (FaceAt hot.span cold.span q) (sym a) (sym b) faced
         by (inr (i, u, one)) (inr (n, v, other)) =
             -- the hot utility lies above the cold one
             let a = utility_runs side.Hot number j i hot (ap (λ (x : Span). x.source) one.is) in
@@ -471,7 +375,9 @@ module _ (axis : Axis) where
         hot_range = in_range m.number m.within side.Hot m.pair.first hot;
         cold_range = in_range m.number m.within side.Cold m.pair.second cold;
         hot_end =
-            face_at m.number m.within m.pair.first m.pair.second hot cold (high_at axis m.number) (omega (arith, ints, gap)) (omega (arith, ints));
+            face_at m.number m.within m.pair.first m.pair.second hot cold (high_at axis m.number)
+            (omega (arith, ints, gap)) (omega (arith, ints));
         cold_end =
-            face_at m.number m.within m.pair.first m.pair.second hot cold (low_at axis m.number) (omega (arith, ints)) (omega (arith, ints, gap));
+            face_at m.number m.within m.pair.first m.pair.second hot cold (low_at axis m.number) (omega (arith, ints))
+            (omega (arith, ints, gap));
       }

@@ -1,132 +1,36 @@
--- The pieces of a stream, and its way through them: from interval to interval, from its supply to its target.
-use Rattle.vertical_design.proofs.Words.{All-contains, AreEnds, AreEnds-IsValidStream, AreJoined, AreSmall, Contains, Contains-slice_get, Exchange}
-use Rattle.vertical_design.proofs.Words.{HIGHEST_SHIFTED, IsAtMost, IsContribution, IsFine, IsSensibleStream, IsSized, IsStreamPiece, LedStage}
-use Rattle.vertical_design.proofs.Words.{MOST_CONTRIBUTION, MOST_CP, MOST_FLOW, Meet, Piece, Rational, Share, Side, Span, Stream, all_at, at_most-whole}
-use Rattle.vertical_design.proofs.Words.{at_most_from_ratio_whole, at_most_from_whole_ratio, at_most_trans, cases_eq, change, clamps, contribution_of}
-use Rattle.vertical_design.proofs.Words.{curve_heat, enumerate_from, eq-eqb, eqb-true, false_from_ne_true, false≢true, filter_map, filter_map-way, first_end}
-use Rattle.vertical_design.proofs.Words.{flat_map, flow_in, full_size-sensible, heat_at, high_end, int_le-from, intervals_of, ints, is_latent-sensible}
-use Rattle.vertical_design.proofs.Words.{is_stage, kept_hold, last_end, led_course, led_piece, led_stage, length-map, low_end, ltb-true, minus}
-use Rattle.vertical_design.proofs.Words.{minus-minus_same, minus-plus_plus, mul-le-mul, nat_lt, nat_tests, ne_eqb, neg_ℤ-*ℤ, no_items, on_side, only_item}
-use Rattle.vertical_design.proofs.Words.{option_map, option_map_or, order-sensible, own_side, piece_on, range_with_len, ratio, reverse, reverse-append}
-use Rattle.vertical_design.proofs.Words.{same_Some, same_side, share_of, shares_of, size_of, size_on, sized-minus, sized-plus, sized-whole, slice_get-map}
-use Rattle.vertical_design.proofs.Words.{slice_get_within, spans_of, state_behind, times, unsigned_abs, whole, whole-nonzero, ◌&&◌}
-use Rattle.std.proofs.Common.{Bool, List, None, Some, [], ap, ap₂, arith, false, if◌then◌else◌, length, neg_ℤ, pos, refl, slice_get, subst, subst₂, suc, sym}
+-- The pieces of a stream, and its way through them.
+use Rattle.vertical_design.proofs.Words.{All-contains, AreEnds-IsValidStream, AreJoined, Contains, Contains-slice_get, Exchange, IsAtMost, IsFine}
+use Rattle.vertical_design.proofs.Words.{IsSensibleStream, IsSized, IsStreamPiece, LedStage, Piece, Rational, Share, Side, Span, Stream, all_at}
+use Rattle.vertical_design.proofs.Words.{at_most-whole, cases_eq, change, clamps, contribution_of, curve_heat, enumerate_from, eq-eqb, eqb-true}
+use Rattle.vertical_design.proofs.Words.{false_from_ne_true, false≢true, filter_map, filter_map-way, first_end, flat_map, flow_in, full_size-sensible}
+use Rattle.vertical_design.proofs.Words.{heat_at, high_end, int_le-from, intervals_of, ints, is_latent-sensible, is_stage, kept_hold, last_end}
+use Rattle.vertical_design.proofs.Words.{led_course, led_piece, led_stage, length-map, low_end, ltb-true, minus, minus-minus_same, minus-plus_plus}
+use Rattle.vertical_design.proofs.Words.{nat_lt, nat_tests, ne_eqb, no_items, on_side, only_item, option_map, option_map_or, order-sensible, own_side}
+use Rattle.vertical_design.proofs.Words.{piece_on, range_with_len, ratio, same_Some, same_side, share_of, shares_of, size_of, size_on, slice_get-map}
+use Rattle.vertical_design.proofs.Words.{slice_get_within, spans_of, times, unsigned_abs, whole, whole-nonzero, ◌&&◌}
+use Rattle.std.proofs.Common.{Bool, List, None, Some, [], ap, ap₂, arith, false, if◌then◌else◌, length, pos, refl, slice_get, subst, subst₂, suc, sym}
 use Rattle.std.proofs.Common.{true, zero, ℕ, ℤ, ⊎_elim, ◌*◌, ◌++◌, ◌+◌, ◌-◌, ◌<ℤ◌, ◌<◌, ◌==◌, ◌∙◌, ◌∷◌, ◌≡◌, ◌≤ℤ◌, ◌≤◌}
-use Rattle.vertical_design.proofs.CurveLemmas.{HasNoEnd, bounded, heat_rises, one_place}
-use Rattle.vertical_design.proofs.Exchanges.{IsMatch, RunsSpan, are_matches, exchange_there, exchanges, heat_match, over_at, own_number, own_span, pair_runs}
-use Rattle.vertical_design.proofs.Exchanges.{piece_index, piece_of, size_match, size_piece, stream_runs}
-use Rattle.vertical_design.proofs.Intervals.{RunsIn, actual-first, actual-last, actual_at, curve_heat-whole, entered_at, found, left_at, piece_in, pieces}
-use Rattle.vertical_design.proofs.Intervals.{pieces_at, scale_at, scale_is, state_at}
-use Rattle.vertical_design.proofs.OverlapLists.{filter_map-rows, index_on, numbered-rows, other, side-within}
-use Rattle.vertical_design.proofs.SpanSources.{Axis, IsSourceSpan, cut_below, cut_from_last, cut_upto_first, ends_are_cuts, flow_above, flow_at, high_at}
-use Rattle.vertical_design.proofs.SpanSources.{low_at, no_end_between, own_place, sources_differ, span_of, span_sources, spans_are, stream_place, streams_are}
+use Rattle.vertical_design.proofs.StraightCurves.{HasNoEnd, heat_rises}
+use Rattle.vertical_design.proofs.FacingCurves.{bounded, one_place}
+use Rattle.vertical_design.proofs.PieceShares.{exchange_there}
+use Rattle.vertical_design.proofs.Exchanges.{IsMatch, RunsSpan, are_matches, exchanges, heat_match, over_at, own_number, own_span}
+use Rattle.vertical_design.proofs.Exchanges.{pair_runs, piece_index, piece_of, size_match, size_piece, stream_runs}
+use Rattle.vertical_design.proofs.FacingPieces.{found}
+use Rattle.vertical_design.proofs.SideScales.{curve_heat-whole}
+use Rattle.vertical_design.proofs.Intervals.{RunsIn, actual-first, actual-last, actual_at, entered_at, left_at, piece_in}
+use Rattle.vertical_design.proofs.Intervals.{pieces, pieces_at, scale_at, scale_is, state_at}
+use Rattle.vertical_design.proofs.FlowLimits.{side-within}
+use Rattle.vertical_design.proofs.SharedFlows.{index_on, other}
+use Rattle.vertical_design.proofs.RowLists.{filter_map-rows, numbered-rows}
+use Rattle.vertical_design.proofs.SpanSources.{IsSourceSpan, own_place, sources_differ, span_of, span_sources, stream_place}
+use Rattle.vertical_design.proofs.CutNeighbours.{cut_from_last, cut_upto_first}
+use Rattle.vertical_design.proofs.CaseAxis.{Axis, cut_below, ends_are_cuts, flow_above, flow_at, high_at, low_at, no_end_between, spans_are}
+use Rattle.vertical_design.proofs.CaseAxis.{streams_are}
 use Rattle.design_lines.specs.Ways.{on_the_way}
+use Rattle.vertical_design.proofs.PieceNumbers.{most_flow, most_cp, highest, small, stream_sized}
+use Rattle.vertical_design.proofs.CourseLeads.{upper, lower, FallTo, Leads, way_leads}
 use Rattle.stream_case.specs.declared.source.Side.TheVariants as side
 use Rattle.stream_case.specs.declared.source.Source.TheVariants as source
-
--- ---- numbers of a piece
-
-abbrev pub most_flow : ℕ
-most_flow = unsigned_abs MOST_FLOW
-
-abbrev most_cp : ℕ
-most_cp = unsigned_abs MOST_CP
-
-abbrev highest : ℕ
-highest = unsigned_abs HIGHEST_SHIFTED + unsigned_abs MOST_CONTRIBUTION
-
-small : (d e : ℕ) → 0 < d → d ≤ most_flow → 0 < e → e ≤ most_flow → AreSmall d most_cp e highest
-small d e some_d few_d some_e few_e =
-    let dens : d * e ≤ most_flow * most_flow = mul-le-mul few_d few_e in
-    record {
-      size_den = some_d;
-      state_den = some_e;
-      dens = omega (arith, dens);
-      size = omega (arith, few_d);
-      state = omega (arith, few_e);
-      heat = omega (arith, dens);
-    }
-
--- a number of this denominator from -m to m
-sized-around : (d m : ℕ) (a : Rational) (n : ℤ) → 0 < d → a ≡ ratio n d → IsAtMost (whole (neg_ℤ (pos m))) a
-    → IsAtMost a (whole (pos m)) → IsSized d m a
-sized-around d m a n some is least most =
-    let from = at_most_from_whole_ratio (neg_ℤ (pos m)) n d some (subst (IsAtMost (whole (neg_ℤ (pos m)))) is least) in
-    let upto = at_most_from_ratio_whole n (pos m) d some (subst (λ x. IsAtMost x (whole (pos m))) is most) in
-    record { num = n; is = is; small = omega (arith, ints, from, upto, neg_ℤ-*ℤ (pos m) (pos d)) }
-
--- a temperature in the range of a stream, on its own scale
-stream_sized : (of : Side) (d : ℕ) (t : Rational) (contribution n low high : ℤ) → 0 < d → t ≡ ratio n d
-    → AreEnds low high
-    → IsAtMost (whole low) t → IsAtMost t (whole high) → IsContribution contribution
-    → IsSized d highest (actual_at of t contribution)
-stream_sized of d t contribution n low high some is ends least most given = by of
-  where
-    own : IsSized d (unsigned_abs HIGHEST_SHIFTED) t
-    own =
-        let lower = at_most-whole (neg_ℤ (pos (unsigned_abs HIGHEST_SHIFTED))) low (omega (arith, ints, ends.from)) in
-        sized-around d (unsigned_abs HIGHEST_SHIFTED) t n some is (at_most_trans (whole (neg_ℤ (pos (unsigned_abs HIGHEST_SHIFTED)))) (whole low) t lower least)
-        (at_most_trans t (whole high) (whole (pos (unsigned_abs HIGHEST_SHIFTED))) most (at_most-whole high (pos (unsigned_abs HIGHEST_SHIFTED)) ends.upto))
-
-    shift : IsSized d (unsigned_abs MOST_CONTRIBUTION) (whole contribution)
-    shift =
-        sized-whole d (unsigned_abs MOST_CONTRIBUTION) contribution some (omega (arith, ints, given.from, given.upto))
-
-    by : (on : Side) → IsSized d highest (actual_at on t contribution)
-    by side.Hot =
-        sized-plus d (unsigned_abs HIGHEST_SHIFTED) (unsigned_abs MOST_CONTRIBUTION) t (whole contribution) own shift
-    by side.Cold =
-        sized-minus d (unsigned_abs HIGHEST_SHIFTED) (unsigned_abs MOST_CONTRIBUTION) t (whole contribution) own shift
-
--- The course of a stream: it goes from interval to interval, from its supply to its target.
-
--- the temperatures of a stage of a stream of a side at its upper and at its lower cut
-abbrev upper : Side → LedStage → Rational
-upper side.Hot stage = stage.before
-upper side.Cold stage = stage.after
-
-abbrev lower : Side → LedStage → Rational
-lower side.Hot stage = stage.after
-lower side.Cold stage = stage.before
-
--- stages that lie below each other from one temperature to another
-abbrev FallTo : Side → Rational → List LedStage → Rational → Type 0
-FallTo of from [] to = from ≡ to
-FallTo of from (stage ∷ stages) to = (upper of stage ≡ from) × FallTo of (lower of stage) stages to
-
--- stages that meet from one temperature to another
-abbrev Leads : Rational → List LedStage → Rational → Type 0
-Leads from stages to = Meet from stages × (state_behind from stages ≡ to)
-
-falls_lead : (stages : List LedStage) (from to : Rational) → FallTo side.Hot from stages to → Leads from stages to
-falls_lead [] from to fall = (tt, fall)
-falls_lead (stage ∷ stages) from to fall =
-    let rest = falls_lead stages stage.after to fall.1 in
-    ((fall.0, rest.0), rest.1)
-
-leads_push : (stages : List LedStage) (from to : Rational) (stage : LedStage) → Leads from stages to → stage.before ≡ to
-    → Leads from (stages ++ stage ∷ []) stage.after
-leads_push [] from to stage leads meets = ((meets ∙ sym leads.1, tt), refl)
-leads_push (first ∷ stages) from to stage leads meets =
-    let rest = leads_push stages first.after to stage (leads.0.1, leads.1) meets in
-    ((leads.0.0, rest.0), rest.1)
-
-falls_lead_up : (stages : List LedStage) (from to : Rational) → FallTo side.Cold from stages to
-    → Leads to (reverse stages) from
-falls_lead_up [] from to fall = (tt, sym fall)
-falls_lead_up (stage ∷ stages) from to fall =
-    let turned : reverse (stage ∷ stages) ≡ reverse stages ++ stage ∷ [] = reverse-append (stage ∷ []) stages in
-    subst (Leads to (reverse (stage ∷ stages))) fall.0 (subst (λ (ss : List LedStage). Leads to ss stage.after) (sym turned)
-    (leads_push (reverse stages) to stage.before stage (falls_lead_up stages stage.before to fall.1) refl))
-
--- the way of a stream of a side, with f of the temperatures of its ends
-way_leads : (of : Side) (stages : List LedStage) (f : Rational → Rational) (s : Stream)
-    → FallTo of (f (whole (high_end s))) stages (f (whole (low_end s)))
-    → Leads (f (whole (first_end of s))) (on_the_way of stages) (f (whole (last_end of s)))
-way_leads side.Hot stages f s fall = falls_lead stages (f (whole (high_end s))) (f (whole (low_end s))) fall
-way_leads side.Cold stages f s fall = falls_lead_up stages (f (whole (high_end s))) (f (whole (low_end s))) fall
-
--- ---- the way of a stream
 
 some_share : (shares : List Share) (n : ℤ) → pos 0 <ℤ n → size_of shares ≡ whole n → 0 < length shares
 some_share [] n above is = absurd (whole-nonzero n (λ none. absurd (omega (arith, ints, above, none))) (sym is))
@@ -163,7 +67,8 @@ module _ (axis : Axis) where
     valid : IsSensibleStream s
     valid = all_at IsSensibleStream axis.case.streams stream s (streams_are axis).each here
 
-    module _ (number k : ℕ) (within : number < length axis.cuts - 1) (is : RunsSpan axis s.side number k) (own : is.span.source ≡ source.Stream stream) where
+    module _ (number k : ℕ) (within : number < length axis.cuts - 1) (is : RunsSpan axis s.side number k)
+        (own : is.span.source ≡ source.Stream stream) where
       abbrev index : ℕ
       index = number * many s.side + k
 
@@ -184,9 +89,10 @@ module _ (axis : Axis) where
 
       flow_is : flow_in low high is.span ≡ s.cp
       flow_is =
+          let from_low = int_le-from (heat_at s.side axis.case.streams (low_end s)) low runs.from in
+          let upto_high = int_le-from high (heat_at s.side axis.case.streams (high_end s)) runs.upto in
           ap (flow_in low high) (own_span axis s.side is.span stream s is.kind own here).0
-          ∙ ap₂ (λ p q. if p && q then s.cp else pos 0) (int_le-from (heat_at s.side axis.case.streams (low_end s)) low runs.from)
-          (int_le-from high (heat_at s.side axis.case.streams (high_end s)) runs.upto)
+          ∙ ap₂ (λ p q. if p && q then s.cp else pos 0) from_low upto_high
 
       pub sizes_are : size_of (shares_of s.side index (exchanges axis)) ≡ whole s.cp
       sizes_are = size_piece axis s.side number k is.span within is.there ∙ ap whole flow_is
@@ -202,15 +108,19 @@ module _ (axis : Axis) where
       own_heat i e at on =
           let m = all_at (IsMatch axis) (exchanges axis) i e (are_matches axis) at in
           let same = own_number axis s.side number m.number k m.pair m.met inside (ap (piece_on s.side) m.is ∙ on) in
-          ap (times (size_on s.side e)) (change_is ∙ ap (over_at axis s.side) (sym same.0))
-          ∙ subst (λ (x : Exchange). times (size_on s.side x) (over_at axis s.side m.number) ≡ x.heat) m.is (heat_match axis s.side m.number m.pair m.met)
+          let same_change = change_is ∙ ap (over_at axis s.side) (sym same.0) in
+          let heat_is = heat_match axis s.side m.number m.pair m.met in
+          ap (times (size_on s.side e)) same_change
+          ∙ subst (λ (x : Exchange). times (size_on s.side x) (over_at axis s.side m.number) ≡ x.heat) m.is heat_is
 
       -- over the flow of the other side
       own_over : (i : ℕ) (e : Exchange) → slice_get (exchanges axis) i ≡ Some e → (piece_on s.side e == index) ≡ true
           → (num : ℤ) × (size_on s.side e ≡ ratio num (unsigned_abs (flow_at axis (other s.side) number)))
       own_over i e at test =
           let m = all_at (IsMatch axis) (exchanges axis) i e (are_matches axis) at in
-          let same = own_number axis s.side number m.number k m.pair m.met inside (ap (piece_on s.side) m.is ∙ (eqb-true (piece_on s.side e) index test)) in (
+          let on_piece = eqb-true (piece_on s.side e) index test in
+          let same =
+          own_number axis s.side number m.number k m.pair m.met inside (ap (piece_on s.side) m.is ∙ on_piece) in (
             m.pair.amount,
             ap (size_on s.side) (sym m.is) ∙ size_match axis s.side m.number m.pair
                 ∙ ap (λ n. ratio m.pair.amount (unsigned_abs (flow_at axis (other s.side) n))) same.0,
@@ -225,9 +135,14 @@ module _ (axis : Axis) where
           let contribution : contribution_of axis.case is.span.source ≡ s.contribution
           = ap (contribution_of axis.case) own
           ∙ ap (λ o. option_map_or (λ (r : Stream). r.contribution) o (pos 0)) here in
-          subst (λ c. IsSized (unsigned_abs (flow_at axis s.side number)) highest (actual_at s.side (scale_at axis s.side number q) c)) (sym contribution)
-          (stream_sized s.side (unsigned_abs (flow_at axis s.side number)) (scale_at axis s.side number q) s.contribution over.num (low_end s) (high_end s)
-          (omega (arith, ints, flow_above axis number within s.side)) over.is (AreEnds-IsValidStream s valid.valid) range.0 range.1 valid.valid.contribution)
+          let ends = AreEnds-IsValidStream s valid.valid in
+          let sized = stream_sized s.side (unsigned_abs (flow_at axis s.side number)) (scale_at axis s.side number q)
+          s.contribution over.num (low_end s) (high_end s) (omega (arith, ints, flow_above axis number within s.side))
+          over.is ends range.0 range.1 valid.valid.contribution in
+          subst (λ c.
+          IsSized (unsigned_abs (flow_at axis s.side number)) highest
+          (actual_at s.side (scale_at axis s.side number q) c))
+          (sym contribution) sized
 
       fine : IsFine s.side (exchanges axis) index stream_piece s
       unfolding shares_of
@@ -235,8 +150,12 @@ module _ (axis : Axis) where
           let gap = cut_below axis number within in
           let above = flow_above axis number within (other s.side) in
           let some = flow_above axis number within s.side in
-          let states = either_cut (λ q. IsSized (unsigned_abs (flow_at axis s.side number)) highest (state_at axis s.side number q is.span)) s.side number
-          (state_sized low (omega (arith, ints)) (omega (arith, ints, gap))) (state_sized high (omega (arith, ints, gap)) (omega (arith, ints))) in
+          let at_low = state_sized low (omega (arith, ints)) (omega (arith, ints, gap)) in
+          let at_high = state_sized high (omega (arith, ints, gap)) (omega (arith, ints)) in
+          let states =
+          either_cut (λ q.
+          IsSized (unsigned_abs (flow_at axis s.side number)) highest (state_at axis s.side number q is.span)) s.side
+          number at_low at_high in
           let across = unsigned_abs (flow_at axis (other s.side) number) in
           record {
             size_den = across;
@@ -244,12 +163,13 @@ module _ (axis : Axis) where
             state_den = unsigned_abs (flow_at axis s.side number);
             most_state = highest;
             small =
-                small across (unsigned_abs (flow_at axis s.side number)) (omega (arith, ints, above)) (flow_few (other s.side) number)
-                (omega (arith, ints, some)) (flow_few s.side number);
+                small across (unsigned_abs (flow_at axis s.side number)) (omega (arith, ints, above))
+                (flow_few (other s.side) number) (omega (arith, ints, some)) (flow_few s.side number);
             sizes =
-                kept_hold (λ (e : Exchange). piece_on s.side e == index) (share_of s.side index) (λ n e. record { exchanger = n; cp = size_on s.side e })
-                (λ n e. refl)
-                (λ (share : Share). (num : ℤ) × (share.cp ≡ ratio num across)) 0 (exchanges axis) (λ i e at test. own_over i e at test);
+                kept_hold (λ (e : Exchange). piece_on s.side e == index) (share_of s.side index)
+                (λ n e. record { exchanger = n; cp = size_on s.side e }) (λ n e. refl)
+                (λ (share : Share). (num : ℤ) × (share.cp ≡ ratio num across)) 0 (exchanges axis)
+                (λ i e at test. own_over i e at test);
             most = subst (λ x. IsAtMost x (whole (pos most_cp))) (sym (full_size-sensible s valid.sensible))
                 (at_most-whole s.cp (pos most_cp) valid.sensible.cp.upto);
             before = states.0;
@@ -277,8 +197,10 @@ module _ (axis : Axis) where
         let found = sym (piece_of axis s.side e m) ∙ ap (slice_get (pieces axis s.side)) on
         ∙ ap (λ ps. slice_get ps index) (on_pieces s.side) ∙ there in
         let same = same_Some (piece_in axis s.side m.number runs.span) p found in
-        subst₂ (λ i q. IsStreamPiece s.side (exchanges axis) i q s) (sym (piece_index axis s.side m.number m.pair) ∙ ap (piece_on s.side) m.is ∙ on) same
-        (piece_led m.number (index_on s.side m.pair) m.within runs (ap (λ (q : Piece). q.source) same ∙ own))
+        let index_is = sym (piece_index axis s.side m.number m.pair) ∙ ap (piece_on s.side) m.is ∙ on in
+        let own_source = ap (λ (q : Piece). q.source) same ∙ own in
+        let led = piece_led m.number (index_on s.side m.pair) m.within runs own_source in
+        subst₂ (λ i q. IsStreamPiece s.side (exchanges axis) i q s) index_is same led
 
     -- a piece with shares is of an interval in which the stream runs
     pub shares_run : (number k : ℕ)
@@ -288,12 +210,13 @@ module _ (axis : Axis) where
         let (i, e, at, on) = exchange_there s.side (number * many s.side + k) (exchanges axis) some in
         let m = all_at (IsMatch axis) (exchanges axis) i e (are_matches axis) at in
         let runs = pair_runs axis m.number s.side m.pair m.met in
-        let same = own_number axis s.side number m.number k m.pair m.met
-        (slice_get_within (spans_of s.side axis.case) k (span_of s.side axis.case.streams stream s) there) (ap (piece_on s.side) m.is ∙ on) in
+        let inside = slice_get_within (spans_of s.side axis.case) k (span_of s.side axis.case.streams stream s) there in
+        let same = own_number axis s.side number m.number k m.pair m.met inside (ap (piece_on s.side) m.is ∙ on) in
         let found = sym runs.there ∙ ap (slice_get (spans_of s.side axis.case)) same.1 ∙ there in
         let span = same_Some runs.span (span_of s.side axis.case.streams stream s) found in
-        subst (λ n. RunsIn axis s.side n s) same.0
-        (stream_runs axis s.side m.number (index_on s.side m.pair) stream s runs (ap (λ (a : Span). a.source) span) here)
+        let source_is = ap (λ (a : Span). a.source) span in
+        let runs_there = stream_runs axis s.side m.number (index_on s.side m.pair) stream s runs source_is here in
+        subst (λ n. RunsIn axis s.side n s) same.0 runs_there
 
     -- ---- its way
 
@@ -310,7 +233,8 @@ module _ (axis : Axis) where
 
     abbrev stages_at : ℕ → List LedStage
     stages_at n =
-        filter_map (led_stage s.side (exchanges axis) stream) (enumerate_from (n * many s.side) (pieces_at axis s.side n))
+        filter_map (led_stage s.side (exchanges axis) stream)
+        (enumerate_from (n * many s.side) (pieces_at axis s.side n))
 
     abbrev stages_of : List ℕ → List LedStage
     stages_of numbers = flat_map stages_at numbers
@@ -323,10 +247,13 @@ module _ (axis : Axis) where
         let rows = pieces_at axis s.side in
         let none : 0 ≡ 0 * many s.side = omega arith in
         let numbered = ap (λ b. enumerate_from b (flat_map rows (intervals_of axis.cuts))) none
-        ∙ numbered-rows rows (many s.side) (λ n. length-map (spans_of s.side axis.case) (piece_in axis s.side n)) 0 (length axis.cuts - 1) in
+        ∙ numbered-rows rows (many s.side) (λ n. length-map (spans_of s.side axis.case) (piece_in axis s.side n)) 0
+        (length axis.cuts - 1) in
+        let by_rows = ap (filter_map h) numbered
+        ∙ filter_map-rows h (λ n. enumerate_from (n * many s.side) (rows n)) (intervals_of axis.cuts) in
         ap (λ (ps : List Piece). filter_map h (on_the_way s.side (enumerate_from 0 ps))) (sym (on_pieces s.side))
         ∙ filter_map-way h s.side (enumerate_from 0 (flat_map rows (intervals_of axis.cuts)))
-        ∙ ap (on_the_way s.side) (ap (filter_map h) numbered ∙ filter_map-rows h (λ n. enumerate_from (n * many s.side) (rows n)) (intervals_of axis.cuts))
+        ∙ ap (on_the_way s.side) by_rows
 
     abbrev own_index : ℕ → ℕ
     own_index n = n * many s.side + place.0
@@ -352,7 +279,8 @@ module _ (axis : Axis) where
         → ((j == place.0) && has_shares (n * many s.side + j)) ≡ false
         → led_stage s.side (exchanges axis) stream (n * many s.side + j, p) ≡ None
     no_stage n j p at is =
-        ap (λ b. if b then Some (led_piece s.side (exchanges axis) (n * many s.side + j, p)) else None) (stage_test n j p at ∙ is)
+        let stage = led_piece s.side (exchanges axis) (n * many s.side + j, p) in
+        ap (λ b. if b then Some stage else None) (stage_test n j p at ∙ is)
 
     -- an interval in which it runs is a stage
     runs_stage : (n : ℕ) → n < length axis.cuts - 1 → RunsIn axis s.side n s → stages_at n ≡ stage n ∷ []
@@ -364,26 +292,33 @@ module _ (axis : Axis) where
           span = own;
           there = place.1;
           kind =
-              all_at (IsSourceSpan axis.case s.side) (spans_of s.side axis.case) place.0 own (span_sources axis.case s.side) place.1;
+              all_at (IsSourceSpan axis.case s.side) (spans_of s.side axis.case) place.0 own
+              (span_sources axis.case s.side) place.1;
           from = runs.from;
           upto = runs.upto;
         } in
-        let some = some_share (shares_of s.side (own_index n) (exchanges axis)) s.cp (omega (arith, ints, valid.sensible.cp.from))
-        (sizes_are n place.0 within is refl) in
+        let sized = sizes_are n place.0 within is refl in
+        let some = some_share (shares_of s.side (own_index n) (exchanges axis)) s.cp
+        (omega (arith, ints, valid.sensible.cp.from)) sized in
         let kept : has_shares (own_index n) ≡ true = grind (arith, nat_tests, some) in
         let test = stage_test n place.0 p there
         ∙ ap (λ b. b && has_shares (own_index n)) (eq-eqb place.0 place.0 refl) ∙ kept in
-        only_item (led_stage s.side (exchanges axis) stream) (n * many s.side) (pieces_at axis s.side n) place.0 p (stage n) there
-        (ap (λ b. if b then Some (stage n) else None) test)
+        let is_stage = ap (λ b. if b then Some (stage n) else None) test in
+        only_item (led_stage s.side (exchanges axis) stream) (n * many s.side) (pieces_at axis s.side n) place.0 p
+        (stage n) there is_stage
         (λ j q at other. no_stage n j q at (ap (λ b. b && has_shares (n * many s.side + j)) (ne_eqb j place.0 other)))
 
     -- and one in which it does not is none
     rests_stage : (n : ℕ) → (RunsIn axis s.side n s → ⊥) → stages_at n ≡ []
     rests_stage n rests =
-        no_items (led_stage s.side (exchanges axis) stream) (n * many s.side) (pieces_at axis s.side n) (λ j p at. no_stage n j p at (⊎_elim
-        (λ same. ap (λ b. b && has_shares (n * many s.side + j)) (eq-eqb j place.0 same) ∙ ap (λ i. has_shares (n * many s.side + i)) same
-        ∙ false_from_ne_true (has_shares (own_index n))
-        (λ holds. rests (shares_run n place.0 place.1 (ltb-true 0 (length (shares_of s.side (own_index n) (exchanges axis))) holds))))
+        no_items (led_stage s.side (exchanges axis) stream) (n * many s.side) (pieces_at axis s.side n) (λ j p at.
+        no_stage n j p at
+        (⊎_elim (λ same.
+        ap (λ b. b && has_shares (n * many s.side + j)) (eq-eqb j place.0 same)
+        ∙ ap (λ i. has_shares (n * many s.side + i)) same
+        ∙ false_from_ne_true (has_shares (own_index n)) (λ holds.
+        rests
+        (shares_run n place.0 place.1 (ltb-true 0 (length (shares_of s.side (own_index n) (exchanges axis))) holds))))
         (λ other. ap (λ b. b && has_shares (n * many s.side + j)) (ne_eqb j place.0 other)) (cases_eq j place.0)))
 
     -- ---- the heats of its ends
@@ -399,12 +334,16 @@ module _ (axis : Axis) where
 
     heats_rise : bottom ≤ℤ top
     heats_rise =
-        heat_rises s.side axis.case.streams (low_end s) (high_end s) (streams_are axis).each (omega (arith, ints, ends_rise))
+        heat_rises s.side axis.case.streams (low_end s) (high_end s) (streams_are axis).each
+        (omega (arith, ints, ends_rise))
 
     ends_cut : Contains axis.cuts bottom × Contains axis.cuts top
     ends_cut =
-        let P : Stream → Type 0 = λ r. same_side r.side s.side ≡ true
-        → Contains axis.cuts (heat_at s.side axis.case.streams (low_end r)) × Contains axis.cuts (heat_at s.side axis.case.streams (high_end r)) in
+        let P : Stream → Type 0
+        = λ r.
+        same_side r.side s.side ≡ true
+        → Contains axis.cuts (heat_at s.side axis.case.streams (low_end r))
+        × Contains axis.cuts (heat_at s.side axis.case.streams (high_end r)) in
         All-contains P axis.case.streams s (ends_are_cuts axis s.side) member (own_side s.side)
 
     -- the temperature of the stream where its curve has a heat
@@ -436,16 +375,27 @@ module _ (axis : Axis) where
 
     -- a stage at its two cuts
     cut_states : (of : Side) (n : ℕ) (f : ℤ → Rational) (shares : List Share)
-        → (upper of (record { before = f (entered_at axis of n); after = f (left_at axis of n); shares = shares }) ≡ f (high_at axis n))
-        × (lower of (record { before = f (entered_at axis of n); after = f (left_at axis of n); shares = shares }) ≡ f (low_at axis n))
+        → (upper of (record {
+          before = f (entered_at axis of n);
+          after = f (left_at axis of n);
+          shares = shares;
+        }) ≡ f (high_at axis n))
+        × (lower of (record {
+          before = f (entered_at axis of n);
+          after = f (left_at axis of n);
+          shares = shares;
+        }) ≡ f (low_at axis n))
     cut_states side.Hot n f shares = (refl, refl)
     cut_states side.Cold n f shares = (refl, refl)
 
     outside : (n : ℕ) → n < length axis.cuts - 1
         → HasNoEnd s.side axis.case.streams (streams_are axis) (low_at axis n) (high_at axis n) s
     outside n within =
-        All-contains (λ r. same_side r.side s.side ≡ true → HasNoEnd s.side axis.case.streams (streams_are axis) (low_at axis n) (high_at axis n) r)
-        axis.case.streams s (no_end_between axis n within s.side) member (own_side s.side)
+        let no_end = no_end_between axis n within s.side in
+        All-contains (λ r.
+        same_side r.side s.side ≡ true
+        → HasNoEnd s.side axis.case.streams (streams_are axis) (low_at axis n) (high_at axis n) r)
+        axis.case.streams s no_end member (own_side s.side)
 
     -- the rest of the way, from the lower cut of an interval
     abbrev Falls : Rational → List LedStage → Type 0
@@ -472,9 +422,17 @@ module _ (axis : Axis) where
         let order : low ≤ℤ high = omega (arith, ints, gap) in
         let high_range = is.range high order most s runs in
         let low_range = is.range low least order s runs in
-        let above = one_temperature (scale high) t high (record { from = high_range.0; upto = high_range.1; heat_is = is.heat high order most }) place in
+        let above = one_temperature (scale high) t high (record {
+          from = high_range.0;
+          upto = high_range.1;
+          heat_is = is.heat high order most;
+        }) place in
         let near : IsNearest low low = omega (arith, ints, clamps, gap, runs.from, runs.upto) in
-        let fall = on (scale low) low near (record { from = low_range.0; upto = low_range.1; heat_is = is.heat low least order }) in
+        let fall = on (scale low) low near (record {
+          from = low_range.0;
+          upto = low_range.1;
+          heat_is = is.heat low least order;
+        }) in
         let cut = cut_states s.side n (λ q. state_at axis s.side n q own) (stage n).shares in
         subst (λ xs. Falls t (xs ++ rest)) (sym (runs_stage n within runs))
         (cut.0 ∙ ap actual above, subst (λ x. FallTo s.side x rest (actual (whole (low_end s)))) (sym cut.1) fall)
@@ -489,9 +447,15 @@ module _ (axis : Axis) where
         (λ ended. passes_by n t rest (λ runs. absurd (omega (arith, ints, runs.upto, ended, gap)))
         (on t heat (omega (arith, ints, clamps, near, ended, gap, order)) place)) (λ goes_on.
         let same : heat ≡ high_at axis n = omega (arith, ints, clamps, near, begun, goes_on, gap) in
-        goes_through n within t rest (record { member = member; side_is = own_side s.side; from = begun; upto = goes_on }) (subst (IsPlaceOf t) same place) on)
-        (outside n within).high_outside) (λ early. passes_by n t rest (λ runs. absurd (omega (arith, ints, runs.from, early, gap)))
-        (on t heat (omega (arith, ints, clamps, near, early, gap, order)) place)) (outside n within).low_outside
+        goes_through n within t rest (record {
+          member = member;
+          side_is = own_side s.side;
+          from = begun;
+          upto = goes_on;
+        }) (subst (IsPlaceOf t) same place) on) (outside n within).high_outside) (λ early.
+        passes_by n t rest (λ runs. absurd (omega (arith, ints, runs.from, early, gap)))
+        (on t heat (omega (arith, ints, clamps, near, early, gap, order)) place))
+        (outside n within).low_outside
 
     fall_from : (m n : ℕ) (t : Rational) (heat : ℤ) → n + m ≡ length axis.cuts - 1
         → IsNearest (high_at axis n) heat → IsPlaceOf t heat
@@ -513,11 +477,13 @@ module _ (axis : Axis) where
         (place_at (high_end s) (omega (arith, ints, ends_rise)) (omega (arith, ints)))
 
     -- it is led from its supply to its target
-    pub stream_joined : AreJoined s (led_course (pieces axis side.Hot) (pieces axis side.Cold) (exchanges axis) (stream, s))
+    pub stream_joined : AreJoined s
+        (led_course (pieces axis side.Hot) (pieces axis side.Cold) (exchanges axis) (stream, s))
     stream_joined =
         let stages = stages_of (intervals_of axis.cuts) in
         let c = ap (λ o. option_map_or (λ (r : Stream). r.contribution) o (pos 0)) here in
         let start = ap (actual_at s.side (whole (first_end s.side s))) c ∙ actual-first s valid.sensible in
         let end = ap (actual_at s.side (whole (last_end s.side s))) c ∙ actual-last s valid.sensible in
-        let way = subst₂ (λ x y. Leads x (on_the_way s.side stages) y) start end (way_leads s.side stages actual s whole_way) in
+        let leads = way_leads s.side stages actual s whole_way in
+        let way = subst₂ (λ x y. Leads x (on_the_way s.side stages) y) start end leads in
         subst (AreJoined s) (sym all_stages) (record { meet = way.0; ends = way.1 })

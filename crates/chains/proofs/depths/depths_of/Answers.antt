@@ -16,16 +16,24 @@ pub used_above-requires-clause-cold : goal.used_above-requires-clause-cold
 used_above-requires-clause-cold c =
     let places = c.args.places.now in
     let cold = c.args.parts.now.cold in
-    ranks_high places c.args.parts.now.hot cold _ cold _ c.rank_count-ranks.ensures
-    (c.deref-2.ensures.value ∙ (c.in_ok-cold.ensures.value ∙ ap (map (rank_of places)) c.as_slice-2.ensures)) c.requires.cold
+    let ranks_are =
+    c.deref-2.ensures.value ∙ (c.in_ok-cold.ensures.value ∙ ap (map (rank_of places)) c.as_slice-2.ensures) in
+    ranks_high places c.args.parts.now.hot cold _ cold _ c.rank_count-ranks.ensures ranks_are c.requires.cold
 
 pub at_ranks-requires : goal.at_ranks-requires
 at_ranks-requires c =
     let places = c.args.places.now in
     let hot = c.args.parts.now.hot in
-    let each = length-map-range_with_len (used_among (c.deref.result.now ++ c.deref-2.result.now)) 0 (c.rank_count-ranks.result + 1) in
+    let each = length-map-range_with_len (used_among (c.deref.result.now ++ c.deref-2.result.now)) 0
+    (c.rank_count-ranks.result + 1) in
     let count : length c.deref-3.result.now ≡ rank_count places + 1
-    = omega (arith, ap length c.deref-3.ensures.value, ap length c.in_ok-above.ensures, each, c.rank_count-ranks.ensures) in
+    = omega (
+      arith,
+      ap length c.deref-3.ensures.value,
+      ap length c.in_ok-above.ensures,
+      each,
+      c.rank_count-ranks.ensures,
+    ) in
     let is = c.deref-4.ensures.value ∙ (c.in_ok-hot.ensures.value ∙ ap (map (rank_of places)) c.as_slice.ensures) in
     ranks_within places hot c.args.parts.now.cold hot _ _ is count c.requires.hot
 
@@ -33,15 +41,23 @@ pub at_ranks-requires-2 : goal.at_ranks-requires-2
 at_ranks-requires-2 c =
     let places = c.args.places.now in
     let cold = c.args.parts.now.cold in
-    let each = length-map-range_with_len (used_among (c.deref.result.now ++ c.deref-2.result.now)) 0 (c.rank_count-ranks.result + 1) in
+    let each = length-map-range_with_len (used_among (c.deref.result.now ++ c.deref-2.result.now)) 0
+    (c.rank_count-ranks.result + 1) in
     let count : length c.deref-5.result.now ≡ rank_count places + 1
-    = omega (arith, ap length c.deref-5.ensures.value, ap length c.in_ok-above.ensures, each, c.rank_count-ranks.ensures) in
+    = omega (
+      arith,
+      ap length c.deref-5.ensures.value,
+      ap length c.in_ok-above.ensures,
+      each,
+      c.rank_count-ranks.ensures,
+    ) in
     let is = c.deref-6.ensures.value ∙ (c.in_ok-cold.ensures.value ∙ ap (map (rank_of places)) c.as_slice-2.ensures) in
     ranks_within places c.args.parts.now.hot cold cold _ _ is count c.requires.cold
 
 pub index-requires : goal.index-requires
 index-requires c =
-    let each = length-map-range_with_len (used_among (c.deref.result.now ++ c.deref-2.result.now)) 0 (c.rank_count-ranks.result + 1) in
+    let each = length-map-range_with_len (used_among (c.deref.result.now ++ c.deref-2.result.now)) 0
+    (c.rank_count-ranks.result + 1) in
     omega (arith, c.deref-3.ensures.len, ap length c.deref-3.ensures.value, ap length c.in_ok-above.ensures, each)
 
 pub returns : goal.returns
@@ -52,13 +68,18 @@ returns c =
     let each = length-map-range_with_len (used_among (c.deref.result.now ++ c.deref-2.result.now)) 0 (ranks + 1) in
     let within : ranks < length above = omega (arith, ap length c.in_ok-above.ensures, each) in
     let ranked = map (rank_of places) in
+    let both_lists = ap₂ ◌++◌ c.deref.ensures.value c.deref-2.ensures.value in
     let table = c.in_ok-above.ensures
-    ∙ ap₂ (λ rs n. map (used_among rs) (range_with_len 0 (n + 1))) (ap₂ ◌++◌ c.deref.ensures.value c.deref-2.ensures.value) c.rank_count-ranks.ensures in
-    let last = c.index.ensures
-    ∙ (get_or_default above ranks c.index.result.now 0 within ∙ ap (λ n. get_or above n 0) c.rank_count-ranks.ensures) in
-    AreDepths-read places c.args.parts.now.hot c.args.parts.now.cold above c.in_ok-hot.hot.items c.in_ok-cold.cold.items _
-    (c.in_ok-hot.ensures.value ∙ ap ranked c.as_slice.ensures) (c.in_ok-cold.ensures.value ∙ ap ranked c.as_slice-2.ensures) table
-    c.requires.hot c.requires.cold
-    (c.in_ok-hot_depths.ensures ∙ ap₂ (λ xs rs. map (λ r. get_or xs r 0) rs) c.deref-3.ensures.value c.deref-4.ensures.value)
-    (c.in_ok-cold_depths.ensures ∙ ap₂ (λ xs rs. map (λ r. get_or xs r 0) rs) c.deref-5.ensures.value c.deref-6.ensures.value)
+    ∙ ap₂ (λ rs n. map (used_among rs) (range_with_len 0 (n + 1))) both_lists c.rank_count-ranks.ensures in
+    let at_end =
+    get_or_default above ranks c.index.result.now 0 within ∙ ap (λ n. get_or above n 0) c.rank_count-ranks.ensures in
+    let last = c.index.ensures ∙ at_end in
+    let hot_ranks = c.in_ok-hot.ensures.value ∙ ap ranked c.as_slice.ensures in
+    let cold_ranks = c.in_ok-cold.ensures.value ∙ ap ranked c.as_slice-2.ensures in
+    let hot_depths = c.in_ok-hot_depths.ensures
+    ∙ ap₂ (λ xs rs. map (λ r. get_or xs r 0) rs) c.deref-3.ensures.value c.deref-4.ensures.value in
+    let cold_depths = c.in_ok-cold_depths.ensures
+    ∙ ap₂ (λ xs rs. map (λ r. get_or xs r 0) rs) c.deref-5.ensures.value c.deref-6.ensures.value in
+    AreDepths-read places c.args.parts.now.hot c.args.parts.now.cold above c.in_ok-hot.hot.items c.in_ok-cold.cold.items
+    _ hot_ranks cold_ranks table c.requires.hot c.requires.cold hot_depths cold_depths
     (c.max.ensures ∙ ap (λ n. max n 1) last)

@@ -9,7 +9,15 @@ pub overflow_add-count : goal.overflow_add-count
 overflow_add-count c =
     let most = used-within (c.args.hot.now ++ c.args.cold.now) c.loop-is_used.is_used-index in
     let all = ap length c.deref-is_used-items.ensures.value in
-    omega (arith, most, c.loop-is_used.invariant.count, c.requires.few, c.loop-is_used-test.true, all, c.in_ok-used.ensures.count)
+    omega (
+      arith,
+      most,
+      c.loop-is_used.invariant.count,
+      c.requires.few,
+      c.loop-is_used-test.true,
+      all,
+      c.in_ok-used.ensures.count,
+    )
 
 pub loop-is_used-init : goal.loop-is_used-init
 unfolding used_among
@@ -45,7 +53,13 @@ returns c =
     let so_far = c.loop-is_used.invariant in
     let all = ap length c.deref-is_used-items.ensures.value in
     let whole : n ≡ c.args.ranks
-    = omega (arith, c.loop-is_used-test.false, c.loop-is_used.auto.is_used-index-end, all, c.in_ok-used.ensures.count) in
+    = omega (
+      arith,
+      c.loop-is_used-test.false,
+      c.loop-is_used.auto.is_used-index-end,
+      all,
+      c.in_ok-used.ensures.count,
+    ) in
     let more = map-range_with_len_more (used_among ranks) 0 n n (omega arith) in
     c.in_ok-push-2.ensures.items ∙ ap₂ (λ xs x. xs ++ x ∷ []) so_far.above so_far.count ∙ sym more
     ∙ ap (λ m. map (used_among ranks) (range_with_len 0 (m + 1))) whole

@@ -13,9 +13,10 @@ hot_is c = ap sources_in c.deref-partners-items.ensures.value ∙ c.in_ok-table.
 
 few : (c : In-loop-partners) → length c.loop-partners.groups.items ≤ MOST_STREAMS + ALL_UTILITIES
 few c =
-    few_groups c.args.case.now c.in_ok-hot.hot.items (sources_in c.deref-partners-items.result.now) c.args.first c.args.nodes
-    c.loop-partners.partners-index c.loop-partners.groups.items c.requires.complete c.in_ok-hot.ensures
-    (hot_is (goal.at.In-loop-partners c).After-deref-partners-items) c.loop-partners.invariant
+    let hots = hot_is (goal.at.In-loop-partners c).After-deref-partners-items in
+    few_groups c.args.case.now c.in_ok-hot.hot.items (sources_in c.deref-partners-items.result.now) c.args.first
+    c.args.nodes c.loop-partners.partners-index c.loop-partners.groups.items c.requires.complete c.in_ok-hot.ensures
+    hots c.loop-partners.invariant
 
 pub overflow_cast-first_node : goal.overflow_cast-first_node
 overflow_cast-first_node c = omega (arith, few (goal.at.overflow_cast-first_node c).In-loop-partners, c.len.ensures)
@@ -26,7 +27,11 @@ overflow_mul-first_node c = let most = few (goal.at.overflow_mul-first_node c).I
 
 pub overflow_add-first_node : goal.overflow_add-first_node
 overflow_add-first_node c = let most = few (goal.at.overflow_add-first_node c).In-loop-partners in
-    omega (arith, few_chain_nodes c.len.result c.args.nodes (omega (arith, most, c.len.ensures)) c.requires.nodes, c.requires.first)
+    omega (
+      arith,
+      few_chain_nodes c.len.result c.args.nodes (omega (arith, most, c.len.ensures)) c.requires.nodes,
+      c.requires.first,
+    )
 
 pub sources_like-requires : goal.sources_like-requires
 sources_like-requires c =
@@ -37,8 +42,9 @@ sources_like-requires c =
     let whole = c.deref-then-not-stands_in_one.ensures.value in
     record {
       complete = c.requires.complete;
-      hot = subst (ListsOnce (λ s. side_of case s ≡ Some Hot))
-          (sym (ap sources_in whole ∙ c.in_ok-table.ensures.sources ∙ c.deref.ensures.value)) c.in_ok-hot.ensures.listed;
+      hot =
+          let sources = ap sources_in whole ∙ c.in_ok-table.ensures.sources ∙ c.deref.ensures.value in
+          subst (ListsOnce (λ s. side_of case s ≡ Some Hot)) (sym sources) c.in_ok-hot.ensures.listed;
       table = subst (All (HasPartners case)) (sym whole) c.in_ok-table.ensures.each;
       first =
           subst (HasPartners case) (sym c.partners-item.is) (each i c.partners-item.result c.loop-partners-test.true);
@@ -59,19 +65,23 @@ loop-partners-preserved c =
     = ap source_of c.partners-item.is ∙ sym (get_or-map source_of table i next source within) in
     let groups = c.loop-partners.groups.items in
     let p = goal.at.loop-partners-preserved c in
-    let each = subst (All (λ s. side_of case s ≡ Some Hot)) (sym (hot_is p.After-deref-partners-items)) c.in_ok-hot.ensures.listed.each in
+    let hots = hot_is p.After-deref-partners-items in
+    let each = subst (All (λ s. side_of case s ≡ Some Hot)) (sym hots) c.in_ok-hot.ensures.listed.each in
     let side = subst (λ s. side_of case s ≡ Some Hot) (sym is) (each i source in_hot) in
     elim c.if-not-stands_in_one.branch [
       | then-not-stands_in_one+in_ok-sources+in_ok-push w ↦
-          groups-new case hot c.args.first c.args.nodes i in_hot source is groups c.loop-partners.invariant
-          _ _ (ap (λ v. v.items) w.groups-is ∙ w.in_ok-push.ensures.items) side
-          (subst (ListsOnce (IsLike case source)) (sym w.from_vec.ensures) w.in_ok-sources.ensures)
-          (let count : w.len.result ≡ length groups = omega (arith, w.len.ensures) in ap (λ n. c.args.first + n * c.args.nodes) count)
-          (λ stands. not_from_Decides _ c.stands_in_one.ensures w.if-not-stands_in_one.true
+          let items = ap (λ v. v.items) w.groups-is ∙ w.in_ok-push.ensures.items in
+          groups-new case hot c.args.first c.args.nodes i in_hot source is groups c.loop-partners.invariant _ _ items
+          side (subst (ListsOnce (IsLike case source)) (sym w.from_vec.ensures) w.in_ok-sources.ensures)
+          (let count : w.len.result ≡ length groups = omega (arith, w.len.ensures) in
+          ap (λ n. c.args.first + n * c.args.nodes) count)
+          (λ stands.
+          not_from_Decides _ c.stands_in_one.ensures w.if-not-stands_in_one.true
           (subst (λ gs. StandsInOne gs source) (sym c.as_slice.ensures.value) stands))
       | else-not-stands_in_one w ↦
-          groups-old case hot c.args.first c.args.nodes i in_hot source is groups c.loop-partners.invariant _ (ap (λ v. v.items) w.groups-is)
-          (subst (λ gs. StandsInOne gs source) c.as_slice.ensures.value (c.stands_in_one.ensures.0 w.if-not-stands_in_one.false))
+          let stands = c.stands_in_one.ensures.0 w.if-not-stands_in_one.false in
+          groups-old case hot c.args.first c.args.nodes i in_hot source is groups c.loop-partners.invariant _
+          (ap (λ v. v.items) w.groups-is) (subst (λ gs. StandsInOne gs source) c.as_slice.ensures.value stands)
     ]
 
 pub returns-clause-groups : goal.returns-clause-groups
@@ -88,6 +98,7 @@ returns-clause-groups c =
 
 pub returns-clause-few : goal.returns-clause-few
 returns-clause-few c =
-    few_groups c.args.case.now c.in_ok-hot.hot.items (sources_in c.deref-partners-items.result.now) c.args.first c.args.nodes
-    c.loop-partners.partners-index c.loop-partners.groups.items c.requires.complete c.in_ok-hot.ensures
-    (hot_is (goal.at.returns-clause-few c).After-deref-partners-items) c.loop-partners.invariant
+    let hots = hot_is (goal.at.returns-clause-few c).After-deref-partners-items in
+    few_groups c.args.case.now c.in_ok-hot.hot.items (sources_in c.deref-partners-items.result.now) c.args.first
+    c.args.nodes c.loop-partners.partners-index c.loop-partners.groups.items c.requires.complete c.in_ok-hot.ensures
+    hots c.loop-partners.invariant

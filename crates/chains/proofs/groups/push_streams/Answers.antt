@@ -10,9 +10,10 @@ use Rattle.stream_case.specs.declared.source.Source.TheVariants.{Stream as of_st
 pub loop-index-preserved : goal.loop-index-preserved
 loop-index-preserved c =
     let item = c.index-streams-index.result in
-    item_pushed (λ (x : Stream). x.side) of_stream c.args.side c.as_slice-streams.result.now c.loop-index.index item c.args.sources.now.items
-    c.loop-index.sources.items _ c.eq.result c.loop-index-test.true c.index-streams-index.is c.loop-index.invariant
-    (λ test. search (rules, test, c.eq.ensures)) (λ own. c.eq.ensures ∙ true_same the_type item.side c.args.side own) (elim c.if-eq.branch [
+    item_pushed (λ (x : Stream). x.side) of_stream c.args.side c.as_slice-streams.result.now c.loop-index.index item
+    c.args.sources.now.items c.loop-index.sources.items _ c.eq.result c.loop-index-test.true c.index-streams-index.is
+    c.loop-index.invariant (λ test. search (rules, test, c.eq.ensures))
+    (λ own. c.eq.ensures ∙ true_same the_type item.side c.args.side own) (elim c.if-eq.branch [
       | then-eq+in_ok-push w ↦ inl (w.if-eq.true, ap (λ v. v.items) w.sources-is ∙ w.in_ok-push.ensures.items)
       | else-eq w ↦ inr (w.if-eq.false, ap (λ v. v.items) w.sources-is)
     ])

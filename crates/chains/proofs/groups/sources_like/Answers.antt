@@ -24,20 +24,27 @@ loop-partners-preserved c =
     = ap source c.partners-item.is ∙ sym (get_or-map source table i next next.source within) in
     elim c.if-are_alike.branch [
       | then-are_alike+in_ok-push w ↦
-          subst (KeptSoFar same hot (i + 1)) (sym (ap (λ v. v.items) w.sources-is ∙ w.in_ok-push.ensures.items))
-          (kept-push same hot c.requires.hot.ordered i in_hot next.source is c.loop-partners.sources.items c.loop-partners.invariant
-          (HaveSamePartners-same case first.source next.source first.allowed.items next.allowed.items c.requires.first own
-          (c.are_alike.ensures.0 w.if-are_alike.true)))
+          let items = ap (λ v. v.items) w.sources-is ∙ w.in_ok-push.ensures.items in
+          let same_partners = HaveSamePartners-same case first.source next.source first.allowed.items next.allowed.items
+          c.requires.first own (c.are_alike.ensures.0 w.if-are_alike.true) in
+          let kept = kept-push same hot c.requires.hot.ordered i in_hot next.source is c.loop-partners.sources.items
+          c.loop-partners.invariant same_partners in
+          subst (KeptSoFar same hot (i + 1)) (sym items) kept
       | else-are_alike w ↦
-          subst (KeptSoFar same hot (i + 1)) (sym (ap (λ v. v.items) w.sources-is))
-          (kept-pass same hot c.requires.hot.ordered i in_hot next.source is c.loop-partners.sources.items c.loop-partners.invariant
-          (λ alike. false≢true (sym w.if-are_alike.false ∙ c.are_alike.ensures.1
-          (same-HaveSamePartners case first.source next.source first.allowed.items next.allowed.items c.requires.first own c.requires.complete alike))))
+          let kept = kept-pass same hot c.requires.hot.ordered i in_hot next.source is c.loop-partners.sources.items
+          c.loop-partners.invariant
+          (λ alike.
+          false≢true (sym w.if-are_alike.false
+          ∙ c.are_alike.ensures.1
+          (same-HaveSamePartners case first.source next.source first.allowed.items next.allowed.items
+          c.requires.first own c.requires.complete alike))) in
+          subst (KeptSoFar same hot (i + 1)) (sym (ap (λ v. v.items) w.sources-is)) kept
     ]
 
 pub returns : goal.returns
 returns c =
     let table = c.args.table.now in
     let past = length-map table (λ (p : Partners). p.source) in
-    likes-all c.args.case.now (sources_in table) c.args.first.now.source c.loop-partners.partners-index c.loop-partners.sources.items c.requires.hot
-    (omega (arith, past, c.loop-partners-test.false)) c.loop-partners.invariant
+    likes-all c.args.case.now (sources_in table) c.args.first.now.source c.loop-partners.partners-index
+    c.loop-partners.sources.items c.requires.hot (omega (arith, past, c.loop-partners-test.false))
+    c.loop-partners.invariant

@@ -5,7 +5,13 @@ use Rattle.chains.proofs.groups.sources_of.Goals as goal
 
 pub push_streams-requires : goal.push_streams-requires
 push_streams-requires c =
-    record { few = omega (arith, length-AreStreams c.args.case.now.streams (AreStreams-IsComplete c.args.case.now c.requires)) }
+    record {
+      few =
+          omega (
+            arith,
+            length-AreStreams c.args.case.now.streams (AreStreams-IsComplete c.args.case.now c.requires),
+          );
+    }
 
 pub push_utilities-requires : goal.push_utilities-requires
 push_utilities-requires c = record { few = omega (arith, length-utilities c.args.case.now c.requires) }

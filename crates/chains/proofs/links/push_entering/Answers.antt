@@ -1,6 +1,6 @@
 -- One hot part more.
 use Rattle.chains.proofs.FlatMaps.{enumerated-step}
-use Rattle.chains.proofs.NetLemmas.{node_at_most}
+use Rattle.chains.proofs.ChainLinks.{node_at_most}
 use Rattle.chains.proofs.links.push_entering.Goals.{In-loop-index, in-Some+in_ok-push, in_default}
 use Rattle.chains.proofs.PartnerLemmas.{first_nodes-at, source_on}
 use Rattle.chains.proofs.Words.{Hot, IsSourceOf, Part, first_node_of, side_of, source_at, source_index}
@@ -23,7 +23,8 @@ module _ (c : In-loop-index) where
       let within = subst (λ xs. i < length xs) slice.ensures c.loop-index-test.true in
       let is = get_or_default slice.result.now i blank part c.loop-index-test.true
       ∙ ap (λ xs. get_or xs i part) slice.ensures in
-      source_on case Hot part.source (subst (λ q. side_of case q.source ≡ Some Hot) (sym is) (c.requires.hot i part within))
+      source_on case Hot part.source
+      (subst (λ q. side_of case q.source ≡ Some Hot) (sym is) (c.requires.hot i part within))
 
   nodes_are : (nodes : List (Option ℕ)) → nodes ≡ c.in_ok-first_nodes.first_nodes.items
       → get_or nodes (source_index c.args.case.now part.source) None ≡ first_node_of c.args.groups.now part.source
@@ -36,8 +37,11 @@ node_of-requires c =
     record {
       complete = c.requires.complete;
       source = there (goal.at.node_of-requires c).In-loop-index;
-      count = ap length (c.deref.ensures.value ∙ c.in_ok-first_nodes.ensures)
-          ∙ length-map-range_with_len (λ index. first_node_of c.args.groups.now (source_at case index)) 0 (length case.streams + length case.utilities);
+      count =
+          let nodes = c.deref.ensures.value ∙ c.in_ok-first_nodes.ensures in
+          ap length nodes
+          ∙ length-map-range_with_len (λ index. first_node_of c.args.groups.now (source_at case index)) 0
+          (length case.streams + length case.utilities);
     }
 
 pub overflow_add-node : goal.overflow_add-node
@@ -72,8 +76,9 @@ loop-index-preserved c =
       | in-Some+in_ok-push w ↦
           let node = w.in-Some.first_node in
           let link = w.open_link.ensures ∙ ap (λ d. open_link i (node + d)) deep in
-          enumerated-step hot i p _ after _ within is (entering_at depth groups) c.loop-index.invariant
-          (ap (λ v. v.items) w.links-is ∙ w.in_ok-push.ensures.items ∙ ap (λ l. after ++ l ∷ []) link ∙ ap pushes (w.in-Some.ensures ∙ found))
+          let pushed = ap (λ v. v.items) w.links-is ∙ w.in_ok-push.ensures.items ∙ ap (λ l. after ++ l ∷ []) link
+          ∙ ap pushes (w.in-Some.ensures ∙ found) in
+          enumerated-step hot i p _ after _ within is (entering_at depth groups) c.loop-index.invariant pushed
       | in_default w ↦
           enumerated-step hot i p _ after _ within is (entering_at depth groups) c.loop-index.invariant
           (ap (λ v. v.items) w.links-is ∙ sym (append-nil after) ∙ ap pushes (w.in_default.ensures ∙ found))

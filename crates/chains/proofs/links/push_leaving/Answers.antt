@@ -28,7 +28,8 @@ is_permitted-requires c =
     record {
       complete = c.requires.complete;
       source =
-          source_on case Cold p.source (subst (λ q. side_of case q.source ≡ Some Cold) (sym is) (c.requires.cold i p within));
+          source_on case Cold p.source
+          (subst (λ q. side_of case q.source ≡ Some Cold) (sym is) (c.requires.cold i p within));
       count = ap length c.deref.ensures.value ∙ c.in_ok-permitted.ensures.count;
     }
 
@@ -58,8 +59,10 @@ loop-index-preserved c =
     elim c.if-is_permitted.branch [
       | then-is_permitted+in_ok-push w ↦
           let link = w.open_link.ensures ∙ ap₂ (λ r n. open_link (g.first_node + r) (n + i)) deep c.len-hots.ensures in
+          let pushed = ap (λ v. v.items) w.links-is ∙ w.in_ok-push.ensures.items ∙ ap (λ l. after ++ l ∷ []) link
+          ∙ ap pushes (sym w.if-is_permitted.true ∙ test) in
           enumerated-step cold i p _ after _ within is (leaving_at case depth (length hot) g) c.loop-index.invariant
-          (ap (λ v. v.items) w.links-is ∙ w.in_ok-push.ensures.items ∙ ap (λ l. after ++ l ∷ []) link ∙ ap pushes (sym w.if-is_permitted.true ∙ test))
+          pushed
       | else-is_permitted w ↦
           enumerated-step cold i p _ after _ within is (leaving_at case depth (length hot) g) c.loop-index.invariant
           (ap (λ v. v.items) w.links-is ∙ sym (append-nil after) ∙ ap pushes (sym w.if-is_permitted.false ∙ test))

@@ -23,13 +23,14 @@ loop-stride-preserved c =
     let left = λ (n : ℕ). after ++ links_within first nodes n (drop (i + 1) STRIDES) in
     elim c.if-count-room.branch [
       | then-count-room+in_ok-push_stride w ↦
+          let pushed = ap (λ v. v.items) w.links-is ∙ w.in_ok-push_stride.ensures in
           ap left w.room-is
-          ∙ stride-fits first nodes STRIDES i stride room within refl before whole after c.loop-stride.invariant w.if-count-room.true
-          (ap (λ v. v.items) w.links-is ∙ w.in_ok-push_stride.ensures)
+          ∙ stride-fits first nodes STRIDES i stride room within refl before whole after c.loop-stride.invariant
+          w.if-count-room.true pushed
       | else-count-room w ↦
           ap left w.room-is
-          ∙ stride-misses first nodes STRIDES i stride room within refl before whole after c.loop-stride.invariant w.if-count-room.false
-          (ap (λ v. v.items) w.links-is)
+          ∙ stride-misses first nodes STRIDES i stride room within refl before whole after c.loop-stride.invariant
+          w.if-count-room.false (ap (λ v. v.items) w.links-is)
     ]
 
 pub returns : goal.returns

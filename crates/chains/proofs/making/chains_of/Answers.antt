@@ -2,7 +2,9 @@
 use Rattle.chains.proofs.FlatMaps.{flat_map-step}
 use Rattle.chains.proofs.GroupLemmas.{few_chain_nodes}
 use Rattle.chains.proofs.DepthLemmas.{chain_length-le, chain_length-some}
-use Rattle.chains.proofs.NetLemmas.{AreChains, AreChains-made, AreForChains, first_nodes_few, on_places, places_some, rank_within}
+use Rattle.chains.proofs.RankLemmas.{places_some, rank_within}
+use Rattle.chains.proofs.ChainPaths.{AreForChains}
+use Rattle.chains.proofs.NetLemmas.{AreChains, AreChains-made, first_nodes_few, on_places}
 use Rattle.chains.proofs.PartnerLemmas.{IsGroup-AreGroups}
 use Rattle.chains.proofs.making.chains_of.Goals.{After-as_slice-places, After-drop-grid-2, After-len-2, After-len-3, In-loop-group}
 use Rattle.chains.proofs.making.chains_of.Goals.{In_ok-depths, In_ok-groups}
@@ -25,7 +27,8 @@ on : (c : After-as_slice-places)
     → All (IsOnPlaces c.args.case.now c.as_slice-places.result.now Hot) c.args.parts.now.hot
     × All (IsOnPlaces c.args.case.now c.as_slice-places.result.now Cold) c.args.parts.now.cold
 on c =
-    on_places c.args.case.now c.as_slice-places.result.now c.args.parts.now.hot c.args.parts.now.cold (grid c) c.requires.parts
+    on_places c.args.case.now c.as_slice-places.result.now c.args.parts.now.hot c.args.parts.now.cold (grid c)
+    c.requires.parts
 
 few_nodes_each : (c : In_ok-depths) → c.in_ok-depths.depths.nodes ≤ 2 * MOST_PLACES
 few_nodes_each c =
@@ -54,11 +57,11 @@ depths_of-requires c =
       few = few_places p;
       falls = falls;
       hot =
-          All-weaker (IsOnPlaces case places Hot) (λ q. rank_of places q < rank_count places) (λ q stands. rank_within case places falls Hot q stands)
-          c.args.parts.now.hot (on p).0;
+          All-weaker (IsOnPlaces case places Hot) (λ q. rank_of places q < rank_count places) (λ q stands.
+          rank_within case places falls Hot q stands) c.args.parts.now.hot (on p).0;
       cold =
-          All-weaker (IsOnPlaces case places Cold) (λ q. rank_of places q < rank_count places) (λ q stands. rank_within case places falls Cold q stands)
-          c.args.parts.now.cold (on p).1;
+          All-weaker (IsOnPlaces case places Cold) (λ q. rank_of places q < rank_count places) (λ q stands.
+          rank_within case places falls Cold q stands) c.args.parts.now.cold (on p).1;
     }
 
 pub groups_of-requires-clause-nodes : goal.groups_of-requires-clause-nodes
@@ -67,8 +70,10 @@ groups_of-requires-clause-nodes c = few_nodes_each (goal.at.groups_of-requires-c
 -- each chain begins within the limits
 first_nodes : (c : In_ok-groups) → All (λ (g : Group). g.first_node ≤ MOST_INNER_NODES) c.in_ok-groups.groups.items
 first_nodes c =
-    first_nodes_few (c.len.result + c.len-2.result) c.in_ok-depths.depths.nodes c.in_ok-groups.groups.items c.in_ok-groups.ensures.chains
-    c.in_ok-groups.ensures.few (few_parts (goal.at.In_ok-groups c).After-len-2) (few_nodes_each (goal.at.In_ok-groups c).In_ok-depths)
+    let few = few_parts (goal.at.In_ok-groups c).After-len-2 in
+    let few_nodes = few_nodes_each (goal.at.In_ok-groups c).In_ok-depths in
+    first_nodes_few (c.len.result + c.len-2.result) c.in_ok-depths.depths.nodes c.in_ok-groups.groups.items
+    c.in_ok-groups.ensures.chains c.in_ok-groups.ensures.few few few_nodes
 
 pub overflow_cast-room : goal.overflow_cast-room
 overflow_cast-room c =
@@ -88,8 +93,9 @@ push_entering-requires-clause-depths c = c.deref.ensures.value ∙ c.in_ok-depth
 
 pub push_entering-requires-clause-small : goal.push_entering-requires-clause-small
 push_entering-requires-clause-small c =
-    subst (All (λ depth. depth ≤ 2 * MOST_PLACES)) (sym c.deref.ensures.value)
-    (shallow (goal.at.push_entering-requires-clause-small c).In_ok-depths c.in_ok-depths.depths.hot.items c.in_ok-depths.ensures.hot_within)
+    let small = shallow (goal.at.push_entering-requires-clause-small c).In_ok-depths c.in_ok-depths.depths.hot.items
+    c.in_ok-depths.ensures.hot_within in
+    subst (All (λ depth. depth ≤ 2 * MOST_PLACES)) (sym c.deref.ensures.value) small
 
 pub push_entering-requires-clause-nodes : goal.push_entering-requires-clause-nodes
 push_entering-requires-clause-nodes c =
@@ -118,15 +124,20 @@ push_onward-requires c =
     let p = goal.at.push_onward-requires c in
     let node = first_node p.In-loop-group c.group-item.result c.group-item.is in
     let some = chain_length-some c.as_slice-places.result.now c.args.parts.now.hot c.args.parts.now.cold in
-    record { node = node; some = omega (arith, some, c.in_ok-depths.ensures.nodes); nodes = few_nodes_each p.In_ok-depths }
+    record {
+      node = node;
+      some = omega (arith, some, c.in_ok-depths.ensures.nodes);
+      nodes = few_nodes_each p.In_ok-depths;
+    }
 
 pub push_leaving-requires-clause-depths : goal.push_leaving-requires-clause-depths
 push_leaving-requires-clause-depths c = c.deref-in-loop-group.ensures.value ∙ c.in_ok-depths.ensures.cold_depths
 
 pub push_leaving-requires-clause-small : goal.push_leaving-requires-clause-small
 push_leaving-requires-clause-small c =
-    subst (All (λ depth. depth ≤ 2 * MOST_PLACES)) (sym c.deref-in-loop-group.ensures.value)
-    (shallow (goal.at.push_leaving-requires-clause-small c).In_ok-depths c.in_ok-depths.depths.cold.items c.in_ok-depths.ensures.cold_within)
+    let small = shallow (goal.at.push_leaving-requires-clause-small c).In_ok-depths c.in_ok-depths.depths.cold.items
+    c.in_ok-depths.ensures.cold_within in
+    subst (All (λ depth. depth ≤ 2 * MOST_PLACES)) (sym c.deref-in-loop-group.ensures.value) small
 
 pub push_leaving-requires-clause-node : goal.push_leaving-requires-clause-node
 push_leaving-requires-clause-node c =
@@ -160,13 +171,14 @@ loop-group-preserved c =
     let sizes = ap (λ n. after ++ (onward g.first_node n room ++ out)) c.in_ok-depths.ensures.nodes in
     let pushed = c.in_ok-push_leaving.ensures ∙ ap (λ links. links ++ out) c.in_ok-push_onward.ensures
     ∙ append_assoc after (onward g.first_node c.in_ok-depths.depths.nodes room) out ∙ sizes in
-    flat_map-step groups c.loop-group.group-index g (entering depth groups hot) after _ c.loop-group-test.true c.group-item.is
-    (links_of_group case places hot cold) c.loop-group.invariant pushed
+    flat_map-step groups c.loop-group.group-index g (entering depth groups hot) after _ c.loop-group-test.true
+    c.group-item.is (links_of_group case places hot cold) c.loop-group.invariant pushed
 
 few_nodes : (c : After-len-3) → 2 * MOST_PARTS + c.len-3.result * c.in_ok-depths.depths.nodes < MOST_INNER_NODES
 few_nodes c =
-    few_chain_nodes c.len-3.result c.in_ok-depths.depths.nodes (omega (arith, c.len-3.ensures, c.in_ok-groups.ensures.few))
-    (few_nodes_each (goal.at.After-len-3 c).In_ok-depths)
+    let few_nodes = few_nodes_each (goal.at.After-len-3 c).In_ok-depths in
+    few_chain_nodes c.len-3.result c.in_ok-depths.depths.nodes
+    (omega (arith, c.len-3.ensures, c.in_ok-groups.ensures.few)) few_nodes
 
 pub overflow_mul-result : goal.overflow_mul-result
 overflow_mul-result c =
@@ -184,7 +196,10 @@ made : (c : After-drop-grid-2)
     (record {
       groups = c.from_vec-2.result;
       net =
-          record { nodes = (c.len.result + c.len-2.result) + c.len-3.result * c.in_ok-depths.depths.nodes; links = c.from_vec.result };
+          record {
+            nodes = (c.len.result + c.len-2.result) + c.len-3.result * c.in_ok-depths.depths.nodes;
+            links = c.from_vec.result;
+          };
     })
 made c =
     let case = c.args.case.now in
@@ -197,10 +212,14 @@ made c =
     let in_line = subst₂ (λ n ranks. StandInLine n ranks c.from_vec-2.result) first c.in_ok-depths.ensures.nodes
     (subst (StandInLine (c.len.result + c.len-2.result) c.in_ok-depths.depths.nodes) same answer.chains) in
     let all = take_all c.loop-group.group-index c.deref-group-items.result.now c.loop-group-test.false in
+    let same_groups = c.deref-group-items.ensures.value ∙ same in
     let links =
     c.from_vec.ensures ∙ c.loop-group.invariant
-    ∙ ap (λ gs. entering (depth_of places hot cold) c.deref-group-items.result.now hot ++ flat_map (links_of_group case places hot cold) gs) all
-    ∙ ap (chain_links case places hot cold) (c.deref-group-items.ensures.value ∙ same) in
+    ∙ ap (λ gs.
+    entering (depth_of places hot cold) c.deref-group-items.result.now hot
+    ++ flat_map (links_of_group case places hot cold) gs)
+    all
+    ∙ ap (chain_links case places hot cold) same_groups in
     let count : c.len-3.result ≡ length c.from_vec-2.result
     = omega (arith, c.len-3.ensures, ap length c.from_vec-2.ensures) in
     let nodes : (c.len.result + c.len-2.result) + c.len-3.result * c.in_ok-depths.depths.nodes

@@ -19,10 +19,11 @@ loop-source-preserved c =
           ∙ ap (λ xs. xs ++ next.source ∷ []) c.loop-source.invariant.sources
           ∙ sym (take_more hot i (of_stream 0) c.loop-source-test.true);
       each =
-          subst (All (HasPartners case)) (sym grown) (All-push (HasPartners case) table next c.loop-source.invariant.each c.in_ok-allowed.ensures);
+          let each = All-push (HasPartners case) table next c.loop-source.invariant.each c.in_ok-allowed.ensures in
+          subst (All (HasPartners case)) (sym grown) each;
     }
 
 pub returns : goal.returns
 returns c =
-    subst (λ hot. ArePartners c.args.case.now hot c.loop-source.table.items) (take_all c.loop-source.source-index c.args.hot.now c.loop-source-test.false)
-    c.loop-source.invariant
+    let all = take_all c.loop-source.source-index c.args.hot.now c.loop-source-test.false in
+    subst (λ hot. ArePartners c.args.case.now hot c.loop-source.table.items) all c.loop-source.invariant

@@ -13,5 +13,6 @@ returns c =
     let within : 0 < length sources = omega (arith, c.requires.group.filled, ap length c.as_slice.ensures) in
     let first = get_or sources 0 (of_stream 0) in
     let stands = subst (λ xs. Contains xs first) c.as_slice.ensures (Contains-get_or sources 0 (of_stream 0) within) in
-    IfOk-weaker c.permissions.result (λ v. ArePermissions case case.forbids first v.items) (λ v. ArePermitted case g v.items)
-    (λ v h. ArePermitted-first case g c.requires.group first stands v.items h) c.permissions.ensures
+    IfOk-weaker c.permissions.result (λ v. ArePermissions case case.forbids first v.items)
+    (λ v. ArePermitted case g v.items) (λ v h. ArePermitted-first case g c.requires.group first stands v.items h)
+    c.permissions.ensures

@@ -1,4 +1,4 @@
-use Rattle.chains.proofs.SpreadLemmas.{moved_one, moved_two}
+use Rattle.chains.proofs.PassedShares.{moved_one, moved_two}
 use Rattle.chains.proofs.stock.pass_on.Goals.{else-part-share, then-part-share+in_ok-push}
 use Rattle.chains.proofs.Words.{IsCarried, ints, to_z-of_z}
 use Rattle.std.proofs.Common.{ap, arith, of_z, rules, subst, to_z, w64, ◌∙◌, ◌≡◌}
@@ -20,9 +20,13 @@ returns-clause-passed c =
       carried = carried;
       is = elim c.if-part-share.branch [
         | then-part-share+in_ok-push w ↦
-            moved_two s part shares c.if-part-share.shares.items c.push-2.new.self.items _ _ (let less = w.if-part-share.true in omega (arith, ints, less))
-            (ap (λ v. v.items) w.shares-is ∙ w.in_ok-push.ensures.items) c.in_ok-push-2.ensures.items (omega (arith, ints)) left_is
-        | else-part-share w ↦ moved_one s part shares c.if-part-share.shares.items c.push-2.new.self.items
-            _ (let most = w.if-part-share.false in omega (arith, ints, most)) (ap (λ v. v.items) w.shares-is) c.in_ok-push-2.ensures.items left_is
+            let pushed = ap (λ v. v.items) w.shares-is ∙ w.in_ok-push.ensures.items in
+            moved_two s part shares c.if-part-share.shares.items c.push-2.new.self.items _ _
+            (let less = w.if-part-share.true in omega (arith, ints, less)) pushed c.in_ok-push-2.ensures.items
+            (omega (arith, ints)) left_is
+        | else-part-share w ↦
+            moved_one s part shares c.if-part-share.shares.items c.push-2.new.self.items _
+            (let most = w.if-part-share.false in omega (arith, ints, most)) (ap (λ v. v.items) w.shares-is)
+            c.in_ok-push-2.ensures.items left_is
       ];
     }

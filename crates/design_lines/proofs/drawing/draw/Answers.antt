@@ -8,8 +8,9 @@ loop-number-init c =
     let case = c.args.case.now in
     let courses = c.args.courses.now in
     let declared = c.args.declarations.items in
-    subst (AreCoursesLed courses (length case.streams) declared (own_branches case) 0 declared) (sym c.in_ok-branches.ensures)
-    (courses_start courses (length case.streams) declared (own_branches case) (many_own case))
+    let start = courses_start courses (length case.streams) declared (own_branches case) (many_own case) in
+    subst (AreCoursesLed courses (length case.streams) declared (own_branches case) 0 declared)
+    (sym c.in_ok-branches.ensures) start
 
 pub loop-number-preserved : goal.loop-number-preserved
 loop-number-preserved c =
@@ -32,5 +33,5 @@ loop-number-preserved c =
     let made = c.in_ok-push_branches.ensures
     ∙ ap (λ k. branches ++ numbered (k - c.len-own.result) number (c.in_ok-free.free - k)) first
     ∙ ap (λ k. branches ++ numbered (length branches - k) number (c.in_ok-free.free - length branches)) streams in
-    courses_next courses own c.args.declarations.items (own_branches case) number lines branches c.loop-number.invariant c.push_course.new.lines.items
-    c.push_branches.new.branches.items course c.in_ok-free.free left drawn free made
+    courses_next courses own c.args.declarations.items (own_branches case) number lines branches c.loop-number.invariant
+    c.push_course.new.lines.items c.push_branches.new.branches.items course c.in_ok-free.free left drawn free made

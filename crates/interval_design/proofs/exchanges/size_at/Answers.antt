@@ -4,4 +4,5 @@ use Rattle.interval_design.proofs.exchanges.size_at.Goals as goal
 
 pub unreachable-requires : goal.unreachable-requires
 unreachable-requires c =
-    outside_from_none _ (c.in_default.ensures.value (omega arith)) (within-ratio _ _ (omega arith) (omega (arith, ints)) (omega arith))
+    let none = c.in_default.ensures.value (omega arith) in
+    outside_from_none _ none (within-ratio _ _ (omega arith) (omega (arith, ints)) (omega arith))

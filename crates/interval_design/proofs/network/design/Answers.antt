@@ -37,20 +37,21 @@ exchanges_given c =
 pub lead-requires-clause-hot : goal.lead-requires-clause-hot
 lead-requires-clause-hot c =
     let parts = c.args.parts.now in
-    pieces_within side.Hot parts.hot parts.cold c.args.flow.now.transfers c.as_slice-6.result.now c.as_slice-8.result.now
-    (hot_given c) (exchanges_given c) c.requires.flow.hot_indexes
+    pieces_within side.Hot parts.hot parts.cold c.args.flow.now.transfers c.as_slice-6.result.now
+    c.as_slice-8.result.now (hot_given c) (exchanges_given c) c.requires.flow.hot_indexes
 
 pub lead-requires-clause-cold : goal.lead-requires-clause-cold
 lead-requires-clause-cold c =
     let parts = c.args.parts.now in
-    pieces_within side.Cold parts.hot parts.cold c.args.flow.now.transfers c.as_slice-7.result.now c.as_slice-8.result.now
-    (cold_given c) (exchanges_given c) c.requires.flow.cold_indexes
+    pieces_within side.Cold parts.hot parts.cold c.args.flow.now.transfers c.as_slice-7.result.now
+    c.as_slice-8.result.now (cold_given c) (exchanges_given c) c.requires.flow.cold_indexes
 
 pub lead-requires-clause-few : goal.lead-requires-clause-few
 lead-requires-clause-few c =
     let parts = c.args.parts.now in
     let few = few_flow c.requires.flow parts.few_hot parts.few_cold in
-    let streams = length-AreStreams c.args.case.now.streams (AreStreams-IsComplete c.args.case.now c.requires.complete) in
+    let are_streams = AreStreams-IsComplete c.args.case.now c.requires.complete in
+    let streams = length-AreStreams c.args.case.now.streams are_streams in
     let exchanges = ap length (exchanges_given c) in
     let long = length-map c.args.flow.now.transfers (exchange_of parts.hot parts.cold) in
     omega arith
@@ -73,7 +74,8 @@ given : (c : goal.After-drop-hot-2)
     → IsCaseFlow c.args.case.now c.args.parts.now.hot c.args.parts.now.cold c.args.flow.now.transfers
 given c =
     let parts = c.args.parts.now in
-    let heats = flow_heats c.args.case.now parts.hot parts.cold c.args.flow.now.transfers parts.hot_bounded c.requires.flow in
+    let heats =
+    flow_heats c.args.case.now parts.hot parts.cold c.args.flow.now.transfers parts.hot_bounded c.requires.flow in
     record { complete = c.requires.complete; parts = c.requires.parts; flow = c.requires.flow; heats = heats }
 
 hots : goal.After-drop-hot-2 → List Piece
@@ -90,8 +92,11 @@ led c =
     let parts = c.args.parts.now in
     let ts = c.args.flow.now.transfers in
     let few = few_flow c.requires.flow parts.few_hot parts.few_cold in
-    c.in_ok-network.ensures.led (hots c) (colds c) (sources-are case parts.hot ∙ sym (hot_led c)) (sources-are case parts.cold ∙ sym (cold_led c))
-    (subst (AreLedPieces case (hots c) (colds c)) (sym (exchanges_led c)) (flow_led case parts.hot parts.cold ts (given c) few))
+    let hot_sources = sources-are case parts.hot ∙ sym (hot_led c) in
+    let cold_sources = sources-are case parts.cold ∙ sym (cold_led c) in
+    let led = flow_led case parts.hot parts.cold ts (given c) few in
+    c.in_ok-network.ensures.led (hots c) (colds c) hot_sources cold_sources
+    (subst (AreLedPieces case (hots c) (colds c)) (sym (exchanges_led c)) led)
 
 pub returns-clause-exchangers : goal.returns-clause-exchangers
 returns-clause-exchangers c =
@@ -105,7 +110,8 @@ pub returns-clause-few_lines : goal.returns-clause-few_lines
 returns-clause-few_lines c few =
     let parts = c.args.parts.now in
     let lines = c.in_ok-network.ensures.few_lines in
-    let streams = length-AreStreams c.args.case.now.streams (AreStreams-IsComplete c.args.case.now c.requires.complete) in
+    let are_streams = AreStreams-IsComplete c.args.case.now c.requires.complete in
+    let streams = length-AreStreams c.args.case.now.streams are_streams in
     let exchanges = ap length (exchanges_led c) in
     let long = length-map c.args.flow.now.transfers (exchange_of parts.hot parts.cold) in
     omega (arith, parts.few_hot, parts.few_cold)

@@ -15,9 +15,11 @@ loop-index-preserved-then-not-is_stream c =
     let shares = shares_of c.args.side index c.args.exchanges.now in
     let other : same_source a (source.Stream c.args.stream) ≡ false
     = sym c.is_stream.ensures ∙ c.if-not-is_stream.true in
-    c.loop-index.invariant ∙ sym (kept-skip (stage_of c.args.side c.args.exchanges.now c.args.stream) sources index a c.loop-index-test.true
-    (get_or_default sources index (source.Stream 0) a c.loop-index-test.true)
-    (ap (λ b. if b && nat_lt 0 (length shares) then Some shares else None) other))
+    let here = get_or_default sources index (source.Stream 0) a c.loop-index-test.true in
+    let nothing = ap (λ b. if b && nat_lt 0 (length shares) then Some shares else None) other in
+    let skipped = kept-skip (stage_of c.args.side c.args.exchanges.now c.args.stream) sources index a
+    c.loop-index-test.true here nothing in
+    c.loop-index.invariant ∙ sym skipped
 
 some_share : (empty : Bool) (shares : List Share) → empty ≡ false → (shares ≡ [] → IsTrue empty)
     → nat_lt 0 (length shares) ≡ true
@@ -45,8 +47,10 @@ loop-index-preserved c =
           let some = some_share c.is_empty.result c.in_ok-shares.shares w.if-not-is_empty.true c.is_empty.ensures.1 in
           let used : nat_lt 0 (length shares) ≡ true
           = ap (λ (ss : List Share). nat_lt 0 (length ss)) (sym are) ∙ some in
+          let used_here = is_stage ∙ ap (λ b. if b then Some shares else None) used in
+          let one_more = kept-more stage sources index a c.loop-index-test.true here shares used_here in
           (λ i. (w.stages-is i).items) ∙ w.in_ok-push.ensures.items ∙ (λ i. c.loop-index.invariant i ++ are i ∷ [])
-          ∙ sym (kept-more stage sources index a c.loop-index-test.true here shares (is_stage ∙ ap (λ b. if b then Some shares else None) used))
+          ∙ sym one_more
       | else-not-is_empty w ↦
           let none : shares ≡ [] = sym are ∙ c.is_empty.ensures.0 w.if-not-is_empty.false in
           let no_stage = is_stage ∙ ap (λ (ss : List Share). if nat_lt 0 (length ss) then Some ss else None) none in
@@ -63,7 +67,8 @@ turned c = elim c.if-eq.branch [
       ∙ ap (λ d. on_the_way d c.loop-index.stages.items) (sym cold)
   | else-eq w ↦
       (λ i. (w.stages-is i).items)
-      ∙ as_listed c.args.side c.loop-index.stages.items (λ cold. false≢true (sym w.if-eq.false ∙ c.eq.ensures ∙ true_same the_type c.args.side side.Cold cold))
+      ∙ as_listed c.args.side c.loop-index.stages.items (λ cold.
+      false≢true (sym w.if-eq.false ∙ c.eq.ensures ∙ true_same the_type c.args.side side.Cold cold))
 ]
   where
     as_listed : (of : Side) (stages : Course) → (of ≡ side.Cold → ⊥) → stages ≡ on_the_way of stages
@@ -73,6 +78,7 @@ turned c = elim c.if-eq.branch [
 pub returns : goal.returns
 returns c =
     let stage = stage_of c.args.side c.args.exchanges.now c.args.stream in
-    let all = ap (λ ss. filter_map stage (enumerate_from 0 ss)) (take_all c.loop-index.index c.args.sources.now c.loop-index-test.false) in
+    let whole = take_all c.loop-index.index c.args.sources.now c.loop-index-test.false in
+    let all = ap (λ ss. filter_map stage (enumerate_from 0 ss)) whole in
     c.from_vec.ensures ∙ turned c ∙ ap (on_the_way c.args.side) (c.loop-index.invariant ∙ all)
     ∙ sym (filter_map-way stage c.args.side (enumerate_from 0 c.args.sources.now))

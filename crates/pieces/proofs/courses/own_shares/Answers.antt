@@ -11,8 +11,11 @@ loop-number-preserved-then-not-is_of_stream c =
     let other : is_of_stream c.args.sources.now c.args.stream (piece_on c.args.side e) ≡ false =
     ap (is_of_stream c.args.sources.now c.args.stream) (sym c.piece_on-index.ensures)
     ∙ sym c.is_of_stream.ensures ∙ c.if-not-is_of_stream.true in
-    c.loop-number.invariant ∙ sym (kept-skip own c.args.exchanges.now number e c.loop-number-test.true c.index-exchanges-number.is
-    (ap (λ b. if b then Some (piece_on c.args.side e, share_for c.args.side (number, e)) else None) other))
+    let nothing =
+    ap (λ b. if b then Some (piece_on c.args.side e, share_for c.args.side (number, e)) else None) other in
+    let skipped =
+    kept-skip own c.args.exchanges.now number e c.loop-number-test.true c.index-exchanges-number.is nothing in
+    c.loop-number.invariant ∙ sym skipped
 
 pub loop-number-preserved : goal.loop-number-preserved
 loop-number-preserved c =
@@ -23,13 +26,18 @@ loop-number-preserved c =
     let is : is_of_stream c.args.sources.now c.args.stream (piece_on c.args.side e) ≡ true =
     ap (is_of_stream c.args.sources.now c.args.stream) (sym c.piece_on-index.ensures)
     ∙ sym c.is_of_stream.ensures ∙ c.if-not-is_of_stream.false in
+    let is_some = ap (λ b. if b then Some share else None) is in
+    let kept_one =
+    kept-more own c.args.exchanges.now number e c.loop-number-test.true c.index-exchanges-number.is share is_some in
     cc c.in_ok-push.ensures.items
-    ∙ (λ i. c.loop-number.invariant i ++ (c.piece_on-index.ensures i, record { exchanger = number; cp = c.size_on.ensures i }) ∷ [])
-    ∙ sym (kept-more own c.args.exchanges.now number e c.loop-number-test.true c.index-exchanges-number.is share
-    (ap (λ b. if b then Some share else None) is))
+    ∙ (λ i.
+    c.loop-number.invariant i ++ (c.piece_on-index.ensures i, record { exchanger = number; cp = c.size_on.ensures i })
+    ∷ [])
+    ∙ sym kept_one
 
 pub returns : goal.returns
 unfolding own_shares
 returns c =
     let all = take_all c.loop-number.number c.args.exchanges.now c.loop-number-test.false in
-    c.loop-number.invariant ∙ ap (λ es. filter_map (own_share c.args.side c.args.sources.now c.args.stream) (enumerate_from 0 es)) all
+    c.loop-number.invariant
+    ∙ ap (λ es. filter_map (own_share c.args.side c.args.sources.now c.args.stream) (enumerate_from 0 es)) all

@@ -8,19 +8,22 @@ loop-share-preserved-then-share-index c =
     let share = c.share-item.result in
     let before = filter_map (share_at c.args.index) (take c.loop-share.share-index c.args.own.now) in
     let none = ap (λ b. if b then Some share.1 else None) (ne_eqb share.0 c.args.index c.if-share-index.true) in
-    c.loop-share.invariant
-    ∙ sym (one_more (share_at c.args.index) c.args.own.now c.loop-share.share-index share c.loop-share-test.true c.share-item.is
-    ∙ ap (λ o. before ++ option_to_list o) none ∙ append-nil before)
+    let same = one_more (share_at c.args.index) c.args.own.now c.loop-share.share-index share c.loop-share-test.true
+    c.share-item.is
+    ∙ ap (λ o. before ++ option_to_list o) none ∙ append-nil before in
+    c.loop-share.invariant ∙ sym same
 
 pub loop-share-preserved : goal.loop-share-preserved
 loop-share-preserved c =
     let share = c.share-item.result in
     let before = filter_map (share_at c.args.index) (take c.loop-share.share-index c.args.own.now) in
     let some = ap (λ b. if b then Some share.1 else None) (eq-eqb share.0 c.args.index c.if-share-index.false) in
-    c.in_ok-push.ensures.ok ∙ ap (λ ss. ss ++ share.1 ∷ []) c.loop-share.invariant
-    ∙ sym (one_more (share_at c.args.index) c.args.own.now c.loop-share.share-index share c.loop-share-test.true c.share-item.is
-    ∙ ap (λ o. before ++ option_to_list o) some)
+    let kept_one = one_more (share_at c.args.index) c.args.own.now c.loop-share.share-index share c.loop-share-test.true
+    c.share-item.is
+    ∙ ap (λ o. before ++ option_to_list o) some in
+    c.in_ok-push.ensures.ok ∙ ap (λ ss. ss ++ share.1 ∷ []) c.loop-share.invariant ∙ sym kept_one
 
 pub returns : goal.returns
 returns c =
-    c.loop-share.invariant ∙ ap (filter_map (share_at c.args.index)) (take_all c.loop-share.share-index c.args.own.now c.loop-share-test.false)
+    let whole = take_all c.loop-share.share-index c.args.own.now c.loop-share-test.false in
+    c.loop-share.invariant ∙ ap (filter_map (share_at c.args.index)) whole

@@ -14,8 +14,11 @@ loop-number-preserved c =
     let pushed : c.push.new.self.items ≡ c.loop-number.lines.items ++ line.Exchanger c.in_ok-name.name a b e.heat ∷ []
     = cc c.in_ok-push.ensures.items in
     let made : line.Exchanger c.in_ok-name.name a b e.heat ≡ declared_line (exchanger_of hot cold (number, e)) =
-    λ i. line.Exchanger (c.in_ok-name.ensures i) (c.source_at.ensures i) (c.source_at-in-loop-number.ensures i) e.heat in
-    let more = map-enumerate_more (exchanger_of hot cold) c.args.exchanges.now number e c.loop-number-test.true c.index-exchanges-number.is in
-    pushed ∙ (λ i. c.loop-number.invariant i ++ made i ∷ [])
-    ∙ sym (ap (map declared_line) more
-    ∙ map-append declared_line (exchangers_for hot cold (take number c.args.exchanges.now)) (exchanger_of hot cold (number, e) ∷ []))
+    λ i.
+    line.Exchanger (c.in_ok-name.ensures i) (c.source_at.ensures i) (c.source_at-in-loop-number.ensures i) e.heat in
+    let more = map-enumerate_more (exchanger_of hot cold) c.args.exchanges.now number e c.loop-number-test.true
+    c.index-exchanges-number.is in
+    let next = ap (map declared_line) more
+    ∙ map-append declared_line (exchangers_for hot cold (take number c.args.exchanges.now))
+    (exchanger_of hot cold (number, e) ∷ []) in
+    pushed ∙ (λ i. c.loop-number.invariant i ++ made i ∷ []) ∙ sym next

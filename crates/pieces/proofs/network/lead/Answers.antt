@@ -1,6 +1,7 @@
 use Rattle.pieces.proofs.Words.{AreStages, Course, IsLedNetwork, Network, all_branches, balance_of, courses_lines, exchangers_of, made_branches}
 use Rattle.pieces.proofs.Words.{network_of, own_branches}
-use Rattle.pieces.proofs.Law.{balance-network_of, exchangers_of-network_of, led_network, length-network_of}
+use Rattle.pieces.proofs.Law.{balance-network_of, led_network}
+use Rattle.pieces.proofs.PieceShape.{exchangers_of-network_of, length-network_of}
 use Rattle.pieces.proofs.PieceStages.{courses-used}
 use Rattle.pieces.proofs.PieceShape.{few-branches, length-courses_of}
 use Rattle.std.proofs.Common.{All, List, ap, arith, length, subst, sym, ◌++◌, ◌∙◌}
@@ -9,7 +10,8 @@ use Rattle.pieces.proofs.network.lead.Goals as goal
 pub draw-requires-clause-stages : goal.draw-requires-clause-stages
 draw-requires-clause-stages c =
     let courses = c.as_slice.ensures.value ∙ c.in_ok-courses.ensures in
-    subst (All AreStages) (sym courses) (courses-used c.args.exchanges.now c.args.case.now c.args.hot.now c.args.cold.now)
+    let used = courses-used c.args.exchanges.now c.args.case.now c.args.hot.now c.args.cold.now in
+    subst (All AreStages) (sym courses) used
 
 pub draw-requires-clause-all : goal.draw-requires-clause-all
 draw-requires-clause-all c =
@@ -56,5 +58,6 @@ pub returns-clause-led : goal.returns-clause-led
 returns-clause-led c hots colds hot_is cold_is led =
     let case = c.args.case.now in
     let exchanges = c.args.exchanges.now in
-    subst (IsLedNetwork case hots colds exchanges) ((λ i. network_of case (hot_is i) (cold_is i) exchanges) ∙ sym (returns-clause-drawn c))
-    (led_network case hots colds exchanges c.requires.complete c.requires.few led)
+    let led_all = led_network case hots colds exchanges c.requires.complete c.requires.few led in
+    subst (IsLedNetwork case hots colds exchanges)
+    ((λ i. network_of case (hot_is i) (cold_is i) exchanges) ∙ sym (returns-clause-drawn c)) led_all

@@ -1,4 +1,4 @@
-use Rattle.transport.proofs.NetAround.{IsAround-parts}
+use Rattle.transport.proofs.AroundLimits.{IsAround-parts}
 use Rattle.transport.proofs.CutLemmas.{within_demand, within_supply}
 use Rattle.transport.proofs.cut.blocked_members.Goals as goal
 

@@ -1,7 +1,8 @@
 use Rattle.transport.proofs.Words.{IfOk-weaker, IsAnswer, IsCutWithin, IsSideHeat, PathsAreReaches, cut_side, offer_of, opposite, parts_of, to_z-of_z, w128}
 use Rattle.heat_flow.specs.Table.{reaches}
 use Rattle.std.proofs.Common.{Bool, FitsSigned, length, of_z, rules, subst, sym, to_z, ℕ, ◌∙◌, ◌≡◌}
-use Rattle.transport.proofs.NetAround.{IsAround, IsAround-pairs, PathsAreReaches-pairs}
+use Rattle.transport.proofs.AroundLimits.{IsAround}
+use Rattle.transport.proofs.PairNet.{IsAround-pairs, PathsAreReaches-pairs}
 use Rattle.transport.proofs.CutLemmas.{IsAnswer-cut, IsCutOf-members}
 use Rattle.transport.proofs.least_cost.least.Goals.{After-offer_of-offer, In_ok-net}
 use Rattle.transport.proofs.least_cost.least.Goals as goal

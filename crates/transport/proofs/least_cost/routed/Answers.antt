@@ -1,7 +1,8 @@
 use Rattle.transport.proofs.Words.{IfOk-weaker, IsAnswer, IsHeatOf, PathsAreReaches, priced}
 use Rattle.std.proofs.Common.{Bool, length, subst, sym, ℕ, ◌≡◌}
-use Rattle.transport.proofs.RoutingLemmas.{IsHeatOf-front, IsRoutedHeat, IsSpread-whole, answered, each_potential, has_cost}
-use Rattle.transport.proofs.NetAround.{IsAround-parts, IsFullRouting}
+use Rattle.transport.proofs.InnerFlow.{IsHeatOf-front, IsSpread-whole}
+use Rattle.transport.proofs.RoutedHeat.{IsRoutedHeat, answered, each_potential, has_cost}
+use Rattle.transport.proofs.AroundLimits.{IsAround-parts, IsFullRouting}
 use Rattle.transport.proofs.least_cost.routed.Goals.{In_ok-front, In_ok-heat}
 use Rattle.transport.proofs.least_cost.routed.Goals as goal
 

@@ -1,6 +1,6 @@
 use Rattle.transport.proofs.Words.{AreInitialPotentials, IsWithinLimits}
 use Rattle.std.proofs.Common.{subst, subst₂, sym}
-use Rattle.transport.proofs.NetAround.{IsAround, IsAround-parts, limits_around, start_around}
+use Rattle.transport.proofs.AroundLimits.{IsAround, IsAround-parts, limits_around, start_around}
 use Rattle.transport.proofs.route.route.Goals as goal
 
 around : (c : goal.After-start-2-1) → IsAround c.args.parts.now.hot c.args.parts.now.cold c.args.inner.now

@@ -8,7 +8,8 @@ use Rattle.vertical_design.proofs.curve.side_heat.Goals as goal
 pub returns-clause-value : goal.returns-clause-value
 returns-clause-value c =
     let streams = c.args.streams.now in
+    let sensible = (AreSensibleStreams-both streams c.requires.streams c.requires.sensible).each in
+    let all_below = All-weaker IsSensibleStream (λ s. heat_below HIGHEST_SHIFTED s ≡ heat_of s) (λ s h.
+    heat_below-all HIGHEST_SHIFTED s h (AreEnds-IsValidStream s h.valid).upto) streams sensible in
     to_z-of_z w64 c.side_heat_below.result (search rules) ∙ c.side_heat_below.ensures.value
-    ∙ sum_side-same c.args.side (heat_below HIGHEST_SHIFTED) heat_of streams (All-weaker IsSensibleStream (λ s. heat_below HIGHEST_SHIFTED s ≡ heat_of s)
-    (λ s h. heat_below-all HIGHEST_SHIFTED s h (AreEnds-IsValidStream s h.valid).upto) streams
-    (AreSensibleStreams-both streams c.requires.streams c.requires.sensible).each)
+    ∙ sum_side-same c.args.side (heat_below HIGHEST_SHIFTED) heat_of streams all_below

@@ -8,15 +8,18 @@ use Rattle.vertical_design.proofs.curve.side_heat_below.Goals as goal
 pub overflow_add-heat : goal.overflow_add-heat
 overflow_add-heat c =
     let t = to_z w32 (of_z w32 c.args.t) in
-    let so_far = sum_side-so_far c.args.side (heat_below t) (heat_below-between t) c.args.streams.now c.loop-stream.stream-index c.requires in
+    let so_far = sum_side-so_far c.args.side (heat_below t) (heat_below-between t) c.args.streams.now
+    c.loop-stream.stream-index c.requires in
     omega (arith, ints)
 
 pub loop-stream-preserved : goal.loop-stream-preserved
 loop-stream-preserved c =
     let t = to_z w32 (of_z w32 c.args.t) in
     let s = c.stream-item.result in
-    let so_far = sum_side-so_far c.args.side (heat_below t) (heat_below-between t) c.args.streams.now c.loop-stream.stream-index c.requires in
-    let step = sum_side-more c.args.side (heat_below t) c.args.streams.now c.loop-stream.stream-index s c.loop-stream-test.true c.stream-item.is in
+    let so_far = sum_side-so_far c.args.side (heat_below t) (heat_below-between t) c.args.streams.now
+    c.loop-stream.stream-index c.requires in
+    let step = sum_side-more c.args.side (heat_below t) c.args.streams.now c.loop-stream.stream-index s
+    c.loop-stream-test.true c.stream-item.is in
     let term = λ (b : Bool). if b then heat_below t s else pos 0 in
     elim c.if-is_on.branch [
       | then-is_on w ↦
@@ -30,5 +33,6 @@ loop-stream-preserved c =
 pub returns-clause-range : goal.returns-clause-range
 returns-clause-range c =
     let t = to_z w32 (of_z w32 c.args.t) in
-    let so_far = sum_side-so_far c.args.side (heat_below t) (heat_below-between t) c.args.streams.now c.loop-stream.stream-index c.requires in
+    let so_far = sum_side-so_far c.args.side (heat_below t) (heat_below-between t) c.args.streams.now
+    c.loop-stream.stream-index c.requires in
     record { from = omega (arith, ints); upto = omega (arith, ints) }

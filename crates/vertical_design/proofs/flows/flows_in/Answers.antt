@@ -1,6 +1,6 @@
 use Rattle.std.proofs.Common.{All, [], ap, get_or, of_z, pos, rules, subst, sym, to_z, w64, ℤ, ◌++◌, ◌∙◌, ◌∷◌, ◌≡◌}
 use Rattle.vertical_design.proofs.Words.{IsFlow, Span, flow_in, flows_in, get_or_default, take_all, to_z-of_z}
-use Rattle.vertical_design.proofs.OverlapLists.{flows-within, map_more}
+use Rattle.vertical_design.proofs.FlowLimits.{flows-within, map_more}
 use Rattle.stream_case.specs.declared.source.Source.TheVariants as source
 use Rattle.vertical_design.proofs.flows.flows_in.Goals as goal
 
@@ -17,18 +17,22 @@ loop-span-preserved c =
     = to_z-of_z w64 c.flow_in.result (search rules) ∙ c.flow_in.ensures in
     let added : c.push.new.self.items ≡ before ++ to_z w64 (of_z w64 c.flow_in.result) ∷ []
     = cc c.in_ok-push.ensures.items in
+    let span_is = get_or_default spans i none s c.loop-span-test.true in
+    let one_more = map_more (flow_in low high) spans i s c.loop-span-test.true span_is in
     added ∙ ap (λ (f : ℤ). before ++ f ∷ []) flow ∙ ap (λ fs. fs ++ flow_in low high s ∷ []) c.loop-span.invariant
-    ∙ sym (map_more (flow_in low high) spans i s c.loop-span-test.true (get_or_default spans i none s c.loop-span-test.true))
+    ∙ sym one_more
 
 pub returns-clause-flows : goal.returns-clause-flows
 returns-clause-flows c =
     let low = to_z-of_z w64 c.args.low (search rules) in
     let high = to_z-of_z w64 c.args.high (search rules) in
-    c.loop-span.invariant ∙ (λ j. flows_in (low j) (high j) (take_all c.loop-span.span-index c.args.spans.now c.loop-span-test.false j))
+    c.loop-span.invariant
+    ∙ (λ j. flows_in (low j) (high j) (take_all c.loop-span.span-index c.args.spans.now c.loop-span-test.false j))
 
 pub returns-clause-each : goal.returns-clause-each
 returns-clause-each c =
     let low = to_z w64 (of_z w64 c.args.low) in
     let high = to_z w64 (of_z w64 c.args.high) in
-    subst (All IsFlow) (sym (c.loop-span.invariant ∙ ap (flows_in low high) (take_all c.loop-span.span-index c.args.spans.now c.loop-span-test.false)))
-    (flows-within low high c.args.spans.now c.requires.each)
+    let all_taken = take_all c.loop-span.span-index c.args.spans.now c.loop-span-test.false in
+    let flows = flows-within low high c.args.spans.now c.requires.each in
+    subst (All IsFlow) (sym (c.loop-span.invariant ∙ ap (flows_in low high) all_taken)) flows

@@ -1,6 +1,6 @@
 use Rattle.std.proofs.Common.{arith, pos}
 use Rattle.vertical_design.proofs.Words.{int_sum_by-more, ints}
-use Rattle.vertical_design.proofs.OverlapLists.{sum-so_far}
+use Rattle.vertical_design.proofs.FlowLimits.{sum-so_far}
 use Rattle.vertical_design.proofs.flows.sum_of.Goals as goal
 
 pub overflow_add-sum : goal.overflow_add-sum

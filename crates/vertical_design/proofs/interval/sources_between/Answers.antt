@@ -1,6 +1,6 @@
 use Rattle.std.proofs.Common.{List, ap, arith, length, sym, ◌++◌, ◌-◌, ◌∙◌, ◌≡◌}
 use Rattle.vertical_design.proofs.Words.{Source, flat_map, range_with_len, sources_in}
-use Rattle.vertical_design.proofs.OverlapLists.{rows_more}
+use Rattle.vertical_design.proofs.RowLists.{rows_more}
 use Rattle.vertical_design.proofs.interval.sources_between.Goals as goal
 
 pub loop-number-preserved : goal.loop-number-preserved

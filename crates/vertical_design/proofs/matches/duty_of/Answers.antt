@@ -1,6 +1,6 @@
 use Rattle.vertical_design.proofs.Words.{ints, ratio, unsigned_abs, w128, ◌*ℤ◌, ◌-ℤ◌}
 use Rattle.std.proofs.Common.{ap₂, arith, of_z, subst₂, sym, to_z, w64, ℤ, ◌∙◌, ◌≡◌}
-use Rattle.vertical_design.proofs.OverlapLists.{IsFraction, duty-within}
+use Rattle.vertical_design.proofs.FlowLimits.{IsFraction, duty-within}
 use Rattle.vertical_design.proofs.matches.duty_of.Goals.{After-from-part}
 use Rattle.vertical_design.proofs.matches.duty_of.Goals as goal
 
@@ -29,7 +29,8 @@ formed : (c : After-from-part)
     (to_z w64 (of_z w64 c.args.gap.hot) *ℤ to_z w64 (of_z w64 c.args.gap.cold))
 formed c =
     let gap = c.args.gap in
-    subst₂ IsFraction (sym (heat_is c)) (sym (flows_are c)) (duty-within gap.low gap.high c.args.share gap.hot gap.cold c.requires.gap
+    subst₂ IsFraction (sym (heat_is c)) (sym (flows_are c))
+    (duty-within gap.low gap.high c.args.share gap.hot gap.cold c.requires.gap
     (omega (arith, ints, c.requires.share.from)) c.requires.share.upto c.requires.hot c.requires.cold)
 
 pub overflow_mul-heat : goal.overflow_mul-heat
@@ -62,8 +63,10 @@ returns c =
     let gap = c.args.gap in
     let before = (goal.at.returns c).After-from-part in
     let d = formed before in
-    let num : to_z w128 (of_z w128 (to_z w128 (of_z w128 c.from-width.result) *ℤ to_z w128 (of_z w128 c.from-part.result)))
-    ≡ (gap.high -ℤ gap.low) *ℤ c.args.share = omega (arith, ints, heat_is before, d.num_above, d.num_upto) in
+    let num : to_z w128
+    (of_z w128 (to_z w128 (of_z w128 c.from-width.result) *ℤ to_z w128 (of_z w128 c.from-part.result)))
+    ≡ (gap.high -ℤ gap.low) *ℤ c.args.share
+    = omega (arith, ints, heat_is before, d.num_above, d.num_upto) in
     let den : to_z w64 (of_z w64 (to_z w64 (of_z w64 gap.hot) *ℤ to_z w64 (of_z w64 gap.cold))) ≡ gap.hot *ℤ gap.cold =
     omega (arith, ints, flows_are before, d.den_from, d.den_upto) in c.quotient.ensures
     ∙ ap₂ (λ (n m : ℤ). ratio n (unsigned_abs m)) num den

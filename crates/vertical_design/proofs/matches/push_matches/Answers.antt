@@ -1,7 +1,8 @@
 use Rattle.vertical_design.proofs.Words.{Exchange, IsMet, ListsOverlaps, Pair, amounts_in, get_or_default, int_sum_by, match_of, matches_in, scaled, side_flow}
 use Rattle.vertical_design.proofs.Words.{take_all, to_z-of_z}
 use Rattle.std.proofs.Common.{All, List, [], ap, append_assoc, get_or, map, of_z, pos, rules, subst, subst₂, sym, take, to_z, w64, ℤ, ◌++◌, ◌∙◌, ◌∷◌, ◌≡◌}
-use Rattle.vertical_design.proofs.OverlapLists.{map_more, pairs_are}
+use Rattle.vertical_design.proofs.OverlapLists.{pairs_are}
+use Rattle.vertical_design.proofs.FlowLimits.{map_more}
 use Rattle.vertical_design.proofs.matches.push_matches.Goals.{In_ok-pairs}
 use Rattle.vertical_design.proofs.matches.push_matches.Goals as goal
 
@@ -30,12 +31,14 @@ pub match_of-requires-clause-pair : goal.match_of-requires-clause-pair
 match_of-requires-clause-pair c =
     let none : Pair = record { first = 0; second = 0; amount = pos 0 } in
     let at = (goal.at.match_of-requires-clause-pair c).In_ok-pairs in
-    let each = subst (All (IsMet (low_of at) (high_of at) c.args.hot.now c.args.cold.now)) (sym c.deref-pair-items.ensures.value) (overlaps at).each in
+    let each = subst (All (IsMet (low_of at) (high_of at) c.args.hot.now c.args.cold.now))
+    (sym c.deref-pair-items.ensures.value) (overlaps at).each in
     each c.loop-pair.pair-index none c.loop-pair-test.true
 
 pub loop-pair-preserved : goal.loop-pair-preserved
 loop-pair-preserved c =
-    let f = match_of c.args.number (to_z w64 (of_z w64 c.args.low)) (to_z w64 (of_z w64 c.args.high)) c.args.hot.now c.args.cold.now in
+    let f = match_of c.args.number (to_z w64 (of_z w64 c.args.low)) (to_z w64 (of_z w64 c.args.high)) c.args.hot.now
+    c.args.cold.now in
     let items = c.deref-pair-items.result.now in
     let i = c.loop-pair.pair-index in
     let none : Pair = record { first = 0; second = 0; amount = pos 0 } in
@@ -55,8 +58,13 @@ returns c =
     let hot = c.args.hot.now in
     let cold = c.args.cold.now in
     let given = c.args.exchanges.now.items in
-    let pairs = pairs_are (amounts_in (low_of at) (high_of at) hot cold) (amounts_in (low_of at) (high_of at) cold hot) c.in_ok-pairs.pairs.items
-    (overlaps at) in c.loop-pair.invariant
+    let pairs = pairs_are (amounts_in (low_of at) (high_of at) hot cold) (amounts_in (low_of at) (high_of at) cold hot)
+    c.in_ok-pairs.pairs.items (overlaps at) in
+    c.loop-pair.invariant
     ∙ ap (λ ps. given ++ map (match_of c.args.number (low_of at) (high_of at) hot cold) ps)
-    ((take_all c.loop-pair.pair-index c.deref-pair-items.result.now c.loop-pair-test.false) ∙ c.deref-pair-items.ensures.value ∙ pairs)
-    ∙ (λ i. given ++ matches_in c.args.number ((to_z-of_z w64 c.args.low (search rules)) i) ((to_z-of_z w64 c.args.high (search rules)) i) hot cold)
+    ((take_all c.loop-pair.pair-index c.deref-pair-items.result.now c.loop-pair-test.false)
+    ∙ c.deref-pair-items.ensures.value ∙ pairs)
+    ∙ (λ i.
+    given
+    ++ matches_in c.args.number ((to_z-of_z w64 c.args.low (search rules)) i)
+    ((to_z-of_z w64 c.args.high (search rules)) i) hot cold)

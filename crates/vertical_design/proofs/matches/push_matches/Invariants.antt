@@ -4,4 +4,5 @@ use Rattle.vertical_design.proofs.matches.push_matches.Given as goal
 
 abbrev pub invariant-loop-pair : goal.invariant-loop-pair
 invariant-loop-pair l =
-    l.exchanges.items ≡ l.fn.exchanges.items ++ map (match_of l.number l.low l.high l.hot l.cold) (take l.pair-index l.pair-items)
+    l.exchanges.items
+    ≡ l.fn.exchanges.items ++ map (match_of l.number l.low l.high l.hot l.cold) (take l.pair-index l.pair-items)

@@ -1,7 +1,7 @@
 use Rattle.vertical_design.proofs.Words.{AreBetween, AreCuts, AreSpans, AreStreams-IsComplete, IsSensibleCase-both, Span, exchanges_between, length-utilities}
 use Rattle.vertical_design.proofs.Words.{sources_between, spans_of}
 use Rattle.std.proofs.Common.{List, arith, subst, sym, ℤ, ◌∙◌, ◌≡◌}
-use Rattle.vertical_design.proofs.SpanSources.{AreSpans-spans_of}
+use Rattle.vertical_design.proofs.SpanLimits.{AreSpans-spans_of}
 use Rattle.stream_case.specs.declared.source.Side.TheVariants as side
 use Rattle.vertical_design.proofs.network.intervals_for.Goals as goal
 
@@ -28,24 +28,28 @@ exchanges_between-requires c =
     let sensible = IsSensibleCase-both case c.requires.complete c.requires.sensible in
     record {
       hot =
-          subst AreSpans (sym (c.deref.ensures.value ∙ c.in_ok-hot.ensures)) (AreSpans-spans_of side.Hot case sensible c.requires.standard);
+          subst AreSpans (sym (c.deref.ensures.value ∙ c.in_ok-hot.ensures))
+          (AreSpans-spans_of side.Hot case sensible c.requires.standard);
       cold =
-          subst AreSpans (sym (c.deref-2.ensures.value ∙ c.in_ok-cold.ensures)) (AreSpans-spans_of side.Cold case sensible c.requires.standard);
+          subst AreSpans (sym (c.deref-2.ensures.value ∙ c.in_ok-cold.ensures))
+          (AreSpans-spans_of side.Cold case sensible c.requires.standard);
       cuts =
-          same_cuts c.as_slice.result.now c.as_slice-2.result.now c.in_ok-cuts.cuts.items c.deref.result.now c.deref-2.result.now c.deref-3.result.now
-          (c.as_slice.ensures.value ∙ sym c.deref.ensures.value) (c.as_slice-2.ensures.value ∙ sym c.deref-2.ensures.value)
-          (sym c.deref-3.ensures.value) c.in_ok-cuts.ensures;
+          same_cuts c.as_slice.result.now c.as_slice-2.result.now c.in_ok-cuts.cuts.items c.deref.result.now
+          c.deref-2.result.now c.deref-3.result.now (c.as_slice.ensures.value ∙ sym c.deref.ensures.value)
+          (c.as_slice-2.ensures.value ∙ sym c.deref-2.ensures.value) (sym c.deref-3.ensures.value) c.in_ok-cuts.ensures;
     }
 
 pub returns : goal.returns
 returns c =
     let case = c.args.case.now in
     let cuts = c.in_ok-cuts.cuts.items in
-    let are = same_cuts c.as_slice.result.now c.as_slice-2.result.now cuts (spans_of side.Hot case) (spans_of side.Cold case) cuts
-    (c.as_slice.ensures.value ∙ c.in_ok-hot.ensures) (c.as_slice-2.ensures.value ∙ c.in_ok-cold.ensures) (λ i. cuts) c.in_ok-cuts.ensures in
+    let are = same_cuts c.as_slice.result.now c.as_slice-2.result.now cuts (spans_of side.Hot case)
+    (spans_of side.Cold case) cuts (c.as_slice.ensures.value ∙ c.in_ok-hot.ensures)
+    (c.as_slice-2.ensures.value ∙ c.in_ok-cold.ensures) (λ i. cuts) c.in_ok-cuts.ensures in
     let hot = c.deref.ensures.value ∙ c.in_ok-hot.ensures in
     let cold = c.deref-2.ensures.value ∙ c.in_ok-cold.ensures in
-    let between : AreBetween case cuts c.in_ok-sources_between.field-0.items c.in_ok-sources_between-2.field-0.items c.in_ok-exchanges.exchanges.items
+    let between : AreBetween case cuts c.in_ok-sources_between.field-0.items c.in_ok-sources_between-2.field-0.items
+    c.in_ok-exchanges.exchanges.items
     =
     record {
       hot_is =

@@ -2,8 +2,9 @@ use Rattle.vertical_design.proofs.Words.{IsSensibleCase-both, enumerate_from, ex
 use Rattle.std.proofs.Common.{ap, arith, length, sym, ◌∙◌}
 use Rattle.vertical_design.proofs.Exchanges.{exchanges}
 use Rattle.vertical_design.proofs.Intervals.{pieces, sources_are}
-use Rattle.vertical_design.proofs.NetworkLemmas.{CanBeLed, IsLed, are_led, balance-network, can_be_led, is_vertical, moved, sources}
-use Rattle.vertical_design.proofs.SpanSources.{Axis}
+use Rattle.vertical_design.proofs.LedPieces.{CanBeLed, are_led, can_be_led, sources}
+use Rattle.vertical_design.proofs.NetworkLemmas.{IsLed, balance-network, is_vertical, moved}
+use Rattle.vertical_design.proofs.CaseAxis.{Axis}
 use Rattle.stream_case.specs.declared.source.Side.TheVariants as side
 use Rattle.vertical_design.proofs.network.vertical.Goals.{After-as_slice-3}
 use Rattle.vertical_design.proofs.network.vertical.Goals as goal
@@ -20,8 +21,9 @@ axis c = record {
 ready : (c : After-as_slice-3) → CanBeLed (axis c) c.as_slice.result.now c.as_slice-2.result.now c.as_slice-3.result.now
 ready c =
     let between = c.in_ok-intervals.ensures.2 in
-    moved (CanBeLed (axis c)) (sym (c.as_slice.ensures.value ∙ between.hot_is)) (sym (c.as_slice-2.ensures.value ∙ between.cold_is))
-    (sym (c.as_slice-3.ensures.value ∙ between.exchanges_are)) (can_be_led (axis c))
+    moved (CanBeLed (axis c)) (sym (c.as_slice.ensures.value ∙ between.hot_is))
+    (sym (c.as_slice-2.ensures.value ∙ between.cold_is)) (sym (c.as_slice-3.ensures.value ∙ between.exchanges_are))
+    (can_be_led (axis c))
 
 pub lead-requires : goal.lead-requires
 lead-requires c =
@@ -45,9 +47,11 @@ returns c =
     let given = c.in_ok-network.ensures in
     let led : IsLed at.case c.as_slice.result.now c.as_slice-2.result.now c.as_slice-3.result.now network =
     record { drawn = given.drawn; exchangers = given.exchangers; few_lines = given.few_lines; law = given.led } in
-    let is = moved (λ hot cold es. IsLed at.case hot cold es network) (c.as_slice.ensures.value ∙ between.hot_is) (c.as_slice-2.ensures.value ∙ between.cold_is)
-    (c.as_slice-3.ensures.value ∙ between.exchanges_are) led in let es = exchanges at in
-    let law = is.law (pieces at side.Hot) (pieces at side.Cold) (sources_are at side.Hot) (sources_are at side.Cold) (are_led at) in
+    let is = moved (λ hot cold es. IsLed at.case hot cold es network) (c.as_slice.ensures.value ∙ between.hot_is)
+    (c.as_slice-2.ensures.value ∙ between.cold_is) (c.as_slice-3.ensures.value ∙ between.exchanges_are) led in
+    let es = exchanges at in
+    let law = is.law (pieces at side.Hot) (pieces at side.Cold) (sources_are at side.Hot) (sources_are at side.Cold)
+    (are_led at) in
     let few = (can_be_led at).few in
     let lines = is.few_lines in
     let declared = ap length is.exchangers

@@ -13,8 +13,10 @@ loop-number-preserved-then-not-is_on c =
     let s = c.index-streams-number.result in
     let streams = c.args.streams.now in
     let span = span_of c.args.side streams c.loop-number.number s in
-    span_skip (stream_span c.args.side streams) c.args.spans.now.items streams c.loop-number.number s c.loop-number-test.true c.index-streams-number.is
-    c.loop-number.spans.items (ap (λ (b : Bool). if b then Some span else None) (sym c.is_on.ensures ∙ c.if-not-is_on.true)) c.loop-number.invariant
+    span_skip (stream_span c.args.side streams) c.args.spans.now.items streams c.loop-number.number s
+    c.loop-number-test.true c.index-streams-number.is c.loop-number.spans.items
+    (ap (λ (b : Bool). if b then Some span else None) (sym c.is_on.ensures ∙ c.if-not-is_on.true))
+    c.loop-number.invariant
 
 pub loop-number-preserved : goal.loop-number-preserved
 loop-number-preserved c =
@@ -40,5 +42,7 @@ loop-number-preserved c =
     let same : raw ≡ span = λ j. record { source = source.Stream number; from = from j; to = to j; cp = cp j } in
     let added : c.push.new.self.items ≡ before ++ raw ∷ [] = cc c.in_ok-push.ensures.items in
     let pushed = added ∙ ap (λ (x : Span). before ++ x ∷ []) same in
-    span_more (stream_span side streams) c.args.spans.now.items streams number s c.loop-number-test.true c.index-streams-number.is before
-    c.push.new.self.items span (ap (λ (b : Bool). if b then Some span else None) (sym c.is_on.ensures ∙ c.if-not-is_on.false)) c.loop-number.invariant pushed
+    span_more (stream_span side streams) c.args.spans.now.items streams number s c.loop-number-test.true
+    c.index-streams-number.is before c.push.new.self.items span
+    (ap (λ (b : Bool). if b then Some span else None) (sym c.is_on.ensures ∙ c.if-not-is_on.false))
+    c.loop-number.invariant pushed

@@ -12,8 +12,11 @@ loop-number-preserved-then-not-is_on c =
     let number = c.loop-number.number in
     let u = c.utility-item.result in
     let (within, is) = item_there number u c.as_slice-utility-items.ensures c.loop-number-test.true c.utility-item.is in
-    span_skip (utility_span side streams) c.args.spans.now.items c.args.case.now.utilities number u within is c.loop-number.spans.items
-    (ap (λ (b : Bool). if b then Some (utility_span_of side streams number) else None) (sym c.is_on.ensures ∙ c.if-not-is_on.true)) c.loop-number.invariant
+    span_skip (utility_span side streams) c.args.spans.now.items c.args.case.now.utilities number u within is
+    c.loop-number.spans.items
+    (ap (λ (b : Bool). if b then Some (utility_span_of side streams number) else None)
+    (sym c.is_on.ensures ∙ c.if-not-is_on.true))
+    c.loop-number.invariant
 
 pub loop-number-preserved : goal.loop-number-preserved
 loop-number-preserved c =
@@ -40,5 +43,7 @@ loop-number-preserved c =
     let same : raw ≡ span = λ j. record { source = source.Utility number; from = from j; to = to j; cp = pos 1 } in
     let added : c.push.new.self.items ≡ before ++ raw ∷ [] = cc c.in_ok-push.ensures.items in
     let pushed = added ∙ ap (λ (x : Span). before ++ x ∷ []) same in
-    span_more (utility_span side streams) c.args.spans.now.items c.args.case.now.utilities number u within is before c.push.new.self.items span
-    (ap (λ (b : Bool). if b then Some span else None) (sym c.is_on.ensures ∙ c.if-not-is_on.false)) c.loop-number.invariant pushed
+    span_more (utility_span side streams) c.args.spans.now.items c.args.case.now.utilities number u within is before
+    c.push.new.self.items span
+    (ap (λ (b : Bool). if b then Some span else None) (sym c.is_on.ensures ∙ c.if-not-is_on.false))
+    c.loop-number.invariant pushed
