@@ -1,11 +1,13 @@
 //! A row of a sweep.
-ghost use Rattle.std.specs.Prelude.{IfOk};
-ghost use Rattle.stream_case.specs.Case.{IsValid};
+ghost use Rattle.std.specs.Prelude.{◌≡◌, IfOk};
+ghost use Rattle.stream_case.specs.Case.{IsComplete, IsValid};
 ghost use Rattle.stream_case.specs.Limits.{IsContribution};
+ghost use Rattle.problem_table.specs.Deficit.{hot_target};
+ghost use Rattle.study.specs.Cost.{IsCostOf};
 ghost use Rattle.study.specs.Row.{IsRow};
 
 use crate::contribution::with_contribution;
-use problem_table::targets;
+use problem_table::{Target, targets};
 use std::alloc::{AllocError, Global};
 use stream_case::{Case, complete};
 use transport::case_cost;
@@ -21,6 +23,17 @@ pub struct SweepRow {
     pub cost: Option<i128>,
 }
 
+/// The least cost of the heat flows of a completed case with these targets, or none exactly where
+/// it has no heat flow.
+fn cost_of(alloc: Global, case: &Case, targets: Target) -> Result<Option<i128>, AllocError>
+    requires complete { IsComplete case.now }
+    requires hot_target { targets.hot ≡ hot_target case.now.streams }
+    ensures { IfOk result (IsCostOf case.now) }
+{
+    let found = case_cost(alloc, case, targets)?;
+    Ok(found.ok())
+}
+
 /// The row of this contribution.
 pub(crate) fn sweep_row(
     alloc: Global,
@@ -34,11 +47,11 @@ pub(crate) fn sweep_row(
     let given = with_contribution(alloc, case, contribution)?;
     let case = complete(alloc, &given)?;
     let targets = targets(&case);
-    let found = case_cost(alloc, &case, targets)?;
+    let cost = cost_of(alloc, &case, targets)?;
     Ok(SweepRow {
         contribution,
         hot: targets.hot,
         cold: targets.cold,
-        cost: found.ok(),
+        cost,
     })
 }

@@ -9,8 +9,8 @@ complete-requires c =
     ∙ ap (λ z. with_contribution z c.args.case.now) (to_z-of_z w32 c.args.contribution c.ranges.contribution) in
     subst IsValid (sym changed) (IsValid-with c.args.contribution c.requires.contribution c.args.case.now c.requires.valid)
 
-pub case_cost-requires-clause-complete : goal.case_cost-requires-clause-complete
-case_cost-requires-clause-complete c =
+pub cost_of-requires-clause-complete : goal.cost_of-requires-clause-complete
+cost_of-requires-clause-complete c =
     let changed = c.in_ok-given.ensures
     ∙ ap (λ z. with_contribution z c.args.case.now) (to_z-of_z w32 c.args.contribution c.ranges.contribution) in
     IsComplete-with c.args.contribution c.requires.contribution c.args.case.now c.in_ok-given.given c.in_ok-case.case c.requires.valid changed
