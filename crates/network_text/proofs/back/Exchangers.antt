@@ -18,6 +18,7 @@ use Rattle.network_text.proofs.print.Lengths.{found_in_front, many_exchangers, m
 use Rattle.networks.proofs.OfShape.{exchanger_at as declared_at}
 use Rattle.networks.specs.declared.few.AtMostTwo.TheVariants as few
 use Rattle.networks.specs.declared.network.Line.TheVariants as line
+use Rattle.stream_case.specs.declared.source.Source.TheVariants as source
 
 -- the network before the line at an index
 abbrev pub front : Case → Network → ℕ → Network
