@@ -1,7 +1,7 @@
 -- The segments that lines make.
 use Rattle.study.proofs.Words.{*ℤ-+ℤ, *ℤ--ℤ, *ℤ_comm, AreSegments, Case, CostsWith, IsBetween, IsLine, IsLineEnd}
 use Rattle.study.proofs.Words.{IsSegment, Line, Segment, ints, line_at, on_line, pos, ℤ, ◌*ℤ◌, ◌+ℤ◌, ◌-ℤ◌, ◌<ℤ◌}
-use Rattle.std.proofs.Common.{List, ap, arith, length, refl, subst, sym, ℕ, ◌*◌, ◌++◌, ◌<◌, ◌∙◌, ◌∷◌, ◌≡◌}
+use Rattle.std.proofs.Common.{List, ap, arith, length, refl, subst, sym, ℕ, [], ◌*◌, ◌++◌, ◌<◌, ◌∙◌, ◌∷◌, ◌≡◌}
 use Rattle.study.proofs.LeastCosts.{on_line-between}
 
 pub line-moved : (line : Line) (s : Segment) (p : ℤ) → s.base ≡ line_at line (pos 0) → s.slope ≡ line.slope
