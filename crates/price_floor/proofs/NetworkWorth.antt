@@ -1,7 +1,7 @@
 -- The worths of a network are ordered.
 use Rattle.price_floor.proofs.Words.{AreEnded, Between, Case, Exchanger, HasDuty, HasShape, IsAtMost, IsBelow}
 use Rattle.price_floor.proofs.Words.{IsExchanger, IsOrderedTariff, IsPermitted, IsWholeValuation, KeepApproaches, Level}
-use Rattle.price_floor.proofs.Words.{Network, Rational, Side, SideRun, Source, Stream, Tariff, Utility, Valuation}
+use Rattle.price_floor.proofs.Words.{Network, Rational, Side, SideRun, Source, Stream, Tariff, Utility, Valuation, View}
 use Rattle.price_floor.proofs.Words.{WorthsAreOrdered, all_at, all_solved, at_most-enumerated, branch_worth, cold_worth}
 use Rattle.price_floor.proofs.Words.{comes_below, enumerate_from, exchangers_of, hot_shares_lead, hot_worth, ints}
 use Rattle.price_floor.proofs.Words.{is_above, minus, mix_loss, not_negative-rational_sum_by, pass_loss, passes_by_side}

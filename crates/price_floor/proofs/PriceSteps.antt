@@ -8,7 +8,7 @@ use Rattle.price_floor.proofs.Words.{if◌then◌else◌, int_eq, int_le, int_le
 use Rattle.price_floor.proofs.Words.{interval_ends, interval_falls, ints, is_forbidden, last_price, part_reaches}
 use Rattle.price_floor.proofs.Words.{passes_heat, price_at, price_steps, same_source-same, same_source-true, tariff_of}
 use Rattle.price_floor.proofs.Words.{views_of, ◌<ℤ◌}
-use Rattle.std.proofs.Common.{All, AllPairs, Bool, Contains, List, Some, ap, arith, false, get_or, inl, inr, not, refl}
+use Rattle.std.proofs.Common.{All, AllPairs, Bool, Contains, List, Some, [], ap, arith, false, get_or, inl, inr, not, refl}
 use Rattle.std.proofs.Common.{slice_get, subst, suc, sym, true, zero, ℕ, ℤ, ◌&&◌, ◌+◌, ◌<◌, ◌∙◌, ◌∷◌, ◌≡◌, ◌≤ℤ◌, ◌⊎◌}
 use Rattle.std.proofs.lemmas.Bool.{and_from, and_parts, not_from_false, or_left, or_right}
 use Rattle.stream_case.specs.declared.source.Side.TheVariants as side

@@ -5,7 +5,7 @@ use Rattle.price_floor.proofs.Words.{Utility, comes_before, comes_before_source,
 use Rattle.price_floor.proofs.Words.{plus, plus-zero, rational_sum_by, rational_sum_by-plus, rational_sum_by-same}
 use Rattle.price_floor.proofs.Words.{rational_sum_by-swap, rational_sum_by-zero, rational_zero, same_source, step_worth}
 use Rattle.price_floor.proofs.Words.{sum-picked, used_heat, zero-plus}
-use Rattle.std.proofs.Common.{All, AllPairs, Contains, List, ap, ap₂, arith, get_or, inl, inr, refl, sym, ⊎_elim, ◌∙◌}
+use Rattle.std.proofs.Common.{All, AllPairs, Contains, List, [], ap, ap₂, arith, get_or, inl, inr, refl, sym, ⊎_elim, ◌∙◌}
 use Rattle.std.proofs.Common.{◌∷◌, ◌≡◌, ◌≢◌, ◌⊎◌}
 use Rattle.stream_case.specs.declared.source.Source.TheVariants as source
 use Rattle.price_floor.proofs.StepLemmas.{stood}

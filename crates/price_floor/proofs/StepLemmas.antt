@@ -5,7 +5,7 @@ use Rattle.price_floor.proofs.Words.{last_price, minus, minus-interchange, minus
 use Rattle.price_floor.proofs.Words.{plus-times, plus-zero, plus_assoc, plus_comm, rational_sum_by, rational_zero}
 use Rattle.price_floor.proofs.Words.{rise_worth, step_worth, times, times-minus, times-plus, times-zero, whole}
 use Rattle.price_floor.proofs.Words.{whole-plus, zero-plus, zero-times, ◌+ℤ◌}
-use Rattle.std.proofs.Common.{All, AllPairs, List, ap, ap₂, arith, get_or, inl, inr, pos, refl, subst, sym, true, ℤ}
+use Rattle.std.proofs.Common.{All, AllPairs, List, ap, ap₂, arith, get_or, inl, inr, pos, refl, subst, sym, true, ℤ, []}
 use Rattle.std.proofs.Common.{◌+◌, ◌-ℤ◌, ◌∙◌, ◌∷◌, ◌≡◌, ◌≤ℤ◌}
 use Rattle.fractions.proofs.Comparisons.{at_most-plus_plus, at_most-plus_right, at_most-times_left, at_most-whole}
 use Rattle.fractions.proofs.Comparisons.{at_most_from_same, at_most_refl, at_most_trans, not_negative-times}

@@ -4,7 +4,7 @@ use Rattle.price_floor.proofs.Words.{Utility, covers, heat_over, high_end, holds
 use Rattle.price_floor.proofs.Words.{int_sum_by, int_sum_by-append, int_sum_by-cons_if, interval_parts, ints, is_here}
 use Rattle.price_floor.proofs.Words.{low_end, made_parts, picked, same_side, same_source, stands_above, stands_at}
 use Rattle.price_floor.proofs.Words.{stream_part, utility_part}
-use Rattle.std.proofs.Common.{Bool, Contains, List, Some, ap, arith, eq-eqb, ne_eqb, pos, refl, slice_get, suc, zero, ℕ}
+use Rattle.std.proofs.Common.{Bool, Contains, List, Some, ap, arith, eq-eqb, ne_eqb, pos, refl, slice_get, suc, zero, ℕ, []}
 use Rattle.std.proofs.Common.{ℤ, ◌++◌, ◌+◌, ◌<◌, ◌∙◌, ◌∷◌, ◌≡◌, ◌≢◌}
 use Rattle.grid.proofs.HeatLemmas.{part_over, sum-part_over}
 use Rattle.stream_case.specs.declared.source.Source.TheVariants.{Stream as of_stream}

@@ -1,6 +1,6 @@
 -- What a stream loses of its worth is what its parts are worth: of a hot stream's, and of a cold one's taken away.
 use Rattle.price_floor.proofs.Words.{*ℤ--ℤ, Case, HoldsPlaces, IsLatent, IsSensible, IsValidStream, Network, Part}
-use Rattle.price_floor.proofs.Words.{Rational, Side, Source, Stream, Tariff, View, branch_worth, clamps}
+use Rattle.price_floor.proofs.Words.{Rational, Side, Source, StepPrices, Stream, Tariff, View, branch_worth, clamps}
 use Rattle.price_floor.proofs.Words.{first_part_of_load, first_value, full_size, full_size-latent, full_size-sensible}
 use Rattle.price_floor.proofs.Words.{given_by, heat_over, heat_over-latent, heat_over-sensible, height_in, high_end}
 use Rattle.price_floor.proofs.Words.{int_le-from, int_sum_by, int_sum_by-same, ints, is_latent, is_latent-latent}
