@@ -16,20 +16,20 @@ returns-in_err-case-clause-reads g c =
     without_text case_file _ _ _ _ _ _ c.from_residual.ensures.1 c.in_err-case.ensures.stop
 
 pub returns-then-not-is_standard-clause-reads : goal.returns-then-not-is_standard-clause-reads
-unfolding EndsIn reading_of
+unfolding EndsIn reading_of asked
 returns-then-not-is_standard-clause-reads g c =
     let test = c.if-not-is_standard.ensures.1 in
     by_completed _ asked _ _ _ _ _ c.in_ok-case.ensures.case (inr (λ standard. cc (test standard), refl, refl))
 
 pub returns-then-is_sensible-clause-reads : goal.returns-then-is_sensible-clause-reads
-unfolding EndsIn reading_of
+unfolding EndsIn reading_of asked
 returns-then-is_sensible-clause-reads g c =
     let standard = c.if-not-is_standard.ensures.0 refl in
     let sensible = c.if-is_sensible.ensures.0 refl in
     by_completed _ asked _ _ _ _ _ c.in_ok-case.ensures.case (inl (standard, inl (sensible, (refl, refl))))
 
 pub returns-else-is_sensible-clause-reads : goal.returns-else-is_sensible-clause-reads
-unfolding EndsIn reading_of
+unfolding EndsIn reading_of asked
 returns-else-is_sensible-clause-reads g c =
     let standard = c.if-not-is_standard.ensures.0 refl in
     let test = c.if-is_sensible.ensures.1 in
