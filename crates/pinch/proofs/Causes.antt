@@ -4,7 +4,7 @@ use Rattle.pinch.proofs.Plain.{answered-plain, is_plain}
 use Rattle.pinch.proofs.Readings.{IsFurther, IsLawfulReading, lawful}
 use Rattle.pinch.proofs.Results.{is_result}
 use Rattle.pinch.proofs.Words.{Command, EndsIn, FileRole, Format, FromText, IsWhole, KeepsFiles, MAX_FILE, NoFile, NoText, Reading, Request, ShelfState, Shown}
-use Rattle.pinch.proofs.Words.{Shows, ShowsCommand, by_text, failed, file, no_file, no_text, reading_of, ready, refused, stop, too_long, wanted}
+use Rattle.pinch.proofs.Words.{Shows, ShowsCommand, by_text, failed, file, no_file, no_text, reading_of, ready, refused, status_of, stop, too_long, wanted}
 use Rattle.pinch.specs.Causes.{Causes, HasCause, ReadsFile}
 use Rattle.std.proofs.Common.{List, Option, Result, ap, arith, false, inl, inr, refl, subst, sym, true, ℕ, ◌∙◌, ◌≡◌, ◌≤◌}
 
@@ -111,7 +111,7 @@ of_further : (reading : Reading) → IsFurther reading
 unfolding EndsIn IsFurther
 of_further (ready request) further old new end shown shows ended ends =
     let result = is_result request shown (subst (λ e. Shows e shown) ends.0 shows) in
-    of_plain _ old new shown (answered-plain shown result.answered) (subst Ended (sym ends.1) ended)
+    of_plain _ old new shown (answered-plain (status_of shown) result.answered) (subst Ended (sym ends.1) ended)
 of_further (stop refusal) further old new end shown shows ended ends = absurd further
 of_further (wanted P refusal next) further old new end shown shows ended (inl then) =
     of_part next (wanted P refusal next) old new shown (λ role Q here. here) (of_further next further.2 old new end shown shows ended then.1)

@@ -1,17 +1,22 @@
 -- What is shown that blames neither the words nor the shelf.
-use Rattle.pinch.proofs.Words.{BadWords, IsAnswered, ReadFault, Shown, TooLong, status_of}
+use Rattle.pinch.proofs.Words.{IsAnswered, Shown, Status, status_of}
+use Rattle.pinch.specs.declared.status.Status.TheVariants.{NoCommand, ReadFault, TooLong}
 use Rattle.std.proofs.Common.{Bool, false, refl, true, ◌≡◌}
+
+-- the status of a result, or of what a file says
+abbrev pub is_plain_status : Status → Bool
+is_plain_status NoCommand = false
+is_plain_status TooLong = false
+is_plain_status ReadFault = false
+is_plain_status _ = true
 
 -- what is shown is a result, or blames what a file says
 abbrev pub is_plain : Shown → Bool
-is_plain BadWords = false
-is_plain (TooLong role) = false
-is_plain (ReadFault role) = false
-is_plain _ = true
+is_plain shown = is_plain_status (status_of shown)
 
 -- a result is plain
-pub answered-plain : (shown : Shown) → IsAnswered (status_of shown) → is_plain shown ≡ true
-answered-plain BadWords answered = absurd answered
-answered-plain (TooLong role) answered = absurd answered
-answered-plain (ReadFault role) answered = absurd answered
+pub answered-plain : (status : Status) → IsAnswered status → is_plain_status status ≡ true
+answered-plain NoCommand answered = absurd answered
+answered-plain TooLong answered = absurd answered
+answered-plain ReadFault answered = absurd answered
 answered-plain _ answered = refl

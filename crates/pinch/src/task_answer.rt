@@ -8,7 +8,7 @@ use crate::command::CaseTask;
 use crate::design::show_design;
 use crate::flow::show_flow;
 use curves::{cold_curve, grand_curve, hot_curve};
-use problem_table::{pinches, targets};
+use problem_table::{pinches_at, targets};
 use reports::Shown;
 use std::alloc::{AllocError, Global};
 use stream_case::Case;
@@ -31,9 +31,10 @@ fn show_targets(alloc: Global, case: &Case) -> Result<Shown, AllocError>
     requires { AreStreams case.now.streams }
     ensures { IfOk result (AreTargetsOf case.now.streams) }
 {
+    let targets = targets(case);
     Ok(Shown::Targets {
-        targets: targets(case),
-        pinches: pinches(alloc, case)?,
+        targets,
+        pinches: pinches_at(alloc, case, targets.hot)?,
     })
 }
 

@@ -8,6 +8,6 @@ mod reference;
 mod target;
 
 pub use deficit::{deficit_above, deficit_from, deficit_of};
-pub use pinch::pinches;
+pub use pinch::{pinches, pinches_at};
 pub use reference::{Reference, reference_from, reference_of, reference_place};
 pub use target::{Target, targets};

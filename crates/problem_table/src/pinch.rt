@@ -9,22 +9,23 @@ use std::alloc::{AllocError, Global};
 use stream_case::{Case, Items, Stream, stream_ends};
 use sums::falling;
 
-/// The pinches of the streams of a case: `pinches_of` of these.
+/// The pinches of the streams of a case, in tenths of °C on the shifted scale, each once and from
+/// the highest down: the stream ends strictly between the greatest and the least at which one of
+/// the deficits is the hot target (Linnhoff and Flower 1978).
 pub fn pinches(alloc: Global, case: &Case) -> Result<Items<i32>, AllocError>
     requires { AreStreams case.now.streams }
     ensures { IfOk result (λ places. ListsFalling (IsPinch case.now.streams) places) }
 {
-    pinches_of(alloc, case.streams.as_slice())
+    pinches_at(alloc, case, hot_target(case.streams.as_slice()))
 }
 
-/// The pinches of streams, in tenths of °C on the shifted scale, each once and from the highest
-/// down: the stream ends strictly between the greatest and the least at which one of the deficits
-/// is the hot target (Linnhoff and Flower 1978).
-pub(crate) fn pinches_of(alloc: Global, streams: &[Stream]) -> Result<Items<i32>, AllocError>
-    requires { AreStreams streams.now }
-    ensures { IfOk result (λ places. ListsFalling (IsPinch streams.now) places) }
+/// The same of a case whose hot target is known, in W.
+pub fn pinches_at(alloc: Global, case: &Case, hot: i64) -> Result<Items<i32>, AllocError>
+    requires streams { AreStreams case.now.streams }
+    requires hot { hot ≡ hot_target case.now.streams }
+    ensures { IfOk result (λ places. ListsFalling (IsPinch case.now.streams) places) }
 {
-    let hot = hot_target(streams);
+    let streams = case.streams.as_slice();
     let all = stream_ends(alloc, streams)?;
     let ends = all.as_slice();
     let mut found = Vec::new(alloc);

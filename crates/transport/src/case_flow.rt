@@ -10,7 +10,7 @@ use crate::answer::Answer;
 use crate::case_net::least_case;
 use corner_flow::{corner, corner_prices};
 use grid::Parts;
-use problem_table::{reference_from, reference_place, targets};
+use problem_table::{reference_of, targets};
 use std::alloc::{AllocError, Global};
 use stream_case::{Case, is_standard};
 
@@ -42,10 +42,16 @@ fn corner_answer(alloc: Global, case: &Case, parts: &Parts) -> Result<Answer, Al
     ensures corner { IfOk result (IsCornerAnswer case.now parts.now.hot parts.now.cold) }
 {
     let targets = targets(case);
-    let place = reference_place(case);
-    let from = reference_from(case);
+    let reference = reference_of(case);
     let flow = corner(alloc, case, parts, targets)?;
-    let prices = corner_prices(alloc, case, parts, place, from, targets)?;
+    let prices = corner_prices(
+        alloc,
+        case,
+        parts,
+        reference.place,
+        reference.from_itself,
+        targets,
+    )?;
     Ok(Answer::Least {
         flow,
         prices,
