@@ -43,9 +43,9 @@ fn corner_answer(alloc: Global, case: &Case, parts: &Parts) -> Result<Answer, Al
 {
     let targets = targets(case);
     let place = reference_place(case);
-    let from = reference_from(case);
+    let from_itself = reference_from(case);
     let flow = corner(alloc, case, parts, targets)?;
-    let prices = corner_prices(alloc, case, parts, place, from, targets)?;
+    let prices = corner_prices(alloc, case, parts, place, from_itself, targets)?;
     Ok(Answer::Least {
         flow,
         prices,
