@@ -1,8 +1,8 @@
--- The places of arcs, and the ways of arcs: those where nothing flows, and those after what a link carries has changed.
-use Rattle.flow_net.proofs.Words.{Adjacency, All, Arc, ArePlaces, AreWays, IsAdjacency, IsArc, IsWay, IsWayOf, Link, Places, StandOnce, Way, arc_numbered, arc_of}
+-- The places of arcs, and residual arcs: those where nothing flows, and those after what a link carries has changed.
+use Rattle.flow_net.proofs.Words.{Adjacency, All, Arc, ArePlaces, AreResiduals, IsAdjacency, IsArc, IsResidual, IsResidualOf, Link, Places, Residual, StandOnce, arc_numbered, arc_of}
 use Rattle.flow_net.proofs.Words.{cases_eq, flow_on, get_or-replicate, get_or-set_other, get_or-set_same, get_or_default, length-set}
 use Rattle.std.proofs.lemmas.List.{get_or-drop, get_or-take, length-drop, length-take}
-use Rattle.flow_net.proofs.Words.{link_at, place_in, place_of, placed, places_at, residual_of, way_at}
+use Rattle.flow_net.proofs.Words.{link_at, place_in, place_of, placed, places_at, residual_at, residual_of}
 use Rattle.std.proofs.Common.{Bool, IsTrue, List, ap, arith, drop, false, inl, inr, length, pos, refl, replicate, set, slice_range, subst, sym, true, ℕ, ℤ, ◌+◌, ◌-◌}
 use Rattle.std.proofs.Common.{◌<ℤ◌, ◌<◌, ◌↔◌, ◌∙◌, ◌≡◌, ◌≢◌, ◌≤◌, ◌⊎◌}
 use Rattle.flow_net.proofs.SentFlow.{no_arc}
@@ -89,57 +89,60 @@ pub ArePlaces-all : (n : ℕ) (arcs : List Arc) (i : ℕ) (places : List Places)
     → ArePlacedBelow n arcs i places → ArePlaces n arcs places
 ArePlaces-all n arcs i places past h = record { one_each = h.one_each; own = λ j l. h.own j (omega (arith, l, past)) }
 
--- ---- ways
+-- ---- residual arcs
 
--- what the code reads past the end of a list of ways
-abbrev pub no_way : Way
-no_way = record { head = 0; is_open = false; cost = pos 0 }
+-- what the code reads past the end of a list of residual arcs
+abbrev pub no_residual : Residual
+no_residual = record { head = 0; is_open = false; cost = pos 0 }
 
--- the way along its link is an arc's way
-pub IsWayOf-along : (links : List Link) (flow : List ℤ) (a : Arc) (w : Way) → IsArc links a
-    → IsWay (link_at links a.link) (flow_on flow a.link) a.forward w → IsWayOf links flow a w
-IsWayOf-along links flow a w is h = subst (λ b. IsWayOf links flow b w) (sym is.is) (each a.link a.forward h)
+-- the residual arc along its link is an arc's residual arc
+pub IsResidualOf-along : (links : List Link) (flow : List ℤ) (a : Arc) (w : Residual) → IsArc links a
+    → IsResidual (link_at links a.link) (flow_on flow a.link) a.forward w → IsResidualOf links flow a w
+IsResidualOf-along links flow a w is h = subst (λ b. IsResidualOf links flow b w) (sym is.is) (each a.link a.forward h)
   where
-    each : (k : ℕ) (forward : Bool) → IsWay (link_at links k) (flow_on flow k) forward w
-        → IsWayOf links flow (arc_of (link_at links k) k forward) w
+    each : (k : ℕ) (forward : Bool) → IsResidual (link_at links k) (flow_on flow k) forward w
+        → IsResidualOf links flow (arc_of (link_at links k) k forward) w
     each k true h = record { head = h.head; is_open = h.is_open; cost = h.cost }
     each k false h = record { head = h.head; is_open = h.is_open; cost = h.cost }
 
--- the ways where nothing flows
-pub AreWays-none : (links : List Link) (arcs : List Arc) (ways : List Way) → All (IsArc links) arcs
-    → length ways ≡ length arcs
+-- the residual arcs where nothing flows
+pub AreResiduals-none : (links : List Link) (arcs : List Arc) (residuals : List Residual) → All (IsArc links) arcs
+    → length residuals ≡ length arcs
     → ((j : ℕ) → j < length arcs
-    → IsWay (link_at links (arc_numbered arcs j).link) (pos 0) (arc_numbered arcs j).forward (way_at ways j))
-    → AreWays links (replicate (length links) (pos 0)) arcs ways
-AreWays-none links arcs ways are one_each each = record {
+    → IsResidual (link_at links (arc_numbered arcs j).link) (pos 0) (arc_numbered arcs j).forward
+    (residual_at residuals j))
+    → AreResiduals links (replicate (length links) (pos 0)) arcs residuals
+AreResiduals-none links arcs residuals are one_each each = record {
   one_each = one_each;
   each = λ j l.
       let a = arc_numbered arcs j in
       let is = are j no_arc l in
       let nothing = get_or-replicate (length links) a.link (pos 0) (pos 0) is.below in
-      IsWayOf-along links (replicate (length links) (pos 0)) a (way_at ways j) is
-      (subst (λ z. IsWay (link_at links a.link) z a.forward (way_at ways j)) (sym nothing) (each j l));
+      IsResidualOf-along links (replicate (length links) (pos 0)) a (residual_at residuals j) is
+      (subst (λ z. IsResidual (link_at links a.link) z a.forward (residual_at residuals j)) (sym nothing) (each j l));
 }
 
--- the ways of a range of arcs
-pub AreWays-range : (links : List Link) (flow : List ℤ) (arcs : List Arc) (ways : List Way) (i j : ℕ) → i ≤ j
-    → j ≤ length arcs → AreWays links flow arcs ways
-    → AreWays links flow (slice_range arcs i j) (slice_range ways i j)
-AreWays-range links flow arcs ways i j rises within h = record {
-  one_each = of_ways ∙ sym of_arcs;
+-- the residual arcs of a range of arcs
+pub AreResiduals-range : (links : List Link) (flow : List ℤ) (arcs : List Arc) (residuals : List Residual) (i j : ℕ)
+    → i ≤ j
+    → j ≤ length arcs → AreResiduals links flow arcs residuals
+    → AreResiduals links flow (slice_range arcs i j) (slice_range residuals i j)
+AreResiduals-range links flow arcs residuals i j rises within h = record {
+  one_each = of_residuals ∙ sym of_arcs;
   each = λ m l.
       let less : m < j - i = omega (arith, l, of_arcs) in
       let arc = get_or-take (j - i) (drop i arcs) m _ less ∙ get_or-drop i arcs m _ in
-      let way = get_or-take (j - i) (drop i ways) m _ less ∙ get_or-drop i ways m _ in
-      subst (λ a. IsWayOf links flow a (way_at (slice_range ways i j) m)) (sym arc)
-      (subst (IsWayOf links flow (arc_numbered arcs (i + m))) (sym way) (h.each (i + m) (omega (arith, less, within))));
+      let residual = get_or-take (j - i) (drop i residuals) m _ less ∙ get_or-drop i residuals m _ in
+      subst (λ a. IsResidualOf links flow a (residual_at (slice_range residuals i j) m)) (sym arc)
+      (subst (IsResidualOf links flow (arc_numbered arcs (i + m))) (sym residual)
+      (h.each (i + m) (omega (arith, less, within))));
 }
   where
     of_arcs : length (slice_range arcs i j) ≡ j - i
     of_arcs = simp (length-take, length-drop) (omega (arith, rises, within))
 
-    of_ways : length (slice_range ways i j) ≡ j - i
-    of_ways =
+    of_residuals : length (slice_range residuals i j) ≡ j - i
+    of_residuals =
         let e = h.one_each in
         simp (length-take, length-drop) (omega (arith, rises, within, e))
 
@@ -161,14 +164,15 @@ module _ (n : ℕ) (links : List Link) (adjacency : Adjacency) (sound : IsAdjace
       let stands = sym (get_or_default adjacency.arcs.items j a _ within) ∙ at in
       ap (arc_numbered adjacency.arcs.items) (ap (place_of adjacency.places.items) (sym stands) ∙ own) ∙ stands
 
-  -- an arc can carry more where the way at its place is open
-  pub place-open : (flow : List ℤ) (ways : List Way) → AreWays links flow adjacency.arcs.items ways
+  -- an arc can carry more where the residual arc at its place is open
+  pub place-open : (flow : List ℤ) (residuals : List Residual) → AreResiduals links flow adjacency.arcs.items residuals
       → (a : Arc) → IsArc links a
-      → IsTrue (way_at ways (place_of adjacency.places.items a)).is_open ↔ (pos 0 <ℤ residual_of links flow a)
-  place-open flow ways are a is =
+      → IsTrue (residual_at residuals (place_of adjacency.places.items a)).is_open ↔ (pos 0 <ℤ residual_of links flow a)
+  place-open flow residuals are a is =
       let place = place_of adjacency.places.items a in
       let opened = (are.each place (place-within a is)).is_open in
-      subst (λ b. IsTrue (way_at ways place).is_open ↔ (pos 0 <ℤ residual_of links flow b)) (place-stands a is) opened
+      subst (λ b. IsTrue (residual_at residuals place).is_open ↔ (pos 0 <ℤ residual_of links flow b))
+      (place-stands a is) opened
 
   -- the two arcs of a link, and where they stand
   arc_along : (k : ℕ) → k < length links → (w : Bool) → IsArc links (arc_of (link_at links k) k w)
@@ -180,8 +184,9 @@ module _ (n : ℕ) (links : List Link) (adjacency : Adjacency) (sound : IsAdjace
   link_place-within k below true = place-within (arc_of (link_at links k) k true) (arc_along k below true)
   link_place-within k below false = place-within (arc_of (link_at links k) k false) (arc_along k below false)
 
-  -- what one link carries has changed, and both ways along it
-  module _ (flow : List ℤ) (ways : List Way) (k : ℕ) (below : k < length links) (x : ℤ) (forth back : Way)
+  -- what one link carries has changed, and the residual arcs of both ways along it
+  module _ (flow : List ℤ) (residuals : List Residual) (k : ℕ) (below : k < length links) (x : ℤ)
+      (forth back : Residual)
       (each_flow : length flow ≡ length links) where
     abbrev i : ℕ
     i = place_in (places_at adjacency.places.items k) true
@@ -189,33 +194,34 @@ module _ (n : ℕ) (links : List Link) (adjacency : Adjacency) (sound : IsAdjace
     abbrev j : ℕ
     j = place_in (places_at adjacency.places.items k) false
 
-    -- the way at an index is right
-    abbrev IsRight : ℕ → Way → Type 0
-    IsRight m w = m < length adjacency.arcs.items → IsWayOf links (set flow k x) (arc_numbered adjacency.arcs.items m) w
+    -- the residual arc at an index is right
+    abbrev IsRight : ℕ → Residual → Type 0
+    IsRight m w =
+        m < length adjacency.arcs.items → IsResidualOf links (set flow k x) (arc_numbered adjacency.arcs.items m) w
 
     carried : flow_on (set flow k x) k ≡ x
     carried = get_or-set_same flow k x (pos 0) (omega (arith, below, each_flow))
 
-    -- at a place of the link stands the way along it
-    here : (w : Bool) (m : ℕ) (way : Way) → m ≡ place_in (places_at adjacency.places.items k) w
-        → IsWay (link_at links k) x w way
-        → IsWayOf links (set flow k x) (arc_numbered adjacency.arcs.items m) way
-    here w m way at h =
-        subst (λ u. IsWayOf links (set flow k x) (arc_numbered adjacency.arcs.items u) way) (sym at) (own w h)
+    -- at a place of the link stands the residual arc along it
+    here : (w : Bool) (m : ℕ) (residual : Residual) → m ≡ place_in (places_at adjacency.places.items k) w
+        → IsResidual (link_at links k) x w residual
+        → IsResidualOf links (set flow k x) (arc_numbered adjacency.arcs.items m) residual
+    here w m residual at h =
+        subst (λ u. IsResidualOf links (set flow k x) (arc_numbered adjacency.arcs.items u) residual) (sym at) (own w h)
       where
-        own : (w : Bool) → IsWay (link_at links k) x w way
-            → IsWayOf links (set flow k x)
-            (arc_numbered adjacency.arcs.items (place_in (places_at adjacency.places.items k) w)) way
+        own : (w : Bool) → IsResidual (link_at links k) x w residual
+            → IsResidualOf links (set flow k x)
+            (arc_numbered adjacency.arcs.items (place_in (places_at adjacency.places.items k) w)) residual
         own true h =
             let stands = place-stands (arc_of (link_at links k) k true) (arc_along k below true) in
-            let own_way = IsWayOf-along links (set flow k x) (arc_of (link_at links k) k true) way
-            (arc_along k below true) (subst (λ z. IsWay (link_at links k) z true way) (sym carried) h) in
-            subst (λ a. IsWayOf links (set flow k x) a way) (sym stands) own_way
+            let own_residual = IsResidualOf-along links (set flow k x) (arc_of (link_at links k) k true) residual
+            (arc_along k below true) (subst (λ z. IsResidual (link_at links k) z true residual) (sym carried) h) in
+            subst (λ a. IsResidualOf links (set flow k x) a residual) (sym stands) own_residual
         own false h =
             let stands = place-stands (arc_of (link_at links k) k false) (arc_along k below false) in
-            let own_way = IsWayOf-along links (set flow k x) (arc_of (link_at links k) k false) way
-            (arc_along k below false) (subst (λ z. IsWay (link_at links k) z false way) (sym carried) h) in
-            subst (λ a. IsWayOf links (set flow k x) a way) (sym stands) own_way
+            let own_residual = IsResidualOf-along links (set flow k x) (arc_of (link_at links k) k false) residual
+            (arc_along k below false) (subst (λ z. IsResidual (link_at links k) z false residual) (sym carried) h) in
+            subst (λ a. IsResidualOf links (set flow k x) a residual) (sym stands) own_residual
 
     -- at no other place stands an arc of the link
     other_link : (m : ℕ) → m < length adjacency.arcs.items → m ≢ i → m ≢ j
@@ -231,25 +237,26 @@ module _ (n : ℕ) (links : List Link) (adjacency : Adjacency) (sound : IsAdjace
         apart true e = not_i e
         apart false e = not_j e
 
-    pub AreWays-set : IsWay (link_at links k) x true forth → IsWay (link_at links k) x false back
-        → AreWays links flow adjacency.arcs.items ways
-        → AreWays links (set flow k x) adjacency.arcs.items (set (set ways i forth) j back)
-    AreWays-set forward backward are = record {
-      one_each = length-set (set ways i forth) j back ∙ (length-set ways i forth ∙ are.one_each);
+    pub AreResiduals-set : IsResidual (link_at links k) x true forth → IsResidual (link_at links k) x false back
+        → AreResiduals links flow adjacency.arcs.items residuals
+        → AreResiduals links (set flow k x) adjacency.arcs.items (set (set residuals i forth) j back)
+    AreResiduals-set forward backward are = record {
+      one_each = length-set (set residuals i forth) j back ∙ (length-set residuals i forth ∙ are.one_each);
       each =
           λ m l.
-          set_cases (set ways i forth) j back no_way
-          (let e = length-set ways i forth in
+          set_cases (set residuals i forth) j back no_residual
+          (let e = length-set residuals i forth in
           let b = link_place-within k below false in
           omega (arith, e, are.one_each, b))
           IsRight (λ here_too. here false j back refl backward)
           (λ u not_j.
-          set_cases ways i forth no_way (let f = link_place-within k below true in omega (arith, are.one_each, f))
+          set_cases residuals i forth no_residual
+          (let f = link_place-within k below true in omega (arith, are.one_each, f))
           (λ v w. v ≢ j → IsRight v w) (λ off here_too. here true i forth refl forward) there u not_j)
           m l;
     }
       where
-        there : (m : ℕ) → m ≢ i → m ≢ j → IsRight m (way_at ways m)
+        there : (m : ℕ) → m ≢ i → m ≢ j → IsRight m (residual_at residuals m)
         there m not_i not_j within =
             let a = arc_numbered adjacency.arcs.items m in
             let same = get_or-set_other flow k a.link x (pos 0) (other_link m within not_i not_j) in
