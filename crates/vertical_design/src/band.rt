@@ -4,7 +4,7 @@ ghost use Rattle.std.specs.Prelude.{◌≡◌, ◌<◌, ◌^◌, ◌++◌, lengt
 ghost use Rattle.std.specs.List.{enumerate_from, filter_map};
 ghost use Rattle.stream_case.specs.Stream.{AreSensible, AreStreams};
 ghost use Rattle.problem_table.specs.Deficit.{cold_target, hot_target};
-ghost use Rattle.vertical_design.specs.Axis.{spans_of, stream_span, utility_span};
+ghost use Rattle.vertical_design.specs.Axis.{bands_of, stream_band, utility_band};
 ghost use Rattle.vertical_design.specs.Axis.{utility_from, utility_to};
 
 use crate::curve::{heat_at, side_heat};
@@ -14,7 +14,7 @@ use stream_case::{Case, Side, Source, Stream, Utility};
 
 /// What a source covers of the heat axis.
 #[derive(Clone, Copy, Debug, PartialEq, Eq)]
-pub struct Span {
+pub struct Band {
     pub source: Source,
     /// The heat where it begins, in W.
     pub from: i64,
@@ -24,17 +24,17 @@ pub struct Span {
     pub cp: i64,
 }
 
-/// Appends the spans of the streams of a side.
+/// Appends the bands of the streams of a side.
 fn push_streams(
-    spans: &mut Vec<Span>,
+    bands: &mut Vec<Band>,
     streams: &[Stream],
     side: Side,
     targets: Target,
 ) -> Result<(), AllocError>
     requires streams { AreStreams streams.now }
     requires cold_target { targets.cold ≡ cold_target streams.now }
-    ensures { OnOk result (spans.new.items ≡ spans.old.items
-        ++ filter_map (stream_span side streams.now) (enumerate_from 0 streams.now)) }
+    ensures { OnOk result (bands.new.items ≡ bands.old.items
+        ++ filter_map (stream_band side streams.now) (enumerate_from 0 streams.now)) }
 {
     for (number, stream) in streams.iter().enumerate() {
         if !stream.is_on(side) {
@@ -42,7 +42,7 @@ fn push_streams(
         }
         let from = heat_at(streams, side, targets, stream.low_end());
         let to = heat_at(streams, side, targets, stream.high_end());
-        spans.push(Span {
+        bands.push(Band {
             source: Source::Stream(number as u32),
             from,
             to,
@@ -70,9 +70,9 @@ fn utility_range(streams: &[Stream], side: Side, targets: Target) -> (i64, i64)
     }
 }
 
-/// Appends the span of the utility of a side.
+/// Appends the band of the utility of a side.
 fn push_utilities(
-    spans: &mut Vec<Span>,
+    bands: &mut Vec<Band>,
     case: &Case,
     side: Side,
     targets: Target,
@@ -82,15 +82,15 @@ fn push_utilities(
     requires few { length case.now.utilities < 2 ^ 32 }
     requires hot_target { targets.hot ≡ hot_target case.now.streams }
     requires cold_target { targets.cold ≡ cold_target case.now.streams }
-    ensures { OnOk result (spans.new.items ≡ spans.old.items
-        ++ filter_map (utility_span side case.now.streams) (enumerate_from 0 case.now.utilities)) }
+    ensures { OnOk result (bands.new.items ≡ bands.old.items
+        ++ filter_map (utility_band side case.now.streams) (enumerate_from 0 case.now.utilities)) }
 {
     let (from, to) = utility_range(case.streams.as_slice(), side, targets);
     for (number, utility) in case.utilities.as_slice().iter().enumerate() {
         if !utility.is_on(side) {
             continue;
         }
-        spans.push(Span {
+        bands.push(Band {
             source: Source::Utility(number as u32),
             from,
             to,
@@ -100,17 +100,17 @@ fn push_utilities(
     Ok(())
 }
 
-/// The spans of a side: those of its streams in their order, then that of its utility.
-#[tactic(auto, unfolding(crate::specs::Axis::spans_of))]
-pub(crate) fn spans_of(alloc: Global, case: &Case, side: Side) -> Result<Vec<Span>, AllocError>
+/// The bands of a side: those of its streams in their order, then that of its utility.
+#[tactic(auto, unfolding(crate::specs::Axis::bands_of))]
+pub(crate) fn bands_of(alloc: Global, case: &Case, side: Side) -> Result<Vec<Band>, AllocError>
     requires streams { AreStreams case.now.streams }
     requires sensible { AreSensible case.now.streams }
     requires few { length case.now.utilities < 2 ^ 32 }
-    ensures { IfOk result (λ spans. spans.items ≡ spans_of side case.now) }
+    ensures { IfOk result (λ bands. bands.items ≡ bands_of side case.now) }
 {
     let targets = targets(case);
-    let mut spans = Vec::new(alloc);
-    push_streams(&mut spans, case.streams.as_slice(), side, targets)?;
-    push_utilities(&mut spans, case, side, targets)?;
-    Ok(spans)
+    let mut bands = Vec::new(alloc);
+    push_streams(&mut bands, case.streams.as_slice(), side, targets)?;
+    push_utilities(&mut bands, case, side, targets)?;
+    Ok(bands)
 }

@@ -1,16 +1,16 @@
--- The spans of a standard case are within the limits.
-use Rattle.vertical_design.proofs.Words.{ALL_SENSIBLE_HEAT, All-slice_get, All-weaker, AreSensibleStreams, AreSensibleStreams-case, AreSpans, Case}
-use Rattle.vertical_design.proofs.Words.{IsBetween, IsPlace, IsSensibleCase, IsSensibleHeat, IsSensibleStream, IsSensiblesHeat, IsSpan, IsStandard}
-use Rattle.vertical_design.proofs.Words.{MOST_STREAMS, Side, Span, Stream, count_by, each_side, heat-between, heat_of, heat_of-sensible, high_end}
+-- The bands of a standard case are within the limits.
+use Rattle.vertical_design.proofs.Words.{ALL_SENSIBLE_HEAT, All-slice_get, All-weaker, AreBands, AreSensibleStreams, AreSensibleStreams-case, Case}
+use Rattle.vertical_design.proofs.Words.{IsBand, IsBetween, IsPlace, IsSensibleCase, IsSensibleHeat, IsSensibleStream, IsSensiblesHeat, IsStandard}
+use Rattle.vertical_design.proofs.Words.{Band, MOST_STREAMS, Side, Stream, count_by, each_side, heat-between, heat_of, heat_of-sensible, high_end}
 use Rattle.vertical_design.proofs.Words.{hot_target-within, int_sum_by, int_sum_by-add, int_sum_by-at_most, int_sum_by-same, ints, length-AreStreams}
-use Rattle.vertical_design.proofs.Words.{length-append, low_end, range-length, same_side, spans_of, sum_side, utility_from, utility_to}
+use Rattle.vertical_design.proofs.Words.{bands_of, length-append, low_end, range-length, same_side, sum_side, utility_from, utility_to}
 use Rattle.std.proofs.Common.{All, List, arith, get_or, if◌then◌else◌, inl, inr, length, pos, refl, subst, sym, ℕ, ℤ, ◌*◌, ◌+ℤ◌, ◌-ℤ◌, ◌∙◌, ◌≡◌, ◌≤ℤ◌}
 use Rattle.std.proofs.Common.{◌≤◌}
 use Rattle.stream_case.proofs.StandardUtilities.{in_order}
 use Rattle.vertical_design.proofs.FacingCurves.{bounded}
-use Rattle.vertical_design.proofs.AxisLemmas.{is_axis, utility_order, IsOnAxis, curve_on_axis, utility_on_axis}
-use Rattle.vertical_design.proofs.SpanSources.{IsSourceSpan, kept_count, own_stream, own_utility, stream_item, utility_item, stream_spans}
-use Rattle.vertical_design.proofs.SpanSources.{utility_spans, spans-parts, span_sources}
+use Rattle.vertical_design.proofs.AxisLemmas.{IsOnAxis, curve_on_axis, is_axis, utility_on_axis, utility_order}
+use Rattle.vertical_design.proofs.BandSources.{IsSourceBand, kept_count, own_stream, own_utility, stream_bands, stream_item, utility_item}
+use Rattle.vertical_design.proofs.BandSources.{band_sources, bands-parts, utility_bands}
 use Rattle.stream_case.specs.declared.source.Side.TheVariants as side
 
 both_sides : (f : Stream → ℤ) (streams : List Stream)
@@ -66,14 +66,14 @@ target-within of streams are =
       upto = omega (arith, ints, ends.0.from, ends.1.upto, axis_end streams are);
     }
 
--- ---- the spans
+-- ---- the bands
 
 module _ (of : Side) (case : Case) (complete : IsSensibleCase case) where
   are_streams : AreSensibleStreams case.streams
   are_streams = AreSensibleStreams-case case complete
 
-  is_span : (a : Span) → IsSourceSpan case of a → IsSpan a
-  is_span a (inl (n, s, own)) =
+  is_band : (a : Band) → IsSourceBand case of a → IsBand a
+  is_band a (inl (n, s, own)) =
       let cp = (All-slice_get IsSensibleStream case.streams n s are_streams.each own.here).sensible.cp in
       let place = λ (t : ℤ). on_axis-place case.streams _ are_streams (curve_on_axis of case.streams t are_streams) in
       rw own.is (record {
@@ -81,7 +81,7 @@ module _ (of : Side) (case : Case) (complete : IsSensibleCase case) where
         from = place (low_end s);
         to = place (high_end s);
       })
-  is_span a (inr (n, u, own)) =
+  is_band a (inr (n, u, own)) =
       let ends = utility_on_axis of case.streams (is_axis case.streams are_streams) in
       rw own.is (record {
         flow = record { from = omega (arith, ints); upto = omega (arith, ints) };
@@ -89,20 +89,20 @@ module _ (of : Side) (case : Case) (complete : IsSensibleCase case) where
         to = on_axis-place case.streams _ are_streams ends.1;
       })
 
-  pub AreSpans-spans_of : IsStandard case → AreSpans (spans_of of case)
-  AreSpans-spans_of standard = record {
-    each = All-weaker (IsSourceSpan case of) IsSpan is_span (spans_of of case) (span_sources case of);
+  pub AreBands-bands_of : IsStandard case → AreBands (bands_of of case)
+  AreBands-bands_of standard = record {
+    each = All-weaker (IsSourceBand case of) IsBand is_band (bands_of of case) (band_sources case of);
     few =
         let streams = few_streams in
-        rw spans-parts
-        (omega (arith, length-append (stream_spans case of) (utility_spans case of), streams, few_utilities));
+        rw bands-parts
+        (omega (arith, length-append (stream_bands case of) (utility_bands case of), streams, few_utilities));
   }
     where
-      few_streams : length (stream_spans case of) ≤ MOST_STREAMS
+      few_streams : length (stream_bands case of) ≤ MOST_STREAMS
       few_streams =
           omega (arith, kept_count (own_stream case of) (stream_item case of) 0 case.streams, are_streams.are.few of)
 
-      few_utilities : length (utility_spans case of) ≡ 1
+      few_utilities : length (utility_bands case of) ≡ 1
       few_utilities =
           kept_count (own_utility case of) (utility_item case of) 0 case.utilities
           ∙ each_side (λ d. count_by (own_utility case d) case.utilities ≡ 1)

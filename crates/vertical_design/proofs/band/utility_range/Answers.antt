@@ -1,7 +1,7 @@
 -- The hot target is a heat of streams.
 use Rattle.vertical_design.proofs.Words.{hot_target-between, ints}
 use Rattle.std.proofs.Common.{arith}
-use Rattle.vertical_design.proofs.span.utility_range.Goals as goal
+use Rattle.vertical_design.proofs.band.utility_range.Goals as goal
 
 pub overflow_add-result : goal.overflow_add-result
 overflow_add-result c =
