@@ -1,10 +1,10 @@
 use Rattle.std.proofs.Common.{FitsSigned, arith, of_z, rules, subst, subst₂, sym, to_z, w64, ◌≡◌}
 use Rattle.study.proofs.Words.{CostsWith, IsCost, IsPrice, ints, pos, to_z-of_z, w128, ◌+ℤ◌, ◌-ℤ◌}
-use Rattle.study.proofs.LineBounds.{line_of}
-use Rattle.study.proofs.segments.line_from.Goals as goal
+use Rattle.study.proofs.ChordBounds.{chord_of}
+use Rattle.study.proofs.segments.chord_from.Goals as goal
 
-pub returns-clause-line : goal.returns-clause-line
-returns-clause-line c =
+pub returns-clause-chord : goal.returns-clause-chord
+returns-clause-chord c =
     let case = c.args.curve.now.priced.case.now in
     let i = c.args.curve.now.utility in
     let first = c.args.first in
@@ -25,6 +25,7 @@ returns-clause-line c =
     =
     omega (arith, ints) in
     let behind : next.price ≡ to_z w64 (of_z w64 first.price) +ℤ pos 1 = omega (arith, ints, at) in
-    line_of case i _ next.cost (subst IsPrice (sym price_is) c.requires.first.small.price) (subst IsCost (sym cost_is) c.requires.first.small.cost)
+    chord_of case i _ next.cost (subst IsPrice (sym price_is) c.requires.first.small.price)
+    (subst IsCost (sym cost_is) c.requires.first.small.cost)
     c.in_ok-next.ensures.point.small.cost slope (subst₂ (CostsWith case i) (sym price_is) (sym cost_is) c.requires.first.least)
     (subst (λ p. CostsWith case i p next.cost) behind c.in_ok-next.ensures.point.least)

@@ -1,7 +1,7 @@
 use Rattle.std.proofs.Common.{arith, of_z, to_z, w64, ◌≡◌}
 use Rattle.study.proofs.Words.{ints, pos, ◌-ℤ◌, ◌≤ℤ◌}
-use Rattle.study.proofs.lines.next_price.Goals.{After-within}
-use Rattle.study.proofs.lines.next_price.Goals as goal
+use Rattle.study.proofs.chords.next_price.Goals.{After-within}
+use Rattle.study.proofs.chords.next_price.Goals as goal
 
 -- how far back the price is at the most
 most_back : (c : After-within) → c.within.result ≤ℤ (c.args.off -ℤ c.args.on -ℤ pos 2)

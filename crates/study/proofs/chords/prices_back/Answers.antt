@@ -1,8 +1,8 @@
 use Rattle.std.proofs.Common.{FitsSigned, arith, of_z, rules, subst, sym, to_z, ◌≡◌}
 use Rattle.std.proofs.lemmas.Int.{clamps, quot_fits}
 use Rattle.study.proofs.Words.{IsGap, IsWithin, ints, pos, to_z-of_z, w128, ℤ, ◌*ℤ◌, ◌-ℤ◌, ◌<ℤ◌}
-use Rattle.study.proofs.LineBounds.{gap-times}
-use Rattle.study.proofs.lines.prices_back.Goals as goal
+use Rattle.study.proofs.ChordBounds.{gap-times}
+use Rattle.study.proofs.chords.prices_back.Goals as goal
 
 module _ (run gap : ℤ) (way : IsWithin (pos 2000000) run) (is : IsGap gap) where
   product_fits : FitsSigned w128 (run *ℤ gap)
