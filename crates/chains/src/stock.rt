@@ -74,7 +74,7 @@ pub(crate) fn pass_on(
         (HasPassed share shares.old.items shares.new.items ways.old.sorted.items
         ways.new.sorted.items) }
 {
-    let part = ways.carry(share.node, share.heat);
+    let part = ways.take_heat(share.node, share.heat);
     if part.left < share.heat {
         shares.push(Share {
             heat: share.heat - part.left,

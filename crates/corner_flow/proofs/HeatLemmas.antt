@@ -20,31 +20,33 @@ target_of Cold streams = cold_target streams
 
 -- 1 for a level that counts as above a place, and for a part that stands above it; 0 for the others
 abbrev pub reached : Bool → ℤ → ℤ → ℤ
-reached from place level = if counts_above from place level then pos 1 else pos 0
+reached from_itself place level = if counts_above from_itself place level then pos 1 else pos 0
 
 abbrev pub above : Bool → ℤ → Part → ℤ
-above from place p = if stands_above from place p then pos 1 else pos 0
+above from_itself place p = if stands_above from_itself place p then pos 1 else pos 0
 
-pub is_reached : (from : Bool) (place level : ℤ) → counts_above from place level ≡ true
-    → reached from place level ≡ pos 1
-is_reached from place level e = ap (λ b. if b then pos 1 else pos 0) e
+pub is_reached : (from_itself : Bool) (place level : ℤ) → counts_above from_itself place level ≡ true
+    → reached from_itself place level ≡ pos 1
+is_reached from_itself place level e = ap (λ b. if b then pos 1 else pos 0) e
 
-pub is_missed : (from : Bool) (place level : ℤ) → counts_above from place level ≡ false
-    → reached from place level ≡ pos 0
-is_missed from place level e = ap (λ b. if b then pos 1 else pos 0) e
+pub is_missed : (from_itself : Bool) (place level : ℤ) → counts_above from_itself place level ≡ false
+    → reached from_itself place level ≡ pos 0
+is_missed from_itself place level e = ap (λ b. if b then pos 1 else pos 0) e
 
 -- a part at one level stands above a place where the level does
-pub stands-level : (from : Bool) (place level : ℤ) (p : Part) → p.high ≡ level → p.low ≡ level
-    → stands_above from place p ≡ counts_above from place level
+pub stands-level : (from_itself : Bool) (place level : ℤ) (p : Part) → p.high ≡ level → p.low ≡ level
+    → stands_above from_itself place p ≡ counts_above from_itself place level
 stands-level false place level p high low = ap (int_lt place) high
 stands-level true place level p high low = ap (int_le place) low
 
 -- a level that is higher counts as above a place, and a lower one does not
-pub counts_higher : (from : Bool) (place level : ℤ) → place <ℤ level → counts_above from place level ≡ true
+pub counts_higher : (from_itself : Bool) (place level : ℤ) → place <ℤ level
+    → counts_above from_itself place level ≡ true
 counts_higher false place level less = int_lt-from place level less
 counts_higher true place level less = int_le-from place level (omega (arith, ints))
 
-pub counts_lower : (from : Bool) (place level : ℤ) → level <ℤ place → counts_above from place level ≡ false
+pub counts_lower : (from_itself : Bool) (place level : ℤ) → level <ℤ place
+    → counts_above from_itself place level ≡ false
 counts_lower false place level less = int_lt-false place level (omega (arith, ints))
 counts_lower true place level less = int_le-false place level less
 
@@ -56,16 +58,16 @@ chosen : (b : Bool) (x : ℤ) → (if b then x else pos 0) ≡ (if b then pos 1 
 chosen true x = omega (arith, ints)
 chosen false x = sym (zero_times (pos 0) x refl)
 
-pub from_stream : (from : Bool) (place each : ℤ) (p : Part) → is_stream p.source ≡ true
-    → part_over from place each p ≡ above from place p *ℤ p.least
-from_stream from place each p e =
-    ap (λ b. if b then (if stands_above from place p then p.least else pos 0) else each) e
-    ∙ chosen (stands_above from place p) p.least
+pub from_stream : (from_itself : Bool) (place each : ℤ) (p : Part) → is_stream p.source ≡ true
+    → part_over from_itself place each p ≡ above from_itself place p *ℤ p.least
+from_stream from_itself place each p e =
+    ap (λ b. if b then (if stands_above from_itself place p then p.least else pos 0) else each) e
+    ∙ chosen (stands_above from_itself place p) p.least
 
-pub from_utility : (from : Bool) (place each : ℤ) (p : Part) → is_stream p.source ≡ false
-    → part_over from place each p ≡ each
-from_utility from place each p e =
-    ap (λ b. if b then (if stands_above from place p then p.least else pos 0) else each) e
+pub from_utility : (from_itself : Bool) (place each : ℤ) (p : Part) → is_stream p.source ≡ false
+    → part_over from_itself place each p ≡ each
+from_utility from_itself place each p e =
+    ap (λ b. if b then (if stands_above from_itself place p then p.least else pos 0) else each) e
 
 -- a share of 0 or 1
 share : (b : Bool) (x : ℤ) → pos 0 ≤ℤ x
@@ -89,9 +91,9 @@ passes_down p q h order other = ⊎_elim (λ e. (omega (arith, ints), omega (ari
     let low = (Decides-int_eq p.low q.low).0 same.1 in
     (omega (arith, ints), omega (arith, ints))) (or_cases (int_le q.high p.low) (int_eq p.high q.high && int_eq p.low q.low) h)
 
-pub stands_falls : (from : Bool) (place : ℤ) (p q : Part) → q.high ≤ℤ p.high → q.low ≤ℤ p.low
-    → stands_above from place q ≡ true
-    → stands_above from place p ≡ true
+pub stands_falls : (from_itself : Bool) (place : ℤ) (p q : Part) → q.high ≤ℤ p.high → q.low ≤ℤ p.low
+    → stands_above from_itself place q ≡ true
+    → stands_above from_itself place p ≡ true
 stands_falls false place p q high low e = int_lt-from place p.high (omega (arith, ints))
 stands_falls true place p q high low e = int_le-from place p.low (omega (arith, ints))
 
@@ -101,10 +103,11 @@ either_falls true false h = absurd (false≢true (h refl))
 either_falls false true h = omega (arith, ints)
 either_falls false false h = omega (arith, ints)
 
-pub above_falls : (from : Bool) (place : ℤ) (p q : Part) → q.high ≤ℤ p.high → q.low ≤ℤ p.low
-    → above from place q ≤ℤ above from place p
-above_falls from place p q high low =
-    either_falls (stands_above from place q) (stands_above from place p) (stands_falls from place p q high low)
+pub above_falls : (from_itself : Bool) (place : ℤ) (p q : Part) → q.high ≤ℤ p.high → q.low ≤ℤ p.low
+    → above from_itself place q ≤ℤ above from_itself place p
+above_falls from_itself place p q high low =
+    either_falls (stands_above from_itself place q) (stands_above from_itself place p)
+    (stands_falls from_itself place p q high low)
 
 module _ {c : Case} {hot cold : List Part} (s : AreStandardParts c hot cold) where
   -- prices that do not rise downward support each heat flow
@@ -117,13 +120,15 @@ module _ {c : Case} {hot cold : List Part} (s : AreStandardParts c hot cold) whe
       subst₂ (λ y z. z ≤ℤ y) (sym (price_at-map f hot a p from)) (sym (price_at-map f cold b q to)) (falls p q down.0 down.1)
 
   -- a sum over the parts of a side that each add what stands above a place of the grid, and something for the utility
-  pub sum_above : (side : Side) (f : ℕ → Part → ℤ) (from : Bool) (place each : ℤ) → Contains s.grid place
-      → ((a : ℕ) (p : Part) → slice_get (parts_of side hot cold) a ≡ Some p → IsStandardPart c s.grid side p → f a p ≡ part_over from place each p)
-      → int_sum_from f 0 (parts_of side hot cold) ≡ each +ℤ sum_side side (heat_over from place) c.streams
-  sum_above side f from place each on h =
+  pub sum_above : (side : Side) (f : ℕ → Part → ℤ) (from_itself : Bool) (place each : ℤ) → Contains s.grid place
+      → ((a : ℕ) (p : Part) → slice_get (parts_of side hot cold) a ≡ Some p → IsStandardPart c s.grid side p
+      → f a p ≡ part_over from_itself place each p)
+      → int_sum_from f 0 (parts_of side hot cold) ≡ each +ℤ sum_side side (heat_over from_itself place) c.streams
+  sum_above side f from_itself place each on h =
       let parts = parts_of side hot cold in
-      int_sum_from-same_each f (λ a p. part_over from place each p) parts (λ a p at. h a p at ((s.sides side).each a p at))
-      ∙ int_sum_from-by (part_over from place each) 0 parts ∙ (s.sides side).sum from place each on
+      int_sum_from-same_each f (λ a p. part_over from_itself place each p) parts
+      (λ a p at. h a p at ((s.sides side).each a p at))
+      ∙ int_sum_from-by (part_over from_itself place each) 0 parts ∙ (s.sides side).sum from_itself place each on
 
   -- what a side costs is what its utility costs
   side_cost-standard : (side : Side) (ts : List Transfer) (heat : ℤ) → UtilityHeat side (parts_of side hot cold) ts heat
@@ -167,38 +172,42 @@ module _ {c : Case} {hot cold : List Part} (s : AreStandardParts c hot cold) whe
     on_side Cold = (flow.cold_indexes, flow.cold_ranges)
 
     -- the heats of the parts of a side above a place
-    heats_above : (side : Side) (w : ℕ → Part → ℤ) (from : Bool) (place each : ℤ) → Contains s.grid place
+    heats_above : (side : Side) (w : ℕ → Part → ℤ) (from_itself : Bool) (place each : ℤ) → Contains s.grid place
         → UtilityHeat side (parts_of side hot cold) ts each
-        → ((a : ℕ) (p : Part) → slice_get (parts_of side hot cold) a ≡ Some p → w a p ≡ above from place p)
+        → ((a : ℕ) (p : Part) → slice_get (parts_of side hot cold) a ≡ Some p → w a p ≡ above from_itself place p)
         → int_sum_from (λ a p. w a p *ℤ heat_at side ts a) 0 (parts_of side hot cold)
-        ≡ reached from place (end_of c side) *ℤ each +ℤ sum_side side (heat_over from place) c.streams
-    heats_above side w from place each on utility weight =
-        sum_above side (λ a p. w a p *ℤ heat_at side ts a) from place (reached from place (end_of c side) *ℤ each) on
+        ≡ reached from_itself place (end_of c side) *ℤ each +ℤ sum_side side (heat_over from_itself place) c.streams
+    heats_above side w from_itself place each on utility weight =
+        sum_above side (λ a p. w a p *ℤ heat_at side ts a) from_itself place
+        (reached from_itself place (end_of c side) *ℤ each) on
         (λ a p at h. ap (λ z. z *ℤ heat_at side ts a) (weight a p at) ∙ ⊎_elim (λ k.
         let range = (on_side side).1 a p at in
         let fixed = k.fixed in
-        ap (λ z. above from place p *ℤ z) (omega (arith, ints))
-        ∙ sym (from_stream from place (reached from place (end_of c side) *ℤ each) p k.source_is)) (λ k.
-        let level = ap (λ b. if b then pos 1 else pos 0) (stands-level from place (end_of c side) p k.high k.low) in
+        ap (λ z. above from_itself place p *ℤ z) (omega (arith, ints))
+        ∙ sym (from_stream from_itself place (reached from_itself place (end_of c side) *ℤ each) p k.source_is)) (λ k.
+        let level = ap (λ b. if b then pos 1 else pos 0)
+        (stands-level from_itself place (end_of c side) p k.high k.low) in
         ap₂ ◌*ℤ◌ level (utility a p at (ap not k.source_is))
-        ∙ sym (from_utility from place (reached from place (end_of c side) *ℤ each) p k.source_is))
+        ∙ sym (from_utility from_itself place (reached from_itself place (end_of c side) *ℤ each) p k.source_is))
         h.kind)
 
     -- the same, transfer by transfer
-    pub worth_above : (side : Side) (from : Bool) (place each : ℤ) → Contains s.grid place
+    pub worth_above : (side : Side) (from_itself : Bool) (place each : ℤ) → Contains s.grid place
         → UtilityHeat side (parts_of side hot cold) ts each
-        → side_worth side (map (above from place) (parts_of side hot cold)) ts
-        ≡ reached from place (end_of c side) *ℤ each +ℤ sum_side side (heat_over from place) c.streams
-    worth_above side from place each on utility =
+        → side_worth side (map (above from_itself place) (parts_of side hot cold)) ts
+        ≡ reached from_itself place (end_of c side) *ℤ each +ℤ sum_side side (heat_over from_itself place) c.streams
+    worth_above side from_itself place each on utility =
         let parts = parts_of side hot cold in
-        sym (side_worth-parts side (map (above from place) parts) parts ts (on_side side).0)
-        ∙ heats_above side (λ a p. price_at (map (above from place) parts) a) from place each on utility (price_at-map (above from place) parts)
+        sym (side_worth-parts side (map (above from_itself place) parts) parts ts (on_side side).0)
+        ∙ heats_above side (λ a p. price_at (map (above from_itself place) parts) a) from_itself place each on utility
+        (price_at-map (above from_itself place) parts)
 
-    pub taken-le : (from : Bool) (place : ℤ)
-        → All (λ t. (price_at (map (above from place) cold) t.cold *ℤ t.heat) ≤ℤ (price_at (map (above from place) hot) t.hot *ℤ t.heat)) ts
-    taken-le from place =
-        worth-le (reach_between c hot cold) (map (above from place) hot) (map (above from place) cold) ts
-        (supports_down (above from place) (above_falls from place)) flow.positive flow.joined
+    pub taken-le : (from_itself : Bool) (place : ℤ)
+        → All (λ t. (price_at (map (above from_itself place) cold) t.cold *ℤ t.heat)
+        ≤ℤ (price_at (map (above from_itself place) hot) t.hot *ℤ t.heat)) ts
+    taken-le from_itself place =
+        worth-le (reach_between c hot cold) (map (above from_itself place) hot) (map (above from_itself place) cold) ts
+        (supports_down (above from_itself place) (above_falls from_itself place)) flow.positive flow.joined
 
     -- all heat of a side: that of its streams and of its utility
     whole_heat : (side : Side)
@@ -225,16 +234,19 @@ module _ {c : Case} {hot cold : List Part} (s : AreStandardParts c hot cold) whe
         let on = s.stream_end place tight.end in
         ⊎_elim (at_tight false place on) (at_tight true place on) tight.tight
       where
-        at_tight : (from : Bool) (place : ℤ) → Contains s.grid place → IsTightOver from c.streams place
+        at_tight : (from_itself : Bool) (place : ℤ) → Contains s.grid place → IsTightOver from_itself c.streams place
             → hot_target c.streams ≤ℤ heat Hot ts
-        at_tight from place on tight =
-            let hots = worth_above Hot from place (heat Hot ts) on (utility_heat Hot ts) in
-            let colds = worth_above Cold from place (heat Cold ts) on (utility_heat Cold ts) in
-            let most = (share (counts_above from place (end_of c Hot)) (heat Hot ts) (utility-not_negative Hot)).1 in
-            let some = (share (counts_above from place (end_of c Cold)) (heat Cold ts) (utility-not_negative Cold)).0 in
+        at_tight from_itself place on tight =
+            let hots = worth_above Hot from_itself place (heat Hot ts) on (utility_heat Hot ts) in
+            let colds = worth_above Cold from_itself place (heat Cold ts) on (utility_heat Cold ts) in
+            let most = (share (counts_above from_itself place (end_of c Hot)) (heat Hot ts)
+            (utility-not_negative Hot)).1 in
+            let some = (share (counts_above from_itself place (end_of c Cold)) (heat Cold ts)
+            (utility-not_negative Cold)).0 in
             let le =
-            int_sum_by-le (λ t. price_at (map (above from place) cold) t.cold *ℤ t.heat) (λ t. price_at (map (above from place) hot) t.hot *ℤ t.heat) ts
-            (taken-le from place) in
+            int_sum_by-le (λ t. price_at (map (above from_itself place) cold) t.cold *ℤ t.heat)
+            (λ t. price_at (map (above from_itself place) hot) t.hot *ℤ t.heat) ts
+            (taken-le from_itself place) in
             omega (arith, ints)
 
     -- the utilities give and take at least the targets

@@ -19,8 +19,9 @@ equal_terms f g (x ∷ xs) le e =
     let is : f x ≡ g x = omega (arith, ints) in
     All-cons (λ y. f y ≡ g y) x xs is (equal_terms f g xs others (omega (arith, ints)))
 
-module _ {c : Case} {hot cold : List Part} (s : AreStandardParts c hot cold) (place : ℤ) (pinch : IsPinch c.streams place) (from : Bool)
-    (tight : IsTightOver from c.streams place) (ts : List Transfer) (flow : IsFlowOf c hot cold ts)
+module _ {c : Case} {hot cold : List Part} (s : AreStandardParts c hot cold) (place : ℤ)
+    (pinch : IsPinch c.streams place) (from_itself : Bool)
+    (tight : IsTightOver from_itself c.streams place) (ts : List Transfer) (flow : IsFlowOf c hot cold ts)
     (given : UtilityHeat Hot hot ts (hot_target c.streams)) where
   -- the hot utility stands above the pinch, and the cold one below it
   top_above : place <ℤ end_of c Hot
@@ -36,29 +37,34 @@ module _ {c : Case} {hot cold : List Part} (s : AreStandardParts c hot cold) (pl
       omega (arith, ints)
 
   -- all that is given above the pinch is taken above it
-  same_above : All (λ t. price_at (map (above from place) cold) t.cold *ℤ t.heat ≡ price_at (map (above from place) hot) t.hot *ℤ t.heat) ts
+  same_above : All (λ t. price_at (map (above from_itself place) cold) t.cold *ℤ t.heat
+      ≡ price_at (map (above from_itself place) hot) t.hot *ℤ t.heat) ts
   same_above =
       let on : Contains s.grid place = s.stream_end place pinch.at.end in
       let target = hot_target c.streams in
-      let hots = worth_above s ts flow Hot from place target on given in
-      let colds = worth_above s ts flow Cold from place (heat s Cold ts) on (utility_heat s Cold ts) in
+      let hots = worth_above s ts flow Hot from_itself place target on given in
+      let colds = worth_above s ts flow Cold from_itself place (heat s Cold ts) on (utility_heat s Cold ts) in
       let all =
-      one_times (reached from place (end_of c Hot)) target (is_reached from place (end_of c Hot) (counts_higher from place (end_of c Hot) top_above)) in
-      let none = zero_times (reached from place (end_of c Cold)) (heat s Cold ts)
-      (is_missed from place (end_of c Cold) (counts_lower from place (end_of c Cold) bottom_below)) in
-      equal_terms (λ t. price_at (map (above from place) cold) t.cold *ℤ t.heat) (λ t. price_at (map (above from place) hot) t.hot *ℤ t.heat) ts
-      (taken-le s ts flow from place) (omega (arith, ints))
+      one_times (reached from_itself place (end_of c Hot)) target
+      (is_reached from_itself place (end_of c Hot) (counts_higher from_itself place (end_of c Hot) top_above)) in
+      let none = zero_times (reached from_itself place (end_of c Cold)) (heat s Cold ts)
+      (is_missed from_itself place (end_of c Cold) (counts_lower from_itself place (end_of c Cold) bottom_below)) in
+      equal_terms (λ t. price_at (map (above from_itself place) cold) t.cold *ℤ t.heat)
+      (λ t. price_at (map (above from_itself place) hot) t.hot *ℤ t.heat) ts
+      (taken-le s ts flow from_itself place) (omega (arith, ints))
 
   -- so nothing is left to give below it
-  none_crosses : NoHeatCrosses from hot cold place ts
+  none_crosses : NoHeatCrosses from_itself hot cold place ts
   none_crosses k d within crossing =
       let t = get_or ts k d in
       let p = crossing.hot_part in
       let q = crossing.cold_part in
-      let gives = one_times (price_at (map (above from place) hot) t.hot) t.heat
-      (price_at-map (above from place) hot t.hot p crossing.hot_at ∙ ap (λ b. if b then pos 1 else pos 0) crossing.above) in
-      let takes = zero_times (price_at (map (above from place) cold) t.cold) t.heat (price_at-map (above from place) cold t.cold q crossing.cold_at
-      ∙ ap (λ b. if b then pos 1 else pos 0) (not-true (stands_above from place q) crossing.not_above)) in
+      let gives = one_times (price_at (map (above from_itself place) hot) t.hot) t.heat
+      (price_at-map (above from_itself place) hot t.hot p crossing.hot_at
+      ∙ ap (λ b. if b then pos 1 else pos 0) crossing.above) in
+      let takes = zero_times (price_at (map (above from_itself place) cold) t.cold) t.heat
+      (price_at-map (above from_itself place) cold t.cold q crossing.cold_at
+      ∙ ap (λ b. if b then pos 1 else pos 0) (not-true (stands_above from_itself place q) crossing.not_above)) in
       let same = same_above k d within in omega (arith, ints, flow.positive k d within)
 
 pub no_heat_crosses_pinch : {c : Case} {hot cold : List Part} → AreStandardParts c hot cold

@@ -153,9 +153,10 @@ same_deficit place streams valid none =
     (sum_side-same Hot (heat_over true place) (heat_over false place) streams same)
 
 -- the deficit over the reference place, as its prices count, is the hot target
-pub tight_counted : (streams : List Stream) (place : ℤ) (from : Bool) → All IsValidStream streams
+pub tight_counted : (streams : List Stream) (place : ℤ) (from_itself : Bool) → All IsValidStream streams
     → IsReferencePlace streams place
-    → from ≡ true ↔ CountsFromItself streams place → IsTightOver (counts_low streams from place) streams place
+    → from_itself ≡ true ↔ CountsFromItself streams place
+    → IsTightOver (counts_low streams from_itself place) streams place
 tight_counted streams place true valid reference counts =
     ⊎_elim (λ e. absurd (counts.0 refl e)) (λ e. e) reference.at.tight
 tight_counted streams place false valid reference counts = by_level (has_level_at place streams) refl

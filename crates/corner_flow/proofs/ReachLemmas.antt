@@ -53,9 +53,9 @@ heat_of_stream target p e = ap (λ b. if b then p.least else target) e
 pub heat_of_utility : (target : ℤ) (p : Part) → is_stream p.source ≡ false → part_heat target p ≡ target
 heat_of_utility target p e = ap (λ b. if b then p.least else target) e
 
-part_over-le : (from : Bool) (place target : ℤ) (p : Part) → pos 0 ≤ℤ p.least → pos 0 ≤ℤ target
-    → (pos 0 ≤ℤ part_over from place target p) × (part_over from place target p ≤ℤ part_heat target p)
-part_over-le from place target p h k = either (is_stream p.source) (stands_above from place p)
+part_over-le : (from_itself : Bool) (place target : ℤ) (p : Part) → pos 0 ≤ℤ p.least → pos 0 ≤ℤ target
+    → (pos 0 ≤ℤ part_over from_itself place target p) × (part_over from_itself place target p ≤ℤ part_heat target p)
+part_over-le from_itself place target p h k = either (is_stream p.source) (stands_above from_itself place p)
   where
     either : (b d : Bool) → (pos 0 ≤ℤ (if b then (if d then p.least else pos 0) else target))
         × ((if b then (if d then p.least else pos 0) else target) ≤ℤ (if b then p.least else target))
@@ -63,67 +63,77 @@ part_over-le from place target p h k = either (is_stream p.source) (stands_above
     either true false = (omega (arith, ints), omega (arith, ints))
     either false d = (omega (arith, ints), omega (arith, ints))
 
-module _ {c : Case} {hot cold : List Part} (s : AreStandardParts c hot cold) (from : Bool) (place : ℤ) (on : Contains s.grid place) where
+module _ {c : Case} {hot cold : List Part} (s : AreStandardParts c hot cold) (from_itself : Bool) (place : ℤ)
+    (on : Contains s.grid place) where
   -- the hot heat above a place stands before a hot part that does not stand above it
-  hot_before : (i : ℕ) (p : Part) → slice_get hot i ≡ Some p → stands_above from place p ≡ false
-      → counts_above from place (end_of c Hot) ≡ true
-      → (hot_target c.streams +ℤ sum_side Hot (heat_over from place) c.streams) ≤ℤ begin_of (heats_of (hot_target c.streams) hot) i
+  hot_before : (i : ℕ) (p : Part) → slice_get hot i ≡ Some p → stands_above from_itself place p ≡ false
+      → counts_above from_itself place (end_of c Hot) ≡ true
+      → (hot_target c.streams +ℤ sum_side Hot (heat_over from_itself place) c.streams)
+      ≤ℤ begin_of (heats_of (hot_target c.streams) hot) i
   hot_before i p at missed top =
       let target = hot_target c.streams in
-      let each = int_sum_from-le_each (λ k q. part_over from place target q) (heat_before target i) hot (λ k q other.
+      let each = int_sum_from-le_each (λ k q. part_over from_itself place target q) (heat_before target i) hot
+      (λ k q other.
       let part = (s.sides Hot).each k q other in
       ⊎_elim (λ early.
-      let heat = (part_over-le from place target q part.bounded.least.from (hot_target-between c.streams s.valid.are_streams).from).1 in
+      let heat = (part_over-le from_itself place target q part.bounded.least.from
+      (hot_target-between c.streams s.valid.are_streams).from).1 in
       let here = ap (λ b. if b then part_heat target q else pos 0) (lt-ltb k i early) in
       omega (arith, ints)) (λ late.
       let falls = (s.sides Hot).falls i k p q at other late in
       let past = ap (λ b. if b then part_heat target q else pos 0) (le-ltb k i late) in
-      let not_above : stands_above from place q ≡ true → ⊥
-      = λ e. false≢true (sym missed ∙ stands_falls from place p q falls.0 falls.1 e) in
-      let none : part_over from place target q ≡ pos 0 = ⊎_elim (λ h. from_stream from place target q h.source_is
-      ∙ zero_times (above from place q) q.least (ap (λ b. if b then pos 1 else pos 0) (false_from_ne_true (stands_above from place q) not_above)))
-      (λ h. absurd (not_above (stands-level from place (end_of c Hot) q h.high h.low ∙ top)))
+      let not_above : stands_above from_itself place q ≡ true → ⊥
+      = λ e. false≢true (sym missed ∙ stands_falls from_itself place p q falls.0 falls.1 e) in
+      let none : part_over from_itself place target q ≡ pos 0
+      = ⊎_elim (λ h. from_stream from_itself place target q h.source_is
+      ∙ zero_times (above from_itself place q) q.least
+      (ap (λ b. if b then pos 1 else pos 0) (false_from_ne_true (stands_above from_itself place q) not_above)))
+      (λ h. absurd (not_above (stands-level from_itself place (end_of c Hot) q h.high h.low ∙ top)))
       part.kind in
       omega (arith, ints)) (cases_lt k i)) in
-      let plain = int_sum_from-by (part_over from place target) 0 hot in
-      let sum = (s.sides Hot).sum from place target on in
+      let plain = int_sum_from-by (part_over from_itself place target) 0 hot in
+      let sum = (s.sides Hot).sum from_itself place target on in
       let begin = begin_of-heats target hot i in omega (arith, ints)
 
   -- the cold heat up to a part that stands above a place lies above the place
-  cold_upto : (j : ℕ) (q : Part) → slice_get cold j ≡ Some q → stands_above from place q ≡ true
-      → counts_above from place (end_of c Cold) ≡ false
-      → begin_of (heats_of (cold_target c.streams) cold) (suc j) ≤ℤ sum_side Cold (heat_over from place) c.streams
+  cold_upto : (j : ℕ) (q : Part) → slice_get cold j ≡ Some q → stands_above from_itself place q ≡ true
+      → counts_above from_itself place (end_of c Cold) ≡ false
+      → begin_of (heats_of (cold_target c.streams) cold) (suc j)
+      ≤ℤ sum_side Cold (heat_over from_itself place) c.streams
   cold_upto j q at stands bottom =
       let target = cold_target c.streams in
-      let each = int_sum_from-le_each (heat_before target (suc j)) (λ k r. part_over from place (pos 0) r) cold (λ k r other.
+      let each = int_sum_from-le_each (heat_before target (suc j)) (λ k r. part_over from_itself place (pos 0) r) cold
+      (λ k r other.
       let part = (s.sides Cold).each k r other in
       ⊎_elim (λ early.
       let falls = (s.sides Cold).falls k j r q other at (omega (arith, early)) in
       let here = ap (λ b. if b then part_heat target r else pos 0) (lt-ltb k (suc j) early) in
-      let higher = stands_falls from place r q falls.0 falls.1 stands in
+      let higher = stands_falls from_itself place r q falls.0 falls.1 stands in
       ⊎_elim (λ h.
       let whole = heat_of_stream target r h.source_is in
-      let all = from_stream from place (pos 0) r h.source_is
-      ∙ one_times (above from place r) r.least (ap (λ b. if b then pos 1 else pos 0) higher) in
-      omega (arith, ints)) (λ h. absurd (false≢true (sym bottom ∙ sym (stands-level from place (end_of c Cold) r h.high h.low) ∙ higher)))
+      let all = from_stream from_itself place (pos 0) r h.source_is
+      ∙ one_times (above from_itself place r) r.least (ap (λ b. if b then pos 1 else pos 0) higher) in
+      omega (arith, ints))
+      (λ h. absurd (false≢true
+      (sym bottom ∙ sym (stands-level from_itself place (end_of c Cold) r h.high h.low) ∙ higher)))
       part.kind) (λ late.
-      let heat = (part_over-le from place (pos 0) r part.bounded.least.from (omega (arith, ints))).0 in
+      let heat = (part_over-le from_itself place (pos 0) r part.bounded.least.from (omega (arith, ints))).0 in
       let past = ap (λ b. if b then part_heat target r else pos 0) (le-ltb k (suc j) late) in
       omega (arith, ints)) (cases_lt k (suc j))) in
-      let plain = int_sum_from-by (part_over from place (pos 0)) 0 cold in
-      let sum = (s.sides Cold).sum from place (pos 0) on in
+      let plain = int_sum_from-by (part_over from_itself place (pos 0)) 0 cold in
+      let sum = (s.sides Cold).sum from_itself place (pos 0) on in
       let begin = begin_of-heats target cold (suc j) in omega (arith, ints)
 
   -- so the spans of two parts with a place between them do not overlap
   no_overlap : (i j : ℕ) (p q : Part) → slice_get hot i ≡ Some p → slice_get cold j ≡ Some q
-      → stands_above from place p ≡ false
-      → stands_above from place q ≡ true → counts_above from place (end_of c Hot) ≡ true
-      → counts_above from place (end_of c Cold) ≡ false
+      → stands_above from_itself place p ≡ false
+      → stands_above from_itself place q ≡ true → counts_above from_itself place (end_of c Hot) ≡ true
+      → counts_above from_itself place (end_of c Cold) ≡ false
       → pos 0 <ℤ overlap (heats_of (hot_target c.streams) hot) (heats_of (cold_target c.streams) cold) i j → ⊥
   no_overlap i j p q at other missed stands top bottom positive =
       let begin = hot_before i p at missed top in
       let end = cold_upto j q other stands bottom in
-      let bound = deficit_over-bound from c.streams place (s.grid_end place on) in
+      let bound = deficit_over-bound from_itself c.streams place (s.grid_end place on) in
       omega (arith, ints, clamps)
 
 module _ {c : Case} {hot cold : List Part} (s : AreStandardParts c hot cold) where

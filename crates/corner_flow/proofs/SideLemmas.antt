@@ -52,8 +52,8 @@ pub record IsStandardSide (c : Case) (grid : List ℤ) (side : Side) (parts : Li
   pub each : (a : ℕ) (p : Part) → slice_get parts a ≡ Some p → IsStandardPart c grid side p
   pub falls : (a b : ℕ) (p q : Part) → slice_get parts a ≡ Some p → slice_get parts b ≡ Some q → a ≤ b
       → (q.high ≤ℤ p.high) × (q.low ≤ℤ p.low)
-  pub sum : (from : Bool) (at each : ℤ) → Contains grid at
-      → int_sum_by (part_over from at each) parts ≡ each +ℤ sum_side side (heat_over from at) c.streams
+  pub sum : (from_itself : Bool) (at each : ℤ) → Contains grid at
+      → int_sum_by (part_over from_itself at each) parts ≡ each +ℤ sum_side side (heat_over from_itself at) c.streams
   pub utility : ℕ
   pub only : (a : ℕ) (p : Part) → slice_get parts a ≡ Some p → is_stream p.source ≡ false → a ≡ utility
 
@@ -210,10 +210,11 @@ module _ (c : Case) (grid : List ℤ) (complete : IsComplete c) (standard : IsSt
             let low = ap (λ r. r.low) same in
             (omega (arith, ints), omega (arith, ints)))
             (λ differ. in_order_of grid p q on_grid.ordered here there (order q there) (in_order a d p q at last (omega (arith, differ)))) (cases_eq a d);
-        sum = λ from at each found.
-            ap (int_sum_by (part_over from at each)) (AreParts-made c.streams c.utilities side grid parts holds are)
-            ∙ sum-part_over c.streams c.utilities side grid from at each valid.are_streams.each holds found
-            ∙ ap (λ z. z +ℤ sum_side side (heat_over from at) c.streams) (sum_utilities c standard side each);
+        sum = λ from_itself at each found.
+            ap (int_sum_by (part_over from_itself at each))
+            (AreParts-made c.streams c.utilities side grid parts holds are)
+            ∙ sum-part_over c.streams c.utilities side grid from_itself at each valid.are_streams.each holds found
+            ∙ ap (λ z. z +ℤ sum_side side (heat_over from_itself at) c.streams) (sum_utilities c standard side each);
         utility = b;
         only = λ a p at e.
             ⊎_elim (λ same. same) (⊎_elim (λ less. absurd (not_after p own (on_side a p at) (on_side b own other) e refl (in_order a b p own at other less)))

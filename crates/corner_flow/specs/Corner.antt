@@ -51,11 +51,13 @@ corner_price target low place p = if int_eq target (pos 0) then pos 0 else if st
 -- the prices that the corner flow comes with
 pub record AreCornerPrices (c : Case) (hot cold : List Part) (prices : Prices) : Type 0 where
   pub place : ℤ
-  pub from : Bool
+  pub from_itself : Bool
   pub reference : IsReferencePlace c.streams place
-  pub counts : IsTrue from ↔ CountsFromItself c.streams place
-  pub hot_prices : prices.hot ≡ map (corner_price (hot_target c.streams) (counts_low c.streams from place) place) hot
-  pub cold_prices : prices.cold ≡ map (corner_price (hot_target c.streams) (counts_low c.streams from place) place) cold
+  pub counts : IsTrue from_itself ↔ CountsFromItself c.streams place
+  pub hot_prices : prices.hot
+      ≡ map (corner_price (hot_target c.streams) (counts_low c.streams from_itself place) place) hot
+  pub cold_prices : prices.cold
+      ≡ map (corner_price (hot_target c.streams) (counts_low c.streams from_itself place) place) cold
 
 -- the utility of this side gives or takes just this heat
 abbrev pub UtilityHeat : Side → List Part → List Transfer → ℤ → Type 0
@@ -74,23 +76,23 @@ abbrev pub NeedsHeatOf : Case → Side → ℤ → Type 0
 NeedsHeatOf c side heat = HoldsOfParts c (λ hot cold. NeedsHeat c hot cold side heat)
 
 -- a transfer takes heat across a place where it joins a hot part that stands above the place to a cold part that does not
-pub record CrossesHeat (from : Bool) (hot cold : List Part) (place : ℤ) (t : Transfer) : Type 0 where
+pub record CrossesHeat (from_itself : Bool) (hot cold : List Part) (place : ℤ) (t : Transfer) : Type 0 where
   pub hot_part : Part
   pub cold_part : Part
   pub hot_at : slice_get hot t.hot ≡ Some hot_part
   pub cold_at : slice_get cold t.cold ≡ Some cold_part
-  pub above : IsTrue (stands_above from place hot_part)
-  pub not_above : IsTrue (not (stands_above from place cold_part))
+  pub above : IsTrue (stands_above from_itself place hot_part)
+  pub not_above : IsTrue (not (stands_above from_itself place cold_part))
 
 -- none of the transfers does
 abbrev pub NoHeatCrosses : Bool → List Part → List Part → ℤ → List Transfer → Type 0
-NoHeatCrosses from hot cold place transfers = All (λ t. CrossesHeat from hot cold place t → ⊥) transfers
+NoHeatCrosses from_itself hot cold place transfers = All (λ t. CrossesHeat from_itself hot cold place t → ⊥) transfers
 
 -- in each heat flow of these parts in which the hot utility gives just the hot target, no heat crosses a pinch of the case.
 -- Where the deficit above the pinch is the target, none goes from a part with its high above it to one with its high at most there;
 -- where the deficit from it is, none goes from a part with its low at least there to one with its low below
 abbrev pub NoHeatCrossesPinch : Case → List Part → List Part → Type 0
 NoHeatCrossesPinch c hot cold =
-    (pinch : ℤ) → IsPinch c.streams pinch → (from : Bool) → IsTightOver from c.streams pinch
+    (pinch : ℤ) → IsPinch c.streams pinch → (from_itself : Bool) → IsTightOver from_itself c.streams pinch
     → (transfers : List Transfer) → IsFlowOf c hot cold transfers → UtilityHeat Hot hot transfers (hot_target c.streams)
-    → NoHeatCrosses from hot cold pinch transfers
+    → NoHeatCrosses from_itself hot cold pinch transfers

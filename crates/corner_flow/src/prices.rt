@@ -17,11 +17,11 @@ use stream_case::{Case, Items, Stream, counts_above, has_level_at};
 
 /// Whether parts stand above the reference place with their low, as they do where it counts from
 /// itself and where no latent stream stands at it; else they do with their high.
-fn counts_low(streams: &[Stream], from: bool, place: i32) -> bool
+fn counts_low(streams: &[Stream], from_itself: bool, place: i32) -> bool
     requires { All IsValidStream streams.now }
-    ensures { result ≡ counts_low streams.now from place }
+    ensures { result ≡ counts_low streams.now from_itself place }
 {
-    from || !has_level_at(streams, place)
+    from_itself || !has_level_at(streams, place)
 }
 
 /// Whether a part stands above a place, with its low or with its high.
@@ -67,19 +67,19 @@ pub fn corner_prices(
     case: &Case,
     parts: &Parts,
     place: i32,
-    from: bool,
+    from_itself: bool,
     targets: Target,
 ) -> Result<Prices, AllocError>
     requires complete { IsComplete case.now }
     requires standard { IsStandard case.now }
     requires parts { AreCaseParts case.now parts.now.hot parts.now.cold }
     requires place { IsReferencePlace case.now.streams place }
-    requires from { IsTrue from ↔ CountsFromItself case.now.streams place }
+    requires from_itself { IsTrue from_itself ↔ CountsFromItself case.now.streams place }
     requires hot_target { targets.hot ≡ hot_target case.now.streams }
     requires cold_target { targets.cold ≡ cold_target case.now.streams }
-    ensures hot { let low = counts_low case.now.streams from place in
+    ensures hot { let low = counts_low case.now.streams from_itself place in
         IfOk result (λ made. made.hot ≡ map (corner_price targets.hot low place) parts.now.hot) }
-    ensures cold { let low = counts_low case.now.streams from place in
+    ensures cold { let low = counts_low case.now.streams from_itself place in
         IfOk result (λ made. made.cold ≡ map (corner_price targets.hot low place) parts.now.cold) }
     ensures hot_range { IfOk result (λ prices. All IsPartPrice prices.hot) }
     ensures cold_range { IfOk result (λ prices. All IsPartPrice prices.cold) }
@@ -88,7 +88,7 @@ pub fn corner_prices(
     ensures value { IfOk result (λ prices.
         value_of parts.now.hot parts.now.cold prices.hot prices.cold ≡ targets.hot) }
 {
-    let low = counts_low(case.streams.as_slice(), from, place);
+    let low = counts_low(case.streams.as_slice(), from_itself, place);
     let hot = side_prices(alloc, parts.hot.as_slice(), targets.hot, low, place)?;
     let cold = side_prices(alloc, parts.cold.as_slice(), targets.hot, low, place)?;
     Ok(Prices {

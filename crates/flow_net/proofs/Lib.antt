@@ -14,5 +14,5 @@ pub mod RaisedPotentials
 pub mod StuckSearch
 pub mod Sizes
 pub mod Sums
-pub mod WayLemmas
+pub mod ResidualLemmas
 pub mod Words

@@ -180,7 +180,7 @@ module _ (p : Problem) (r : Routing) (s : Search) (standing : IsStanding p r) (a
             let near = sink_near in omega (arith, sizes);
       }
 
-      pub Stands-raised : Stands p r.flow.items potentials r.routed r.ways.items
+      pub Stands-raised : Stands p r.flow.items potentials r.routed r.residuals.items
       Stands-raised = record {
         problem = standing.problem;
         routed_from = standing.routed_from;

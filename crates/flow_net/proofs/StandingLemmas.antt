@@ -1,7 +1,7 @@
 -- What stands while a part of the amount is routed, before the first step and after each.
-use Rattle.flow_net.proofs.Words.{All-weaker, Arc, AreWays, CanCarry, IsArc, IsBottleneck, IsFreeArc, IsFreePath, IsPotential, IsPriced}
+use Rattle.flow_net.proofs.Words.{All-weaker, Arc, AreResiduals, CanCarry, IsArc, IsBottleneck, IsFreeArc, IsFreePath, IsPotential, IsPriced}
 use Rattle.flow_net.proofs.Words.{IsPricedBetween, IsProblem, IsResidualArc, IsStanding, IsWithinLimits, Link, MOST_COST, MOST_INITIAL_POTENTIAL}
-use Rattle.flow_net.proofs.Words.{MOST_NODES, Net, Problem, Routing, Stands, Way, cases_lt, flow_on, get_or-replicate, get_or_past, inflow, ints}
+use Rattle.flow_net.proofs.Words.{MOST_NODES, Net, Problem, Residual, Routing, Stands, cases_lt, flow_on, get_or-replicate, get_or_past, inflow, ints}
 use Rattle.flow_net.proofs.Words.{largest_cost, length-replicate, link_at, mul-le, outflow, potential_at, reduced_cost_of, sent_along_path}
 use Rattle.std.proofs.Common.{Bool, List, arith, false, inl, inr, length, pos, refl, replicate, subst, sym, true, ℕ, ℤ, ◌*◌, ◌+ℤ◌, ◌<◌, ◌==◌, ◌∙◌}
 use Rattle.std.proofs.Common.{◌≡◌, ◌≤ℤ◌, ◌≤◌}
@@ -18,13 +18,15 @@ largest_cost-small net limits =
     (λ k l. (limits.links k l).cost)
 
 -- the same lists and the same amount stand alike
-pub Stands-same : (p : Problem) (flow flow' potentials potentials' : List ℤ) (routed routed' : ℤ) (ways : List Way)
+pub Stands-same : (p : Problem) (flow flow' potentials potentials' : List ℤ) (routed routed' : ℤ)
+    (residuals : List Residual)
     → flow' ≡ flow
-    → potentials' ≡ potentials → routed' ≡ routed → Stands p flow potentials routed ways
-    → Stands p flow' potentials' routed' ways
-Stands-same p flow flow' potentials potentials' routed routed' ways e f g h =
-    subst (λ x. Stands p x potentials' routed' ways) (sym e)
-    (subst (λ x. Stands p flow x routed' ways) (sym f) (subst (λ x. Stands p flow potentials x ways) (sym g) h))
+    → potentials' ≡ potentials → routed' ≡ routed → Stands p flow potentials routed residuals
+    → Stands p flow' potentials' routed' residuals
+Stands-same p flow flow' potentials potentials' routed routed' residuals e f g h =
+    subst (λ x. Stands p x potentials' routed' residuals) (sym e)
+    (subst (λ x. Stands p flow x routed' residuals) (sym f)
+    (subst (λ x. Stands p flow potentials x residuals) (sym g) h))
 
 module _ (p : Problem) (r : Routing) (standing : IsStanding p r) where
   pub IsPotential-standing : (v : ℕ) → v < p.net.now.nodes → IsPotential (potential_at r.potentials.items v)
@@ -67,10 +69,10 @@ module _ (p : Problem) (r : Routing) (standing : IsStanding p r) where
       residual = most.residual;
     }
 
-    pub Stands-augmented : (ways : List Way)
-        → AreWays p.net.now.links (sent_along_path r.flow.items path m) p.adjacency.arcs.items ways
-        → Stands p (sent_along_path r.flow.items path m) r.potentials.items (r.routed +ℤ m) ways
-    Stands-augmented ways are =
+    pub Stands-augmented : (residuals : List Residual)
+        → AreResiduals p.net.now.links (sent_along_path r.flow.items path m) p.adjacency.arcs.items residuals
+        → Stands p (sent_along_path r.flow.items path m) r.potentials.items (r.routed +ℤ m) residuals
+    Stands-augmented residuals are =
         let net = p.net.now in
         let from : pos 0 ≤ℤ m = omega (arith, ints) in
         let rooms = standing.routes.rooms in
@@ -107,10 +109,10 @@ module _ (p : Problem) (r : Routing) (standing : IsStanding p r) where
         when-sum false x = refl
 
 -- nothing is routed yet
-pub Stands-none : (p : Problem) (ways : List Way) → IsProblem p
-    → AreWays p.net.now.links (replicate (length p.net.now.links) (pos 0)) p.adjacency.arcs.items ways
-    → Stands p (replicate (length p.net.now.links) (pos 0)) p.start.now (pos 0) ways
-Stands-none p ways h are = record {
+pub Stands-none : (p : Problem) (residuals : List Residual) → IsProblem p
+    → AreResiduals p.net.now.links (replicate (length p.net.now.links) (pos 0)) p.adjacency.arcs.items residuals
+    → Stands p (replicate (length p.net.now.links) (pos 0)) p.start.now (pos 0) residuals
+Stands-none p residuals h are = record {
   problem = h;
   routed_from = omega (arith, ints);
   routed_upto = h.amount.from;

@@ -1,8 +1,8 @@
 -- The words and lemmas from elsewhere that the proofs of this crate speak in, passed on from one place. Declares nothing.
 pub use Rattle.flow_net.specs.Arc.{AppendsWays, AreFirstIndices, ArePlaces, HasRange, HoldsArcsBelow, IsAdjacency, IsArc, IsArcBelow, IsFirstIndex, arc_of}
 pub use Rattle.flow_net.specs.Arc.{arcs_at, carry, place_in, place_of, placed, places_at, turned}
-pub use Rattle.flow_net.specs.Flow.{AreApart, AreWays, CanCarry, IsPotential, IsPriced, IsPricedBetween, IsWalk, IsWay, IsWayOf, left_on, most_path_cost, most_distance}
-pub use Rattle.flow_net.specs.Flow.{reduced_between, reduced_cost_of, residual_of, sent_along, sent_along_path, way_at}
+pub use Rattle.flow_net.specs.Flow.{AreApart, AreResiduals, CanCarry, IsPotential, IsPriced, IsPricedBetween, IsResidual, IsResidualOf, IsWalk, left_on, most_distance, most_path_cost}
+pub use Rattle.flow_net.specs.Flow.{reduced_between, reduced_cost_of, residual_at, residual_of, sent_along, sent_along_path}
 pub use Rattle.flow_net.specs.LevelGraph.{IsLevelGraph, StepsUp, height_at, height_of, level_at}
 pub use Rattle.flow_net.specs.Net.{AreBounded, AreEnds, AreProofOfLeast, IsCost, IsCutBelow, IsLeastRouting, IsRouting, IsWithinLimits, IsWithinRooms, cost_of}
 pub use Rattle.flow_net.specs.Net.{flow_on, greatest_size, inflow, is_in, largest_cost, leaves, link_at, outflow, potential_at, reduced_cost}
@@ -23,7 +23,7 @@ pub use Rattle.flow_net.specs.declared.queue.Queue.{Queue}
 pub use Rattle.flow_net.specs.declared.routing.Routing.{Routing}
 pub use Rattle.flow_net.specs.declared.search.Label.{Label}
 pub use Rattle.flow_net.specs.declared.search.Search.{Search}
-pub use Rattle.flow_net.specs.declared.way.Way.{Way}
+pub use Rattle.flow_net.specs.declared.residual.Residual.{Residual}
 pub use Rattle.std.proofs.Math.IntN.{*ℤ-zero, neg_ℤ-neg_ℤ, zero-*ℤ}
 pub use Rattle.std.proofs.lemmas.Bool.{cases_Bool, cases_eq, cases_lt, eq-eqb, false≢true, ne_eqb}
 pub use Rattle.std.proofs.lemmas.Int.{by_lt_z, clamps, ints, to_z-of_z}

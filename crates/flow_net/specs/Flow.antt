@@ -4,7 +4,7 @@ use Rattle.std.specs.Int.RustNames.{unsigned_abs}
 use Rattle.flow_net.specs.declared.limits.TheConstants.{MOST_NODES, MOST_COST, MOST_INITIAL_POTENTIAL}
 use Rattle.flow_net.specs.declared.net.Link.{Link}
 use Rattle.flow_net.specs.declared.arc.Arc.{Arc}
-use Rattle.flow_net.specs.declared.way.Way.{Way}
+use Rattle.flow_net.specs.declared.residual.Residual.{Residual}
 use Rattle.flow_net.specs.Net.{link_at, flow_on, potential_at, IsCost}
 use Rattle.flow_net.specs.Arc.{IsArc, carry}
 use Rattle.flow_net.specs.Threads.{arc_numbered}
@@ -17,26 +17,26 @@ left_on link x forward = if forward then link.room -ℤ x else x
 abbrev pub residual_of : List Link → List ℤ → Arc → ℤ
 residual_of links flow a = left_on (link_at links a.link) (flow_on flow a.link) a.forward
 
--- the way along a link that carries x, forward or back
-pub record IsWay (link : Link) (x : ℤ) (forward : Bool) (w : Way) : Type 0 where
+-- the residual arc along a link that carries x, forward or back
+pub record IsResidual (link : Link) (x : ℤ) (forward : Bool) (w : Residual) : Type 0 where
   pub head : w.head ≡ (if forward then link.to else link.from)
   pub is_open : IsTrue w.is_open ↔ (pos 0 <ℤ left_on link x forward)
   pub cost : w.cost ≡ (if forward then link.cost else neg_ℤ link.cost)
 
--- the way at an index
-abbrev pub way_at : List Way → ℕ → Way
-way_at ways j = slice_index_or ways j (record { head = 0; is_open = false; cost = pos 0 })
+-- the residual arc at an index
+abbrev pub residual_at : List Residual → ℕ → Residual
+residual_at residuals j = slice_index_or residuals j (record { head = 0; is_open = false; cost = pos 0 })
 
--- the way of an arc
-pub record IsWayOf (links : List Link) (flow : List ℤ) (a : Arc) (w : Way) : Type 0 where
+-- the residual arc of an arc
+pub record IsResidualOf (links : List Link) (flow : List ℤ) (a : Arc) (w : Residual) : Type 0 where
   pub head : w.head ≡ a.head
   pub is_open : IsTrue w.is_open ↔ (pos 0 <ℤ residual_of links flow a)
   pub cost : w.cost ≡ a.cost
 
--- the ways of arcs, in their order
-pub record AreWays (links : List Link) (flow : List ℤ) (arcs : List Arc) (ways : List Way) : Type 0 where
-  pub one_each : length ways ≡ length arcs
-  pub each : (j : ℕ) → j < length arcs → IsWayOf links flow (arc_numbered arcs j) (way_at ways j)
+-- the residual arcs of arcs, in their order
+pub record AreResiduals (links : List Link) (flow : List ℤ) (arcs : List Arc) (residuals : List Residual) : Type 0 where
+  pub one_each : length residuals ≡ length arcs
+  pub each : (j : ℕ) → j < length arcs → IsResidualOf links flow (arc_numbered arcs j) (residual_at residuals j)
 
 -- the flow after an arc has carried an amount more
 abbrev pub sent_along : List ℤ → Arc → ℤ → List ℤ

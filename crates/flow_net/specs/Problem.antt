@@ -3,10 +3,10 @@ use Rattle.std.specs.Prelude.{◌≡◌, ℕ, ◌<◌, ◌≤◌, length, ℤ, p
 use Rattle.flow_net.specs.declared.arc.Arc.{Arc}
 use Rattle.flow_net.specs.declared.problem.Problem.{Problem}
 use Rattle.flow_net.specs.declared.routing.Routing.{Routing}
-use Rattle.flow_net.specs.declared.way.Way.{Way}
+use Rattle.flow_net.specs.declared.residual.Residual.{Residual}
 use Rattle.flow_net.specs.Net.{potential_at, IsRouting, AreProofOfLeast, AreBounded, IsRoom, IsWithinLimits, AreEnds, AreInitialPotentials}
 use Rattle.flow_net.specs.Arc.{IsArc, IsAdjacency}
-use Rattle.flow_net.specs.Flow.{residual_of, reduced_cost_of, AreWays, IsWalk, AreApart}
+use Rattle.flow_net.specs.Flow.{residual_of, reduced_cost_of, AreResiduals, IsWalk, AreApart}
 use Rattle.flow_net.specs.Threads.{arc_numbered}
 
 -- a net within the limits with its arcs, its ends, an amount and initial potentials
@@ -29,11 +29,11 @@ pub record IsRange (p : Problem) (v first end : ℕ) : Type 0 where
 
 -- a part of the amount is routed at least cost. The source's potential is its initial one, no potential
 -- has fallen, and none has risen more than the sink's
-pub record Stands (p : Problem) (flow potentials : List ℤ) (routed : ℤ) (ways : List Way) : Type 0 where
+pub record Stands (p : Problem) (flow potentials : List ℤ) (routed : ℤ) (residuals : List Residual) : Type 0 where
   pub problem : IsProblem p
   pub routed_from : pos 0 ≤ℤ routed
   pub routed_upto : routed ≤ℤ p.amount
-  pub opened : AreWays p.net.now.links flow p.adjacency.arcs.items ways
+  pub opened : AreResiduals p.net.now.links flow p.adjacency.arcs.items residuals
   pub routes : IsRouting p.net.now p.source p.sink routed flow
   pub proof : AreProofOfLeast p.net.now.links flow potentials
   pub bounded : AreBounded p.net.now p.start.now potentials
@@ -43,7 +43,7 @@ pub record Stands (p : Problem) (flow potentials : List ℤ) (routed : ℤ) (way
       → (potential_at potentials v -ℤ potential_at p.start.now v) ≤ℤ (potential_at potentials p.sink -ℤ potential_at p.start.now p.sink)
 
 abbrev pub IsStanding : Problem → Routing → Type 0
-IsStanding p r = Stands p r.flow.items r.potentials.items r.routed r.ways.items
+IsStanding p r = Stands p r.flow.items r.potentials.items r.routed r.residuals.items
 
 -- a residual arc: one that can carry more
 pub record IsResidualArc (p : Problem) (r : Routing) (a : Arc) : Type 0 where

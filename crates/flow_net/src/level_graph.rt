@@ -139,9 +139,12 @@ impl LevelGraph {
         ensures graph { OnOk result (IsLevelGraph problem.now self.new) }
         ensures no_fewer { OnOk result (length self.old.entered.items ≤ length self.new.entered.items) }
     {
-        for way in routing.ways_from(problem, node) {
-            if way.is_open && !self.has_level(way.head) && routing.cost_along(node, way) == 0 {
-                self.enter(problem, way.head, level)?;
+        for residual in routing.residuals_from(problem, node) {
+            if residual.is_open
+                && !self.has_level(residual.head)
+                && routing.cost_along(node, residual) == 0
+            {
+                self.enter(problem, residual.head, level)?;
             }
         }
         Ok(())
@@ -191,9 +194,9 @@ impl LevelGraph {
         ensures steps_up { IfSome result (λ a. StepsUp self.old.levels.items a.tail a.head) }
     {
         let arcs = problem.arcs_from(node);
-        let ways = routing.ways_from(problem, node);
+        let residuals = routing.residuals_from(problem, node);
         for index in self.cursors[node as usize]..arcs.len() {
-            if self.steps_up(ways[index].head, node) {
+            if self.steps_up(residuals[index].head, node) {
                 let arc = arcs[index].turned();
                 if routing.is_free(problem, &arc) {
                     self.cursors[node as usize] = index;

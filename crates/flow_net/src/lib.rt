@@ -12,10 +12,10 @@ mod limits;
 mod net;
 mod problem;
 mod queue;
+mod residual;
 mod routing;
 mod search;
 mod threads;
-mod way;
 
 pub use least_cost::solve;
 pub use limits::{MOST_COST, MOST_INITIAL_POTENTIAL, MOST_LINKS, MOST_NODES, MOST_ROOM};

@@ -1,20 +1,20 @@
 //! A part of the amount routed at least cost, with potentials that prove it.
 ghost use Rattle.std.specs.Prelude.{◌≡◌, ◌↔◌, ◌<◌, ◌-ℤ◌, ◌<ℤ◌, pos, length, replicate, slice_set, IfOk, IsTrue};
 ghost use Rattle.flow_net.specs.Arc.{IsArc, arcs_at};
-ghost use Rattle.flow_net.specs.Flow.{residual_of, reduced_cost_of, reduced_between, AreWays, IsPriced, IsPricedBetween};
+ghost use Rattle.flow_net.specs.Flow.{residual_of, reduced_cost_of, reduced_between, AreResiduals, IsPriced, IsPricedBetween};
 ghost use Rattle.flow_net.specs.Problem.{IsProblem, IsStanding, IsResidualArc, arc_by_index, IsFreeArc, IsFreePath, IsBottleneck};
 
 use crate::arc::Arc;
 use crate::problem::Problem;
-use crate::way::Way;
+use crate::residual::Residual;
 use std::alloc::{AllocError, Global};
 
-/// The flow on each link, the way of each arc in the order of the arcs, the potential of each node, and
-/// how much is routed.
+/// The flow on each link, the residual arc of each arc in the order of the arcs, the potential of
+/// each node, and how much is routed.
 #[derive(Drop)]
 pub(crate) struct Routing {
     pub flow: Vec<i64>,
-    pub ways: Vec<Way>,
+    pub residuals: Vec<Residual>,
     pub potentials: Vec<i64>,
     pub routed: i64,
 }
@@ -27,7 +27,7 @@ impl Routing {
     {
         Ok(Routing {
             flow: vec![in alloc; 0; problem.net.links.len()]?,
-            ways: ways_of(alloc, problem)?,
+            residuals: residuals_of(alloc, problem)?,
             potentials: Vec::from_slice(alloc, problem.start)?,
             routed: 0,
         })
@@ -55,27 +55,28 @@ impl Routing {
         arc.cost + self.potentials[arc.tail as usize] - self.potentials[arc.head as usize]
     }
 
-    /// The same of an arc from this node that is given by its way.
-    pub fn cost_along(&self, node: u32, way: &Way) -> i64
-        requires { IsPricedBetween self.now.potentials.items node way.now.head way.now.cost }
+    /// The same of an arc from this node that is given as a residual arc.
+    pub fn cost_along(&self, node: u32, residual: &Residual) -> i64
+        requires { IsPricedBetween self.now.potentials.items node
+            residual.now.head residual.now.cost }
         ensures { result
-            ≡ reduced_between self.now.potentials.items node way.now.head way.now.cost }
+            ≡ reduced_between self.now.potentials.items node residual.now.head residual.now.cost }
     {
-        way.cost + self.potentials[node as usize] - self.potentials[way.head as usize]
+        residual.cost + self.potentials[node as usize] - self.potentials[residual.head as usize]
     }
 
-    /// The ways of the arcs whose tail is this node.
-    pub fn ways_from(&self, problem: &Problem, node: u32) -> &[Way]
+    /// The residual arcs of the arcs whose tail is this node.
+    pub fn residuals_from(&self, problem: &Problem, node: u32) -> &[Residual]
         requires standing { IsStanding problem.now self.now }
         requires node { node < problem.now.net.now.nodes }
-        ensures { AreWays problem.now.net.now.links self.now.flow.items
+        ensures { AreResiduals problem.now.net.now.links self.now.flow.items
             (arcs_at problem.now.adjacency node) result.now }
     {
-        problem.adjacency.ways_from(&self.ways, node)
+        problem.adjacency.residuals_from(&self.residuals, node)
     }
 
-    /// The way of the arc at an index.
-    pub fn way(&self, problem: &Problem, index: usize) -> Way
+    /// The residual arc of the arc at an index.
+    pub fn residual_at(&self, problem: &Problem, index: usize) -> Residual
         requires standing { IsStanding problem.now self.now }
         requires index { index < length problem.now.adjacency.arcs.items }
         ensures head { result.head ≡ (arc_by_index problem.now index).head }
@@ -83,7 +84,7 @@ impl Routing {
             ↔ IsResidualArc problem.now self.now (arc_by_index problem.now index) }
         ensures cost { result.cost ≡ (arc_by_index problem.now index).cost }
     {
-        self.ways[index]
+        self.residuals[index]
     }
 
     /// Whether an arc can carry more.
@@ -92,7 +93,7 @@ impl Routing {
         requires arc { IsArc problem.now.net.now.links arc.now }
         ensures { IsTrue result ↔ IsResidualArc problem.now self.now arc.now }
     {
-        self.ways[problem.adjacency.place_of(arc)].is_open
+        self.residuals[problem.adjacency.place_of(arc)].is_open
     }
 
     /// Whether an arc can carry more and has no reduced cost.
@@ -121,24 +122,24 @@ impl Routing {
         self.routed += amount;
     }
 
-    /// Sets what a link carries, and both ways along it.
+    /// Sets what a link carries, and the residual arcs of both ways along it.
     fn set_flow(&mut self, problem: &Problem, link: u32, carried: i64)
         requires problem { IsProblem problem.now }
         requires link { link < length problem.now.net.now.links }
         requires one_each { length self.old.flow.items ≡ length problem.now.net.now.links }
-        requires ways { AreWays problem.now.net.now.links self.old.flow.items
-            problem.now.adjacency.arcs.items self.old.ways.items }
+        requires residuals { AreResiduals problem.now.net.now.links self.old.flow.items
+            problem.now.adjacency.arcs.items self.old.residuals.items }
         ensures flow { self.new.flow.items ≡ slice_set self.old.flow.items link carried }
-        ensures ways { AreWays problem.now.net.now.links self.new.flow.items
-            problem.now.adjacency.arcs.items self.new.ways.items }
+        ensures residuals { AreResiduals problem.now.net.now.links self.new.flow.items
+            problem.now.adjacency.arcs.items self.new.residuals.items }
         ensures potentials { self.new.potentials ≡ self.old.potentials }
         ensures routed { self.new.routed ≡ self.old.routed }
     {
         let along = &problem.net.links.as_slice()[link as usize];
         let places = problem.adjacency.places[link as usize];
         self.flow[link as usize] = carried;
-        self.ways[places.forward] = Way::along(along, carried, true);
-        self.ways[places.back] = Way::along(along, carried, false);
+        self.residuals[places.forward] = Residual::along(along, carried, true);
+        self.residuals[places.back] = Residual::along(along, carried, false);
     }
 
     /// The least that an arc of the path can carry more, and at most what is left to route.
@@ -156,18 +157,18 @@ impl Routing {
     }
 }
 
-/// The ways of the arcs where nothing flows.
-fn ways_of(alloc: Global, problem: &Problem) -> Result<Vec<Way>, AllocError>
+/// The residual arcs where nothing flows.
+fn residuals_of(alloc: Global, problem: &Problem) -> Result<Vec<Residual>, AllocError>
     requires { IsProblem problem.now }
-    ensures { IfOk result (λ w. AreWays problem.now.net.now.links
+    ensures { IfOk result (λ w. AreResiduals problem.now.net.now.links
         (replicate (length problem.now.net.now.links) (pos 0)) problem.now.adjacency.arcs.items
         w.items) }
 {
     let arcs = problem.adjacency.arcs.as_slice();
     let links = problem.net.links.as_slice();
-    let mut ways = Vec::with_capacity(alloc, arcs.len())?;
+    let mut residuals = Vec::with_capacity(alloc, arcs.len())?;
     for arc in arcs {
-        ways.push(Way::along(&links[arc.link as usize], 0, arc.forward))?;
+        residuals.push(Residual::along(&links[arc.link as usize], 0, arc.forward))?;
     }
-    Ok(ways)
+    Ok(residuals)
 }

@@ -140,12 +140,12 @@ impl Search {
         ensures { OnOk result
             (IsRelaxed problem.now routing.now self.old self.new (arc_by_index problem.now index)) }
     {
-        let way = routing.way(problem, index);
-        if !way.is_open || self.settled[way.head as usize] {
+        let residual = routing.residual_at(problem, index);
+        if !residual.is_open || self.settled[residual.head as usize] {
             return Ok(());
         }
-        let distance = label.distance + routing.cost_along(node, &way);
-        if !self.is_lower(way.head, distance) {
+        let distance = label.distance + routing.cost_along(node, &residual);
+        if !self.is_lower(residual.head, distance) {
             return Ok(());
         }
         let label = Label {
@@ -153,7 +153,7 @@ impl Search {
             depth: label.depth + 1,
             arc: Some(index),
         };
-        self.enter(way.head, label)
+        self.enter(residual.head, label)
     }
 
     /// Whether a node has no label, or one at a greater distance than this.

@@ -55,18 +55,18 @@ length_in-is low high at g l step order (inr a) b c =
 
 -- the heat of a piece of a stream that stands above a place
 abbrev pub piece_above : Bool → ℤ → ℤ → ℤ → Stream → ℤ
-piece_above from place high low s =
-    if counts_above from place (if from then low else high) then piece_heat high low s else pos 0
+piece_above from_itself place high low s =
+    if counts_above from_itself place (if from_itself then low else high) then piece_heat high low s else pos 0
 
 -- an interval stands above a place with both ends
-interval_above-is : (from : Bool) (at g l : ℤ) → l <ℤ g → (at ≤ℤ l) ⊎ (g ≤ℤ at)
-    → counts_above from at (if from then l else g) ≡ int_le at l
+interval_above-is : (from_itself : Bool) (at g l : ℤ) → l <ℤ g → (at ≤ℤ l) ⊎ (g ≤ℤ at)
+    → counts_above from_itself at (if from_itself then l else g) ≡ int_le at l
 interval_above-is true at g l step place = refl
 interval_above-is false at g l step (inl below) = int_lt-from at g (omega (arith, ints)) ∙ sym (int_le-from at l below)
 interval_above-is false at g l step (inr above) =
     int_lt-false at g above ∙ sym (int_le-false at l (omega (arith, ints)))
 
-module _ (from : Bool) (at : ℤ) (side : Side) (s : Stream) (same : same_side s.side side ≡ true)
+module _ (from_itself : Bool) (at : ℤ) (side : Side) (s : Stream) (same : same_side s.side side ≡ true)
     (order : low_end s ≤ℤ high_end s) (no_load : s.load ≡ pos 0) where
   scaled : (b c : Bool) (x : ℤ)
       → (if b then (if c then (s.cp *ℤ x +ℤ s.load) else pos 0) else pos 0)
@@ -78,7 +78,8 @@ module _ (from : Bool) (at : ℤ) (side : Side) (s : Stream) (same : same_side s
   -- with the heat above the place where they begin the parts on intervals are the sensible heat above the place
   run-is : (g : ℤ) (places : List ℤ) → AllPairs (λ a b. b <ℤ a) (g ∷ places) → Meets g places (low_end s)
       → Meets g places (high_end s) → Meets g places at
-      → stream_run (piece_above from at) side s (g ∷ places) +ℤ sensible_above (int_max at g) s ≡ sensible_above at s
+      → stream_run (piece_above from_itself at) side s (g ∷ places) +ℤ sensible_above (int_max at g) s
+      ≡ sensible_above at s
   run-is g [] falls low high place =
       let here : int_max at g ≡ at =
       ⊎_elim (λ found.
@@ -93,10 +94,11 @@ module _ (from : Bool) (at : ℤ) (side : Side) (s : Stream) (same : same_side s
       let rest = run-is l places (AllPairs-tail (λ a b. b <ℤ a) g (l ∷ places) falls) low_next high_next place_next in
       let above = λ (t : ℤ). length_above (low_end s) (high_end s) t in
       let term =
-      ap (λ b. if (b && (int_le (low_end s) l && int_le g (high_end s))) then piece_above from at g l s else pos 0) same
+      ap (λ b. if (b && (int_le (low_end s) l
+      && int_le g (high_end s))) then piece_above from_itself at g l s else pos 0) same
       ∙ ap (λ b.
       if (int_le (low_end s) l && int_le g (high_end s)) then (if b then piece_heat g l s else pos 0) else pos 0)
-      (interval_above-is from at g l step place_out)
+      (interval_above-is from_itself at g l step place_out)
       ∙ scaled (int_le (low_end s) l && int_le g (high_end s)) (int_le at l) (g -ℤ l)
       ∙ ap (λ x. s.cp *ℤ x) (length_in-is (low_end s) (high_end s) at g l step order low_out high_out place_out)
       ∙ *ℤ--ℤ s.cp (above (int_max at l)) (above (int_max at g)) in
@@ -110,27 +112,28 @@ has_latent_heat-sensible s h =
     omega (arith, ints))
 
 -- on places that hold the ends of a sensible stream and the place, the parts above the place add up to the heat above it
-stream_run-is : (from : Bool) (place : ℤ) (side : Side) (s : Stream) (places : List ℤ) → IsSensible s
+stream_run-is : (from_itself : Bool) (place : ℤ) (side : Side) (s : Stream) (places : List ℤ) → IsSensible s
     → same_side s.side side ≡ true
     → AllPairs (λ a b. b <ℤ a) places → Contains places (low_end s) → Contains places (high_end s)
     → Contains places place
-    → stream_run (piece_above from place) side s places ≡ sensible_above place s
-stream_run-is from place side s [] sensible same falls (k, within, is) high at = absurd (omega arith)
-stream_run-is from place side s (g ∷ places) sensible same falls low high at =
+    → stream_run (piece_above from_itself place) side s places ≡ sensible_above place s
+stream_run-is from_itself place side s [] sensible same falls (k, within, is) high at = absurd (omega arith)
+stream_run-is from_itself place side s (g ∷ places) sensible same falls low high at =
     let order = order-sensible s sensible in
     let top = greatest_first g places falls (high_end s) high in
     let none : length_above (low_end s) (high_end s) (int_max place g) ≡ pos 0 = omega (arith, ints, clamps) in
     let begins = ap (λ l. s.cp *ℤ l) none ∙ *ℤ-zero s.cp in
     let run =
-    run-is from place side s same (omega (arith, ints)) sensible.load g places falls (inl low) (inl high) (inl at) in
+    run-is from_itself place side s same (omega (arith, ints)) sensible.load g places falls (inl low) (inl high)
+    (inl at) in
     omega (arith, ints)
 
 -- the one part of a latent stream is its load, if that stands above the place
-level_above-is : (from : Bool) (place level : ℤ) (s : Stream) → s.cp ≡ pos 0
-    → piece_above from place level level s ≡ (if counts_above from place level then s.load else pos 0)
-level_above-is from place level s no_flow =
-    ap (λ heat. if counts_above from place (if from then level else level) then heat else pos 0) heat
-    ∙ ap (λ end. if counts_above from place end then s.load else pos 0) (either from)
+level_above-is : (from_itself : Bool) (place level : ℤ) (s : Stream) → s.cp ≡ pos 0
+    → piece_above from_itself place level level s ≡ (if counts_above from_itself place level then s.load else pos 0)
+level_above-is from_itself place level s no_flow =
+    ap (λ heat. if counts_above from_itself place (if from_itself then level else level) then heat else pos 0) heat
+    ∙ ap (λ end. if counts_above from_itself place end then s.load else pos 0) (either from_itself)
   where
     heat : piece_heat level level s ≡ s.load
     heat =
@@ -143,50 +146,56 @@ level_above-is from place level s no_flow =
     either false = refl
 
 -- the parts of a stream above a place are its heat above it
-runs-are : (from : Bool) (place : ℤ) (side : Side) (s : Stream) (places : List ℤ) → IsSensible s ⊎ IsLatent s
+runs-are : (from_itself : Bool) (place : ℤ) (side : Side) (s : Stream) (places : List ℤ) → IsSensible s ⊎ IsLatent s
     → AllPairs (λ a b. b <ℤ a) places
     → Contains places (low_end s) → Contains places (high_end s) → Contains places place
-    → latent_run (piece_above from place) side s places +ℤ stream_run (piece_above from place) side s places
-    ≡ (if same_side s.side side then heat_over from place s else pos 0)
-runs-are from place side s places heat falls low high at =
-    ⊎_elim (λ same. own same heat ∙ sym (ap (λ b. if b then heat_over from place s else pos 0) same)) (λ other.
-    let latent = latent_run-other (piece_above from place) side s places other in
-    let on_intervals = stream_run-other (piece_above from place) side s places other in
-    let none : latent_run (piece_above from place) side s places +ℤ stream_run (piece_above from place) side s places
+    → latent_run (piece_above from_itself place) side s places
+    +ℤ stream_run (piece_above from_itself place) side s places
+    ≡ (if same_side s.side side then heat_over from_itself place s else pos 0)
+runs-are from_itself place side s places heat falls low high at =
+    ⊎_elim (λ same. own same heat ∙ sym (ap (λ b. if b then heat_over from_itself place s else pos 0) same)) (λ other.
+    let latent = latent_run-other (piece_above from_itself place) side s places other in
+    let on_intervals = stream_run-other (piece_above from_itself place) side s places other in
+    let none : latent_run (piece_above from_itself place) side s places
+    +ℤ stream_run (piece_above from_itself place) side s places
     ≡ pos 0
     = omega (arith, ints) in
-    none ∙ sym (ap (λ b. if b then heat_over from place s else pos 0) other)) (cases_Bool (same_side s.side side))
+    none ∙ sym (ap (λ b. if b then heat_over from_itself place s else pos 0) other))
+    (cases_Bool (same_side s.side side))
   where
     own : same_side s.side side ≡ true → IsSensible s ⊎ IsLatent s
-        → latent_run (piece_above from place) side s places +ℤ stream_run (piece_above from place) side s places
-        ≡ heat_over from place s
+        → latent_run (piece_above from_itself place) side s places
+        +ℤ stream_run (piece_above from_itself place) side s places
+        ≡ heat_over from_itself place s
     own same (inl sensible) =
-        let none = latent_run-none (piece_above from place) side s places (has_latent_heat-sensible s sensible) in
-        let run = stream_run-is from place side s places sensible same falls low high at in
-        let whole = heat_over-sensible from place s sensible in
+        let none = latent_run-none (piece_above from_itself place) side s places
+        (has_latent_heat-sensible s sensible) in
+        let run = stream_run-is from_itself place side s places sensible same falls low high at in
+        let whole = heat_over-sensible from_itself place s sensible in
         omega (arith, ints)
     own same (inr latent) =
-        let none = stream_run-latent (piece_above from place) side s places latent falls in
-        let run = latent_run-is (piece_above from place) side s places latent same falls high
-        ∙ level_above-is from place (high_end s) s latent.cp in
-        let whole = heat_over-latent from place s latent in omega (arith, ints)
+        let none = stream_run-latent (piece_above from_itself place) side s places latent falls in
+        let run = latent_run-is (piece_above from_itself place) side s places latent same falls high
+        ∙ level_above-is from_itself place (high_end s) s latent.cp in
+        let whole = heat_over-latent from_itself place s latent in omega (arith, ints)
 
 -- ---- the parts of a side
 
 -- the heat of a stream's part above a place, and this much for each utility's part
 abbrev pub part_over : Bool → ℤ → ℤ → Part → ℤ
-part_over from place each p =
-    if is_stream p.source then (if stands_above from place p then p.least else pos 0) else each
+part_over from_itself place each p =
+    if is_stream p.source then (if stands_above from_itself place p then p.least else pos 0) else each
 
-pub sum-part_over : (streams : List Stream) (utilities : List Utility) (side : Side) (places : List ℤ) (from : Bool)
+pub sum-part_over : (streams : List Stream) (utilities : List Utility) (side : Side) (places : List ℤ)
+    (from_itself : Bool)
     (place each : ℤ)
     → All IsValidStream streams → HoldsPlaces streams utilities places → Contains places place
-    → int_sum_by (part_over from place each) (made_parts streams utilities side places)
+    → int_sum_by (part_over from_itself place each) (made_parts streams utilities side places)
     ≡ int_sum_by (λ u. if same_side u.side side then each else pos 0) utilities +ℤ int_sum_by (λ s.
-    if same_side s.side side then heat_over from place s else pos 0) streams
-sum-part_over streams utilities side places from place each valid holds at =
+    if same_side s.side side then heat_over from_itself place s else pos 0) streams
+sum-part_over streams utilities side places from_itself place each valid holds at =
     let exchanged =
-    sum-made (part_over from place each) (piece_above from place) (λ u. each) (λ high low i s. refl)
+    sum-made (part_over from_itself place each) (piece_above from_itself place) (λ u. each) (λ high low i s. refl)
     (λ i u. refl) streams utilities side places in
     let levels = int_sum_by-same (λ u. level_run (λ v. each) side u places)
     (λ u. if same_side u.side side then each else pos 0) utilities
@@ -195,9 +204,10 @@ sum-part_over streams utilities side places from place each valid holds at =
     (holds_levels streams utilities places holds k d within)) in
     let runs =
     int_sum_by-same (λ s.
-    latent_run (piece_above from place) side s places +ℤ stream_run (piece_above from place) side s places)
-    (λ s. if same_side s.side side then heat_over from place s else pos 0) streams (λ k d within.
+    latent_run (piece_above from_itself place) side s places
+    +ℤ stream_run (piece_above from_itself place) side s places)
+    (λ s. if same_side s.side side then heat_over from_itself place s else pos 0) streams (λ k d within.
     let s = get_or streams k d in
     let held = holds_ends streams utilities places holds k d within in
-    runs-are from place side s places (valid k d within).heat holds.falls held.1 held.0 at) in
+    runs-are from_itself place side s places (valid k d within).heat holds.falls held.1 held.0 at) in
     exchanged ∙ ap₂ ◌+ℤ◌ levels runs

@@ -57,7 +57,7 @@ IsPartOf streams utilities places side p =
 
 -- a part stands above a place with its low where the place counts from itself, else with its high
 abbrev pub stands_above : Bool → ℤ → Part → Bool
-stands_above from place p = counts_above from place (if from then p.low else p.high)
+stands_above from_itself place p = counts_above from_itself place (if from_itself then p.low else p.high)
 
 -- streams before utilities, each in their order
 abbrev pub comes_before_source : Source → Source → Type 0

@@ -99,15 +99,16 @@ unfolding worth_of_uses
 side_value-at_most network on parts prices within =
     subst₂ IsAtMost (sym (whole-int_sum_from value 0 parts)) split (at_most-enumerated _ _ parts (λ a p at.
     let used = within a p at in
-    least_product-at_most (excess a p) p.least p.most (used_heat network p) used.least used.most))
+    least_product-at_most (excess_price_at a p) p.least p.most (used_heat network p) used.least used.most))
   where
-    excess : ℕ → Part → ℤ
-    excess a p = excess_price on p.price (price_at prices a)
+    excess_price_at : ℕ → Part → ℤ
+    excess_price_at a p = excess_price on p.price (price_at prices a)
 
     value : ℕ → Part → ℤ
-    value a p = least_product (excess a p) p.least p.most
+    value a p = least_product (excess_price_at a p) p.least p.most
 
-    split : rational_sum_by (λ (e : ℕ × Part). times (whole (excess e.0 e.1)) (used_heat network e.1)) (enumerate_from 0 parts)
+    split : rational_sum_by (λ (e : ℕ × Part). times (whole (excess_price_at e.0 e.1)) (used_heat network e.1))
+        (enumerate_from 0 parts)
         ≡ excess_rational on (rational_sum_by (part_cost network) parts)
         (rational_sum_by (use_worth network prices) (enumerate_from 0 parts))
     split = sum-enumerated _ _ parts (λ a p at. excess-times on p.price (price_at prices a) (used_heat network p))

@@ -188,11 +188,12 @@ module _ (case : Case) (network : Network) (least : ℤ) (grid : List ℤ) (pric
           let above = stands_lowest grid p lowest own low in
           ap (λ b. if same_source p.source (source.Stream i) then (if b then p.least else pos 0) else pos 0) (sym above)
 
-      over : (from : Bool) (place : ℤ) → Contains grid place
-          → int_sum_by (own_over i from place) parts ≡ (if same_side s.side on then heat_over from place s else pos 0)
-      over from place found =
-          ap (int_sum_by (own_over i from place)) made
-          ∙ stream_parts-are i from place case.streams case.utilities on s grid at valid holds found
+      over : (from_itself : Bool) (place : ℤ) → Contains grid place
+          → int_sum_by (own_over i from_itself place) parts
+          ≡ (if same_side s.side on then heat_over from_itself place s else pos 0)
+      over from_itself place found =
+          ap (int_sum_by (own_over i from_itself place)) made
+          ∙ stream_parts-are i from_itself place case.streams case.utilities on s grid at valid holds found
 
   -- what it loses
   loss_given : lowest ≤ℤ low_end s → stream_loss (branch_worth case tariff) (i, s)

@@ -105,13 +105,13 @@ stands_later places p falls ends u v at below above = by v.from_itself v.place b
     order : p.low ≤ℤ p.high
     order = ends_order places p falls ends
 
-    low : (from : Bool) → stands_above from u.place p ≡ true → u.place ≤ℤ p.low
+    low : (from_itself : Bool) → stands_above from_itself u.place p ≡ true → u.place ≤ℤ p.low
     low true e = int_le-true u.place p.low e
     low false e = none_inside places p falls ends u.place at (int_lt-true u.place p.high e)
 
-    by : (from : Bool) (place : ℤ)
-        → (place <ℤ u.place) ⊎ ((place ≡ u.place) × (u.from_itself ≡ false) × (from ≡ true)) → u.place ≤ℤ p.low
-        → stands_above from place p ≡ true
+    by : (from_itself : Bool) (place : ℤ)
+        → (place <ℤ u.place) ⊎ ((place ≡ u.place) × (u.from_itself ≡ false) × (from_itself ≡ true)) → u.place ≤ℤ p.low
+        → stands_above from_itself place p ≡ true
     by false place (inl less) h =
         let most = order in
         int_lt-from place p.high (omega (arith, ints, most))

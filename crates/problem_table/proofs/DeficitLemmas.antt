@@ -18,46 +18,47 @@ load-not_negative : (s : Stream) → IsSensible s ⊎ IsLatent s → pos 0 ≤�
 load-not_negative s (inl sensible) = let none = sensible.load in omega (arith, ints)
 load-not_negative s (inr latent) = let load = latent.load in omega (arith, ints)
 
-pub heat_over-le : (from : Bool) (t : ℤ) (s : Stream) → IsValidStream s → heat_over from t s ≤ℤ heat_of s
-heat_over-le from t s h =
+pub heat_over-le : (from_itself : Bool) (t : ℤ) (s : Stream) → IsValidStream s → heat_over from_itself t s ≤ℤ heat_of s
+heat_over-le from_itself t s h =
     let cp = cp-between s h in
     let ends = AreEnds-IsValidStream s h in
     let sensible : sensible_above t s ≤ℤ heat_between (high_end s) (low_end s) s =
     *ℤ-≤ℤ_left s.cp (length_above (low_end s) (high_end s) t) (high_end s -ℤ low_end s) (omega (arith, ints)) (omega (arith, ints, clamps)) in
-    let load : load_over from t s ≤ℤ s.load
-    = (if_between (counts_above from t (high_end s)) s.load (load-not_negative s h.heat)).1 in
+    let load : load_over from_itself t s ≤ℤ s.load
+    = (if_between (counts_above from_itself t (high_end s)) s.load (load-not_negative s h.heat)).1 in
     omega (arith, ints, sensible, load)
 
 -- over a temperature that no level counts as above there is none, and over one that the low end counts as above there is all
-level_below : (from : Bool) (t level : ℤ) → counts_above from t level ≡ false → level ≤ℤ t
+level_below : (from_itself : Bool) (t level : ℤ) → counts_above from_itself t level ≡ false → level ≤ℤ t
 level_below false t level e = omega (arith, ints)
 level_below true t level e = omega (arith, ints)
 
-level_above : (from : Bool) (t level : ℤ) → counts_above from t level ≡ true → t ≤ℤ level
+level_above : (from_itself : Bool) (t level : ℤ) → counts_above from_itself t level ≡ true → t ≤ℤ level
 level_above false t level e = omega (arith, ints)
 level_above true t level e = omega (arith, ints)
 
-higher_level : (from : Bool) (t low high : ℤ) → counts_above from t low ≡ true → low ≤ℤ high
-    → counts_above from t high ≡ true
+higher_level : (from_itself : Bool) (t low high : ℤ) → counts_above from_itself t low ≡ true → low ≤ℤ high
+    → counts_above from_itself t high ≡ true
 higher_level false t low high e order = int_lt-from t high (omega (arith, ints))
 higher_level true t low high e order = int_le-from t high (omega (arith, ints))
 
-pub heat_over-none : (from : Bool) (t : ℤ) (s : Stream) → IsValidStream s
-    → counts_above from t (high_end s) ≡ false → heat_over from t s ≡ pos 0
-heat_over-none from t s h below =
+pub heat_over-none : (from_itself : Bool) (t : ℤ) (s : Stream) → IsValidStream s
+    → counts_above from_itself t (high_end s) ≡ false → heat_over from_itself t s ≡ pos 0
+heat_over-none from_itself t s h below =
     let ends = AreEnds-IsValidStream s h in
-    let level = level_below from t (high_end s) below in
+    let level = level_below from_itself t (high_end s) below in
     let sensible = ap (λ l. s.cp *ℤ l) {x = length_above (low_end s) (high_end s) t} {y = pos 0} (omega (arith, ints, clamps))
     ∙ *ℤ-zero s.cp in
     let load = ap (λ b. if b then s.load else pos 0) below in ap₂ ◌+ℤ◌ sensible load
 
-pub heat_over-all : (from : Bool) (t : ℤ) (s : Stream) → IsValidStream s
-    → counts_above from t (low_end s) ≡ true → heat_over from t s ≡ heat_of s
-heat_over-all from t s h above =
+pub heat_over-all : (from_itself : Bool) (t : ℤ) (s : Stream) → IsValidStream s
+    → counts_above from_itself t (low_end s) ≡ true → heat_over from_itself t s ≡ heat_of s
+heat_over-all from_itself t s h above =
     let ends = AreEnds-IsValidStream s h in
-    let level = level_above from t (low_end s) above in
+    let level = level_above from_itself t (low_end s) above in
     let sensible = ap (λ l. s.cp *ℤ l) {x = length_above (low_end s) (high_end s) t} {y = high_end s -ℤ low_end s} (omega (arith, ints, clamps)) in
-    let load = ap (λ b. if b then s.load else pos 0) (higher_level from t (low_end s) (high_end s) above ends.order) in
+    let load = ap (λ b. if b then s.load else pos 0)
+    (higher_level from_itself t (low_end s) (high_end s) above ends.order) in
     ap₂ ◌+ℤ◌ sensible load
 
 -- Deficits, and the targets, of lists of valid streams.
@@ -65,12 +66,14 @@ heat_over-all from t s h above =
 -- ---- the deficits
 
 -- no deficit exceeds all cold heat
-deficit_over-le : (from : Bool) (t : ℤ) (streams : List Stream) → AreStreams streams
-    → deficit_over from streams t ≤ℤ sum_side Cold heat_of streams
-deficit_over-le from t streams h =
-    let cold = sum_side-le Cold (heat_over from t) heat_of streams
-    (All-weaker IsValidStream (λ s. heat_over from t s ≤ℤ heat_of s) (heat_over-le from t) streams h.each) in
-    let hot = sum_side-heat Hot (heat_over from t) (heat_over-between from t) streams h.each (length-AreStreams streams h) in
+deficit_over-le : (from_itself : Bool) (t : ℤ) (streams : List Stream) → AreStreams streams
+    → deficit_over from_itself streams t ≤ℤ sum_side Cold heat_of streams
+deficit_over-le from_itself t streams h =
+    let cold = sum_side-le Cold (heat_over from_itself t) heat_of streams
+    (All-weaker IsValidStream (λ s. heat_over from_itself t s ≤ℤ heat_of s)
+    (heat_over-le from_itself t) streams h.each) in
+    let hot = sum_side-heat Hot (heat_over from_itself t) (heat_over-between from_itself t) streams h.each
+    (length-AreStreams streams h) in
     omega (arith, ints, hot)
 
 -- above all ends there is no heat, and over a place that all ends count as above there is all
@@ -86,12 +89,14 @@ deficit_above-highest t streams valid above =
     let hot = sum_side-zero Hot (heat_over false t) streams none in
     omega (arith, ints)
 
-deficit_over-lowest : (from : Bool) (t : ℤ) (streams : List Stream) → All IsValidStream streams
-    → All (λ s. counts_above from t (low_end s) ≡ true) streams
-    → deficit_over from streams t ≡ sum_side Cold heat_of streams -ℤ sum_side Hot heat_of streams
-deficit_over-lowest from t streams valid below =
-    let all = λ (k : ℕ) (d : Stream) (within : k < length streams). heat_over-all from t (get_or streams k d) (valid k d within) (below k d within) in
-    ap₂ ◌-ℤ◌ (sum_side-same Cold (heat_over from t) heat_of streams all) (sum_side-same Hot (heat_over from t) heat_of streams all)
+deficit_over-lowest : (from_itself : Bool) (t : ℤ) (streams : List Stream) → All IsValidStream streams
+    → All (λ s. counts_above from_itself t (low_end s) ≡ true) streams
+    → deficit_over from_itself streams t ≡ sum_side Cold heat_of streams -ℤ sum_side Hot heat_of streams
+deficit_over-lowest from_itself t streams valid below =
+    let all = λ (k : ℕ) (d : Stream) (within : k < length streams). heat_over-all from_itself t (get_or streams k d)
+    (valid k d within) (below k d within) in
+    ap₂ ◌-ℤ◌ (sum_side-same Cold (heat_over from_itself t) heat_of streams all)
+    (sum_side-same Hot (heat_over from_itself t) heat_of streams all)
 
 pub deficit_above-lowest : (t : ℤ) (streams : List Stream) → All IsValidStream streams
     → All (λ s. t <ℤ low_end s) streams
@@ -137,16 +142,18 @@ module _ (f : ℤ → ℤ) where
 
 -- the greatest of one of the deficits over the ends
 abbrev greatest_deficit : Bool → List Stream → ℤ
-greatest_deficit from streams = fold int_max (pos 0) (map (deficit_over from streams) (stream_ends streams))
+greatest_deficit from_itself streams =
+    fold int_max (pos 0) (map (deficit_over from_itself streams) (stream_ends streams))
 
 -- a loop's step
-pub greatest_deficit-more : (from : Bool) (streams : List Stream) (i : ℕ) (s : Stream) → i < length streams
+pub greatest_deficit-more : (from_itself : Bool) (streams : List Stream) (i : ℕ) (s : Stream) → i < length streams
     → s ≡ get_or streams i s
-    → fold int_max (pos 0) (map (deficit_over from streams) (stream_ends (take (i + 1) streams)))
-    ≡ int_max (int_max (fold int_max (pos 0) (map (deficit_over from streams) (stream_ends (take i streams)))) (deficit_over from streams (high_end s)))
-    (deficit_over from streams (low_end s))
-greatest_deficit-more from streams i s within is =
-    let f = deficit_over from streams in
+    → fold int_max (pos 0) (map (deficit_over from_itself streams) (stream_ends (take (i + 1) streams)))
+    ≡ int_max (int_max (fold int_max (pos 0) (map (deficit_over from_itself streams) (stream_ends (take i streams))))
+    (deficit_over from_itself streams (high_end s)))
+    (deficit_over from_itself streams (low_end s))
+greatest_deficit-more from_itself streams i s within is =
+    let f = deficit_over from_itself streams in
     let ends = stream_ends (take i streams) in
     ap (λ xs. fold int_max (pos 0) (map f xs)) (stream_ends-more streams i s within is)
     ∙ ap (fold int_max (pos 0)) (map-append f ends (high_end s ∷ low_end s ∷ []))
@@ -161,18 +168,19 @@ hot_target-is streams =
     sym (fold-append int_max (pos 0) aboves froms
     ∙ fold-from (fold int_max (pos 0) aboves) froms (fold-int_max_bounds (pos 0) aboves (fold int_max (pos 0) aboves) refl).0)
 
-greatest_deficit-le : (from : Bool) (streams : List Stream) → greatest_deficit from streams ≤ℤ hot_target streams
+greatest_deficit-le : (from_itself : Bool) (streams : List Stream)
+    → greatest_deficit from_itself streams ≤ℤ hot_target streams
 greatest_deficit-le false streams =
     subst (λ r. greatest_deficit false streams ≤ℤ r) (hot_target-is streams) (omega (arith, ints, clamps))
 greatest_deficit-le true streams =
     subst (λ r. greatest_deficit true streams ≤ℤ r) (hot_target-is streams) (omega (arith, ints, clamps))
 
 -- no deficit at an end exceeds it
-pub deficit_over-bound : (from : Bool) (streams : List Stream) (t : ℤ) → Contains (stream_ends streams) t
-    → deficit_over from streams t ≤ℤ hot_target streams
-deficit_over-bound from streams t at =
-    let here = greatest_value-bound (deficit_over from streams) (stream_ends streams) t at in
-    let most = greatest_deficit-le from streams in
+pub deficit_over-bound : (from_itself : Bool) (streams : List Stream) (t : ℤ) → Contains (stream_ends streams) t
+    → deficit_over from_itself streams t ≤ℤ hot_target streams
+deficit_over-bound from_itself streams t at =
+    let here = greatest_value-bound (deficit_over from_itself streams) (stream_ends streams) t at in
+    let most = greatest_deficit-le from_itself streams in
     omega (arith, ints)
 
 pub hot_target-bound : (streams : List Stream) (t : ℤ) → Contains (stream_ends streams) t
@@ -181,10 +189,10 @@ hot_target-bound = deficit_over-bound false
 
 -- and it is 0 or the deficit at some end
 record IsReached (streams : List Stream) : Type 0 where
-  from : Bool
+  from_itself : Bool
   end : ℤ
   member : Contains (stream_ends streams) end
-  tight : IsTightOver from streams end
+  tight : IsTightOver from_itself streams end
 
 hot_target-reached : (streams : List Stream) → (hot_target streams ≡ pos 0) ⊎ IsReached streams
 hot_target-reached streams =
@@ -196,13 +204,15 @@ hot_target-reached streams =
     greater : (x y : ℤ) → (int_max x y ≡ x) ⊎ (int_max x y ≡ y)
     greater x y = by_lt_z x y (λ less. inr (omega (arith, ints, clamps))) (λ most. inl (omega (arith, ints, clamps)))
 
-    reached : (from : Bool) → greatest_deficit from streams ≡ hot_target streams
+    reached : (from_itself : Bool) → greatest_deficit from_itself streams ≡ hot_target streams
         → (hot_target streams ≡ pos 0) ⊎ IsReached streams
-    reached from e =
-        ⊎_elim (λ none. inl (sym e ∙ none)) (λ at. inr (record { from = from; end = at.0; member = at.1; tight = at.2 ∙ e }))
-        (greatest_value-reached (deficit_over from streams) (stream_ends streams))
+    reached from_itself e =
+        ⊎_elim (λ none. inl (sym e ∙ none))
+        (λ at. inr (record { from_itself = from_itself; end = at.0; member = at.1; tight = at.2 ∙ e }))
+        (greatest_value-reached (deficit_over from_itself streams) (stream_ends streams))
 
-pub tight_over : (from : Bool) (streams : List Stream) (t : ℤ) → IsTightOver from streams t → HasTightDeficit streams t
+pub tight_over : (from_itself : Bool) (streams : List Stream) (t : ℤ) → IsTightOver from_itself streams t
+    → HasTightDeficit streams t
 tight_over false streams t e = inl e
 tight_over true streams t e = inr e
 
@@ -215,7 +225,8 @@ some_tight streams h =
     let below = All-weaker (λ s. (high_end s ≤ℤ t) × (low_end s ≤ℤ t)) (λ s. high_end s ≤ℤ t) (λ s e. e.0) streams (each_end (λ e. e ≤ℤ t) streams top.bound) in
     let none = deficit_above-highest t streams h.are_streams.each below in
     ⊎_elim (λ e. (t, record { end = top.member; tight = inl (none ∙ sym e) }))
-    (λ at. (at.end, record { end = at.member; tight = tight_over at.from streams at.end at.tight })) (hot_target-reached streams)
+    (λ at. (at.end, record { end = at.member; tight = tight_over at.from_itself streams at.end at.tight }))
+    (hot_target-reached streams)
 
 -- all heat of a side
 all_heat : (streams : List Stream) → AreStreams streams
@@ -232,7 +243,9 @@ hot_target-within streams h =
     record {
       from = bounds.0;
       upto =
-          ⊎_elim (λ none. omega (arith, ints, cold)) (λ at. let le = deficit_over-le at.from at.end streams h in let tight = at.tight in omega (arith, ints))
+          ⊎_elim (λ none. omega (arith, ints, cold))
+          (λ at. let le = deficit_over-le at.from_itself at.end streams h in
+          let tight = at.tight in omega (arith, ints))
           (hot_target-reached streams);
     }
 
@@ -274,13 +287,14 @@ cold_target-lowest t streams h below =
 -- ---- sensible streams
 
 -- nothing stands at a place itself
-pub deficit_over-sensible : (from : Bool) (t : ℤ) (streams : List Stream) → AreSensible streams
-    → deficit_over from streams t ≡ deficit_above streams t
-deficit_over-sensible from t streams h =
+pub deficit_over-sensible : (from_itself : Bool) (t : ℤ) (streams : List Stream) → AreSensible streams
+    → deficit_over from_itself streams t ≡ deficit_above streams t
+deficit_over-sensible from_itself t streams h =
     let same = λ (k : ℕ) (d : Stream) (within : k < length streams). let s = get_or streams k d in
     let is = h k d within in
-    heat_over-sensible from t s is ∙ sym (heat_over-sensible false t s is) in
-    ap₂ ◌-ℤ◌ (sum_side-same Cold (heat_over from t) (heat_over false t) streams same) (sum_side-same Hot (heat_over from t) (heat_over false t) streams same)
+    heat_over-sensible from_itself t s is ∙ sym (heat_over-sensible false t s is) in
+    ap₂ ◌-ℤ◌ (sum_side-same Cold (heat_over from_itself t) (heat_over false t) streams same)
+    (sum_side-same Hot (heat_over from_itself t) (heat_over false t) streams same)
 
 pub deficit_from-sensible : (t : ℤ) (streams : List Stream) → AreSensible streams
     → deficit_from streams t ≡ deficit_above streams t

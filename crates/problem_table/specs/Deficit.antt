@@ -12,7 +12,8 @@ use Rattle.problem_table.specs.Sides.{sum_side}
 
 -- the deficit over t, which counts from itself or not: the cold heat over it less the hot heat over it
 abbrev pub deficit_over : Bool → List Stream → ℤ → ℤ
-deficit_over from streams t = sum_side Cold (heat_over from t) streams -ℤ sum_side Hot (heat_over from t) streams
+deficit_over from_itself streams t =
+    sum_side Cold (heat_over from_itself t) streams -ℤ sum_side Hot (heat_over from_itself t) streams
 
 -- the deficit above t
 abbrev pub deficit_above : List Stream → ℤ → ℤ
@@ -42,7 +43,7 @@ cold_target streams = hot_target streams +ℤ sum_side Hot heat_of streams -ℤ 
 
 -- the deficit over t is the hot target
 abbrev pub IsTightOver : Bool → List Stream → ℤ → Type 0
-IsTightOver from streams t = deficit_over from streams t ≡ hot_target streams
+IsTightOver from_itself streams t = deficit_over from_itself streams t ≡ hot_target streams
 
 -- one of the two deficits at t is the hot target
 abbrev pub HasTightDeficit : List Stream → ℤ → Type 0

@@ -36,25 +36,27 @@ pub fn deficit_of(streams: &[Stream], t: i32) -> i64
     deficit_over(streams, false, t)
 }
 
-/// The same, with the latent streams at `t` itself if `from`.
-pub(crate) fn deficit_over(streams: &[Stream], from: bool, t: i32) -> i64
+/// The same, with the latent streams at `t` itself if `from_itself`.
+pub(crate) fn deficit_over(streams: &[Stream], from_itself: bool, t: i32) -> i64
     requires { AreStreams streams.now }
-    ensures value { result ≡ deficit_over from streams.now t }
+    ensures value { result ≡ deficit_over from_itself streams.now t }
     ensures range { IsDeficit result }
 {
-    side_heat_over(streams, Side::Cold, from, t) - side_heat_over(streams, Side::Hot, from, t)
+    side_heat_over(streams, Side::Cold, from_itself, t)
+        - side_heat_over(streams, Side::Hot, from_itself, t)
 }
 
-// The heat of all streams of a side above `t`, and of the latent ones at `t` itself if `from`.
-fn side_heat_over(streams: &[Stream], side: Side, from: bool, t: i32) -> i64
+// The heat of all streams of a side above `t`, and of the latent ones at `t` itself if
+// `from_itself`.
+fn side_heat_over(streams: &[Stream], side: Side, from_itself: bool, t: i32) -> i64
     requires { AreStreams streams.now }
-    ensures value { result ≡ sum_side side (heat_over from t) streams.now }
+    ensures value { result ≡ sum_side side (heat_over from_itself t) streams.now }
     ensures range { IsStreamsHeat result }
 {
     let mut heat = 0;
     for stream in streams {
         if stream.is_on(side) {
-            heat += stream.heat_over(from, t);
+            heat += stream.heat_over(from_itself, t);
         }
     }
     heat

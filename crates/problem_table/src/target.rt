@@ -52,16 +52,16 @@ pub(crate) fn hot_target(streams: &[Stream]) -> i64
 }
 
 // The greatest of one of the deficits over the stream ends, and at least 0.
-fn greatest_deficit(streams: &[Stream], from: bool) -> i64
+fn greatest_deficit(streams: &[Stream], from_itself: bool) -> i64
     requires { AreStreams streams.now }
     ensures { result ≡ fold int_max (pos 0)
-        (map (deficit_over from streams.now) (stream_ends streams.now)) }
+        (map (deficit_over from_itself streams.now) (stream_ends streams.now)) }
 {
     let mut greatest: i64 = 0;
     for stream in streams {
         greatest = greatest
-            .max(deficit_over(streams, from, stream.high_end()))
-            .max(deficit_over(streams, from, stream.low_end()));
+            .max(deficit_over(streams, from_itself, stream.high_end()))
+            .max(deficit_over(streams, from_itself, stream.low_end()));
     }
     greatest
 }
@@ -76,10 +76,10 @@ pub(crate) fn is_tight(streams: &[Stream], hot: i64, t: i32) -> bool
 }
 
 // Whether the deficit over `t` is the hot target.
-pub(crate) fn is_tight_over(streams: &[Stream], hot: i64, from: bool, t: i32) -> bool
+pub(crate) fn is_tight_over(streams: &[Stream], hot: i64, from_itself: bool, t: i32) -> bool
     requires streams { AreStreams streams.now }
     requires hot { hot ≡ hot_target streams.now }
-    ensures { IsTrue result ↔ IsTightOver from streams.now t }
+    ensures { IsTrue result ↔ IsTightOver from_itself streams.now t }
 {
-    deficit_over(streams, from, t) == hot
+    deficit_over(streams, from_itself, t) == hot
 }

@@ -1,8 +1,8 @@
--- The surplus of streams below a temperature, and the greatest excess at some places.
+-- The surplus of streams below a temperature, and the greatest imbalance at some places.
 use Rattle.site.proofs.PlaceLemmas.{main_places-more}
 use Rattle.site_text.proofs.SiteLemmas.{ends_of-more}
 use Rattle.site.proofs.Words.{*ℤ--ℤ, All-weaker, AreEnds-IsValidStream, ArePlantStreams, AreSensible, Cold, Direction, Hot, IsSensible, IsValidStream, Main}
-use Rattle.site.proofs.Words.{Plant, Side, Site, Stream, clamps, deficit_above, deficit_above-lowest, excess, filter, fold, fold-append, gives_at, heat_above}
+use Rattle.site.proofs.Words.{Plant, Side, Site, Stream, clamps, deficit_above, deficit_above-lowest, filter, fold, fold-append, gives_at, heat_above, imbalance}
 use Rattle.site.proofs.Words.{heat_below, heat_of, heat_of-sensible, heat_over-sensible, high_end, if◌then◌else◌, int_max, int_sum_by-same, int_sum_by-sub}
 use Rattle.site.proofs.Words.{ints, is_beyond, length_above, length_below, low_end, main_places, negsuc, plant_profile, pos, raised, same_side, site_places}
 use Rattle.site.proofs.Words.{stream_ends, stream_ends-more, streams_of, sum_side, surplus_below, takes_at, ℤ, ◌*ℤ◌, ◌-ℤ◌, ◌<ℤ◌}
@@ -48,22 +48,27 @@ surplus_below-is t streams h =
     let cold = side_below Cold t streams h.sensible in
     omega (arith, ints)
 
--- ---- the greatest excess
+-- ---- the greatest imbalance
 
 module _ (direction : Direction) (t : ℤ) (streams : List Stream) where
   -- place by place
   fold-raised : (so_far : ℤ) (places : List ℤ) → fold (raised direction t streams) so_far places
-      ≡ fold int_max so_far (map (excess direction streams) (filter (is_beyond direction t) places))
+      ≡ fold int_max so_far (map (imbalance direction streams) (filter (is_beyond direction t) places))
   fold-raised so_far [] = refl
   fold-raised so_far (place ∷ places) =
-      by (is_beyond direction t place) (fold-raised (if is_beyond direction t place then int_max so_far (excess direction streams place) else so_far) places)
+      by (is_beyond direction t place)
+      (fold-raised
+      (if is_beyond direction t place then int_max so_far (imbalance direction streams place) else so_far) places)
     where
-      by : (b : Bool) → fold (raised direction t streams) (if b then int_max so_far (excess direction streams place) else so_far) places
-          ≡ fold int_max (if b then int_max so_far (excess direction streams place) else so_far)
-          (map (excess direction streams) (filter (is_beyond direction t) places))
-          → fold (raised direction t streams) (if b then int_max so_far (excess direction streams place) else so_far) places
+      by : (b : Bool) → fold (raised direction t streams)
+          (if b then int_max so_far (imbalance direction streams place) else so_far) places
+          ≡ fold int_max (if b then int_max so_far (imbalance direction streams place) else so_far)
+          (map (imbalance direction streams) (filter (is_beyond direction t) places))
+          → fold (raised direction t streams)
+          (if b then int_max so_far (imbalance direction streams place) else so_far) places
           ≡ fold int_max so_far
-          (map (excess direction streams) (cond b (place ∷ filter (is_beyond direction t) places) (filter (is_beyond direction t) places)))
+          (map (imbalance direction streams)
+          (cond b (place ∷ filter (is_beyond direction t) places) (filter (is_beyond direction t) places)))
       by true rest = rest
       by false rest = rest
 

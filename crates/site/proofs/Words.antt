@@ -8,7 +8,7 @@ pub use Rattle.grid.specs.declared.part.Part.{Part}
 pub use Rattle.heat_flow.proofs.Blanks.{blank}
 pub use Rattle.heat_flow.proofs.Words.{get_or-flat_map, get_or_default, int_sum_by-more, length-take-le, list_any, nat_lt, nat_tests, negsuc, slice_get_past}
 pub use Rattle.heat_flow.proofs.Words.{take_all}
-pub use Rattle.site.specs.Directions.{IsPlantHeat, excess, is_beyond, plant_profile, raised}
+pub use Rattle.site.specs.Directions.{IsPlantHeat, imbalance, is_beyond, plant_profile, raised}
 pub use Rattle.site.specs.Profiles.{heat_below, length_below, surplus_below}
 pub use Rattle.site.specs.Reach.{part_reaches, passes_through, plants_from, reach_between, reaches_within, stream_plants}
 pub use Rattle.site_text.specs.Site.{ArePlantStreams, IsValidSite, streams_of}

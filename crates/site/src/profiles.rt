@@ -2,7 +2,7 @@
 ghost use Rattle.std.specs.Prelude.{◌≡◌, All, fold};
 ghost use Rattle.stream_case.specs.Limits.{IsContribution, IsTemperature};
 ghost use Rattle.stream_case.specs.Stream.{IsValidStream, stream_ends};
-ghost use Rattle.site.specs.Directions.{IsExcess, IsPlantHeat, excess, is_beyond, plant_profile, profile, raised};
+ghost use Rattle.site.specs.Directions.{IsImbalance, IsPlantHeat, imbalance, is_beyond, plant_profile, profile, raised};
 ghost use Rattle.site.specs.Profiles.{sink_profile, source_profile};
 ghost use Rattle.site_text.specs.Site.{ArePlantStreams, IsValidSite, streams_of};
 ghost use Rattle.site.specs.Table.{main_places, site_places};
@@ -22,10 +22,10 @@ enum Direction {
 }
 
 /// The deficit of streams above a place, or their surplus below it, in W.
-fn excess(direction: Direction, streams: &[Stream], place: i32) -> i64
+fn imbalance(direction: Direction, streams: &[Stream], place: i32) -> i64
     requires { ArePlantStreams streams.now }
-    ensures value { result ≡ excess direction streams.now place }
-    ensures range { IsExcess result }
+    ensures value { result ≡ imbalance direction streams.now place }
+    ensures range { IsImbalance result }
 {
     match direction {
         Direction::Up => deficit_of(streams, place),
@@ -44,7 +44,7 @@ fn is_beyond(direction: Direction, t: i32, place: i32) -> bool
     }
 }
 
-/// The greater of `so_far` and the excess of streams at a place, if it lies at `t` or beyond it.
+/// The greater of `so_far` and the imbalance of streams at a place, if it lies at `t` or beyond it.
 fn raised(direction: Direction, t: i32, streams: &[Stream], so_far: i64, place: i32) -> i64
     requires streams { ArePlantStreams streams.now }
     requires so_far { IsPlantHeat so_far }
@@ -52,7 +52,7 @@ fn raised(direction: Direction, t: i32, streams: &[Stream], so_far: i64, place: 
     ensures range { IsPlantHeat result }
 {
     if is_beyond(direction, t, place) {
-        so_far.max(excess(direction, streams, place))
+        so_far.max(imbalance(direction, streams, place))
     } else {
         so_far
     }
@@ -139,7 +139,7 @@ fn raised_by_mains(
     greatest
 }
 
-/// The greatest excess of a plant at a place of the site, or at `t` itself, that lies at `t` or
+/// The greatest imbalance of a plant at a place of the site, or at `t` itself, that lies at `t` or
 /// beyond it; and at least 0.
 fn plant_profile(direction: Direction, site: &Site, t: i32, plant: &Plant) -> i64
     requires valid { IsValidSite site.now }

@@ -76,20 +76,22 @@ none_over false = refl
 none_over true = refl
 
 -- a sensible stream has no load
-pub load_over-sensible : (from : Bool) (t : ℤ) (s : Stream) → IsSensible s → load_over from t s ≡ pos 0
-load_over-sensible from t s h =
-    ap (λ load. if counts_above from t (high_end s) then load else pos 0) h.load
-    ∙ none_over (counts_above from t (high_end s))
+pub load_over-sensible : (from_itself : Bool) (t : ℤ) (s : Stream) → IsSensible s → load_over from_itself t s ≡ pos 0
+load_over-sensible from_itself t s h =
+    ap (λ load. if counts_above from_itself t (high_end s) then load else pos 0) h.load
+    ∙ none_over (counts_above from_itself t (high_end s))
 
-pub heat_over-sensible : (from : Bool) (t : ℤ) (s : Stream) → IsSensible s → heat_over from t s ≡ sensible_above t s
-heat_over-sensible from t s h = let none = load_over-sensible from t s h in omega (arith, ints)
+pub heat_over-sensible : (from_itself : Bool) (t : ℤ) (s : Stream) → IsSensible s
+    → heat_over from_itself t s ≡ sensible_above t s
+heat_over-sensible from_itself t s h = let none = load_over-sensible from_itself t s h in omega (arith, ints)
 
 pub heat_of-sensible : (s : Stream) → IsSensible s → heat_of s ≡ heat_between (high_end s) (low_end s) s
 heat_of-sensible s h = let none = h.load in omega (arith, ints)
 
 -- a latent stream has nothing else
-pub heat_over-latent : (from : Bool) (t : ℤ) (s : Stream) → IsLatent s → heat_over from t s ≡ load_over from t s
-heat_over-latent from t s h =
+pub heat_over-latent : (from_itself : Bool) (t : ℤ) (s : Stream) → IsLatent s
+    → heat_over from_itself t s ≡ load_over from_itself t s
+heat_over-latent from_itself t s h =
     let none = zero-times s.cp (length_above (low_end s) (high_end s) t) h.cp in
     omega (arith, ints)
 
@@ -111,23 +113,25 @@ pub load-between : (s : Stream) → IsSensible s ⊎ IsLatent s → IsStreamHeat
 load-between s (inl sensible) = let none = sensible.load in omega (arith, ints)
 load-between s (inr latent) = let load = latent.load in omega (arith, ints)
 
-pub load_over-between : (from : Bool) (t : ℤ) (s : Stream) → IsValidStream s → IsStreamHeat (load_over from t s)
-load_over-between from t s h =
+pub load_over-between : (from_itself : Bool) (t : ℤ) (s : Stream) → IsValidStream s
+    → IsStreamHeat (load_over from_itself t s)
+load_over-between from_itself t s h =
     let load = load-between s h.heat in
-    let some = some_of (counts_above from t (high_end s)) s.load load.from in
+    let some = some_of (counts_above from_itself t (high_end s)) s.load load.from in
     record { from = some.from; upto = omega (arith, ints) }
 
-pub heat_over-between : (from : Bool) (t : ℤ) (s : Stream) → IsValidStream s → IsStreamHeat (heat_over from t s)
-heat_over-between from t s h = by_heat h.heat
+pub heat_over-between : (from_itself : Bool) (t : ℤ) (s : Stream) → IsValidStream s
+    → IsStreamHeat (heat_over from_itself t s)
+heat_over-between from_itself t s h = by_heat h.heat
   where
-    by_heat : IsSensible s ⊎ IsLatent s → IsStreamHeat (heat_over from t s)
+    by_heat : IsSensible s ⊎ IsLatent s → IsStreamHeat (heat_over from_itself t s)
     by_heat (inl sensible) =
         let product = sensible_above-between t s h in
-        let is = heat_over-sensible from t s sensible in
+        let is = heat_over-sensible from_itself t s sensible in
         omega (arith, ints)
     by_heat (inr latent) =
-        let some = load_over-between from t s h in
-        let is = heat_over-latent from t s latent in
+        let some = load_over-between from_itself t s h in
+        let is = heat_over-latent from_itself t s latent in
         omega (arith, ints)
 
 pub heat_of-between : (s : Stream) → IsValidStream s → IsStreamHeat (heat_of s)

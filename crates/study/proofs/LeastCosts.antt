@@ -1,7 +1,7 @@
 -- A case has one least cost, or no heat flow whatever the price of a utility is, and its least cost over that price.
 use Rattle.study.proofs.Words.{*ℤ_comm, Case, CostsWith, HasFlowWith, HasNoFlow, HasNoFlowAt, HoldsOfParts}
-use Rattle.study.proofs.Words.{HoldsOfParts-some, IsBetween, IsLeastCost, IsLine, IsLineEnd, Line, MatchOption, Part}
-use Rattle.study.proofs.Words.{RisesFall, case_prices, ints, length-map, line_at, pos, priced, prices_with}
+use Rattle.study.proofs.Words.{Chord, HoldsOfParts-some, IsBetween, IsChord, IsChordEnd, IsLeastCost, MatchOption, Part}
+use Rattle.study.proofs.Words.{RisesFall, case_prices, chord_at, ints, length-map, pos, priced, prices_with}
 use Rattle.study.proofs.Words.{reach_between, ℤ, ◌*ℤ◌, ◌+ℤ◌, ◌-ℤ◌, ◌≤ℤ◌}
 use Rattle.std.proofs.Common.{List, None, Option, Some, ap, arith, length, refl, subst, sym, ℕ, ◌*◌, ◌<◌, ◌≡◌}
 use Rattle.study.proofs.CostLines.{between, none-moves, rises-fall}
@@ -59,21 +59,22 @@ module _ (c : Case) (i : ℕ) (there : i < length c.utilities) where
       rises-fall (case_prices c) i utility_there (reach_between c hot cold) hot cold p first middle last
       (one.each hot cold parts) (two.each hot cold parts) (three.each hot cold parts)
 
-  -- the least cost is on the line at each price up to its end
-  pub on_line-between : (line : Line) (to end : ℤ) → IsLine c i line → IsLineEnd c i line to end → (p : ℤ)
-      → IsBetween line.from end p
-      → CostsWith c i p (line_at line p)
-  on_line-between line to end is ends p within =
+  -- the least cost is on the chord at each price up to its end
+  pub on_chord-between : (chord : Chord) (to end : ℤ) → IsChord c i chord → IsChordEnd c i chord to end → (p : ℤ)
+      → IsBetween chord.from end p
+      → CostsWith c i p (chord_at chord p)
+  on_chord-between chord to end is ends p within =
       let (hot, cold, parts) = is.first.some in
-      let turn = λ (r : ℤ). ap (λ z. line.cost +ℤ z) (*ℤ_comm line.slope (r -ℤ line.from)) in
+      let turn = λ (r : ℤ). ap (λ z. chord.cost +ℤ z) (*ℤ_comm chord.slope (r -ℤ chord.from)) in
       let costs = λ (r cost : ℤ) (h k : List Part).
       IsLeastCost (reach_between c h k) (priced (prices_with c i r) h) (priced (prices_with c i r) k) cost in
       let first = is.first.each hot cold parts in
       let next = is.next.each hot cold parts in
       let at_end = subst (λ z. costs end z hot cold) (sym (turn end)) (ends.on.each hot cold parts) in
-      let least = between (case_prices c) i utility_there (reach_between c hot cold) hot cold line.from end line.cost line.slope
+      let least = between (case_prices c) i utility_there
+      (reach_between c hot cold) hot cold chord.from end chord.cost chord.slope
       first next at_end p (omega (arith, ints)) within.from within.upto in
-      HoldsOfParts-some c (costs p (line_at line p)) hot cold parts (subst (λ z. costs p z hot cold) (turn p) least)
+      HoldsOfParts-some c (costs p (chord_at chord p)) hot cold parts (subst (λ z. costs p z hot cold) (turn p) least)
 
 pub rises_fall : (c : Case) → RisesFall c
 rises_fall c i p first middle last there one two three = rises-fall_with c i there p first middle last one two three

@@ -1,6 +1,6 @@
 pub mod CostLines
 pub mod LeastCosts
-pub mod LineBounds
+pub mod ChordBounds
 pub mod NoCut
 pub mod OneAnswerList
 pub mod PartBounds

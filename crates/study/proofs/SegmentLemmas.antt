@@ -1,18 +1,18 @@
--- The segments that lines make.
-use Rattle.study.proofs.Words.{*ℤ-+ℤ, *ℤ--ℤ, *ℤ_comm, AreSegments, Case, CostsWith, IsBetween, IsLine, IsLineEnd}
-use Rattle.study.proofs.Words.{IsSegment, Line, Segment, ints, line_at, on_line, pos, ℤ, ◌*ℤ◌, ◌+ℤ◌, ◌-ℤ◌, ◌<ℤ◌}
+-- The segments that chords make.
+use Rattle.study.proofs.Words.{*ℤ-+ℤ, *ℤ--ℤ, *ℤ_comm, AreSegments, Case, CostsWith, IsBetween, IsChord, IsChordEnd}
+use Rattle.study.proofs.Words.{Chord, IsSegment, Segment, chord_at, ints, on_line, pos, ℤ, ◌*ℤ◌, ◌+ℤ◌, ◌-ℤ◌, ◌<ℤ◌}
 use Rattle.std.proofs.Common.{List, ap, arith, length, refl, subst, sym, ℕ, [], ◌*◌, ◌++◌, ◌<◌, ◌∙◌, ◌∷◌, ◌≡◌}
-use Rattle.study.proofs.LeastCosts.{on_line-between}
+use Rattle.study.proofs.LeastCosts.{on_chord-between}
 
-pub line-moved : (line : Line) (s : Segment) (p : ℤ) → s.base ≡ line_at line (pos 0) → s.slope ≡ line.slope
-    → on_line s p ≡ line_at line p
-line-moved line s p base slope =
+pub chord-moved : (chord : Chord) (s : Segment) (p : ℤ) → s.base ≡ chord_at chord (pos 0) → s.slope ≡ chord.slope
+    → on_line s p ≡ chord_at chord p
+chord-moved chord s p base slope =
     let first = ap (λ z. p *ℤ z) slope in
-    let split = *ℤ--ℤ line.slope p line.from in
-    let none = *ℤ--ℤ line.slope (pos 0) line.from in
-    let a = *ℤ_comm p line.slope in
-    let b = *ℤ_comm (p -ℤ line.from) line.slope in
-    let d = *ℤ_comm (pos 0 -ℤ line.from) line.slope in
+    let split = *ℤ--ℤ chord.slope p chord.from in
+    let none = *ℤ--ℤ chord.slope (pos 0) chord.from in
+    let a = *ℤ_comm p chord.slope in
+    let b = *ℤ_comm (p -ℤ chord.from) chord.slope in
+    let d = *ℤ_comm (pos 0 -ℤ chord.from) chord.slope in
     omega (arith, ints)
 
 pub next_on_line : (s : Segment) (p : ℤ) → on_line s (p +ℤ pos 1) -ℤ on_line s p ≡ s.slope
@@ -23,10 +23,10 @@ next_on_line s p =
     omega (arith, ints)
 
 module _ (c : Case) (i : ℕ) where
-  pub segment-of_line : (line : Line) (to : ℤ) (s : Segment) → i < length c.utilities → IsLine c i line
-      → IsLineEnd c i line to s.to → line.from <ℤ to
-      → s.from ≡ line.from → s.base ≡ line_at line (pos 0) → s.slope ≡ line.slope → IsSegment c i to s
-  segment-of_line line to s there is ends ahead from base slope =
+  pub segment-of_chord : (chord : Chord) (to : ℤ) (s : Segment) → i < length c.utilities → IsChord c i chord
+      → IsChordEnd c i chord to s.to → chord.from <ℤ to
+      → s.from ≡ chord.from → s.base ≡ chord_at chord (pos 0) → s.slope ≡ chord.slope → IsSegment c i to s
+  segment-of_chord chord to s there is ends ahead from base slope =
       let upto = ends.range.upto in
       record {
         end = record { from = omega (arith, ints); upto = upto };
@@ -34,14 +34,15 @@ module _ (c : Case) (i : ℕ) where
         flat = λ h. absurd (omega (arith, ints));
         line = on;
         greatest =
-            λ h on. ends.off h (subst (CostsWith c i (s.to +ℤ pos 1)) (line-moved line s (s.to +ℤ pos 1) base slope) on);
+            λ h on. ends.off h (subst (CostsWith c i (s.to +ℤ pos 1))
+            (chord-moved chord s (s.to +ℤ pos 1) base slope) on);
       }
     where
       on : (p : ℤ) → IsBetween s.from s.to p → CostsWith c i p (on_line s p)
       on p within =
           let high = within.upto in
-          subst (CostsWith c i p) (sym (line-moved line s p base slope))
-          (on_line-between c i there line to s.to is ends p (record { from = omega (arith, ints); upto = high }))
+          subst (CostsWith c i p) (sym (chord-moved chord s p base slope))
+          (on_chord-between c i there chord to s.to is ends p (record { from = omega (arith, ints); upto = high }))
 
   pub segment-last : (price : ℤ) (s : Segment) → CostsWith c i price s.base → s.from ≡ price → s.to ≡ price
       → s.slope ≡ pos 0 → IsSegment c i price s

@@ -63,7 +63,7 @@ pub use Rattle.study.specs.Row.{OneRow, case_with, utility_with, with_contributi
 pub use Rattle.study.specs.Sample.{drawn_forbids, drawn_high, drawn_low, drawn_stream, drawn_streams, least_temperature, pair_of, sample, stream_name}
 pub use Rattle.study.specs.SampleRow.{OneSampleRow, completed_sample}
 pub use Rattle.study.specs.Segments.{AreSegments, CostsWith, IsSegment, on_line}
-pub use Rattle.study.specs.Lines.{IsGap, IsLine, IsLineEnd, IsSmallLine, line_at}
+pub use Rattle.study.specs.Chords.{IsChord, IsChordEnd, IsGap, IsSmallChord, chord_at}
 pub use Rattle.study.specs.StudyAnswers.{AreSpanSegments, IsItemAnswer, OneAnswer, RisesFall}
 pub use Rattle.study_text.specs.Study.{IsItem, case_prices}
 pub use Rattle.study.specs.Sweep.{AreRows, OneSweep}
@@ -72,7 +72,7 @@ pub use Rattle.study.specs.declared.limits.TheConstants.{FORBID_CHANCE, MOST_ROW
 pub use Rattle.study.specs.declared.plan.SweepPlan.{SweepPlan}
 pub use Rattle.study.specs.declared.row.SweepRow.{SweepRow}
 pub use Rattle.study.specs.declared.sample_targets.SampleRow.{SampleRow}
-pub use Rattle.study.specs.declared.lines.Line.{Line}
+pub use Rattle.study.specs.declared.chords.Chord.{Chord}
 pub use Rattle.study.specs.declared.study_answer.Segment.{Segment}
 pub use Rattle.study.specs.declared.study_answer.StudyAnswer.{StudyAnswer}
 pub use Rattle.study.specs.declared.study_answer.StudyAnswer.TheVariants.{Cost, Segments}

@@ -1,8 +1,8 @@
+pub mod Chords
 pub mod Cost
 pub mod CostCurve
 pub mod CostRange
 pub mod Draws
-pub mod Lines
 pub mod Plan
 pub mod Priced
 pub mod PricedCase

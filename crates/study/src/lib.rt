@@ -5,11 +5,11 @@
 //! What a price study asks, and the grammar of its file, are in `study_text`, and found here too.
 #![tactic(auto)]
 
+mod chords;
 mod contribution;
 mod cost_curve;
 mod generator;
 mod limits;
-mod lines;
 mod plan;
 mod priced;
 mod row;

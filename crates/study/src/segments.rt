@@ -3,13 +3,13 @@ ghost use Rattle.std.specs.Prelude.{◌≡◌, ◌<◌, pos, ◌+ℤ◌, ◌≤�
 ghost use Rattle.stream_case.specs.Limits.{IsPrice};
 ghost use Rattle.study.specs.CostCurve.{IsCostCurve, IsPointOf};
 ghost use Rattle.study.specs.PricedCase.{IsPricedCase};
-ghost use Rattle.study.specs.Lines.{IsLine, IsLineEnd};
+ghost use Rattle.study.specs.Chords.{IsChord, IsChordEnd};
 ghost use Rattle.study.specs.Segments.{IsSegment};
 ghost use Rattle.study.specs.StudyAnswers.{AreSpanSegments};
 ghost use Rattle.study_text.specs.Study.{IsSpan};
 
+use crate::chords::{Chord, chord_at, next_price};
 use crate::cost_curve::{CostCurve, Point};
-use crate::lines::{Line, line_at, next_price};
 use crate::priced::PricedCase;
 use crate::study_answer::Segment;
 use std::alloc::{AllocError, Global};
@@ -38,53 +38,53 @@ fn take_point(
     }
 }
 
-/// The line through a point and that at the next price.
-fn line_from(
+/// The chord through a point and that at the next price.
+fn chord_from(
     alloc: Global,
     curve: &CostCurve,
     ahead: &mut Vec<Point>,
     first: Point,
-) -> Result<Line, AllocError>
+) -> Result<Chord, AllocError>
     requires curve { IsCostCurve curve.now }
     requires ahead { All (IsPointOf curve.now) ahead.old.items }
     requires first { IsPointOf curve.now first }
     requires next { IsPrice (first.price +ℤ pos 1) }
-    ensures from { IfOk result (λ line. line.from ≡ first.price) }
-    ensures line { IfOk result (IsLine curve.now.priced.case.now curve.now.utility) }
+    ensures from { IfOk result (λ chord. chord.from ≡ first.price) }
+    ensures chord { IfOk result (IsChord curve.now.priced.case.now curve.now.utility) }
     ensures ahead { All (IsPointOf curve.now) ahead.new.items }
 {
     let next = take_point(alloc, curve, ahead, first.price + 1)?;
-    Ok(Line {
+    Ok(Chord {
         from: first.price,
         cost: first.cost,
         slope: next.cost - first.cost,
     })
 }
 
-/// The last price up to `to` at which the least cost is on a line. Once it has left the line it
+/// The last price up to `to` at which the least cost is on a chord. Once it has left the chord it
 /// never returns, so the end lies between a price that is on it and one that is not; each price
 /// between the two that is looked at brings them nearer to each other.
-fn line_end(
+fn chord_end(
     alloc: Global,
     curve: &CostCurve,
     ahead: &mut Vec<Point>,
-    line: Line,
+    chord: Chord,
     to: i64,
 ) -> Result<i64, AllocError>
     requires curve { IsCostCurve curve.now }
     requires known { All (IsPointOf curve.now) ahead.old.items }
-    requires line { IsLine curve.now.priced.case.now curve.now.utility line }
-    requires order { line.from <ℤ to }
+    requires chord { IsChord curve.now.priced.case.now curve.now.utility chord }
+    requires order { chord.from <ℤ to }
     requires last { IsPrice to }
-    ensures end { IfOk result (IsLineEnd curve.now.priced.case.now curve.now.utility line to) }
+    ensures end { IfOk result (IsChordEnd curve.now.priced.case.now curve.now.utility chord to) }
     ensures ahead { All (IsPointOf curve.now) ahead.new.items }
 {
-    let mut on = line.from + 1;
+    let mut on = chord.from + 1;
     let mut off = to + 1;
     while off - on > 1 {
-        let price = next_price(line, ahead.as_slice(), on, off);
+        let price = next_price(chord, ahead.as_slice(), on, off);
         let point = take_point(alloc, curve, ahead, price)?;
-        if point.cost == line_at(line, price) {
+        if point.cost == chord_at(chord, price) {
             on = price;
         } else {
             off = price;
@@ -119,13 +119,13 @@ fn segment_from(
             slope: 0,
         });
     }
-    let line = line_from(alloc, curve, ahead, first)?;
-    let end = line_end(alloc, curve, ahead, line, to)?;
+    let chord = chord_from(alloc, curve, ahead, first)?;
+    let end = chord_end(alloc, curve, ahead, chord, to)?;
     Ok(Segment {
-        from: line.from,
+        from: chord.from,
         to: end,
-        base: line_at(line, 0),
-        slope: line.slope,
+        base: chord_at(chord, 0),
+        slope: chord.slope,
     })
 }
 

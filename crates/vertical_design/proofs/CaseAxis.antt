@@ -1,9 +1,9 @@
 -- The heat axis of a standard case without latent streams, and its cuts: what runs between two neighbouring ones.
-use Rattle.vertical_design.proofs.Words.{All-weaker, AreCuts, AreSensibleStreams, AreSensibleStreams-case, AreSpans, Case, Contains}
+use Rattle.vertical_design.proofs.Words.{All-weaker, AreBands, AreCuts, AreSensibleStreams, AreSensibleStreams-case, Case, Contains}
 use Rattle.vertical_design.proofs.Words.{Contains-append_left, Contains-append_right, Contains-flat_map, Contains-slice_get, IsSensibleCase}
-use Rattle.vertical_design.proofs.Words.{IsStandard, Side, Span, Stream, Utility, begin_of, ends_of, false_from_ne_true, heat_at, high_end, int_le}
+use Rattle.vertical_design.proofs.Words.{Band, IsStandard, Side, Stream, Utility, begin_of, ends_of, false_from_ne_true, heat_at, high_end, int_le}
 use Rattle.vertical_design.proofs.Words.{int_le-from, int_sum_by, ints, low_end, lower_cut, same_side, same_side-true, side_flow, slice_get-get_or}
-use Rattle.vertical_design.proofs.Words.{spans_of, standard_utility, sum_side-zero, upper_cut, utility_from, utility_to, ◌&&◌}
+use Rattle.vertical_design.proofs.Words.{bands_of, standard_utility, sum_side-zero, upper_cut, utility_from, utility_to, ◌&&◌}
 use Rattle.std.proofs.Common.{All, Bool, List, [], ap, ap₂, arith, get_or, if◌then◌else◌, inl, inr, length, pos, refl, subst, sym, true, ℕ, ℤ, ⊎_elim}
 use Rattle.std.proofs.Common.{◌+ℤ◌, ◌+◌, ◌-◌, ◌<ℤ◌, ◌<◌, ◌∙◌, ◌∷◌, ◌≡◌, ◌≤ℤ◌}
 use Rattle.stream_case.proofs.StandardUtilities.{in_order, some_utility, standard_side}
@@ -11,8 +11,8 @@ use Rattle.vertical_design.proofs.CurveLemmas.{end_of, on_curve}
 use Rattle.vertical_design.proofs.CurveOrder.{IsOutside}
 use Rattle.vertical_design.proofs.StraightCurves.{HasNoEnd, flow_positive, flow_running, gap_segment, running_flow}
 use Rattle.vertical_design.proofs.AxisLemmas.{is_axis, IsOnAxis, curve_on_axis, utility_on_axis, curve_or_utility}
-use Rattle.vertical_design.proofs.SpanSources.{span_of, utility_span_of, IsSourceSpan, HasSpan, cuts_hold, span_sources, stream_place, utility_place}
-use Rattle.vertical_design.proofs.SpanLimits.{AreSpans-spans_of}
+use Rattle.vertical_design.proofs.BandSources.{band_of, utility_band_of, IsSourceBand, HasBand, cuts_hold, band_sources, stream_place, utility_place}
+use Rattle.vertical_design.proofs.BandLimits.{AreBands-bands_of}
 use Rattle.vertical_design.proofs.CutNeighbours.{none_between, reaches, utility_across, utilities_flow, side_flow-parts}
 use Rattle.stream_case.specs.declared.source.Side.TheVariants as side
 
@@ -22,7 +22,7 @@ pub record Axis : Type 0 where
   pub cuts : List ℤ
   pub complete : IsSensibleCase case
   pub standard : IsStandard case
-  pub are_cuts : AreCuts (spans_of side.Hot case) (spans_of side.Cold case) cuts
+  pub are_cuts : AreCuts (bands_of side.Hot case) (bands_of side.Cold case) cuts
 
 abbrev total_on : Side → ℤ → List Utility → ℤ
 total_on of x us = int_sum_by (λ (u : Utility). if same_side u.side of then x else pos 0) us
@@ -31,8 +31,8 @@ module _ (axis : Axis) where
   abbrev pub streams_are : AreSensibleStreams axis.case.streams
   streams_are = AreSensibleStreams-case axis.case axis.complete
 
-  pub spans_are : (of : Side) → AreSpans (spans_of of axis.case)
-  spans_are of = AreSpans-spans_of of axis.case axis.complete axis.standard
+  pub bands_are : (of : Side) → AreBands (bands_of of axis.case)
+  bands_are of = AreBands-bands_of of axis.case axis.complete axis.standard
 
   -- the cuts of an interval, and the flow of a side there
   abbrev pub low_at : ℕ → ℤ
@@ -42,26 +42,26 @@ module _ (axis : Axis) where
   high_at number = upper_cut axis.cuts number
 
   abbrev pub flow_at : Side → ℕ → ℤ
-  flow_at of number = side_flow (low_at number) (high_at number) (spans_of of axis.case)
+  flow_at of number = side_flow (low_at number) (high_at number) (bands_of of axis.case)
 
-  -- each span begins and ends at a cut
-  span_cuts : (of : Side) (a : Span) → HasSpan (spans_of of axis.case) a
+  -- each band begins and ends at a cut
+  band_cuts : (of : Side) (a : Band) → HasBand (bands_of of axis.case) a
       → Contains axis.cuts a.from × Contains axis.cuts a.to
-  span_cuts of a (k, there) =
-      let ends : Span → List ℤ = λ b. b.from ∷ b.to ∷ [] in
-      let member = Contains-slice_get (spans_of of axis.case) k a there in
+  band_cuts of a (k, there) =
+      let ends : Band → List ℤ = λ b. b.from ∷ b.to ∷ [] in
+      let member = Contains-slice_get (bands_of of axis.case) k a there in
       let cut = λ (x : ℤ) (own : Contains (ends a) x). is_cut of x
-      (Contains-flat_map ends (spans_of of axis.case) a x member own) in
+      (Contains-flat_map ends (bands_of of axis.case) a x member own) in
       (cut a.from (0, omega arith, refl), cut a.to (1, omega arith, refl))
     where
-      is_cut : (d : Side) (x : ℤ) → Contains (ends_of (spans_of d axis.case)) x → Contains axis.cuts x
+      is_cut : (d : Side) (x : ℤ) → Contains (ends_of (bands_of d axis.case)) x → Contains axis.cuts x
       is_cut side.Hot x own =
           let in_ends =
-          Contains-append_left (ends_of (spans_of side.Hot axis.case)) (ends_of (spans_of side.Cold axis.case)) x own in
+          Contains-append_left (ends_of (bands_of side.Hot axis.case)) (ends_of (bands_of side.Cold axis.case)) x own in
           axis.are_cuts.every x in_ends
       is_cut side.Cold x own =
-          let in_ends = Contains-append_right (ends_of (spans_of side.Hot axis.case))
-          (ends_of (spans_of side.Cold axis.case)) x own in
+          let in_ends = Contains-append_right (ends_of (bands_of side.Hot axis.case))
+          (ends_of (bands_of side.Cold axis.case)) x own in
           axis.are_cuts.every x in_ends
 
   -- so the ends of each stream are cuts, and those of the utility of a side
@@ -72,23 +72,23 @@ module _ (axis : Axis) where
       × Contains axis.cuts (heat_at of axis.case.streams (high_end s)))
       axis.case.streams
   ends_are_cuts of k o inside own =
-      let s = get_or axis.case.streams k o in span_cuts of (span_of of axis.case.streams k s)
+      let s = get_or axis.case.streams k o in band_cuts of (band_of of axis.case.streams k s)
       (stream_place axis.case of k s (slice_get-get_or axis.case.streams k o inside) (same_side-true s.side of own))
 
   pub utility_cuts : (of : Side)
       → Contains axis.cuts (utility_from of axis.case.streams) × Contains axis.cuts (utility_to of axis.case.streams)
   utility_cuts of =
       let (number, here) = some_utility axis.case axis.standard of in
-      span_cuts of (utility_span_of of axis.case.streams number)
+      band_cuts of (utility_band_of of axis.case.streams number)
       (utility_place axis.case of number (standard_utility of axis.case) here (standard_side of axis.case))
 
   -- all cuts lie on the axis
   cuts_on_axis : All (IsOnAxis axis.case.streams) axis.cuts
   cuts_on_axis =
-      cuts_hold (spans_of side.Hot axis.case) (spans_of side.Cold axis.case) axis.cuts axis.are_cuts
+      cuts_hold (bands_of side.Hot axis.case) (bands_of side.Cold axis.case) axis.cuts axis.are_cuts
       (IsOnAxis axis.case.streams) (ends side.Hot) (ends side.Cold)
     where
-      by : (of : Side) (a : Span) → IsSourceSpan axis.case of a
+      by : (of : Side) (a : Band) → IsSourceBand axis.case of a
           → IsOnAxis axis.case.streams a.from × IsOnAxis axis.case.streams a.to
       by of a (inl (n, s, own)) =
           rw own.is (
@@ -99,11 +99,11 @@ module _ (axis : Axis) where
           rw own.is (utility_on_axis of axis.case.streams (is_axis axis.case.streams streams_are))
 
       ends : (of : Side)
-          → All (λ a. IsOnAxis axis.case.streams a.from × IsOnAxis axis.case.streams a.to) (spans_of of axis.case)
+          → All (λ a. IsOnAxis axis.case.streams a.from × IsOnAxis axis.case.streams a.to) (bands_of of axis.case)
       ends of =
-          All-weaker (IsSourceSpan axis.case of)
-          (λ a. IsOnAxis axis.case.streams a.from × IsOnAxis axis.case.streams a.to) (by of) (spans_of of axis.case)
-          (span_sources axis.case of)
+          All-weaker (IsSourceBand axis.case of)
+          (λ a. IsOnAxis axis.case.streams a.from × IsOnAxis axis.case.streams a.to) (by of) (bands_of of axis.case)
+          (band_sources axis.case of)
 
   -- ---- flows
 

@@ -1,14 +1,14 @@
 -- Between two neighbouring cuts no stream begins or ends, and the flow of a side is that of the streams and the
 -- utility there.
 use Rattle.vertical_design.proofs.Words.{AreSensibleStreams, Case, Contains, Side, Utility, and_parts, cases_lt, flow_in, get_or_default, int_le}
-use Rattle.vertical_design.proofs.Words.{int_le-true, int_sum_by, ints, lower_cut, same_side, side_flow, spans_of, upper_cut, utility_from}
+use Rattle.vertical_design.proofs.Words.{bands_of, int_le-true, int_sum_by, ints, lower_cut, same_side, side_flow, upper_cut, utility_from}
 use Rattle.vertical_design.proofs.Words.{utility_to, ◌&&◌}
 use Rattle.std.proofs.Common.{AllPairs, Bool, List, ap, ap₂, arith, get_or, if◌then◌else◌, inl, inr, length, pos, refl, true, ℕ, ℤ, ⊎_elim, ◌+ℤ◌, ◌+◌}
 use Rattle.std.proofs.Common.{◌-◌, ◌<ℤ◌, ◌<◌, ◌∙◌, ◌≡◌, ◌≤ℤ◌, ◌≤◌}
 use Rattle.vertical_design.proofs.CurveOrder.{IsOutside}
 use Rattle.vertical_design.proofs.StraightCurves.{flow_running, running_flow}
 use Rattle.sums.proofs.SumLemmas.{int_sum_by-append, int_sum_by-map}
-use Rattle.vertical_design.proofs.SpanSources.{kept_sum, own_stream, own_utility, stream_item, utility_item, stream_spans, utility_spans, spans-parts}
+use Rattle.vertical_design.proofs.BandSources.{bands-parts, kept_sum, own_stream, own_utility, stream_bands, stream_item, utility_bands, utility_item}
 
 module _ (cuts : List ℤ) (falls : AllPairs (λ a b. b <ℤ a) cuts) where
   later_below : (i j : ℕ) → i ≤ j → j < length cuts → get_or cuts j (pos 0) ≤ℤ get_or cuts i (pos 0)
@@ -40,7 +40,7 @@ module _ (cuts : List ℤ) (falls : AllPairs (λ a b. b <ℤ a) cuts) where
       let order = later_below k number upto (omega (arith, within)) in
       inr (omega (arith, ints, order, here))) (cases_lt number k)
 
--- ---- what a span reaches over
+-- ---- what a band reaches over
 
 pub reaches : (from to low high : ℤ) → (int_le from low && int_le high to) ≡ true → (from ≤ℤ low) × (high ≤ℤ to)
 reaches from to low high is =
@@ -59,14 +59,14 @@ module _ (case : Case) (low high : ℤ) (of : Side) where
 
   -- the flow of a side is that of its streams that run, and that of its utilities
   pub side_flow-parts : (are : AreSensibleStreams case.streams)
-      → side_flow low high (spans_of of case)
+      → side_flow low high (bands_of of case)
       ≡ flow_running of case.streams are low high +ℤ utilities_flow utility_across
   side_flow-parts are =
       let flow = flow_in low high in
       let utilities_flow = kept_sum (own_utility case of) (utility_item case of) flow
       (λ u. if utility_across then pos 1 else pos 0) (λ k u. refl) 0 case.utilities in
-      int_sum_by-map (λ (f : ℤ). f) flow (spans_of of case) ∙ ap (int_sum_by flow) (spans-parts case of)
-      ∙ int_sum_by-append flow (stream_spans case of) (utility_spans case of)
+      int_sum_by-map (λ (f : ℤ). f) flow (bands_of of case) ∙ ap (int_sum_by flow) (bands-parts case of)
+      ∙ int_sum_by-append flow (stream_bands case of) (utility_bands case of)
       ∙ ap₂ ◌+ℤ◌
       (kept_sum (own_stream case of) (stream_item case of) flow (running_flow of case.streams are low high)
       (λ k s. refl) 0 case.streams)

@@ -1,10 +1,10 @@
 -- The pieces of an exchange face each other: in its interval both sides have the same heats.
 use Rattle.vertical_design.proofs.Words.{*ℤ_comm, All-flat_map, All-map, All-range, AreFacing, Contains-slice_get, Exchange, IsAtUtility, IsMet}
-use Rattle.vertical_design.proofs.Words.{IsSensibleStream, Pair, Rational, Side, Source, Span, Stream, Utility, all_at, amounts_in, contribution_of}
+use Rattle.vertical_design.proofs.Words.{Band, IsSensibleStream, Pair, Rational, Side, Source, Stream, Utility, all_at, amounts_in, contribution_of}
 use Rattle.vertical_design.proofs.Words.{curve_heat, exchanges_at, exchanges_between, filter, filter_map, fixed_level, fixed_level-sensible, flow_in}
 use Rattle.vertical_design.proofs.Words.{int_sum_by, intervals_of, ints, level_in, match_of, matches_in, ne_eqb, on_scale, own_side, pairs_of}
 use Rattle.vertical_design.proofs.Words.{piece_on, ratio, rational_sum, same_Some, same_side, shares_of, side_of, size_of, size_on, slice_get-get_or}
-use Rattle.vertical_design.proofs.Words.{slice_get_within, spans_of, times, unsigned_abs, utility_from, utility_to, whole, ◌*ℤ◌, ◌-ℤ◌}
+use Rattle.vertical_design.proofs.Words.{bands_of, slice_get_within, times, unsigned_abs, utility_from, utility_to, whole, ◌*ℤ◌, ◌-ℤ◌}
 use Rattle.std.proofs.Common.{All, List, None, Some, [], ap, ap₂, arith, get_or, if◌then◌else◌, inl, inr, length, option_map, pos, refl, slice_get}
 use Rattle.std.proofs.Common.{subst, subst₂, sym, ℕ, ℤ, ◌*◌, ◌+◌, ◌-◌, ◌<ℤ◌, ◌<◌, ◌==◌, ◌∙◌, ◌≡◌, ◌≢◌, ◌≤ℤ◌}
 use Rattle.vertical_design.proofs.FacingPieces.{Faces, IsWithinRange, found, shifted_state}
@@ -15,19 +15,19 @@ use Rattle.vertical_design.proofs.FlowLimits.{IsShare, share-within}
 use Rattle.vertical_design.proofs.SharedFlows.{index_on, other, own_amounts, own_share}
 use Rattle.vertical_design.proofs.RowLists.{filter_map-map, filter_map-rows, none_kept, only_row, same_place}
 use Rattle.vertical_design.proofs.AxisLemmas.{is_axis}
-use Rattle.vertical_design.proofs.SpanSources.{IsSourceSpan, span_of, span_sources}
-use Rattle.vertical_design.proofs.CaseAxis.{Axis, cut_below, flow_above, flow_at, high_at, low_at, spans_are, streams_are}
+use Rattle.vertical_design.proofs.BandSources.{IsSourceBand, band_of, band_sources}
+use Rattle.vertical_design.proofs.CaseAxis.{Axis, bands_are, cut_below, flow_above, flow_at, high_at, low_at, streams_are}
 use Rattle.vertical_design.proofs.MatchSizes.{share_heat, running}
 use Rattle.vertical_design.proofs.PieceShares.{parts_sum, own_size, size_shares, same_test, whole_flow}
 use Rattle.stream_case.specs.declared.source.Side.TheVariants as side
 use Rattle.stream_case.specs.declared.source.Source.TheVariants as source
 
 module _ (axis : Axis) where
-  abbrev hot : List Span
-  hot = spans_of side.Hot axis.case
+  abbrev hot : List Band
+  hot = bands_of side.Hot axis.case
 
-  abbrev cold : List Span
-  cold = spans_of side.Cold axis.case
+  abbrev cold : List Band
+  cold = bands_of side.Cold axis.case
 
   abbrev pub exchanges : List Exchange
   exchanges = exchanges_between hot cold axis.cuts
@@ -41,8 +41,8 @@ module _ (axis : Axis) where
   pub share_in : (number : ℕ) (p : Pair) → IsMetIn number p
       → IsShare (low_at axis number) (high_at axis number) hot cold p
   share_in number p met =
-      share-within (low_at axis number) (high_at axis number) hot cold p (spans_are axis side.Hot)
-      (spans_are axis side.Cold) met
+      share-within (low_at axis number) (high_at axis number) hot cold p (bands_are axis side.Hot)
+      (bands_are axis side.Cold) met
 
   -- its branch on a side has the share over the flow of the other side, and gives or takes its heat over the interval
   pub size_match : (of : Side) (number : ℕ) (p : Pair)
@@ -94,112 +94,112 @@ module _ (axis : Axis) where
 
   -- ---- the source of an exchange on a side
 
-  -- a span of a side that runs from the one cut of an interval to the other
-  pub record RunsSpan (of : Side) (number index : ℕ) : Type 0 where
-    pub span : Span
-    pub there : slice_get (spans_of of axis.case) index ≡ Some span
-    pub kind : IsSourceSpan axis.case of span
-    pub from : span.from ≤ℤ low_at axis number
-    pub upto : high_at axis number ≤ℤ span.to
+  -- a band of a side that runs from the one cut of an interval to the other
+  pub record RunsBand (of : Side) (number index : ℕ) : Type 0 where
+    pub band : Band
+    pub there : slice_get (bands_of of axis.case) index ≡ Some band
+    pub kind : IsSourceBand axis.case of band
+    pub from : band.from ≤ℤ low_at axis number
+    pub upto : high_at axis number ≤ℤ band.to
 
   pub index_within : (of : Side) (number : ℕ) (p : Pair) → IsMetIn number p
-      → index_on of p < length (spans_of of axis.case)
+      → index_on of p < length (bands_of of axis.case)
   index_within side.Hot number p met = (share_in number p met).first
   index_within side.Cold number p met = (share_in number p met).second
 
   -- its share is no more than what its source offers or asks for
-  pub share_upto : (of : Side) (number k : ℕ) (a : Span) → slice_get (spans_of of axis.case) k ≡ Some a
+  pub share_upto : (of : Side) (number k : ℕ) (a : Band) → slice_get (bands_of of axis.case) k ≡ Some a
       → (p : Pair) → IsMetIn number p → index_on of p ≡ k
       → p.amount ≤ℤ (flow_in (low_at axis number) (high_at axis number) a *ℤ flow_at axis (other of) number)
   share_upto of number k a there p met own =
-      own_share (low_at axis number) (high_at axis number) (λ d. spans_of d axis.case) of k a there p met own
+      own_share (low_at axis number) (high_at axis number) (λ d. bands_of d axis.case) of k a there p met own
 
-  pub pair_runs : (number : ℕ) (of : Side) (p : Pair) → IsMetIn number p → RunsSpan of number (index_on of p)
+  pub pair_runs : (number : ℕ) (of : Side) (p : Pair) → IsMetIn number p → RunsBand of number (index_on of p)
   pair_runs number of p met =
       let k = index_on of p in
-      let none : Span = record { source = source.Stream 0; from = pos 0; to = pos 0; cp = pos 0 } in
-      let a = get_or (spans_of of axis.case) k none in
-      let found = slice_get-get_or (spans_of of axis.case) k none (index_within of number p met) in
+      let none : Band = record { source = source.Stream 0; from = pos 0; to = pos 0; cp = pos 0 } in
+      let a = get_or (bands_of of axis.case) k none in
+      let found = slice_get-get_or (bands_of of axis.case) k none (index_within of number p met) in
       let upto = share_upto of number k a found p met refl in
       let runs = running (low_at axis number) (high_at axis number) a (flow_at axis (other of) number)
       (omega (arith, ints, met.positive, upto)) in
       record {
-        span = a;
+        band = a;
         there = found;
-        kind = all_at (IsSourceSpan axis.case of) (spans_of of axis.case) k a (span_sources axis.case of) found;
+        kind = all_at (IsSourceBand axis.case of) (bands_of of axis.case) k a (band_sources axis.case of) found;
         from = runs.0;
         upto = runs.1;
       }
 
-  pub side_on : (of : Side) (a : Span) → IsSourceSpan axis.case of a → side_of axis.case a.source ≡ Some of
+  pub side_on : (of : Side) (a : Band) → IsSourceBand axis.case of a → side_of axis.case a.source ≡ Some of
   side_on of a (inl (n, s, own)) =
-      ap (λ (b : Span). side_of axis.case b.source) own.is ∙ ap (option_map (λ (t : Stream). t.side)) own.here
+      ap (λ (b : Band). side_of axis.case b.source) own.is ∙ ap (option_map (λ (t : Stream). t.side)) own.here
       ∙ ap Some own.side_is
   side_on of a (inr (n, u, own)) =
-      ap (λ (b : Span). side_of axis.case b.source) own.is ∙ ap (option_map (λ (t : Utility). t.side)) own.here
+      ap (λ (b : Band). side_of axis.case b.source) own.is ∙ ap (option_map (λ (t : Utility). t.side)) own.here
       ∙ ap Some own.side_is
 
-  -- the span of a stream of a side
-  pub own_span : (of : Side) (a : Span) (stream : ℕ) (s : Stream) → IsSourceSpan axis.case of a
+  -- the band of a stream of a side
+  pub own_band : (of : Side) (a : Band) (stream : ℕ) (s : Stream) → IsSourceBand axis.case of a
       → a.source ≡ source.Stream stream
-      → slice_get axis.case.streams stream ≡ Some s → (a ≡ span_of of axis.case.streams stream s) × (s.side ≡ of)
-  own_span of a stream s (inl (n, r, made)) own here =
-      let both : source.Stream n ≡ source.Stream stream = sym (ap (λ (x : Span). x.source) made.is) ∙ own in
+      → slice_get axis.case.streams stream ≡ Some s → (a ≡ band_of of axis.case.streams stream s) × (s.side ≡ of)
+  own_band of a stream s (inl (n, r, made)) own here =
+      let both : source.Stream n ≡ source.Stream stream = sym (ap (λ (x : Band). x.source) made.is) ∙ own in
       let same : n ≡ stream = cc both in
       let stream_is : r ≡ s = same_Some r s (sym made.here ∙ ap (slice_get axis.case.streams) same ∙ here) in (
-        made.is ∙ (λ i. span_of of axis.case.streams (same i) (stream_is i)),
+        made.is ∙ (λ i. band_of of axis.case.streams (same i) (stream_is i)),
         ap (λ (x : Stream). x.side) (sym stream_is) ∙ made.side_is,
       )
-  own_span of a stream s (inr (n, u, made)) own here =
-      let both : source.Utility n ≡ source.Stream stream = sym (ap (λ (x : Span). x.source) made.is) ∙ own in
+  own_band of a stream s (inr (n, u, made)) own here =
+      let both : source.Utility n ≡ source.Stream stream = sym (ap (λ (x : Band). x.source) made.is) ∙ own in
       absurd (cc both)
 
-  pub stream_runs : (of : Side) (number index stream : ℕ) (s : Stream) (is : RunsSpan of number index)
-      → is.span.source ≡ source.Stream stream
+  pub stream_runs : (of : Side) (number index stream : ℕ) (s : Stream) (is : RunsBand of number index)
+      → is.band.source ≡ source.Stream stream
       → slice_get axis.case.streams stream ≡ Some s → RunsIn axis of number s
   stream_runs of number index stream s is own here =
-      let (span_is, side_is) = own_span of is.span stream s is.kind own here in
+      let (band_is, side_is) = own_band of is.band stream s is.kind own here in
       record {
         member = Contains-slice_get axis.case.streams stream s here;
         side_is = ap (λ d. same_side d of) side_is ∙ own_side of;
-        from = subst (λ (x : Span). x.from ≤ℤ low_at axis number) span_is is.from;
-        upto = subst (λ (x : Span). high_at axis number ≤ℤ x.to) span_is is.upto;
+        from = subst (λ (x : Band). x.from ≤ℤ low_at axis number) band_is is.from;
+        upto = subst (λ (x : Band). high_at axis number ≤ℤ x.to) band_is is.upto;
       }
 
-  pub utility_runs : (of : Side) (number index utility : ℕ) (is : RunsSpan of number index)
-      → is.span.source ≡ source.Utility utility
+  pub utility_runs : (of : Side) (number index utility : ℕ) (is : RunsBand of number index)
+      → is.band.source ≡ source.Utility utility
       → (utility_from of axis.case.streams ≤ℤ low_at axis number)
       × (high_at axis number ≤ℤ utility_to of axis.case.streams)
   utility_runs of number index utility is own = by is.kind
     where
-      by : IsSourceSpan axis.case of is.span
+      by : IsSourceBand axis.case of is.band
           → (utility_from of axis.case.streams ≤ℤ low_at axis number)
           × (high_at axis number ≤ℤ utility_to of axis.case.streams)
       by (inl (n, r, made)) =
-          let both : source.Stream n ≡ source.Utility utility = sym (ap (λ (x : Span). x.source) made.is) ∙ own in
+          let both : source.Stream n ≡ source.Utility utility = sym (ap (λ (x : Band). x.source) made.is) ∙ own in
           absurd (cc both)
       by (inr (n, u, made)) = (
-        subst (λ (x : Span). x.from ≤ℤ low_at axis number) made.is is.from,
-        subst (λ (x : Span). high_at axis number ≤ℤ x.to) made.is is.upto,
+        subst (λ (x : Band). x.from ≤ℤ low_at axis number) made.is is.from,
+        subst (λ (x : Band). high_at axis number ≤ℤ x.to) made.is is.upto,
       )
 
   -- ---- the piece of an exchange on a side
 
   pub piece_index : (of : Side) (number : ℕ) (p : Pair)
-      → piece_on of (match_in number p) ≡ number * length (spans_of of axis.case) + index_on of p
+      → piece_on of (match_in number p) ≡ number * length (bands_of of axis.case) + index_on of p
   piece_index side.Hot number p = refl
   piece_index side.Cold number p = refl
 
   pub piece_of : (of : Side) (e : Exchange) (is : IsMatch e)
       → slice_get (pieces axis of) (piece_on of e)
-      ≡ Some (piece_in axis of is.number (pair_runs is.number of is.pair is.met).span)
+      ≡ Some (piece_in axis of is.number (pair_runs is.number of is.pair is.met).band)
   piece_of of e is =
       let runs = pair_runs is.number of is.pair is.met in
       ap (slice_get (pieces axis of)) (ap (piece_on of) (sym is.is) ∙ piece_index of is.number is.pair)
-      ∙ piece_there axis of is.number (index_on of is.pair) runs.span is.within runs.there
+      ∙ piece_there axis of is.number (index_on of is.pair) runs.band is.within runs.there
 
   abbrev many : Side → ℕ
-  many of = length (spans_of of axis.case)
+  many of = length (bands_of of axis.case)
 
   abbrev pub pairs_at : ℕ → List Pair
   pairs_at number =
@@ -223,11 +223,11 @@ module _ (axis : Axis) where
       same_place (many of) m number (index_on of p) k (index_within of m p met) within (sym (piece_index of m p) ∙ own)
 
   -- what a source offers or asks for in an interval is shared out by its pairs
-  pub shared_out : (of : Side) (number k : ℕ) (a : Span) → slice_get (spans_of of axis.case) k ≡ Some a
+  pub shared_out : (of : Side) (number k : ℕ) (a : Band) → slice_get (bands_of of axis.case) k ≡ Some a
       → int_sum_by (λ p. p.amount) (filter (λ p. index_on of p == k) (pairs_at number))
       ≡ flow_in (low_at axis number) (high_at axis number) a *ℤ flow_at axis (other of) number
   shared_out of number k a there =
-      own_amounts (low_at axis number) (high_at axis number) (λ d. spans_of d axis.case) of k a there (spans_are axis)
+      own_amounts (low_at axis number) (high_at axis number) (λ d. bands_of d axis.case) of k a there (bands_are axis)
 
   others_none : (of : Side) (number m k : ℕ) → k < many of → m ≢ number
       → filter_map (own_size of (number * many of + k)) (exchanges_at hot cold axis.cuts m) ≡ []
@@ -242,8 +242,8 @@ module _ (axis : Axis) where
       (ne_eqb (piece_on of e) index (λ own. other (own_number of number m k p (pairs_meet m j d inside) within own).0)))
 
   -- the shares of a piece are the flow that its source has in the interval
-  pub size_piece : (of : Side) (number k : ℕ) (a : Span) → number < length axis.cuts - 1
-      → slice_get (spans_of of axis.case) k ≡ Some a
+  pub size_piece : (of : Side) (number k : ℕ) (a : Band) → number < length axis.cuts - 1
+      → slice_get (bands_of of axis.case) k ≡ Some a
       → size_of (shares_of of (number * many of + k) exchanges)
       ≡ whole (flow_in (low_at axis number) (high_at axis number) a)
   unfolding shares_of matches_in
@@ -255,7 +255,7 @@ module _ (axis : Axis) where
       (filter_map-rows (own_size of index) (exchanges_at hot cold axis.cuts) (intervals_of axis.cuts)
       ∙ only_row (λ n. filter_map (own_size of index) (exchanges_at hot cold axis.cuts n)) 0 (length axis.cuts - 1)
       number (omega arith) (omega (arith, within))
-      (λ m other. others_none of number m k (slice_get_within (spans_of of axis.case) k a there) other)
+      (λ m other. others_none of number m k (slice_get_within (bands_of of axis.case) k a there) other)
       ∙ filter_map-map (own_size of index) (match_in number) (pairs_at number))
       ∙ parts_sum (λ p. own_size of index (match_in number p)) (λ p. index_on of p == k) (λ p. p.amount)
       (unsigned_abs flow) (pairs_at number) (λ j p there.
@@ -265,12 +265,12 @@ module _ (axis : Axis) where
       ∙ whole_flow (flow_in (low_at axis number) (high_at axis number) a) flow
       (flow_above axis number within (other of))
 
-  -- the shifted temperature of a span's source at a heat of an interval
-  abbrev shifted_at : Side → ℕ → ℤ → Span → Rational
+  -- the shifted temperature of a band's source at a heat of an interval
+  abbrev shifted_at : Side → ℕ → ℤ → Band → Rational
   shifted_at of number q a = shifted_state axis.case of a.source (state_at axis of number q a)
 
   -- that of a stream is the one of its side
-  shifted_stream : (of : Side) (number stream : ℕ) (s : Stream) (a : Span) → a.source ≡ source.Stream stream
+  shifted_stream : (of : Side) (number stream : ℕ) (s : Stream) (a : Band) → a.source ≡ source.Stream stream
       → slice_get axis.case.streams stream ≡ Some s
       → (q : ℤ) → shifted_at of number q a ≡ scale_at axis of number q
   shifted_stream of number stream s a own here q =
@@ -295,78 +295,78 @@ module _ (axis : Axis) where
     falls = cut_below axis number within
 
     -- a stream stays within its range from the one cut to the other
-    in_range : (of : Side) (k : ℕ) (is : RunsSpan of number k) (i : ℕ) (s : Stream)
-        → is.span.source ≡ source.Stream i → slice_get axis.case.streams i ≡ Some s
-        → IsWithinRange s (shifted_at of number low is.span) (shifted_at of number high is.span)
+    in_range : (of : Side) (k : ℕ) (is : RunsBand of number k) (i : ℕ) (s : Stream)
+        → is.band.source ≡ source.Stream i → slice_get axis.case.streams i ≡ Some s
+        → IsWithinRange s (shifted_at of number low is.band) (shifted_at of number high is.band)
     in_range of k is i s own here =
         let runs = stream_runs of number k i s is own here in
-        let low_is = shifted_stream of number i s is.span own here low in
-        let high_is = shifted_stream of number i s is.span own here high in
+        let low_is = shifted_stream of number i s is.band own here low in
+        let high_is = shifted_stream of number i s is.band own here high in
         let scale_here = scale_is axis of number within s runs in
         subst₂ (IsWithinRange s) (sym low_is) (sym high_is)
         (scale_within axis.case.streams (streams_are axis) low high of _ (scale_at axis of number) s scale_here falls
         runs)
 
-    abbrev FaceAt : Span → Span → ℤ → Source → Source → Type 0
+    abbrev FaceAt : Band → Band → ℤ → Source → Source → Type 0
     FaceAt a b q x y =
         AreFacing axis.case.streams x y (shifted_at side.Hot number q a) (shifted_at side.Cold number q b)
 
     -- both sources face each other at each heat of the interval
-    face_at : (j k : ℕ) (hot : RunsSpan side.Hot number j) (cold : RunsSpan side.Cold number k) (q : ℤ)
+    face_at : (j k : ℕ) (hot : RunsBand side.Hot number j) (cold : RunsBand side.Cold number k) (q : ℤ)
         → low ≤ℤ q → q ≤ℤ high
-        → FaceAt hot.span cold.span q hot.span.source cold.span.source
+        → FaceAt hot.band cold.band q hot.band.source cold.band.source
     face_at j k hot cold q from upto = by hot.kind cold.kind
       where
         -- a stream of a side where the utility of the other one lies
-        beside : (of other : Side) (m n : ℕ) (is : RunsSpan of number m) (lies : RunsSpan other number n) (i u : ℕ)
+        beside : (of other : Side) (m n : ℕ) (is : RunsBand of number m) (lies : RunsBand other number n) (i u : ℕ)
             (s : Stream)
-            → is.span.source ≡ source.Stream i → slice_get axis.case.streams i ≡ Some s
-            → lies.span.source ≡ source.Utility u
-            → IsAtUtility other axis.case.streams (curve_heat of axis.case.streams (shifted_at of number q is.span))
+            → is.band.source ≡ source.Stream i → slice_get axis.case.streams i ≡ Some s
+            → lies.band.source ≡ source.Utility u
+            → IsAtUtility other axis.case.streams (curve_heat of axis.case.streams (shifted_at of number q is.band))
         beside of other m n is lies i u s own here at =
             let ends = utility_runs other number n u lies at in
-            let shifted_is = shifted_stream of number i s is.span own here q in
+            let shifted_is = shifted_stream of number i s is.band own here q in
             let runs = stream_runs of number m i s is own here in
             let scale_here = scale_is axis of number within s runs in
             subst (λ t. IsAtUtility other axis.case.streams (curve_heat of axis.case.streams t)) (sym shifted_is)
             (scale_at_utility axis.case.streams (streams_are axis) low high of other _ (scale_at axis of number)
             scale_here ends.0 ends.1 q from upto)
 
-        by : IsSourceSpan axis.case side.Hot hot.span → IsSourceSpan axis.case side.Cold cold.span
-            → FaceAt hot.span cold.span q hot.span.source cold.span.source
+        by : IsSourceBand axis.case side.Hot hot.band → IsSourceBand axis.case side.Cold cold.band
+            → FaceAt hot.band cold.band q hot.band.source cold.band.source
         by (inl (i, s, one)) (inl (n, r, other)) =
-            let a = ap (λ (x : Span). x.source) one.is in
-            let b = ap (λ (x : Span). x.source) other.is in
+            let a = ap (λ (x : Band). x.source) one.is in
+            let b = ap (λ (x : Band). x.source) other.is in
             let hot_runs = stream_runs side.Hot number j i s hot a one.here in
             let cold_runs = stream_runs side.Cold number k n r cold b other.here in
             let hot_scale = scale_is axis side.Hot number within s hot_runs in
             let cold_scale = scale_is axis side.Cold number within r cold_runs in
             let face = scales_face axis.case.streams (streams_are axis) low high _ _ (scale_at axis side.Hot number)
             (scale_at axis side.Cold number) hot_scale cold_scale q from upto in
-            let hot_shifted = shifted_stream side.Hot number i s hot.span a one.here q in
-            let cold_shifted = shifted_stream side.Cold number n r cold.span b other.here q in
-            subst₂ (FaceAt hot.span cold.span q) (sym a) (sym b)
+            let hot_shifted = shifted_stream side.Hot number i s hot.band a one.here q in
+            let cold_shifted = shifted_stream side.Cold number n r cold.band b other.here q in
+            subst₂ (FaceAt hot.band cold.band q) (sym a) (sym b)
             (ap (curve_heat side.Hot axis.case.streams) hot_shifted ∙ face
             ∙ sym (ap (curve_heat side.Cold axis.case.streams) cold_shifted))
         by (inl (i, s, one)) (inr (n, u, other)) =
-            let a = ap (λ (x : Span). x.source) one.is in
-            let b = ap (λ (x : Span). x.source) other.is in
+            let a = ap (λ (x : Band). x.source) one.is in
+            let b = ap (λ (x : Band). x.source) other.is in
             let faced = beside side.Hot side.Cold j k hot cold i n s a one.here b in
-            subst₂ (FaceAt hot.span cold.span q) (sym a) (sym b) faced
+            subst₂ (FaceAt hot.band cold.band q) (sym a) (sym b) faced
         by (inr (i, u, one)) (inl (n, r, other)) =
-            let a = ap (λ (x : Span). x.source) one.is in
-            let b = ap (λ (x : Span). x.source) other.is in
+            let a = ap (λ (x : Band). x.source) one.is in
+            let b = ap (λ (x : Band). x.source) other.is in
             let faced = beside side.Cold side.Hot k j cold hot n i r b other.here a in
-            subst₂ (FaceAt hot.span cold.span q) (sym a) (sym b) faced
+            subst₂ (FaceAt hot.band cold.band q) (sym a) (sym b) faced
         by (inr (i, u, one)) (inr (n, v, other)) =
             -- the hot utility lies above the cold one
-            let a = utility_runs side.Hot number j i hot (ap (λ (x : Span). x.source) one.is) in
-            let b = utility_runs side.Cold number k n cold (ap (λ (x : Span). x.source) other.is) in
+            let a = utility_runs side.Hot number j i hot (ap (λ (x : Band). x.source) one.is) in
+            let b = utility_runs side.Cold number k n cold (ap (λ (x : Band). x.source) other.is) in
             absurd (omega (arith, ints, a.0, b.1, (is_axis axis.case.streams (streams_are axis)).apart, falls))
 
   pub match_faces : (e : Exchange) (m : IsMatch e)
-      → Faces axis.case (piece_in axis side.Hot m.number (pair_runs m.number side.Hot m.pair m.met).span)
-      (piece_in axis side.Cold m.number (pair_runs m.number side.Cold m.pair m.met).span)
+      → Faces axis.case (piece_in axis side.Hot m.number (pair_runs m.number side.Hot m.pair m.met).band)
+      (piece_in axis side.Cold m.number (pair_runs m.number side.Cold m.pair m.met).band)
   match_faces e m =
       let hot = pair_runs m.number side.Hot m.pair m.met in
       let cold = pair_runs m.number side.Cold m.pair m.met in

@@ -1,12 +1,12 @@
 -- Flows between two cuts, shares of them, and matches are within the limits.
-use Rattle.vertical_design.proofs.Words.{*ℤ-zero, All-map, All-take, All-weaker, AreCuts, AreSpans, IsBetween, IsFlow, IsGap, IsOverlap, IsPlace}
-use Rattle.vertical_design.proofs.Words.{IsSideFlow, IsSpan, MOST_CP, MOST_FLOW, MOST_SPANS, NotNegative, Pair, Span, amounts_in, ends_of, flow_in}
+use Rattle.vertical_design.proofs.Words.{*ℤ-zero, All-map, All-take, All-weaker, AreBands, AreCuts, IsBetween, IsFlow, IsGap, IsOverlap, IsPlace}
+use Rattle.vertical_design.proofs.Words.{Band, IsBand, IsSideFlow, MOST_BANDS, MOST_CP, MOST_FLOW, NotNegative, Pair, amounts_in, ends_of, flow_in}
 use Rattle.vertical_design.proofs.Words.{flows_in, get_or-map, int_le, int_lt_cases, int_sum_by, int_sum_by-at_most, int_sum_by-not_negative, ints}
 use Rattle.vertical_design.proofs.Words.{length-le_falling, length-map, length-take, lower_cut, map-append, match_of, matches_in, mul-le-mul_right}
 use Rattle.vertical_design.proofs.Words.{pairs_of, product_between, product_positive, side_flow, take_more, upper_cut, ◌&&◌, ◌-ℤ◌}
 use Rattle.std.proofs.Common.{All, Bool, List, [], ap, arith, false, get_or, if◌then◌else◌, length, length-append, map, pos, refl, sym, take, true, ℕ}
 use Rattle.std.proofs.Common.{ℤ, ⊎_elim, ◌*ℤ◌, ◌*◌, ◌++◌, ◌+◌, ◌-◌, ◌<ℤ◌, ◌<◌, ◌^◌, ◌∙◌, ◌∷◌, ◌≡◌, ◌≤ℤ◌, ◌≤◌}
-use Rattle.vertical_design.proofs.SpanSources.{cuts_hold}
+use Rattle.vertical_design.proofs.BandSources.{cuts_hold}
 use Rattle.vertical_design.proofs.OverlapLists.{overlap-within, few_pairs}
 use Rattle.stream_case.specs.declared.source.Side.TheVariants as side
 
@@ -21,11 +21,11 @@ flow-either : (b : Bool) (cp : ℤ) → IsFlow cp → IsFlow (if b then cp else 
 flow-either true cp is = is
 flow-either false cp is = record { from = omega (arith, ints); upto = omega (arith, ints) }
 
-pub flows-within : (low high : ℤ) (spans : List Span) → All IsSpan spans → All IsFlow (flows_in low high spans)
-flows-within low high spans each =
-    let each_flow = All-weaker IsSpan (λ s. IsFlow (flow_in low high s)) (λ s is.
-    flow-either (int_le s.from low && int_le high s.to) s.cp is.flow) spans each in
-    All-map IsFlow (flow_in low high) spans each_flow
+pub flows-within : (low high : ℤ) (bands : List Band) → All IsBand bands → All IsFlow (flows_in low high bands)
+flows-within low high bands each =
+    let each_flow = All-weaker IsBand (λ s. IsFlow (flow_in low high s)) (λ s is.
+    flow-either (int_le s.from low && int_le high s.to) s.cp is.flow) bands each in
+    All-map IsFlow (flow_in low high) bands each_flow
 
 -- of few flows
 sum-between : {m n : ℕ} (flows : List ℤ) → All (IsBetween (pos 0) (pos m)) flows → length flows ≤ n
@@ -38,18 +38,18 @@ sum-between {m} flows each few =
     let most = int_sum_by-at_most (λ (f : ℤ). f) m flows bounded in
     record { from = least; upto = omega (arith, ints, most, mul-le-mul_right m few) }
 
-pub sum-within : (flows : List ℤ) → All IsFlow flows → length flows ≤ MOST_SPANS
+pub sum-within : (flows : List ℤ) → All IsFlow flows → length flows ≤ MOST_BANDS
     → IsSideFlow (int_sum_by (λ f. f) flows)
 sum-within flows each few = sum-between flows each few
 
-pub sum-so_far : (flows : List ℤ) (i : ℕ) → All IsFlow flows → length flows ≤ MOST_SPANS
+pub sum-so_far : (flows : List ℤ) (i : ℕ) → All IsFlow flows → length flows ≤ MOST_BANDS
     → IsSideFlow (int_sum_by (λ f. f) (take i flows))
 sum-so_far flows i each few =
     sum-within (take i flows) (All-take IsFlow i flows each) (omega (arith, few, length-take i flows))
 
-pub side-within : (low high : ℤ) (spans : List Span) → AreSpans spans → IsSideFlow (side_flow low high spans)
-side-within low high spans are = sum-within (flows_in low high spans) (flows-within low high spans are.each)
-    (omega (arith, are.few, length-map spans (flow_in low high)))
+pub side-within : (low high : ℤ) (bands : List Band) → AreBands bands → IsSideFlow (side_flow low high bands)
+side-within low high bands are = sum-within (flows_in low high bands) (flows-within low high bands are.each)
+    (omega (arith, are.few, length-map bands (flow_in low high)))
 
 -- ---- shares
 
@@ -78,31 +78,31 @@ factor-above flow side from above =
     (int_lt_cases (pos 0) side)
 
 -- a share of what an index offers
-record IsPartly (low high : ℤ) (spans others : List Span) (index : ℕ) (share : ℤ) : Type 0 where
-  within : index < length spans
+record IsPartly (low high : ℤ) (bands others : List Band) (index : ℕ) (share : ℤ) : Type 0 where
+  within : index < length bands
   flow : pos 0 <ℤ side_flow low high others
   upto : share ≤ℤ (MOST_CP *ℤ MOST_FLOW)
 
-partly : (low high : ℤ) (spans others : List Span) (index : ℕ) (share : ℤ) → AreSpans spans → AreSpans others
-    → index < length (amounts_in low high spans others) → pos 0 <ℤ share
-    → share ≤ℤ get_or (amounts_in low high spans others) index (pos 0) → IsPartly low high spans others index share
-partly low high spans others index share are are_others inside above upto =
-    let flows = flows_in low high spans in
+partly : (low high : ℤ) (bands others : List Band) (index : ℕ) (share : ℤ) → AreBands bands → AreBands others
+    → index < length (amounts_in low high bands others) → pos 0 <ℤ share
+    → share ≤ℤ get_or (amounts_in low high bands others) index (pos 0) → IsPartly low high bands others index share
+partly low high bands others index share are are_others inside above upto =
+    let flows = flows_in low high bands in
     let side = side_flow low high others in
     let within : index < length flows = omega (arith, inside, length-map flows (λ f. f *ℤ side)) in
     let item = get_or-map (λ f. f *ℤ side) flows index (pos 0) (pos 0) within in
     let is_side = side-within low high others are_others in
-    let flow = flows-within low high spans are.each index (pos 0) within in
+    let flow = flows-within low high bands are.each index (pos 0) within in
     let amount : IsAmount (get_or flows index (pos 0) *ℤ side) =
     product-between (get_or flows index (pos 0)) side flow is_side in
     record {
-      within = omega (arith, within, length-map spans (flow_in low high));
+      within = omega (arith, within, length-map bands (flow_in low high));
       flow = factor-above (get_or flows index (pos 0)) side is_side.from (omega (arith, ints));
       upto = omega (arith, ints);
     }
 
 -- a pair of an interval is a share of the flows of both sides, within the limits
-pub record IsShare (low high : ℤ) (hot cold : List Span) (p : Pair) : Type 0 where
+pub record IsShare (low high : ℤ) (hot cold : List Band) (p : Pair) : Type 0 where
   pub first : p.first < length hot
   pub second : p.second < length cold
   pub hot_flow : IsBetween (pos 1) MOST_FLOW (side_flow low high hot)
@@ -110,7 +110,7 @@ pub record IsShare (low high : ℤ) (hot cold : List Span) (p : Pair) : Type 0 w
   pub above : pos 0 <ℤ p.amount
   pub upto : p.amount ≤ℤ (MOST_CP *ℤ MOST_FLOW)
 
-pub share-within : (low high : ℤ) (hot cold : List Span) (p : Pair) → AreSpans hot → AreSpans cold
+pub share-within : (low high : ℤ) (hot cold : List Band) (p : Pair) → AreBands hot → AreBands cold
     → IsOverlap (amounts_in low high hot cold) (amounts_in low high cold hot) p → IsShare low high hot cold p
 share-within low high hot cold p are_hot are_cold is =
     let upto = overlap-within (amounts_in low high hot cold) (amounts_in low high cold hot) p.first p.second in
@@ -149,19 +149,19 @@ duty-within low high share one other gap above upto is_one is_other =
       den_upto = omega (arith, ints, (product-between one other first second).upto);
     }
 
-length-ends_of : (spans : List Span) → length (ends_of spans) ≡ 2 * length spans
+length-ends_of : (bands : List Band) → length (ends_of bands) ≡ 2 * length bands
 length-ends_of [] = refl
-length-ends_of (s ∷ spans) = omega (arith, length-ends_of spans)
+length-ends_of (s ∷ bands) = omega (arith, length-ends_of bands)
 
-module _ (hot cold : List Span) (cuts : List ℤ) (are_hot : AreSpans hot) (are_cold : AreSpans cold)
+module _ (hot cold : List Band) (cuts : List ℤ) (are_hot : AreBands hot) (are_cold : AreBands cold)
     (are : AreCuts hot cold cuts) where
   pub cuts-places : All IsPlace cuts
   cuts-places =
-      let places = λ (spans : List Span) (is : AreSpans spans). All-weaker IsSpan (λ a. IsPlace a.from × IsPlace a.to)
-      (λ a s. (s.from, s.to)) spans is.each in
+      let places = λ (bands : List Band) (is : AreBands bands). All-weaker IsBand (λ a. IsPlace a.from × IsPlace a.to)
+      (λ a s. (s.from, s.to)) bands is.each in
       cuts_hold hot cold cuts are IsPlace (places hot are_hot) (places cold are_cold)
 
-  pub few_cuts : length cuts ≤ 4 * MOST_SPANS
+  pub few_cuts : length cuts ≤ 4 * MOST_BANDS
   few_cuts =
       let few = length-le_falling cuts (ends_of hot ++ ends_of cold) are.ordered are.each in
       omega (
@@ -183,20 +183,20 @@ module _ (hot cold : List Span) (cuts : List ℤ) (are_hot : AreSpans hot) (are_
 
 -- ---- few matches
 
-pub amounts-positive : (low high : ℤ) (spans others : List Span) → AreSpans spans → AreSpans others
-    → NotNegative (amounts_in low high spans others)
-amounts-positive low high spans others are are_others =
-    let flows = flows-within low high spans are.each in
+pub amounts-positive : (low high : ℤ) (bands others : List Band) → AreBands bands → AreBands others
+    → NotNegative (amounts_in low high bands others)
+amounts-positive low high bands others are are_others =
+    let flows = flows-within low high bands are.each in
     let is_side = side-within low high others are_others in
-    scaled-positive (flows_in low high spans) (side_flow low high others) flows is_side
+    scaled-positive (flows_in low high bands) (side_flow low high others) flows is_side
 
-pub length-amounts : (low high : ℤ) (spans others : List Span)
-    → length (amounts_in low high spans others) ≡ length spans
-length-amounts low high spans others =
-    length-map (flows_in low high spans) (λ f. f *ℤ side_flow low high others) ∙ length-map spans (flow_in low high)
+pub length-amounts : (low high : ℤ) (bands others : List Band)
+    → length (amounts_in low high bands others) ≡ length bands
+length-amounts low high bands others =
+    length-map (flows_in low high bands) (λ f. f *ℤ side_flow low high others) ∙ length-map bands (flow_in low high)
 
-pub few_matches : (number : ℕ) (low high : ℤ) (hot cold : List Span) → AreSpans hot → AreSpans cold
-    → length (matches_in number low high hot cold) ≤ 2 * MOST_SPANS
+pub few_matches : (number : ℕ) (low high : ℤ) (hot cold : List Band) → AreBands hot → AreBands cold
+    → length (matches_in number low high hot cold) ≤ 2 * MOST_BANDS
 unfolding matches_in
 few_matches number low high hot cold are_hot are_cold =
     let us = amounts_in low high hot cold in

@@ -1,9 +1,9 @@
 -- The intervals between neighbouring cuts of the heat axis: the temperatures of both sides there, and their pieces.
-use Rattle.vertical_design.proofs.Words.{AreSensibleStreams, IsAtUtility, IsGap, IsSensible, Piece, Rational, Side, Span, Stream, at_most-whole}
+use Rattle.vertical_design.proofs.Words.{AreSensibleStreams, Band, IsAtUtility, IsGap, IsSensible, Piece, Rational, Side, Stream, at_most-whole}
 use Rattle.vertical_design.proofs.Words.{begin_of, cases_lt, contribution_of, curve_heat, first_end, first_state, first_state-unshifted, flat_map}
 use Rattle.vertical_design.proofs.Words.{high_end, int_lt_cases, intervals_of, ints, last_end, last_state, last_state-unshifted, length-map, low_end}
 use Rattle.vertical_design.proofs.Words.{map-map, minus, minus-plus, on_scale, option_map, plus, plus-minus, rational_zero, slice_get-map}
-use Rattle.vertical_design.proofs.Words.{sources_between, sources_in, sources_of, spans_of, unshifted, utility_from, utility_to, whole, whole-minus}
+use Rattle.vertical_design.proofs.Words.{bands_of, sources_between, sources_in, sources_of, unshifted, utility_from, utility_to, whole, whole-minus}
 use Rattle.vertical_design.proofs.Words.{whole-plus}
 use Rattle.std.proofs.Common.{List, Some, ap, arith, inl, inr, length, map, refl, slice_get, subst, sym, ℕ, ℤ, ◌*◌, ◌+◌, ◌-◌, ◌<ℤ◌, ◌<◌, ◌∙◌, ◌≡◌}
 use Rattle.std.proofs.Common.{◌≤ℤ◌, ◌≤◌, ◌⊎◌}
@@ -11,7 +11,7 @@ use Rattle.vertical_design.proofs.StraightCurves.{Runs, gap_segment}
 use Rattle.vertical_design.proofs.CurveLemmas.{end_of, on_curve}
 use Rattle.vertical_design.proofs.FlowLimits.{gap_at}
 use Rattle.vertical_design.proofs.RowLists.{map-rows, row_place, same-rows}
-use Rattle.vertical_design.proofs.CaseAxis.{Axis, cut_below, flow_at, high_at, low_at, no_end_between, side_flow-curve, spans_are, streams_are}
+use Rattle.vertical_design.proofs.CaseAxis.{Axis, bands_are, cut_below, flow_at, high_at, low_at, no_end_between, side_flow-curve, streams_are}
 use Rattle.vertical_design.proofs.FacingPieces.{IsWithinRange}
 use Rattle.vertical_design.proofs.SideScales.{IsScale, segment_scale}
 use Rattle.stream_case.specs.declared.source.Side.TheVariants as side
@@ -76,8 +76,8 @@ module _ (streams : List Stream) (are : AreSensibleStreams streams) (low high : 
 module _ (axis : Axis) where
   pub gap_in : (number : ℕ) → number < length axis.cuts - 1 → IsGap (low_at axis number) (high_at axis number)
   gap_in =
-      gap_at (spans_of side.Hot axis.case) (spans_of side.Cold axis.case) axis.cuts (spans_are axis side.Hot)
-      (spans_are axis side.Cold) axis.are_cuts
+      gap_at (bands_of side.Hot axis.case) (bands_of side.Cold axis.case) axis.cuts (bands_are axis side.Hot)
+      (bands_are axis side.Cold) axis.are_cuts
 
   -- ---- the temperatures of a side
 
@@ -155,10 +155,10 @@ module _ (axis : Axis) where
   left_at side.Hot number = low_at axis number
   left_at side.Cold number = high_at axis number
 
-  abbrev pub state_at : Side → ℕ → ℤ → Span → Rational
+  abbrev pub state_at : Side → ℕ → ℤ → Band → Rational
   state_at of number heat a = actual_at of (scale_at of number heat) (contribution_of axis.case a.source)
 
-  abbrev pub piece_in : Side → ℕ → Span → Piece
+  abbrev pub piece_in : Side → ℕ → Band → Piece
   piece_in of number a =
       record {
         source = a.source;
@@ -167,25 +167,25 @@ module _ (axis : Axis) where
       }
 
   abbrev pub pieces_at : Side → ℕ → List Piece
-  pieces_at of number = map (piece_in of number) (spans_of of axis.case)
+  pieces_at of number = map (piece_in of number) (bands_of of axis.case)
 
   unfoldable pub pieces : Side → List Piece
   pieces of = flat_map (pieces_at of) (intervals_of axis.cuts)
 
-  pub sources_are : (of : Side) → sources_of (pieces of) ≡ sources_between (spans_of of axis.case) axis.cuts
+  pub sources_are : (of : Side) → sources_of (pieces of) ≡ sources_between (bands_of of axis.case) axis.cuts
   unfolding pieces
   sources_are of =
       map-rows (λ (p : Piece). p.source) (pieces_at of) (intervals_of axis.cuts)
-      ∙ same-rows (λ n. sources_of (pieces_at of n)) (λ n. sources_in (spans_of of axis.case))
-      (λ n. map-map (λ (p : Piece). p.source) (piece_in of n) (spans_of of axis.case)) (intervals_of axis.cuts)
+      ∙ same-rows (λ n. sources_of (pieces_at of n)) (λ n. sources_in (bands_of of axis.case))
+      (λ n. map-map (λ (p : Piece). p.source) (piece_in of n) (bands_of of axis.case)) (intervals_of axis.cuts)
 
-  pub piece_there : (of : Side) (number index : ℕ) (a : Span) → number < length axis.cuts - 1
-      → slice_get (spans_of of axis.case) index ≡ Some a
-      → slice_get (pieces of) (number * length (spans_of of axis.case) + index) ≡ Some (piece_in of number a)
+  pub piece_there : (of : Side) (number index : ℕ) (a : Band) → number < length axis.cuts - 1
+      → slice_get (bands_of of axis.case) index ≡ Some a
+      → slice_get (pieces of) (number * length (bands_of of axis.case) + index) ≡ Some (piece_in of number a)
   unfolding pieces
   piece_there of number index a within there =
       let piece_is =
-      slice_get-map (piece_in of number) (spans_of of axis.case) index ∙ ap (option_map (piece_in of number)) there in
-      row_place (pieces_at of) (length (spans_of of axis.case))
-      (λ n. length-map (spans_of of axis.case) (piece_in of n)) (length axis.cuts - 1) number index
+      slice_get-map (piece_in of number) (bands_of of axis.case) index ∙ ap (option_map (piece_in of number)) there in
+      row_place (pieces_at of) (length (bands_of of axis.case))
+      (λ n. length-map (bands_of of axis.case) (piece_in of n)) (length axis.cuts - 1) number index
       (piece_in of number a) within piece_is

@@ -1,7 +1,7 @@
 -- The pieces and exchanges of the intervals are led, and what is asked before they are led holds.
-use Rattle.vertical_design.proofs.Words.{AreLedPieces, Exchange, HasValidStreams-IsComplete, JoinsPieces, MOST_CUTS, MOST_SPANS, Piece, Side, Source}
-use Rattle.vertical_design.proofs.Words.{Span, exchanges_at, has_size, is_forbidden, length-AreStreams, length-map, mul-le-mul_right}
-use Rattle.vertical_design.proofs.Words.{slice_get_within, sources_between, sources_in, spans_of}
+use Rattle.vertical_design.proofs.Words.{AreLedPieces, Exchange, HasValidStreams-IsComplete, JoinsPieces, MOST_BANDS, MOST_CUTS, Piece, Side, Source}
+use Rattle.vertical_design.proofs.Words.{Band, exchanges_at, has_size, is_forbidden, length-AreStreams, length-map, mul-le-mul_right}
+use Rattle.vertical_design.proofs.Words.{bands_of, slice_get_within, sources_between, sources_in}
 use Rattle.std.proofs.Common.{All, List, ap, arith, get_or, length, subst, sym, ◌*◌, ◌+◌, ◌-◌, ◌<◌, ◌^◌, ◌∙◌, ◌≡◌, ◌≤◌}
 use Rattle.vertical_design.proofs.MatchSizes.{IsPositiveExchange, positive-match}
 use Rattle.vertical_design.proofs.Exchanges.{IsMatch, are_matches, exchanges, match_faces, pair_runs, piece_of}
@@ -11,7 +11,7 @@ use Rattle.vertical_design.proofs.Intervals.{gap_in, piece_in, pieces, sources_a
 use Rattle.vertical_design.proofs.FlowLimits.{few_cuts, few_matches}
 use Rattle.vertical_design.proofs.SharedFlows.{other}
 use Rattle.vertical_design.proofs.RowLists.{few-rows}
-use Rattle.vertical_design.proofs.CaseAxis.{Axis, high_at, low_at, spans_are, streams_are}
+use Rattle.vertical_design.proofs.CaseAxis.{Axis, bands_are, high_at, low_at, streams_are}
 use Rattle.vertical_design.proofs.StreamWays.{stream_joined, stream_pieces}
 use Rattle.design_lines.specs.declared.limits.TheConstants.{MOST_DRAWN_LINES}
 use Rattle.vertical_design.proofs.UtilityHeats.{utility_heat}
@@ -19,24 +19,24 @@ use Rattle.stream_case.specs.declared.source.Side.TheVariants as side
 
 module _ (axis : Axis) where
   abbrev pub sources : Side → List Source
-  sources of = sources_between (spans_of of axis.case) axis.cuts
+  sources of = sources_between (bands_of of axis.case) axis.cuts
 
   -- ---- the pieces are led
 
   -- the piece of an exchange on a side
   abbrev pub own_piece : Side → (e : Exchange) → IsMatch axis e → Piece
-  own_piece of e m = piece_in axis of m.number (pair_runs axis m.number of m.pair m.met).span
+  own_piece of e m = piece_in axis of m.number (pair_runs axis m.number of m.pair m.met).band
 
   match_joins : (e : Exchange) → IsMatch axis e → JoinsPieces axis.case (pieces axis side.Hot) (pieces axis side.Cold) e
   match_joins e m =
       let one = pair_runs axis m.number side.Hot m.pair m.met in
       let other = pair_runs axis m.number side.Cold m.pair m.met in
       let gap = gap_in axis m.number m.within in
-      let hot_side = side_on axis side.Hot one.span one.kind in
-      let cold_side = side_on axis side.Cold other.span other.kind in
+      let hot_side = side_on axis side.Hot one.band one.kind in
+      let cold_side = side_on axis side.Cold other.band other.kind in
       let share = share_in axis m.number m.pair m.met in
       let match_is = positive-match m.number (low_at axis m.number) (high_at axis m.number)
-      (spans_of side.Hot axis.case) (spans_of side.Cold axis.case) m.pair gap share in
+      (bands_of side.Hot axis.case) (bands_of side.Cold axis.case) m.pair gap share in
       let positive = subst IsPositiveExchange m.is match_is in
       record {
         hot_piece = own_piece side.Hot e m;
@@ -46,9 +46,9 @@ module _ (axis : Axis) where
         hot_side = hot_side;
         cold_side = cold_side;
         heat = positive.heat;
-        hot_size = has_size e.hot_size one.span.source positive.hot_size;
-        cold_size = has_size e.cold_size other.span.source positive.cold_size;
-        permitted = ap (λ fs. is_forbidden fs one.span.source other.span.source) axis.standard.free;
+        hot_size = has_size e.hot_size one.band.source positive.hot_size;
+        cold_size = has_size e.cold_size other.band.source positive.cold_size;
+        permitted = ap (λ fs. is_forbidden fs one.band.source other.band.source) axis.standard.free;
         apart =
             let valid_streams = HasValidStreams-IsComplete axis.case axis.complete.complete in
             faced_apart axis.case valid_streams axis.complete.sensible axis.standard (own_piece side.Hot e m)
@@ -79,24 +79,24 @@ module _ (axis : Axis) where
   few_intervals =
       omega (
         arith,
-        few_cuts (spans_of side.Hot axis.case) (spans_of side.Cold axis.case) axis.cuts (spans_are axis side.Hot)
-            (spans_are axis side.Cold) axis.are_cuts,
+        few_cuts (bands_of side.Hot axis.case) (bands_of side.Cold axis.case) axis.cuts (bands_are axis side.Hot)
+            (bands_are axis side.Cold) axis.are_cuts,
       )
 
   few_sources : (of : Side) → length (sources of) < 2 ^ 32
   few_sources of =
-      let each = few-rows (λ n. sources_in (spans_of of axis.case)) MOST_SPANS (λ n.
-      omega (arith, length-map (spans_of of axis.case) (λ (a : Span). a.source), (spans_are axis of).few)) 0
+      let each = few-rows (λ n. sources_in (bands_of of axis.case)) MOST_BANDS (λ n.
+      omega (arith, length-map (bands_of of axis.case) (λ (a : Band). a.source), (bands_are axis of).few)) 0
       (length axis.cuts - 1) in
-      omega (arith, each, mul-le-mul_right MOST_SPANS few_intervals)
+      omega (arith, each, mul-le-mul_right MOST_BANDS few_intervals)
 
   pub can_be_led : CanBeLed (sources side.Hot) (sources side.Cold) (exchanges axis)
   can_be_led =
-      let each = few-rows (exchanges_at (spans_of side.Hot axis.case) (spans_of side.Cold axis.case) axis.cuts)
-      (2 * MOST_SPANS)
+      let each = few-rows (exchanges_at (bands_of side.Hot axis.case) (bands_of side.Cold axis.case) axis.cuts)
+      (2 * MOST_BANDS)
       (λ n.
-      few_matches n (low_at axis n) (high_at axis n) (spans_of side.Hot axis.case) (spans_of side.Cold axis.case)
-      (spans_are axis side.Hot) (spans_are axis side.Cold))
+      few_matches n (low_at axis n) (high_at axis n) (bands_of side.Hot axis.case) (bands_of side.Cold axis.case)
+      (bands_are axis side.Hot) (bands_are axis side.Cold))
       0 (length axis.cuts - 1) in
       record {
         hot_there = λ k d inside.
@@ -113,7 +113,7 @@ module _ (axis : Axis) where
             omega (
               arith,
               each,
-              mul-le-mul_right (2 * MOST_SPANS) few_intervals,
+              mul-le-mul_right (2 * MOST_BANDS) few_intervals,
               length-AreStreams axis.case.streams (streams_are axis).are,
             );
       }

@@ -17,8 +17,8 @@ pub mod FlowLimits
 pub mod SharedFlows
 pub mod RowLists
 pub mod AxisLemmas
-pub mod SpanSources
-pub mod SpanLimits
+pub mod BandSources
+pub mod BandLimits
 pub mod CutNeighbours
 pub mod CaseAxis
 pub mod PieceNumbers

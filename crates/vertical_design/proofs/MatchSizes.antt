@@ -1,5 +1,5 @@
--- An exchange has a positive heat and positive sizes where it is a match of spans that meet.
-use Rattle.vertical_design.proofs.Words.{*ℤ_comm, Exchange, IsGap, IsPositive, Pair, Span, flow_in, int_le, ints, match_of, positive-ratio}
+-- An exchange has a positive heat and positive sizes where it is a match of bands that meet.
+use Rattle.vertical_design.proofs.Words.{*ℤ_comm, Band, Exchange, IsGap, IsPositive, Pair, flow_in, int_le, ints, match_of, positive-ratio}
 use Rattle.vertical_design.proofs.Words.{positive_num, ratio, side_flow, times, times-ratio, unsigned_abs, unsigned_abs-mul, within-ratio, zero_times}
 use Rattle.vertical_design.proofs.Words.{◌&&◌, ◌*ℤ◌, ◌-ℤ◌}
 use Rattle.std.proofs.Common.{Bool, List, ap₂, arith, false, if◌then◌else◌, pos, refl, sym, true, ℕ, ℤ, ◌*◌, ◌<ℤ◌, ◌^◌, ◌∙◌, ◌≡◌, ◌≤ℤ◌}
@@ -35,7 +35,7 @@ share_heat share heat own other some more =
     turned : (a b : ℕ) → a * b ≡ b * a
     turned a b = omega arith
 
-module _ (number : ℕ) (low high : ℤ) (hot cold : List Span) where
+module _ (number : ℕ) (low high : ℤ) (hot cold : List Band) where
   abbrev made : Pair → Exchange
   made p = match_of number low high hot cold p
 
@@ -56,7 +56,7 @@ module _ (number : ℕ) (low high : ℤ) (hot cold : List Span) where
       }
 
 -- what offers something runs
-pub running : (low high : ℤ) (a : Span) (across : ℤ) → pos 0 <ℤ (flow_in low high a *ℤ across)
+pub running : (low high : ℤ) (a : Band) (across : ℤ) → pos 0 <ℤ (flow_in low high a *ℤ across)
     → (a.from ≤ℤ low) × (high ≤ℤ a.to)
 running low high a across above = by (int_le a.from low && int_le high a.to) refl above
   where

@@ -1,5 +1,5 @@
 -- The pairs of one source of an interval share out its flow times that of the other side.
-use Rattle.vertical_design.proofs.Words.{*ℤ_comm, +ℤ-*ℤ, AreSpans, IsOverlap, NotNegative, Pair, Side, Span, amounts_in, filter, flow_in, flows_in}
+use Rattle.vertical_design.proofs.Words.{*ℤ_comm, +ℤ-*ℤ, AreBands, Band, IsOverlap, NotNegative, Pair, Side, amounts_in, filter, flow_in, flows_in}
 use Rattle.vertical_design.proofs.Words.{get_or-map, get_or_from_slice_get, int_sum_by, ints, length-map, pairs_of, side_flow, slice_get_within}
 use Rattle.vertical_design.proofs.Words.{zero_times}
 use Rattle.std.proofs.Common.{Bool, List, Some, [], ap, arith, cond, false, get_or, if◌then◌else◌, length, map, pos, refl, slice_get, subst, sym}
@@ -37,42 +37,42 @@ sum-scaled c [] = sym (zero_times (pos 0) c refl)
 sum-scaled c (x ∷ xs) = ap (λ z. x *ℤ c +ℤ z) (sum-scaled c xs) ∙ sym (+ℤ-*ℤ x (int_sum_by (λ y. y) xs) c)
 
 -- what a source offers or asks for
-own_amount : (low high : ℤ) (spans others : List Span) (k : ℕ) (a : Span) → slice_get spans k ≡ Some a
-    → get_or (amounts_in low high spans others) k (pos 0) ≡ flow_in low high a *ℤ side_flow low high others
-own_amount low high spans others k a there =
-    let within = slice_get_within spans k a there in
+own_amount : (low high : ℤ) (bands others : List Band) (k : ℕ) (a : Band) → slice_get bands k ≡ Some a
+    → get_or (amounts_in low high bands others) k (pos 0) ≡ flow_in low high a *ℤ side_flow low high others
+own_amount low high bands others k a there =
+    let within = slice_get_within bands k a there in
     let scaled = λ (f : ℤ). f *ℤ side_flow low high others in
-    let span_is = get_or_from_slice_get spans k a a there in
-    let flow_is = get_or-map (flow_in low high) spans k a (pos 0) within ∙ ap (flow_in low high) span_is in
-    get_or-map scaled (flows_in low high spans) k (pos 0) (pos 0)
-    (omega (arith, within, length-map spans (flow_in low high)))
+    let band_is = get_or_from_slice_get bands k a a there in
+    let flow_is = get_or-map (flow_in low high) bands k a (pos 0) within ∙ ap (flow_in low high) band_is in
+    get_or-map scaled (flows_in low high bands) k (pos 0) (pos 0)
+    (omega (arith, within, length-map bands (flow_in low high)))
     ∙ ap scaled flow_is
 
-module _ (low high : ℤ) (spans : Side → List Span) where
+module _ (low high : ℤ) (bands : Side → List Band) where
   abbrev amounts : Side → List ℤ
-  amounts of = amounts_in low high (spans of) (spans (other of))
+  amounts of = amounts_in low high (bands of) (bands (other of))
 
   -- both sides offer and ask for as much
   amounts-balanced : int_sum_by (λ x. x) (amounts side.Hot) ≡ int_sum_by (λ x. x) (amounts side.Cold)
   amounts-balanced =
-      sum-scaled (side_flow low high (spans side.Cold)) (flows_in low high (spans side.Hot))
-      ∙ *ℤ_comm (side_flow low high (spans side.Hot)) (side_flow low high (spans side.Cold))
-      ∙ sym (sum-scaled (side_flow low high (spans side.Hot)) (flows_in low high (spans side.Cold)))
+      sum-scaled (side_flow low high (bands side.Cold)) (flows_in low high (bands side.Hot))
+      ∙ *ℤ_comm (side_flow low high (bands side.Hot)) (side_flow low high (bands side.Cold))
+      ∙ sym (sum-scaled (side_flow low high (bands side.Hot)) (flows_in low high (bands side.Cold)))
 
-  module _ (of : Side) (k : ℕ) (a : Span) (there : slice_get (spans of) k ≡ Some a) where
+  module _ (of : Side) (k : ℕ) (a : Band) (there : slice_get (bands of) k ≡ Some a) where
     -- the pairs of a source add up to what it offers or asks for
-    pub own_amounts : ((d : Side) → AreSpans (spans d))
+    pub own_amounts : ((d : Side) → AreBands (bands d))
         → int_sum_by (λ p. p.amount)
         (filter (λ p. index_on of p == k) (pairs_of (amounts side.Hot) (amounts side.Cold)))
-        ≡ flow_in low high a *ℤ side_flow low high (spans (other of))
+        ≡ flow_in low high a *ℤ side_flow low high (bands (other of))
     own_amounts are =
         sum-filter (λ p. index_on of p == k) (λ p. p.amount) (pairs_of (amounts side.Hot) (amounts side.Cold))
         ∙ by of
-        (omega (arith, slice_get_within (spans of) k a there, length-amounts low high (spans of) (spans (other of))))
-        ∙ own_amount low high (spans of) (spans (other of)) k a there
+        (omega (arith, slice_get_within (bands of) k a there, length-amounts low high (bands of) (bands (other of))))
+        ∙ own_amount low high (bands of) (bands (other of)) k a there
       where
         some : (d : Side) → NotNegative (amounts d)
-        some d = amounts-positive low high (spans d) (spans (other d)) (are d) (are (other d))
+        some d = amounts-positive low high (bands d) (bands (other d)) (are d) (are (other d))
 
         by : (d : Side) → k < length (amounts d)
             → int_sum_by (λ p. if index_on d p == k then p.amount else pos 0)
@@ -89,9 +89,9 @@ module _ (low high : ℤ) (spans : Side → List Span) where
 
     -- a share is no more than that
     pub own_share : (p : Pair) → IsOverlap (amounts side.Hot) (amounts side.Cold) p → index_on of p ≡ k
-        → p.amount ≤ℤ (flow_in low high a *ℤ side_flow low high (spans (other of)))
+        → p.amount ≤ℤ (flow_in low high a *ℤ side_flow low high (bands (other of)))
     own_share p is own =
-        subst (λ z. p.amount ≤ℤ z) (own_amount low high (spans of) (spans (other of)) k a there) (by of own)
+        subst (λ z. p.amount ≤ℤ z) (own_amount low high (bands of) (bands (other of)) k a there) (by of own)
       where
         by : (d : Side) → index_on d p ≡ k → p.amount ≤ℤ get_or (amounts d) k (pos 0)
         by side.Hot at =

@@ -1,19 +1,19 @@
 -- The pieces of a stream, and its way through them.
 use Rattle.vertical_design.proofs.Words.{All-contains, AreEnds-IsValidStream, AreJoined, Contains, Contains-slice_get, Exchange, IsAtMost, IsFine}
-use Rattle.vertical_design.proofs.Words.{IsSensibleStream, IsSized, IsStreamPiece, LedStage, Piece, Rational, Share, Side, Span, Stream, all_at}
+use Rattle.vertical_design.proofs.Words.{Band, IsSensibleStream, IsSized, IsStreamPiece, LedStage, Piece, Rational, Share, Side, Stream, all_at}
 use Rattle.vertical_design.proofs.Words.{at_most-whole, cases_eq, change, clamps, contribution_of, curve_heat, enumerate_from, eq-eqb, eqb-true}
 use Rattle.vertical_design.proofs.Words.{false_from_ne_true, false≢true, filter_map, filter_map-way, first_end, flat_map, flow_in, full_size-sensible}
 use Rattle.vertical_design.proofs.Words.{heat_at, high_end, int_le-from, intervals_of, ints, is_latent-sensible, is_stage, kept_hold, last_end}
 use Rattle.vertical_design.proofs.Words.{led_course, led_piece, led_stage, length-map, low_end, ltb-true, minus, minus-minus_same, minus-plus_plus}
 use Rattle.vertical_design.proofs.Words.{nat_lt, nat_tests, ne_eqb, no_items, on_side, only_item, option_map, option_map_or, order-sensible, own_side}
 use Rattle.vertical_design.proofs.Words.{piece_on, range_with_len, ratio, same_Some, same_side, share_of, shares_of, size_of, size_on, slice_get-map}
-use Rattle.vertical_design.proofs.Words.{slice_get_within, spans_of, times, unsigned_abs, whole, whole-nonzero, ◌&&◌}
+use Rattle.vertical_design.proofs.Words.{bands_of, slice_get_within, times, unsigned_abs, whole, whole-nonzero, ◌&&◌}
 use Rattle.std.proofs.Common.{Bool, List, None, Some, [], ap, ap₂, arith, false, if◌then◌else◌, length, pos, refl, slice_get, subst, subst₂, suc, sym}
 use Rattle.std.proofs.Common.{true, zero, ℕ, ℤ, ⊎_elim, ◌*◌, ◌++◌, ◌+◌, ◌-◌, ◌<ℤ◌, ◌<◌, ◌==◌, ◌∙◌, ◌∷◌, ◌≡◌, ◌≤ℤ◌, ◌≤◌}
 use Rattle.vertical_design.proofs.StraightCurves.{HasNoEnd, heat_rises}
 use Rattle.vertical_design.proofs.FacingCurves.{bounded, one_place}
 use Rattle.vertical_design.proofs.PieceShares.{exchange_there}
-use Rattle.vertical_design.proofs.Exchanges.{IsMatch, RunsSpan, are_matches, exchanges, heat_match, over_at, own_number, own_span}
+use Rattle.vertical_design.proofs.Exchanges.{IsMatch, RunsBand, are_matches, exchanges, heat_match, over_at, own_band, own_number}
 use Rattle.vertical_design.proofs.Exchanges.{pair_runs, piece_index, piece_of, size_match, size_piece, stream_runs}
 use Rattle.vertical_design.proofs.FacingPieces.{found}
 use Rattle.vertical_design.proofs.SideScales.{curve_heat-whole}
@@ -22,9 +22,9 @@ use Rattle.vertical_design.proofs.Intervals.{pieces, pieces_at, scale_at, scale_
 use Rattle.vertical_design.proofs.FlowLimits.{side-within}
 use Rattle.vertical_design.proofs.SharedFlows.{index_on, other}
 use Rattle.vertical_design.proofs.RowLists.{filter_map-rows, numbered-rows}
-use Rattle.vertical_design.proofs.SpanSources.{IsSourceSpan, own_place, sources_differ, span_of, span_sources, stream_place}
+use Rattle.vertical_design.proofs.BandSources.{IsSourceBand, band_of, band_sources, own_place, sources_differ, stream_place}
 use Rattle.vertical_design.proofs.CutNeighbours.{cut_from_last, cut_upto_first}
-use Rattle.vertical_design.proofs.CaseAxis.{Axis, cut_below, ends_are_cuts, flow_above, flow_at, high_at, low_at, no_end_between, spans_are}
+use Rattle.vertical_design.proofs.CaseAxis.{Axis, bands_are, cut_below, ends_are_cuts, flow_above, flow_at, high_at, low_at, no_end_between}
 use Rattle.vertical_design.proofs.CaseAxis.{streams_are}
 use Rattle.design_lines.specs.Ways.{on_the_way}
 use Rattle.vertical_design.proofs.PieceNumbers.{most_flow, most_cp, highest, small, stream_sized}
@@ -38,11 +38,11 @@ some_share (s ∷ shares) n above is = omega arith
 
 module _ (axis : Axis) where
   abbrev many : Side → ℕ
-  many of = length (spans_of of axis.case)
+  many of = length (bands_of of axis.case)
 
   pub flow_few : (of : Side) (number : ℕ) → unsigned_abs (flow_at axis of number) ≤ most_flow
   flow_few of number =
-      let is = side-within (low_at axis number) (high_at axis number) (spans_of of axis.case) (spans_are axis of) in
+      let is = side-within (low_at axis number) (high_at axis number) (bands_of of axis.case) (bands_are axis of) in
       omega (arith, ints, is.from, is.upto)
 
   -- the temperature changes by the heat between the cuts over the flow
@@ -67,8 +67,8 @@ module _ (axis : Axis) where
     valid : IsSensibleStream s
     valid = all_at IsSensibleStream axis.case.streams stream s (streams_are axis).each here
 
-    module _ (number k : ℕ) (within : number < length axis.cuts - 1) (is : RunsSpan axis s.side number k)
-        (own : is.span.source ≡ source.Stream stream) where
+    module _ (number k : ℕ) (within : number < length axis.cuts - 1) (is : RunsBand axis s.side number k)
+        (own : is.band.source ≡ source.Stream stream) where
       abbrev index : ℕ
       index = number * many s.side + k
 
@@ -79,27 +79,27 @@ module _ (axis : Axis) where
       high = high_at axis number
 
       abbrev pub stream_piece : Piece
-      stream_piece = piece_in axis s.side number is.span
+      stream_piece = piece_in axis s.side number is.band
 
       inside : k < many s.side
-      inside = slice_get_within (spans_of s.side axis.case) k is.span is.there
+      inside = slice_get_within (bands_of s.side axis.case) k is.band is.there
 
       runs : RunsIn axis s.side number s
       runs = stream_runs axis s.side number k stream s is own here
 
-      flow_is : flow_in low high is.span ≡ s.cp
+      flow_is : flow_in low high is.band ≡ s.cp
       flow_is =
           let from_low = int_le-from (heat_at s.side axis.case.streams (low_end s)) low runs.from in
           let upto_high = int_le-from high (heat_at s.side axis.case.streams (high_end s)) runs.upto in
-          ap (flow_in low high) (own_span axis s.side is.span stream s is.kind own here).0
+          ap (flow_in low high) (own_band axis s.side is.band stream s is.kind own here).0
           ∙ ap₂ (λ p q. if p && q then s.cp else pos 0) from_low upto_high
 
       pub sizes_are : size_of (shares_of s.side index (exchanges axis)) ≡ whole s.cp
-      sizes_are = size_piece axis s.side number k is.span within is.there ∙ ap whole flow_is
+      sizes_are = size_piece axis s.side number k is.band within is.there ∙ ap whole flow_is
 
       change_is : change s.side stream_piece.before stream_piece.after ≡ over_at axis s.side number
       change_is =
-          change_between s.side number (scale_at axis s.side number) (contribution_of axis.case is.span.source)
+          change_between s.side number (scale_at axis s.side number) (contribution_of axis.case is.band.source)
           ∙ (scale_is axis s.side number within s runs).change low high
 
       -- an exchange of the piece
@@ -127,12 +127,12 @@ module _ (axis : Axis) where
           )
 
       state_sized : (q : ℤ) → low ≤ℤ q → q ≤ℤ high
-          → IsSized (unsigned_abs (flow_at axis s.side number)) highest (state_at axis s.side number q is.span)
+          → IsSized (unsigned_abs (flow_at axis s.side number)) highest (state_at axis s.side number q is.band)
       state_sized q from upto =
           let scale = scale_is axis s.side number within s runs in
           let over = scale.over q in
           let range = scale.range q from upto s runs in
-          let contribution : contribution_of axis.case is.span.source ≡ s.contribution
+          let contribution : contribution_of axis.case is.band.source ≡ s.contribution
           = ap (contribution_of axis.case) own
           ∙ ap (λ o. option_map_or (λ (r : Stream). r.contribution) o (pos 0)) here in
           let ends = AreEnds-IsValidStream s valid.valid in
@@ -154,7 +154,7 @@ module _ (axis : Axis) where
           let at_high = state_sized high (omega (arith, ints, gap)) (omega (arith, ints)) in
           let states =
           either_cut (λ q.
-          IsSized (unsigned_abs (flow_at axis s.side number)) highest (state_at axis s.side number q is.span)) s.side
+          IsSized (unsigned_abs (flow_at axis s.side number)) highest (state_at axis s.side number q is.band)) s.side
           number at_low at_high in
           let across = unsigned_abs (flow_at axis (other s.side) number) in
           record {
@@ -196,7 +196,7 @@ module _ (axis : Axis) where
         let runs = pair_runs axis m.number s.side m.pair m.met in
         let found = sym (piece_of axis s.side e m) ∙ ap (slice_get (pieces axis s.side)) on
         ∙ ap (λ ps. slice_get ps index) (on_pieces s.side) ∙ there in
-        let same = same_Some (piece_in axis s.side m.number runs.span) p found in
+        let same = same_Some (piece_in axis s.side m.number runs.band) p found in
         let index_is = sym (piece_index axis s.side m.number m.pair) ∙ ap (piece_on s.side) m.is ∙ on in
         let own_source = ap (λ (q : Piece). q.source) same ∙ own in
         let led = piece_led m.number (index_on s.side m.pair) m.within runs own_source in
@@ -204,17 +204,17 @@ module _ (axis : Axis) where
 
     -- a piece with shares is of an interval in which the stream runs
     pub shares_run : (number k : ℕ)
-        → slice_get (spans_of s.side axis.case) k ≡ Some (span_of s.side axis.case.streams stream s)
+        → slice_get (bands_of s.side axis.case) k ≡ Some (band_of s.side axis.case.streams stream s)
         → 0 < length (shares_of s.side (number * many s.side + k) (exchanges axis)) → RunsIn axis s.side number s
     shares_run number k there some =
         let (i, e, at, on) = exchange_there s.side (number * many s.side + k) (exchanges axis) some in
         let m = all_at (IsMatch axis) (exchanges axis) i e (are_matches axis) at in
         let runs = pair_runs axis m.number s.side m.pair m.met in
-        let inside = slice_get_within (spans_of s.side axis.case) k (span_of s.side axis.case.streams stream s) there in
+        let inside = slice_get_within (bands_of s.side axis.case) k (band_of s.side axis.case.streams stream s) there in
         let same = own_number axis s.side number m.number k m.pair m.met inside (ap (piece_on s.side) m.is ∙ on) in
-        let found = sym runs.there ∙ ap (slice_get (spans_of s.side axis.case)) same.1 ∙ there in
-        let span = same_Some runs.span (span_of s.side axis.case.streams stream s) found in
-        let source_is = ap (λ (a : Span). a.source) span in
+        let found = sym runs.there ∙ ap (slice_get (bands_of s.side axis.case)) same.1 ∙ there in
+        let band = same_Some runs.band (band_of s.side axis.case.streams stream s) found in
+        let source_is = ap (λ (a : Band). a.source) band in
         let runs_there = stream_runs axis s.side m.number (index_on s.side m.pair) stream s runs source_is here in
         subst (λ n. RunsIn axis s.side n s) same.0 runs_there
 
@@ -223,12 +223,12 @@ module _ (axis : Axis) where
     member : Contains axis.case.streams s
     member = Contains-slice_get axis.case.streams stream s here
 
-    abbrev own : Span
-    own = span_of s.side axis.case.streams stream s
+    abbrev own : Band
+    own = band_of s.side axis.case.streams stream s
 
     -- ---- its pieces
 
-    place : (k : ℕ) × (slice_get (spans_of s.side axis.case) k ≡ Some own)
+    place : (k : ℕ) × (slice_get (bands_of s.side axis.case) k ≡ Some own)
     place = stream_place axis.case s.side stream s here refl
 
     abbrev stages_at : ℕ → List LedStage
@@ -247,7 +247,7 @@ module _ (axis : Axis) where
         let rows = pieces_at axis s.side in
         let none : 0 ≡ 0 * many s.side = omega arith in
         let numbered = ap (λ b. enumerate_from b (flat_map rows (intervals_of axis.cuts))) none
-        ∙ numbered-rows rows (many s.side) (λ n. length-map (spans_of s.side axis.case) (piece_in axis s.side n)) 0
+        ∙ numbered-rows rows (many s.side) (λ n. length-map (bands_of s.side axis.case) (piece_in axis s.side n)) 0
         (length axis.cuts - 1) in
         let by_rows = ap (filter_map h) numbered
         ∙ filter_map-rows h (λ n. enumerate_from (n * many s.side) (rows n)) (intervals_of axis.cuts) in
@@ -269,11 +269,11 @@ module _ (axis : Axis) where
         → is_stage s.side (exchanges axis) stream (n * many s.side + j) p.source
         ≡ ((j == place.0) && has_shares (n * many s.side + j))
     stage_test n j p at =
-        let (b, there, is) = found (piece_in axis s.side n) p (slice_get (spans_of s.side axis.case) j)
-        (sym (slice_get-map (piece_in axis s.side n) (spans_of s.side axis.case) j) ∙ at) in
+        let (b, there, is) = found (piece_in axis s.side n) p (slice_get (bands_of s.side axis.case) j)
+        (sym (slice_get-map (piece_in axis s.side n) (bands_of s.side axis.case) j) ∙ at) in
         ap (λ (q : Piece). is_stage s.side (exchanges axis) stream (n * many s.side + j) q.source) (sym is)
         ∙ ap (λ t. t && has_shares (n * many s.side + j))
-        (own_place (spans_of s.side axis.case) (sources_differ axis.case s.side) place.0 own place.1 j b there)
+        (own_place (bands_of s.side axis.case) (sources_differ axis.case s.side) place.0 own place.1 j b there)
 
     no_stage : (n j : ℕ) (p : Piece) → slice_get (pieces_at axis s.side n) j ≡ Some p
         → ((j == place.0) && has_shares (n * many s.side + j)) ≡ false
@@ -286,14 +286,14 @@ module _ (axis : Axis) where
     runs_stage : (n : ℕ) → n < length axis.cuts - 1 → RunsIn axis s.side n s → stages_at n ≡ stage n ∷ []
     runs_stage n within runs =
         let p = piece_in axis s.side n own in
-        let there = slice_get-map (piece_in axis s.side n) (spans_of s.side axis.case) place.0
+        let there = slice_get-map (piece_in axis s.side n) (bands_of s.side axis.case) place.0
         ∙ ap (option_map (piece_in axis s.side n)) place.1 in
-        let is : RunsSpan axis s.side n place.0 = record {
-          span = own;
+        let is : RunsBand axis s.side n place.0 = record {
+          band = own;
           there = place.1;
           kind =
-              all_at (IsSourceSpan axis.case s.side) (spans_of s.side axis.case) place.0 own
-              (span_sources axis.case s.side) place.1;
+              all_at (IsSourceBand axis.case s.side) (bands_of s.side axis.case) place.0 own
+              (band_sources axis.case s.side) place.1;
           from = runs.from;
           upto = runs.upto;
         } in

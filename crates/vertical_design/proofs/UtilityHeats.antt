@@ -1,11 +1,11 @@
 -- The heats of the exchanges with a utility add up to its target.
 use Rattle.vertical_design.proofs.Words.{*ℤ-+ℤ, *ℤ-zero, *ℤ_comm, ALL_SENSIBLE_HEAT, All-cons, All-head, All-map, All-nil, All-range, All-tail}
-use Rattle.vertical_design.proofs.Words.{Exchange, HasUtilityHeat, IsSized, IsWholeGroup, MOST_HEAT, MOST_SPANS, Option, Pair, Rational, Side, Source}
-use Rattle.vertical_design.proofs.Words.{Span, Utility, clamps, cons_option, count_of, duty_with, enumerate_from, eqb-true, exchanger_of}
+use Rattle.vertical_design.proofs.Words.{Exchange, HasUtilityHeat, IsSized, IsWholeGroup, MOST_BANDS, MOST_HEAT, Option, Pair, Rational, Side, Source}
+use Rattle.vertical_design.proofs.Words.{Band, Utility, clamps, cons_option, count_of, duty_with, enumerate_from, eqb-true, exchanger_of}
 use Rattle.vertical_design.proofs.Words.{exchanges_at, false_from_ne_true, filter, filter_map, flat_map, flat_map-map, heats_with, int_le, int_sum_by}
 use Rattle.vertical_design.proofs.Words.{intervals_of, ints, length-numbers, matches_in, mul-le-mul, none-some, one_times, or-false, plus}
 use Rattle.vertical_design.proofs.Words.{range_with_len, ratio, ratio-multiple, ratio-zero, rational_sum, rational_sum_by-append, same_Some}
-use Rattle.vertical_design.proofs.Words.{same_source, same_source-true, side_flow, side_of, source_at, source_at-piece, sources_of, spans_of}
+use Rattle.vertical_design.proofs.Words.{bands_of, same_source, same_source-true, side_flow, side_of, source_at, source_at-piece, sources_of}
 use Rattle.vertical_design.proofs.Words.{standard_utility, unsigned_abs, unsigned_abs-mul, utility_from, utility_to, whole, whole-plus, zero_times}
 use Rattle.vertical_design.proofs.Words.{◌&&◌}
 use Rattle.std.proofs.Common.{All, Bool, List, None, Some, [], ap, ap₂, arith, false, get_or, if◌then◌else◌, length, map, option_map, pos, refl}
@@ -24,12 +24,12 @@ use Rattle.vertical_design.proofs.RowLists.{filter_map-map, filter_map-rows}
 use Rattle.vertical_design.proofs.AxisLemmas.{is_axis}
 use Rattle.vertical_design.proofs.CutNeighbours.{cut_from_last, cut_upto_first}
 use Rattle.vertical_design.proofs.CaseAxis.{Axis, cut_below, flow_above, flow_at, high_at, low_at}
-use Rattle.vertical_design.proofs.SpanSources.{own_place, sources_differ}
-use Rattle.vertical_design.proofs.SpanLimits.{target-within}
+use Rattle.vertical_design.proofs.BandSources.{own_place, sources_differ}
+use Rattle.vertical_design.proofs.BandLimits.{target-within}
 use Rattle.vertical_design.proofs.CutNeighbours.{reaches}
-use Rattle.vertical_design.proofs.CaseAxis.{spans_are, streams_are, utility_alone, utility_cuts}
+use Rattle.vertical_design.proofs.CaseAxis.{bands_are, streams_are, utility_alone, utility_cuts}
 use Rattle.vertical_design.proofs.AxisLemmas.{utility_order}
-use Rattle.vertical_design.proofs.SpanSources.{utility_place, utility_span_of}
+use Rattle.vertical_design.proofs.BandSources.{utility_band_of, utility_place}
 use Rattle.vertical_design.proofs.CaseAxis.{utility_outside}
 use Rattle.vertical_design.proofs.PieceNumbers.{most_flow}
 use Rattle.vertical_design.proofs.StreamWays.{flow_few}
@@ -113,11 +113,11 @@ scaled_sum width (p ∷ ps) =
     ∙ sym (*ℤ-+ℤ width p.amount (int_sum_by (λ (q : Pair). q.amount) ps))
 
 module _ (axis : Axis) where
-  abbrev hot : List Span
-  hot = spans_of side.Hot axis.case
+  abbrev hot : List Band
+  hot = bands_of side.Hot axis.case
 
-  abbrev cold : List Span
-  cold = spans_of side.Cold axis.case
+  abbrev cold : List Band
+  cold = bands_of side.Cold axis.case
 
   abbrev hot_sources : List Source
   hot_sources = sources_of (pieces axis side.Hot)
@@ -135,7 +135,7 @@ module _ (axis : Axis) where
     abbrev to_of : ℤ
     to_of = utility_to u.side axis.case.streams
 
-    place : (k : ℕ) × (slice_get (spans_of u.side axis.case) k ≡ Some (utility_span_of u.side axis.case.streams index))
+    place : (k : ℕ) × (slice_get (bands_of u.side axis.case) k ≡ Some (utility_band_of u.side axis.case.streams index))
     place = utility_place axis.case u.side index u here refl
 
     module _ (number : ℕ) (within : number < length axis.cuts - 1) where
@@ -144,36 +144,36 @@ module _ (axis : Axis) where
         abbrev is_its : Side → Bool
         is_its of =
             same_source
-            (source_at (sources_of (pieces axis of)) (number * length (spans_of of axis.case) + index_on of p))
+            (source_at (sources_of (pieces axis of)) (number * length (bands_of of axis.case) + index_on of p))
             (source.Utility index)
 
         source_is : (of : Side) → is_its of
-            ≡ same_source (pair_runs axis number of p met).span.source (source.Utility index)
+            ≡ same_source (pair_runs axis number of p met).band.source (source.Utility index)
         source_is of =
             let runs = pair_runs axis number of p met in
-            let there = piece_there axis of number (index_on of p) runs.span within runs.there in
-            let source_is = source_at-piece (pieces axis of) (number * length (spans_of of axis.case) + index_on of p)
-            (piece_in axis of number runs.span) there in
+            let there = piece_there axis of number (index_on of p) runs.band within runs.there in
+            let source_is = source_at-piece (pieces axis of) (number * length (bands_of of axis.case) + index_on of p)
+            (piece_in axis of number runs.band) there in
             ap (λ a. same_source a (source.Utility index)) source_is
 
         its_own : (of : Side) (k : ℕ)
-            → slice_get (spans_of of axis.case) k ≡ Some (utility_span_of of axis.case.streams index)
+            → slice_get (bands_of of axis.case) k ≡ Some (utility_band_of of axis.case.streams index)
             → is_its of ≡ (index_on of p == k)
         its_own of k there =
             let runs = pair_runs axis number of p met in
-            source_is of ∙ own_place (spans_of of axis.case) (sources_differ axis.case of) k
-            (utility_span_of of axis.case.streams index) there (index_on of p) runs.span runs.there
+            source_is of ∙ own_place (bands_of of axis.case) (sources_differ axis.case of) k
+            (utility_band_of of axis.case.streams index) there (index_on of p) runs.band runs.there
 
         not_its : (of : Side) → u.side ≢ of → is_its of ≡ false
         not_its of other =
             let runs = pair_runs axis number of p met in
-            source_is of ∙ false_from_ne_true (same_source runs.span.source (source.Utility index)) (λ holds.
-            let own = ap (side_of axis.case) (same_source-true runs.span.source (source.Utility index) holds)
+            source_is of ∙ false_from_ne_true (same_source runs.band.source (source.Utility index)) (λ holds.
+            let own = ap (side_of axis.case) (same_source-true runs.band.source (source.Utility index) holds)
             ∙ ap (option_map (λ (v : Utility). v.side)) here in
-            other (same_Some u.side of (sym own ∙ side_on axis of runs.span runs.kind)))
+            other (same_Some u.side of (sym own ∙ side_on axis of runs.band runs.kind)))
 
         joins_own : (of : Side) → u.side ≡ of → (k : ℕ)
-            → slice_get (spans_of of axis.case) k ≡ Some (utility_span_of of axis.case.streams index)
+            → slice_get (bands_of of axis.case) k ≡ Some (utility_band_of of axis.case.streams index)
             → joins_utility hot_sources cold_sources index (match_in axis number p) ≡ (index_on of p == k)
         joins_own side.Hot side_is k there =
             let not_cold = not_its side.Cold (λ is. let clash : side.Hot ≡ side.Cold = sym side_is ∙ is in cc clash) in
@@ -219,7 +219,7 @@ module _ (axis : Axis) where
 
       heats_sum : rational_sum (filter_map heat_of_pair (pairs_at axis number)) ≡ ratio (width *ℤ amount_by lies) flows
       heats_sum =
-          let shared = shared_out axis u.side number place.0 (utility_span_of u.side axis.case.streams index) place.1 in
+          let shared = shared_out axis u.side number place.0 (utility_band_of u.side axis.case.streams index) place.1 in
           let in_all = scaled_sum width (filter is_own (pairs_at axis number)) ∙ ap (λ z. width *ℤ z) shared in
           parts_sum heat_of_pair is_own (λ p. width *ℤ p.amount) flows (pairs_at axis number) are_own
           ∙ ap (λ z. ratio z flows) in_all
@@ -251,7 +251,7 @@ module _ (axis : Axis) where
           → IsSized (unsigned_abs across) most_width (ratio (width *ℤ p.amount) flows)
       own_sized b test p met own =
           by b test (subst (λ c. p.amount ≤ℤ amount_by c) test
-          (share_upto axis u.side number place.0 (utility_span_of u.side axis.case.streams index) place.1 p met own))
+          (share_upto axis u.side number place.0 (utility_band_of u.side axis.case.streams index) place.1 p met own))
         where
           by : (c : Bool) → lies ≡ c → p.amount ≤ℤ amount_by c
               → IsSized (unsigned_abs across) most_width (ratio (width *ℤ p.amount) flows)
@@ -291,11 +291,11 @@ module _ (axis : Axis) where
     abbrev heats_at : ℕ → List Rational
     heats_at number = filter_map heat_of (exchanges_at hot cold axis.cuts number)
 
-    few_heats : (n m : ℕ) → count_of (map heats_at (range_with_len n m)) ≤ m * (2 * MOST_SPANS)
+    few_heats : (n m : ℕ) → count_of (map heats_at (range_with_len n m)) ≤ m * (2 * MOST_BANDS)
     few_heats n zero = omega arith
     few_heats n (suc m) =
         let here =
-        few_matches n (low_at axis n) (high_at axis n) hot cold (spans_are axis side.Hot) (spans_are axis side.Cold) in
+        few_matches n (low_at axis n) (high_at axis n) hot cold (bands_are axis side.Hot) (bands_are axis side.Cold) in
         omega (arith, few_heats (n + 1) m, length-numbers heat_of (exchanges_at hot cold axis.cuts n), here)
 
     -- the place of the utility next to a cut
@@ -363,7 +363,7 @@ module _ (axis : Axis) where
               omega (
                 arith,
                 few,
-                few_cuts hot cold axis.cuts (spans_are axis side.Hot) (spans_are axis side.Cold) axis.are_cuts,
+                few_cuts hot cold axis.cuts (bands_are axis side.Hot) (bands_are axis side.Cold) axis.are_cuts,
               );
           heat = to_of -ℤ from_of;
           total = heat_total;

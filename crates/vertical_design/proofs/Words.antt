@@ -100,16 +100,16 @@ pub use Rattle.sums.specs.Order.{Lists, ListsFalling, ListsRising}
 pub use Rattle.sums.specs.Spans.{IsOverlap, ListsOverlaps, NotNegative, overlap, pair_before}
 pub use Rattle.sums.specs.Sum.{int_sum_by}
 pub use Rattle.sums.specs.declared.pairs.Pair.{Pair}
-pub use Rattle.vertical_design.specs.Axis.{AreCuts, begin_of, ends_of, heat_at, heat_below, stream_span, utility_from, utility_span, utility_to}
-unfoldable pub use Rattle.vertical_design.specs.Axis.{spans_of}
+pub use Rattle.vertical_design.specs.Axis.{AreCuts, begin_of, ends_of, heat_at, heat_below, stream_band, utility_band, utility_from, utility_to}
+unfoldable pub use Rattle.vertical_design.specs.Axis.{bands_of}
 pub use Rattle.vertical_design.specs.Balance.{target_balance}
 pub use Rattle.vertical_design.specs.Courses.{AreBetween, sources_between, sources_in}
 unfoldable pub use Rattle.vertical_design.specs.Courses.{network_of}
-pub use Rattle.vertical_design.specs.Limits.{AreSpans, IsFlow, IsGap, IsPlace, IsSideFlow, IsSpan}
+pub use Rattle.vertical_design.specs.Limits.{AreBands, IsBand, IsFlow, IsGap, IsPlace, IsSideFlow}
 unfoldable pub use Rattle.vertical_design.specs.Matches.{IsMet, amounts_in, exchanges_at, exchanges_between, flow_in, flows_in, intervals_of, lower_cut}
 unfoldable pub use Rattle.vertical_design.specs.Matches.{match_of, matches_in, pair_of, pairs_of, scaled, side_flow, upper_cut}
 pub use Rattle.vertical_design.specs.Vertical.{AreFacing, IsAtUtility, IsVertical, IsVerticalAt, entry, exit, on_scale, range_below, stream_heat}
 unfoldable pub use Rattle.vertical_design.specs.Vertical.{curve_heat}
-pub use Rattle.vertical_design.specs.declared.limits.TheConstants.{MOST_CUTS, MOST_FLOW, MOST_SPANS}
-pub use Rattle.vertical_design.specs.declared.span.Span.{Span}
+pub use Rattle.vertical_design.specs.declared.limits.TheConstants.{MOST_BANDS, MOST_CUTS, MOST_FLOW}
+pub use Rattle.vertical_design.specs.declared.band.Band.{Band}
 pub use mathlib.Core.Path.{subst₂}

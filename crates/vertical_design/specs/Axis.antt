@@ -13,7 +13,7 @@ use Rattle.sums.specs.Order.{ListsFalling}
 use Rattle.curves.specs.Below.{length_below}
 use Rattle.problem_table.specs.Deficit.{cold_target, hot_target}
 use Rattle.problem_table.specs.Sides.{sum_side}
-use Rattle.vertical_design.specs.declared.span.Span.{Span}
+use Rattle.vertical_design.specs.declared.band.Band.{Band}
 
 -- ---- the shifted curves
 
@@ -33,8 +33,8 @@ heat_at of streams t = begin_of of streams +ℤ sum_side of (heat_below t) strea
 -- ---- what each source covers
 
 -- a stream covers what lies between its two ends on the curve of its side
-abbrev pub stream_span : Side → List Stream → ℕ × Stream → Option Span
-stream_span of streams (number, s) =
+abbrev pub stream_band : Side → List Stream → ℕ × Stream → Option Band
+stream_band of streams (number, s) =
     if same_side s.side of
     then Some (record { source = source.Stream number; from = heat_at of streams (low_end s); to = heat_at of streams (high_end s); cp = s.cp })
     else None
@@ -49,23 +49,23 @@ utility_to side.Hot streams = sum_side side.Hot heat_of streams +ℤ hot_target 
 utility_to side.Cold streams = cold_target streams
 
 -- it stands alone there, so that any flow will do for it
-abbrev pub utility_span : Side → List Stream → ℕ × Utility → Option Span
-utility_span of streams (number, u) =
+abbrev pub utility_band : Side → List Stream → ℕ × Utility → Option Band
+utility_band of streams (number, u) =
     if same_side u.side of
     then Some (record { source = source.Utility number; from = utility_from of streams; to = utility_to of streams; cp = pos 1 })
     else None
 
--- the spans of a side: those of its streams, then that of its utility
-unfoldable pub spans_of : Side → Case → List Span
-spans_of of case =
-    filter_map (stream_span of case.streams) (enumerate_from 0 case.streams)
-    ++ filter_map (utility_span of case.streams) (enumerate_from 0 case.utilities)
+-- the bands of a side: those of its streams, then that of its utility
+unfoldable pub bands_of : Side → Case → List Band
+bands_of of case =
+    filter_map (stream_band of case.streams) (enumerate_from 0 case.streams)
+    ++ filter_map (utility_band of case.streams) (enumerate_from 0 case.utilities)
 
 -- ---- the cuts
 
-abbrev pub ends_of : List Span → List ℤ
-ends_of spans = flat_map (λ s. s.from ∷ s.to ∷ []) spans
+abbrev pub ends_of : List Band → List ℤ
+ends_of bands = flat_map (λ s. s.from ∷ s.to ∷ []) bands
 
--- the axis is cut wherever a span begins or ends; the cuts are listed from the greatest heat down
-abbrev pub AreCuts : List Span → List Span → List ℤ → Type 0
+-- the axis is cut wherever a band begins or ends; the cuts are listed from the greatest heat down
+abbrev pub AreCuts : List Band → List Band → List ℤ → Type 0
 AreCuts hot cold cuts = ListsFalling (Contains (ends_of hot ++ ends_of cold)) cuts

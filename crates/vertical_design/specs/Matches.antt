@@ -7,28 +7,28 @@ use Rattle.sums.specs.Sum.{int_sum_by}
 use Rattle.sums.specs.declared.pairs.Pair.{Pair}
 use Rattle.fractions.specs.Rationals.{ratio}
 use Rattle.pieces.specs.declared.exchange.Exchange.{Exchange}
-use Rattle.vertical_design.specs.declared.span.Span.{Span}
+use Rattle.vertical_design.specs.declared.band.Band.{Band}
 
 -- ---- what runs in an interval
 
--- the flow of a source between two cuts: 0 where its span does not reach from the one to the other
-abbrev pub flow_in : ℤ → ℤ → Span → ℤ
+-- the flow of a source between two cuts: 0 where its band does not reach from the one to the other
+abbrev pub flow_in : ℤ → ℤ → Band → ℤ
 flow_in low high s = if int_le s.from low && int_le high s.to then s.cp else pos 0
 
-abbrev pub flows_in : ℤ → ℤ → List Span → List ℤ
-flows_in low high spans = map (flow_in low high) spans
+abbrev pub flows_in : ℤ → ℤ → List Band → List ℤ
+flows_in low high bands = map (flow_in low high) bands
 
 -- and of a side
-abbrev pub side_flow : ℤ → ℤ → List Span → ℤ
-side_flow low high spans = int_sum_by (λ f. f) (flows_in low high spans)
+abbrev pub side_flow : ℤ → ℤ → List Band → ℤ
+side_flow low high bands = int_sum_by (λ f. f) (flows_in low high bands)
 
 -- amounts times a flow
 abbrev pub scaled : ℤ → List ℤ → List ℤ
 scaled by flows = map (λ f. f *ℤ by) flows
 
 -- each source offers or asks for its flow times that of the other side, so that both sides have one sum
-abbrev pub amounts_in : ℤ → ℤ → List Span → List Span → List ℤ
-amounts_in low high spans others = scaled (side_flow low high others) (flows_in low high spans)
+abbrev pub amounts_in : ℤ → ℤ → List Band → List Band → List ℤ
+amounts_in low high bands others = scaled (side_flow low high others) (flows_in low high bands)
 
 -- ---- who meets whom
 
@@ -42,12 +42,12 @@ unfoldable pub pairs_of : List ℤ → List ℤ → List Pair
 pairs_of firsts seconds = flat_map (λ i. filter_map (pair_of firsts seconds i) (range_with_len 0 (length seconds))) (range_with_len 0 (length firsts))
 
 -- a pair of sources of both sides that meet between two cuts
-abbrev pub IsMet : ℤ → ℤ → List Span → List Span → Pair → Type 0
+abbrev pub IsMet : ℤ → ℤ → List Band → List Band → Pair → Type 0
 IsMet low high hot cold p = IsOverlap (amounts_in low high hot cold) (amounts_in low high cold hot) p
 
 -- a share p of F times G, the flows of the two sides, makes an exchange: its branches have the flows p/G and p/F, and its heat is that part
--- of the heat between the cuts. Each interval has a piece for each span of a side.
-abbrev pub match_of : ℕ → ℤ → ℤ → List Span → List Span → Pair → Exchange
+-- of the heat between the cuts. Each interval has a piece for each band of a side.
+abbrev pub match_of : ℕ → ℤ → ℤ → List Band → List Band → Pair → Exchange
 match_of number low high hot cold p = record {
   hot = number * length hot + p.first;
   cold = number * length cold + p.second;
@@ -56,7 +56,7 @@ match_of number low high hot cold p = record {
   heat = ratio ((high -ℤ low) *ℤ p.amount) (unsigned_abs (side_flow low high hot *ℤ side_flow low high cold));
 }
 
-unfoldable pub matches_in : ℕ → ℤ → ℤ → List Span → List Span → List Exchange
+unfoldable pub matches_in : ℕ → ℤ → ℤ → List Band → List Band → List Exchange
 matches_in number low high hot cold =
     map (match_of number low high hot cold) (pairs_of (amounts_in low high hot cold) (amounts_in low high cold hot))
 
@@ -72,8 +72,8 @@ lower_cut cuts number = get_or cuts (number + 1) (pos 0)
 abbrev pub upper_cut : List ℤ → ℕ → ℤ
 upper_cut cuts number = get_or cuts number (pos 0)
 
-abbrev pub exchanges_at : List Span → List Span → List ℤ → ℕ → List Exchange
+abbrev pub exchanges_at : List Band → List Band → List ℤ → ℕ → List Exchange
 exchanges_at hot cold cuts number = matches_in number (lower_cut cuts number) (upper_cut cuts number) hot cold
 
-abbrev pub exchanges_between : List Span → List Span → List ℤ → List Exchange
+abbrev pub exchanges_between : List Band → List Band → List ℤ → List Exchange
 exchanges_between hot cold cuts = flat_map (exchanges_at hot cold cuts) (intervals_of cuts)

@@ -2,12 +2,12 @@
 
 ghost use Rattle.std.specs.Prelude.{◌≡◌, ◌-◌, ◌++◌, length, map, IfOk, OnOk};
 ghost use Rattle.vertical_design.specs.Axis.{AreCuts};
-ghost use Rattle.vertical_design.specs.Limits.{AreSpans};
+ghost use Rattle.vertical_design.specs.Limits.{AreBands};
 ghost use Rattle.vertical_design.specs.Matches.{exchanges_between};
 ghost use Rattle.vertical_design.specs.Courses.{sources_between};
 
+use crate::band::Band;
 use crate::matches::push_matches;
-use crate::span::Span;
 use pieces::Exchange;
 use std::alloc::{AllocError, Global};
 use stream_case::Source;
@@ -22,12 +22,12 @@ fn count_of(cuts: &[i64]) -> usize
 /// The exchanges of all intervals between two neighbouring cuts, from the greatest heat down.
 pub(crate) fn exchanges_between(
     alloc: Global,
-    hot: &[Span],
-    cold: &[Span],
+    hot: &[Band],
+    cold: &[Band],
     cuts: &[i64],
 ) -> Result<Vec<Exchange>, AllocError>
-    requires hot { AreSpans hot.now }
-    requires cold { AreSpans cold.now }
+    requires hot { AreBands hot.now }
+    requires cold { AreBands cold.now }
     requires cuts { AreCuts hot.now cold.now cuts.now }
     ensures { IfOk result (λ exchanges. exchanges.items
         ≡ exchanges_between hot.now cold.now cuts.now) }
@@ -47,28 +47,28 @@ pub(crate) fn exchanges_between(
     Ok(exchanges)
 }
 
-/// Appends the sources of spans.
-fn push_sources(sources: &mut Vec<Source>, spans: &[Span]) -> Result<(), AllocError>
+/// Appends the sources of bands.
+fn push_sources(sources: &mut Vec<Source>, bands: &[Band]) -> Result<(), AllocError>
     ensures { OnOk result (sources.new.items
-        ≡ sources.old.items ++ map (λ s. s.source) spans.now) }
+        ≡ sources.old.items ++ map (λ s. s.source) bands.now) }
 {
-    for span in spans {
-        sources.push(span.source)?;
+    for band in bands {
+        sources.push(band.source)?;
     }
     Ok(())
 }
 
-/// The sources of the pieces of a side: those of its spans, in each interval anew.
+/// The sources of the pieces of a side: those of its bands, in each interval anew.
 pub(crate) fn sources_between(
     alloc: Global,
-    spans: &[Span],
+    bands: &[Band],
     cuts: &[i64],
 ) -> Result<Vec<Source>, AllocError>
-    ensures { IfOk result (λ sources. sources.items ≡ sources_between spans.now cuts.now) }
+    ensures { IfOk result (λ sources. sources.items ≡ sources_between bands.now cuts.now) }
 {
     let mut sources = Vec::new(alloc);
     for _number in 0..count_of(cuts) {
-        push_sources(&mut sources, spans)?;
+        push_sources(&mut sources, bands)?;
     }
     Ok(sources)
 }

@@ -6,6 +6,7 @@
 //! 2007): what one side gives there the other side takes there.
 #![tactic(auto)]
 
+mod band;
 mod curve;
 mod cuts;
 mod flows;
@@ -13,6 +14,5 @@ mod interval;
 mod limits;
 mod matches;
 mod network;
-mod span;
 
 pub use network::vertical;

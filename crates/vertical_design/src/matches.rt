@@ -6,16 +6,16 @@ ghost use Rattle.fractions.specs.Rationals.{ratio};
 ghost use Rattle.stream_case.specs.Limits.{IsBetween};
 ghost use Rattle.stream_case.specs.declared.limits.TheConstants.{MOST_CP};
 ghost use Rattle.sums.specs.Spans.{ListsOverlaps};
-ghost use Rattle.vertical_design.specs.Limits.{AreSpans, IsFlow, IsGap, IsSideFlow};
+ghost use Rattle.vertical_design.specs.Limits.{AreBands, IsFlow, IsGap, IsSideFlow};
 ghost use Rattle.vertical_design.specs.Matches.{IsMet, match_of, matches_in, scaled, side_flow};
 ghost use Rattle.vertical_design.specs.declared.limits.TheConstants.{
   MOST_CUTS,
   MOST_FLOW,
-  MOST_SPANS,
+  MOST_BANDS,
 };
 
+use crate::band::Band;
 use crate::flows::{flows_in, scaled, sum_of};
-use crate::span::Span;
 use fractions::Frac;
 use pieces::Exchange;
 use std::alloc::{AllocError, Global};
@@ -33,13 +33,13 @@ struct Gap {
 }
 
 /// The index of the piece of a source in an interval.
-fn piece_at(number: u32, spans: &[Span], index: u32) -> u32
+fn piece_at(number: u32, bands: &[Band], index: u32) -> u32
     requires number { number < MOST_CUTS }
-    requires few { length spans.now ≤ MOST_SPANS }
-    requires index { index < length spans.now }
-    ensures { result ≡ number * length spans.now + index }
+    requires few { length bands.now ≤ MOST_BANDS }
+    requires index { index < length bands.now }
+    ensures { result ≡ number * length bands.now + index }
 {
-    number * spans.len() as u32 + index
+    number * bands.len() as u32 + index
 }
 
 /// A quotient of two whole numbers.
@@ -72,9 +72,9 @@ fn duty_of(gap: Gap, share: i64) -> Frac
 }
 
 /// The exchange that a share makes.
-fn match_of(gap: Gap, hot: &[Span], cold: &[Span], pair: Pair) -> Exchange
-    requires hot { AreSpans hot.now }
-    requires cold { AreSpans cold.now }
+fn match_of(gap: Gap, hot: &[Band], cold: &[Band], pair: Pair) -> Exchange
+    requires hot { AreBands hot.now }
+    requires cold { AreBands cold.now }
     requires number { gap.number < MOST_CUTS }
     requires gap { IsGap gap.low gap.high }
     requires hot_flow { gap.hot ≡ side_flow gap.low gap.high hot.now }
@@ -102,8 +102,8 @@ fn pairs_in(
 ) -> Result<Vec<Pair>, AllocError>
     requires hot { All IsFlow hot_flows.now }
     requires cold { All IsFlow cold_flows.now }
-    requires few_hot { length hot_flows.now ≤ MOST_SPANS }
-    requires few_cold { length cold_flows.now ≤ MOST_SPANS }
+    requires few_hot { length hot_flows.now ≤ MOST_BANDS }
+    requires few_cold { length cold_flows.now ≤ MOST_BANDS }
     requires hot_flow { IsSideFlow gap.hot }
     requires cold_flow { IsSideFlow gap.cold }
     ensures { IfOk result (λ pairs.
@@ -119,13 +119,13 @@ pub(crate) fn push_matches(
     alloc: Global,
     exchanges: &mut Vec<Exchange>,
     number: u32,
-    hot: &[Span],
-    cold: &[Span],
+    hot: &[Band],
+    cold: &[Band],
     low: i64,
     high: i64,
 ) -> Result<(), AllocError>
-    requires hot { AreSpans hot.now }
-    requires cold { AreSpans cold.now }
+    requires hot { AreBands hot.now }
+    requires cold { AreBands cold.now }
     requires number { number < MOST_CUTS }
     requires gap { IsGap low high }
     ensures { OnOk result (exchanges.new.items

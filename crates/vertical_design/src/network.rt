@@ -12,9 +12,9 @@ ghost use Rattle.vertical_design.specs.Balance.{target_balance};
 ghost use Rattle.vertical_design.specs.Courses.{AreIntervals, IsVerticalDesign};
 ghost use Rattle.vertical_design.specs.Vertical.{IsVertical};
 
+use crate::band::bands_of;
 use crate::cuts::cuts_of;
 use crate::interval::{exchanges_between, sources_between};
-use crate::span::spans_of;
 use networks::Network;
 use pieces::{Exchange, lead};
 use std::alloc::{AllocError, Global};
@@ -35,8 +35,8 @@ fn intervals_for(alloc: Global, case: &Case) -> Result<Intervals, AllocError>
     requires sensible { AreSensible case.now.streams }
     ensures { IfOk result (λ i. AreIntervals case.now i.hot.items i.cold.items i.exchanges.items) }
 {
-    let hot = spans_of(alloc, case, Side::Hot)?;
-    let cold = spans_of(alloc, case, Side::Cold)?;
+    let hot = bands_of(alloc, case, Side::Hot)?;
+    let cold = bands_of(alloc, case, Side::Cold)?;
     let cuts = cuts_of(alloc, hot.as_slice(), cold.as_slice())?;
     let exchanges = exchanges_between(alloc, &hot, &cold, &cuts)?;
     Ok(Intervals {

@@ -59,8 +59,8 @@ fn certificate(alloc: Global, case: &Case, parts: &Parts) -> Result<(Prices, i12
     requires parts { AreCaseParts case.now parts.now.hot parts.now.cold }
 {
     let place = reference_place(case);
-    let from = reference_from(case);
-    let prices = corner_prices(alloc, case, parts, place, from, targets(case))?;
+    let from_itself = reference_from(case);
+    let prices = corner_prices(alloc, case, parts, place, from_itself, targets(case))?;
     let value = value_of(parts, &prices);
     Ok((prices, value))
 }

@@ -7,9 +7,10 @@ use Rattle.chains.proofs.stock.pass_on.Goals as goal
 pub returns-clause-passed : goal.returns-clause-passed
 returns-clause-passed c =
     let s = c.args.share in
-    let part = c.carry-part.result in
-    let carried = subst (λ z. IsCarried c.args.ways.now.sorted.items c.carry-part.new.self.sorted.items s.node z part)
-    (to_z-of_z w64 s.heat (search rules)) c.carry-part.ensures.carried in
+    let part = c.take_heat-part.result in
+    let carried =
+    subst (λ z. IsCarried c.args.ways.now.sorted.items c.take_heat-part.new.self.sorted.items s.node z part)
+    (to_z-of_z w64 s.heat (search rules)) c.take_heat-part.ensures.carried in
     let positive = carried.positive in
     let limited = carried.limited in
     let shares = c.args.shares.now.items in

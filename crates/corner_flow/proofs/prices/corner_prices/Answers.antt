@@ -8,7 +8,7 @@ standard : (c : goal.After-from_vec-2) → AreStandardParts c.args.case.now c.ar
 standard c = AreStandardParts-parts c.requires.complete c.requires.standard c.requires.parts
 
 abbrev low_of : goal.After-from_vec-2 → Bool
-low_of c = counts_low c.args.case.now.streams c.args.from c.args.place
+low_of c = counts_low c.args.case.now.streams c.args.from_itself c.args.place
 
 low_is : (c : goal.After-from_vec-2) → c.counts_low-low.result ≡ low_of c
 low_is c = rw (to_z-of_z w32 c.args.place c.ranges.place, c.as_slice.ensures) at c.counts_low-low.ensures
@@ -39,7 +39,8 @@ cold_prices c =
 
 tight : (c : goal.After-from_vec-2) → IsTightOver (low_of c) c.args.case.now.streams c.args.place
 tight c =
-    tight_counted c.args.case.now.streams c.args.place c.args.from (standard c).valid.are_streams.each c.requires.place c.requires.from
+    tight_counted c.args.case.now.streams c.args.place c.args.from_itself
+    (standard c).valid.are_streams.each c.requires.place c.requires.from_itself
 
 pub returns-clause-hot : goal.returns-clause-hot
 returns-clause-hot c = rw c.requires.hot_target (hot_prices c)

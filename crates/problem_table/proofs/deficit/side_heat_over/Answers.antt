@@ -9,7 +9,8 @@ pub overflow_add-heat : goal.overflow_add-heat
 overflow_add-heat c =
     let t = to_z w32 (of_z w32 c.args.t) in
     let so_far =
-    sum_side-so_far c.args.side (heat_over c.args.from t) (heat_over-between c.args.from t) c.args.streams.now c.loop-stream.stream-index c.requires in
+    sum_side-so_far c.args.side (heat_over c.args.from_itself t)
+    (heat_over-between c.args.from_itself t) c.args.streams.now c.loop-stream.stream-index c.requires in
     omega (arith, ints)
 
 pub loop-stream-preserved : goal.loop-stream-preserved
@@ -17,9 +18,11 @@ loop-stream-preserved c =
     let t = to_z w32 (of_z w32 c.args.t) in
     let s = c.stream-item.result in
     let so_far =
-    sum_side-so_far c.args.side (heat_over c.args.from t) (heat_over-between c.args.from t) c.args.streams.now c.loop-stream.stream-index c.requires in
-    let step = sum_side-more c.args.side (heat_over c.args.from t) c.args.streams.now c.loop-stream.stream-index s c.loop-stream-test.true c.stream-item.is in
-    let term = λ (b : Bool). if b then heat_over c.args.from t s else pos 0 in
+    sum_side-so_far c.args.side (heat_over c.args.from_itself t)
+    (heat_over-between c.args.from_itself t) c.args.streams.now c.loop-stream.stream-index c.requires in
+    let step = sum_side-more c.args.side (heat_over c.args.from_itself t) c.args.streams.now
+    c.loop-stream.stream-index s c.loop-stream-test.true c.stream-item.is in
+    let term = λ (b : Bool). if b then heat_over c.args.from_itself t s else pos 0 in
     elim c.if-is_on.branch [
       | then-is_on w ↦
           let added = ap term (sym c.is_on.ensures ∙ w.if-is_on.true) in
@@ -33,5 +36,6 @@ pub returns-clause-range : goal.returns-clause-range
 returns-clause-range c =
     let t = to_z w32 (of_z w32 c.args.t) in
     let so_far =
-    sum_side-so_far c.args.side (heat_over c.args.from t) (heat_over-between c.args.from t) c.args.streams.now c.loop-stream.stream-index c.requires in
+    sum_side-so_far c.args.side (heat_over c.args.from_itself t)
+    (heat_over-between c.args.from_itself t) c.args.streams.now c.loop-stream.stream-index c.requires in
     omega (arith, ints)

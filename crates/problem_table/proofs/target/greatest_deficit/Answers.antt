@@ -7,7 +7,7 @@ use Rattle.problem_table.proofs.target.greatest_deficit.Goals as goal
 pub loop-stream-preserved : goal.loop-stream-preserved
 loop-stream-preserved c =
     let streams = c.args.streams.now in
-    let deficit = deficit_over c.args.from streams in
+    let deficit = deficit_over c.args.from_itself streams in
     let high_fits : FitsSigned w32 c.high_end.result = search rules in
     let low_fits : FitsSigned w32 c.low_end.result = search rules in
     let first_fits : FitsSigned w64 c.deficit_over.result = search rules in
@@ -21,11 +21,14 @@ loop-stream-preserved c =
     let greater = to_z-of_z w64 _ max_fits ∙ c.max.ensures.value in
     let greatest = to_z-of_z w64 _ greatest_fits ∙ c.max-greatest.ensures.value in
     let so_far = c.loop-stream.invariant in
-    let step = greatest_deficit-more c.args.from streams c.loop-stream.stream-index c.stream-item.result c.loop-stream-test.true c.stream-item.is in
+    let step = greatest_deficit-more c.args.from_itself streams c.loop-stream.stream-index c.stream-item.result
+    c.loop-stream-test.true c.stream-item.is in
     cc
 
 pub returns : goal.returns
 returns c =
     let streams = c.args.streams.now in
     let whole = take_all c.loop-stream.stream-index streams c.loop-stream-test.false in
-    c.loop-stream.invariant ∙ ap (λ (ss : List Stream). fold int_max (pos 0) (map (deficit_over c.args.from streams) (stream_ends ss))) whole
+    c.loop-stream.invariant
+    ∙ ap (λ (ss : List Stream). fold int_max (pos 0)
+    (map (deficit_over c.args.from_itself streams) (stream_ends ss))) whole

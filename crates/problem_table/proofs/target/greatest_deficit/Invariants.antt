@@ -5,4 +5,5 @@ use Rattle.problem_table.proofs.target.greatest_deficit.Given as goal
 
 abbrev pub invariant-loop-stream : goal.invariant-loop-stream
 invariant-loop-stream l =
-    l.greatest ≡ fold int_max (pos 0) (map (deficit_over l.from l.streams) (stream_ends (take l.stream-index l.streams)))
+    l.greatest ≡ fold int_max (pos 0)
+    (map (deficit_over l.from_itself l.streams) (stream_ends (take l.stream-index l.streams)))

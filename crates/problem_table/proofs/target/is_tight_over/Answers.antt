@@ -8,7 +8,7 @@ pub returns : goal.returns
 returns c =
     let fits : FitsSigned w64 c.deficit_over.result = search rules in
     let value = c.deficit_over.ensures.value
-    ∙ ap (deficit_over c.args.from c.args.streams.now) (to_z-of_z w32 c.args.t c.ranges.t) in (
+    ∙ ap (deficit_over c.args.from_itself c.args.streams.now) (to_z-of_z w32 c.args.t c.ranges.t) in (
       λ same. sym value ∙ sym (to_z-of_z w64 c.deficit_over.result fits) ∙ ap (to_z w64) (eqb-true _ _ same)
           ∙ to_z-of_z w64 c.args.hot c.ranges.hot
           ∙ c.requires.hot,

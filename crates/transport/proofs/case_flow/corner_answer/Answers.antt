@@ -6,12 +6,13 @@ use Rattle.std.specs.Prelude.{◌↔◌}
 use Rattle.std.proofs.Common.{FitsSigned, ap, ap₂, arith, length, map, rules, subst, sym, w32, ◌∙◌}
 use Rattle.transport.proofs.case_flow.corner_answer.Goals as goal
 
-pub corner_prices-requires-clause-from : goal.corner_prices-requires-clause-from
-corner_prices-requires-clause-from c =
+pub corner_prices-requires-clause-from_itself : goal.corner_prices-requires-clause-from_itself
+corner_prices-requires-clause-from_itself c =
     let place = c.reference_place-place.result in
     let fits : FitsSigned w32 place = search rules in
-    subst (λ p. IsTrue c.reference_from-from.result ↔ CountsFromItself c.args.case.now.streams p) (sym (to_z-of_z w32 place fits))
-    (c.reference_from-from.ensures place c.reference_place-place.ensures)
+    subst (λ p. IsTrue c.reference_from-from_itself.result ↔ CountsFromItself c.args.case.now.streams p)
+    (sym (to_z-of_z w32 place fits))
+    (c.reference_from-from_itself.ensures place c.reference_place-place.ensures)
 
 pub returns-clause-answer : goal.returns-clause-answer
 returns-clause-answer c =
@@ -53,8 +54,9 @@ returns-clause-corner c =
     let hot = c.targets-targets.ensures.hot in
     let cold = c.targets-targets.ensures.cold in
     let fits : FitsSigned w32 c.reference_place-place.result = search rules in
-    let from = c.reference_from-from.result in
-    let price = ap₂ (λ t p. corner_price t (counts_low case.streams from p) p) hot (to_z-of_z w32 c.reference_place-place.result fits) in
+    let from_itself = c.reference_from-from_itself.result in
+    let price = ap₂ (λ t p. corner_price t (counts_low case.streams from_itself p) p) hot
+    (to_z-of_z w32 c.reference_place-place.result fits) in
     record {
       flow = flow.flow;
       prices = prices.prices;
@@ -67,9 +69,9 @@ returns-clause-corner c =
       least_cold = subst (NeedsHeat case parts.hot parts.cold Cold) cold flow.ensures.least_cold;
       corner_prices = record {
         place = c.reference_place-place.result;
-        from = from;
+        from_itself = from_itself;
         reference = c.reference_place-place.ensures;
-        counts = c.reference_from-from.ensures c.reference_place-place.result c.reference_place-place.ensures;
+        counts = c.reference_from-from_itself.ensures c.reference_place-place.result c.reference_place-place.ensures;
         hot_prices = prices.ensures.hot ∙ ap (λ f. map f parts.hot) price;
         cold_prices = prices.ensures.cold ∙ ap (λ f. map f parts.cold) price;
       };

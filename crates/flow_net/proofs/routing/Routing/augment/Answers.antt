@@ -1,6 +1,6 @@
 use Rattle.flow_net.proofs.SentFlow.{next_arc, next_carried, next_carries, next_rooms, next_sent, no_arc}
 use Rattle.flow_net.proofs.StandingLemmas.{Stands-augmented, Stands-same}
-use Rattle.flow_net.proofs.Words.{AreWays, CanCarry, IsBottleneck, IsWithinRooms, carry, ints, sent_along_path, take_all}
+use Rattle.flow_net.proofs.Words.{AreResiduals, CanCarry, IsBottleneck, IsWithinRooms, carry, ints, sent_along_path, take_all}
 use Rattle.flow_net.proofs.Words.{to_z-of_z}
 use Rattle.std.proofs.Common.{ap, arith, drop, get_or, of_z, pos, rules, set, subst, sym, to_z, w64, ◌+ℤ◌, ◌+◌, ◌-ℤ◌, ◌∙◌, ◌≡◌, ◌≤ℤ◌}
 use Rattle.flow_net.proofs.routing.Routing.augment.Goals as goal
@@ -46,7 +46,7 @@ loop-arc-preserved c =
     let sent = c.set_flow.ensures.flow ∙ ap (set flow a.link) value in record {
       rooms =
           subst (IsWithinRooms links) (sym sent) (next_rooms links flow path m i within inv.rooms inv.can_carry from);
-      ways = c.set_flow.ensures.ways;
+      residuals = c.set_flow.ensures.residuals;
       can_carry =
           let carries = next_carries links flow path m i within inv.rooms inv.can_carry in
           subst (λ f. CanCarry links f (drop (i + 1) path) m) (sym sent) carries;
@@ -69,7 +69,8 @@ returns-clause-standing c =
     ∙ (ap (λ xs. sent_along_path r.flow.items xs (to_z w64 (of_z w64 m))) all_taken
     ∙ ap (sent_along_path r.flow.items path) kept) in
     let opened =
-    subst (λ f. AreWays p.net.now.links f p.adjacency.arcs.items c.loop-arc.self.ways.items) flow inv.ways in
+    subst (λ f. AreResiduals p.net.now.links f p.adjacency.arcs.items c.loop-arc.self.residuals.items) flow
+    inv.residuals in
     Stands-same p _ _ _ _ _ _ _ flow (ap (λ v. v.items) inv.potentials) (omega (arith, ints))
     (Stands-augmented p r c.requires.standing path c.requires.path m c.bottleneck-amount.ensures _ opened)
 

@@ -8,5 +8,5 @@ returns c =
     let potentials = c.args.self.now.potentials.items in
     let at_tail = get_or_read potentials c.args.node c.index.result.now c.requires.tail_in c.index.ensures (pos 0) in
     let at_head =
-    get_or_read potentials c.args.way.now.head c.index-2.result.now c.requires.head_in c.index-2.ensures (pos 0) in
+    get_or_read potentials c.args.residual.now.head c.index-2.result.now c.requires.head_in c.index-2.ensures (pos 0) in
     omega (arith, sizes, c.requires.cost, c.requires.at_tail, c.requires.at_head)

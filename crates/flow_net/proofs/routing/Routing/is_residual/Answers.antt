@@ -1,5 +1,5 @@
-use Rattle.flow_net.proofs.WayLemmas.{no_way, place-open, place-within}
-use Rattle.flow_net.proofs.Words.{Way, get_or_read, way_at}
+use Rattle.flow_net.proofs.ResidualLemmas.{no_residual, place-open, place-within}
+use Rattle.flow_net.proofs.Words.{Residual, get_or_read, residual_at}
 use Rattle.std.proofs.Common.{IsTrue, ap, arith, subst, sym, ◌∙◌}
 use Rattle.flow_net.proofs.routing.Routing.is_residual.Goals as goal
 
@@ -18,12 +18,12 @@ returns c =
     let a = c.args.arc.now in
     let standing = c.requires.standing in
     let within = place-within p.net.now.nodes p.net.now.links p.adjacency standing.problem.adjacency a c.requires.arc in
-    let read = get_or_read r.ways.items c.place_of.result c.index.result.now
-    (omega (arith, c.place_of.ensures, within, standing.opened.one_each)) c.index.ensures no_way in
-    let way = read ∙ ap (way_at r.ways.items) c.place_of.ensures in
+    let read = get_or_read r.residuals.items c.place_of.result c.index.result.now
+    (omega (arith, c.place_of.ensures, within, standing.opened.one_each)) c.index.ensures no_residual in
+    let same = read ∙ ap (residual_at r.residuals.items) c.place_of.ensures in
     let opens =
-    place-open p.net.now.nodes p.net.now.links p.adjacency standing.problem.adjacency r.flow.items r.ways.items
+    place-open p.net.now.nodes p.net.now.links p.adjacency standing.problem.adjacency r.flow.items r.residuals.items
     standing.opened a c.requires.arc in (
-      λ h. record { arc = c.requires.arc; residual = opens.0 (subst (λ (w : Way). IsTrue w.is_open) way h) },
-      λ is. subst (λ (w : Way). IsTrue w.is_open) (sym way) (opens.1 is.residual),
+      λ h. record { arc = c.requires.arc; residual = opens.0 (subst (λ (w : Residual). IsTrue w.is_open) same h) },
+      λ is. subst (λ (w : Residual). IsTrue w.is_open) (sym same) (opens.1 is.residual),
     )

@@ -1,5 +1,5 @@
-use Rattle.flow_net.proofs.WayLemmas.{AreWays-set, link_place-within}
-use Rattle.flow_net.proofs.Words.{AreWays, IsCost, IsProblem, IsWay, Link, Places, Problem, get_or_read, link_at, place_in, places_at}
+use Rattle.flow_net.proofs.ResidualLemmas.{AreResiduals-set, link_place-within}
+use Rattle.flow_net.proofs.Words.{AreResiduals, IsCost, IsProblem, IsResidual, Link, Places, Problem, get_or_read, link_at, place_in, places_at}
 use Rattle.std.proofs.Common.{Bool, List, arith, false, get_or, length, of_z, set, subst, sym, to_z, true, w64, ℕ, ◌<◌, ◌≡◌}
 use Rattle.flow_net.proofs.routing.Routing.set_flow.Goals as goal
 
@@ -32,28 +32,29 @@ pub index_mut-requires-2 : goal.index_mut-requires-2
 index_mut-requires-2 c =
     let i = within c.args.problem.now c.requires.problem c.args.link c.requires.link c.index-places.result.now
     c.index-places.ensures true in
-    omega (arith, i, c.requires.ways.one_each)
+    omega (arith, i, c.requires.residuals.one_each)
 
 pub index_mut-requires-3 : goal.index_mut-requires-3
 index_mut-requires-3 c =
     let i = within c.args.problem.now c.requires.problem c.args.link c.requires.link c.index-places.result.now
     c.index-places.ensures false in
-    omega (arith, i, c.requires.ways.one_each)
+    omega (arith, i, c.requires.residuals.one_each)
 
-pub returns-clause-ways : goal.returns-clause-ways
-returns-clause-ways c =
+pub returns-clause-residuals : goal.returns-clause-residuals
+returns-clause-residuals c =
     let p = c.args.problem.now in
     let links = p.net.now.links in
     let arcs = p.adjacency.arcs.items in
     let k = c.args.link in
     let x = to_z w64 (of_z w64 c.args.carried) in
     let flow = c.args.self.now.flow.items in
-    let ways = c.args.self.now.ways.items in
-    let forth = subst (λ xs. IsWay (link_at xs k) x true c.along.result) c.as_slice.ensures c.along.ensures in
-    let back = subst (λ xs. IsWay (link_at xs k) x false c.along-2.result) c.as_slice.ensures c.along-2.ensures in
+    let residuals = c.args.self.now.residuals.items in
+    let forth = subst (λ xs. IsResidual (link_at xs k) x true c.along.result) c.as_slice.ensures c.along.ensures in
+    let back = subst (λ xs. IsResidual (link_at xs k) x false c.along-2.result) c.as_slice.ensures c.along-2.ensures in
     let places = read p c.requires.problem k c.requires.link c.index-places.result.now c.index-places.ensures in
-    let both_set = AreWays-set p.net.now.nodes links p.adjacency c.requires.problem.adjacency flow ways k
-    c.requires.link x c.along.result c.along-2.result c.requires.one_each forth back c.requires.ways in
+    let both_set = AreResiduals-set p.net.now.nodes links p.adjacency c.requires.problem.adjacency flow residuals k
+    c.requires.link x c.along.result c.along-2.result c.requires.one_each forth back c.requires.residuals in
     subst (λ (q : Places).
-    AreWays links (set flow k x) arcs (set (set ways q.forward c.along.result) q.back c.along-2.result)) (sym places)
+    AreResiduals links (set flow k x) arcs (set (set residuals q.forward c.along.result) q.back c.along-2.result))
+    (sym places)
     both_set

@@ -51,7 +51,7 @@ loop-node-preserved c =
     let within : v < length potentials = omega arith in
     record {
       flow = inv.flow;
-      ways = inv.ways;
+      residuals = inv.residuals;
       routed = inv.routed;
       one_each = length-set potentials v _ ∙ inv.one_each;
       raised =
@@ -71,7 +71,8 @@ returns-clause-standing c =
     subst (λ v.
     Stands c.args.problem.now c.loop-node.routing.flow.items c.loop-node.routing.potentials.items
     c.loop-node.routing.routed v.items)
-    (sym inv.ways) (Stands-same c.args.problem.now _ _ _ _ _ _ _ (ap (λ v. v.items) inv.flow) refl inv.routed raised)
+    (sym inv.residuals) (Stands-same c.args.problem.now _ _ _ _ _ _ _
+    (ap (λ v. v.items) inv.flow) refl inv.routed raised)
 
 pub returns-clause-free : goal.returns-clause-free
 returns-clause-free c = λ a last.

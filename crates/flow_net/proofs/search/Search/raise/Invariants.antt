@@ -5,7 +5,7 @@ use Rattle.flow_net.proofs.search.Search.raise.Given as goal
 abbrev pub invariant-loop-node : goal.invariant-loop-node
 invariant-loop-node l = record {
   flow : l.routing.flow ≡ l.initial.routing.flow;
-  ways : l.routing.ways ≡ l.initial.routing.ways;
+  residuals : l.routing.residuals ≡ l.initial.routing.residuals;
   routed : l.routing.routed ≡ l.initial.routing.routed;
   one_each : length l.routing.potentials.items ≡ length l.initial.routing.potentials.items;
   raised : (v : ℕ) → v < l.node
