@@ -5,7 +5,7 @@ use Rattle.design_lines.proofs.Words.{BranchValue, Case, Network, Rational, Side
 use Rattle.design_lines.specs.LedStages.{LedStage}
 use Rattle.design_lines.proofs.StageValues.{AreLedFrom, courses_along, courses_values}
 use Rattle.std.proofs.Common.{All, List, arith, length, ℕ, ◌++◌, ◌≡◌}
-use Rattle.design_lines.proofs.ValueSteps.{RunsAs, StageRuns}
+use Rattle.design_lines.proofs.ValueSteps.{RunsAs}
 
 pub courses_run : (case : Case) (network : Network) (R : ℕ → ℕ → Rational → Rational → Type 0)
     (courses : List (List LedStage)) (values more final : Valuation) (next stream : ℕ)

@@ -1,6 +1,6 @@
 //! The branches of a design.
 
-ghost use Rattle.std.specs.Prelude.{◌≡◌, ◌+◌, ◌<◌, ◌≤◌, ◌^◌, ◌++◌, length, IfOk, OnOk};
+ghost use Rattle.std.specs.Prelude.{◌≡◌, ◌+◌, ◌<◌, ◌^◌, ◌++◌, length, IfOk, OnOk};
 ghost use Rattle.networks.specs.Lines.{own_branches};
 ghost use Rattle.design_lines.specs.Drawn.{numbered};
 

@@ -1,6 +1,6 @@
 //! Routing an amount at least cost, or finding a cut that it cannot pass: successive shortest paths with
 //! potentials (Edmonds and Karp 1972; Ahuja, Magnanti and Orlin 1993).
-ghost use Rattle.std.specs.Prelude.{◌≡◌, pos, ◌<ℤ◌, ◌≤ℤ◌, IfOk, OnOk};
+ghost use Rattle.std.specs.Prelude.{◌<ℤ◌, ◌≤ℤ◌, IfOk, OnOk};
 ghost use Rattle.flow_net.specs.Net.{IsWithinLimits, AreEnds, IsRoom, AreInitialPotentials, IsLeastRouting, AreProofOfLeast, AreBounded, IsCutBelow, IsRoutable, IfRouted, IfBlocked};
 ghost use Rattle.flow_net.specs.Problem.{IsStanding};
 ghost use Rattle.flow_net.specs.LevelGraph.{IsLevelGraph};

@@ -30,7 +30,7 @@ pub(crate) struct Search {
 }
 
 impl Search {
-    ghost use Rattle.std.specs.Prelude.{◌<◌, true, false, pos, ◌<ℤ◌, ◌≤ℤ◌, IfOk, OnOk, MatchBool, MatchOption};
+    ghost use Rattle.std.specs.Prelude.{◌<◌, true, false, ◌<ℤ◌, ◌≤ℤ◌, IfOk, OnOk, MatchBool, MatchOption};
     ghost use Rattle.flow_net.specs.Arc.{IsArc};
     ghost use Rattle.flow_net.specs.Problem.{IsProblem, IsStanding, IsFreeArc, arc_by_index};
     ghost use Rattle.flow_net.specs.Search.{IsSearch, IsFresh, HasQueue, IsDrained, IsSettling, IsAt, IsEntered, Improves, IsClosedAt, IsRelaxed, HasArrived, IsStuck, IsTree, IsTreeArc, IsTreePath, arc_at, index_at, distance_at, is_labelled, rise_of};

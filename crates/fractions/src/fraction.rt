@@ -1,7 +1,7 @@
 //! The type of a fraction, its operations, its order and its text.
 #![tactic(auto, using(crate::specs::Fields::fields))]
 
-ghost use Rattle.std.specs.Prelude.{◌≡◌, ◌≢◌, ◌↔◌, ◌+◌, ◌*◌, ◌<◌, ◌≤◌, ◌^◌, ℕ, pos, ◌+ℤ◌, ◌-ℤ◌, ◌*ℤ◌, unsigned_abs, MatchBool};
+ghost use Rattle.std.specs.Prelude.{◌≡◌, ◌≢◌, ◌+◌, ◌*◌, ◌<◌, ◌≤◌, ◌^◌, pos, ◌*ℤ◌, unsigned_abs, MatchBool};
 ghost use Rattle.std.specs.Ordering.{MatchOrdering};
 ghost use Rattle.fractions.specs.Integers.{signed};
 ghost use Rattle.fractions.specs.Rationals.{Gives, IsAtMost, IsBelow, IsWithinLimits, bounded_ratio, is_below, minus, over, plus, ratio, rational_cmp, rational_zero, times, whole};

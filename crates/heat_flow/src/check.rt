@@ -1,5 +1,5 @@
 //! Whether transfers are a heat flow.
-ghost use Rattle.std.specs.Prelude.{◌≡◌, ◌↔◌, ◌<◌, ◌≤◌, ℕ, pos, ◌<ℤ◌, IsTrue, length, All, AllPairs, slice_index_or};
+ghost use Rattle.std.specs.Prelude.{◌≡◌, ◌↔◌, ◌<◌, ◌≤◌, ℕ, pos, IsTrue, length, All, AllPairs, slice_index_or};
 ghost use Rattle.stream_case.specs.Limits.{IsBetween};
 ghost use Rattle.heat_flow.specs.Checks.{IsTransfer, IsFlowOver, SumsWithin};
 ghost use Rattle.heat_flow.specs.Flow.{part_index, heat_at, precedes, HaveParts, ArePositive, KeepsRanges, IsHeatFlow};

@@ -1,5 +1,5 @@
 //! Whether prices support the heat flows over parts that reach each other.
-ghost use Rattle.std.specs.Prelude.{◌≡◌, ◌↔◌, ℕ, ◌<◌, ◌≤◌, ◌≤ℤ◌, IsTrue, length};
+ghost use Rattle.std.specs.Prelude.{◌↔◌, ℕ, ◌<◌, ◌≤◌, ◌≤ℤ◌, IsTrue, length};
 ghost use Rattle.stream_case.specs.declared.limits.TheConstants.{MOST_PARTS};
 ghost use Rattle.heat_flow.specs.Checks.{IsSupported, ReachesAmong};
 ghost use Rattle.heat_flow.specs.Prices.{IsSupporting, price_at};

@@ -1,11 +1,11 @@
 -- A heat flow of the parts of a case, the order of the parts of a side, and how few transfers there are.
 use Rattle.interval_design.proofs.Words.{All-slice_get, AreCaseParts, AreParts, AreStreams-IsComplete, Case, HaveParts, IsComplete, IsHeat, IsHeatFlow}
 use Rattle.interval_design.proofs.Words.{IsPartOf, IsStreamPart, IsValidStream, KeepsRanges, MOST_PARTS, Part, Side, Source, Stream, Transfer, Utility}
-use Rattle.interval_design.proofs.Words.{cases_order, comes_before, comes_before_source, cons_option, enumerate_from, filter_map, get_or_from_slice_get, ints}
+use Rattle.interval_design.proofs.Words.{cases_order, comes_before, comes_before_source, get_or_from_slice_get, ints}
 use Rattle.interval_design.proofs.Words.{mul-le-mul, on_side, option_map, part_sources, precedes, reach_between, same_Some, side_of, side_of_part}
 use Rattle.interval_design.proofs.Words.{slice_get-get_or, slice_get-map, slice_get_within, source_at, unwrap_or, utility_part}
-use Rattle.std.proofs.Common.{All, AllPairs, Bool, List, None, Option, Some, [], ap, arith, get_or, inl, inr, length, refl, slice_get, subst₂, suc, sym, zero}
-use Rattle.std.proofs.Common.{ℕ, ℤ, ⊎_elim, ◌*◌, ◌+◌, ◌-◌, ◌<ℤ◌, ◌<◌, ◌∙◌, ◌∷◌, ◌≡◌, ◌≢◌, ◌≤◌}
+use Rattle.std.proofs.Common.{All, AllPairs, Bool, List, Some, [], ap, arith, get_or, inl, inr, length, slice_get, subst₂, suc, sym, zero}
+use Rattle.std.proofs.Common.{ℕ, ℤ, ⊎_elim, ◌*◌, ◌+◌, ◌-◌, ◌<ℤ◌, ◌<◌, ◌∙◌, ◌∷◌, ◌≡◌, ◌≤◌}
 use Rattle.stream_case.specs.declared.source.Side.TheVariants as side
 use Rattle.stream_case.specs.declared.source.Source.TheVariants as source
 

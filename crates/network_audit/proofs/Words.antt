@@ -47,7 +47,7 @@ pub use Rattle.network_values.specs.Values.{last_value, no_value, value_at}
 unfoldable pub use Rattle.network_values.specs.Values.{branch_side, duty_at, ended_by, ended_streams, is_latent_branch}
 pub use Rattle.network_values.specs.declared.values.BranchValue.{BranchValue}
 pub use Rattle.networks.proofs.LineLaws.{few_exchangers}
-pub use Rattle.networks.proofs.Lists.{All-back, All-flat_map, All-front, all_at, slice_get-take}
+pub use Rattle.networks.proofs.Lists.{all_at, slice_get-take}
 pub use Rattle.networks.proofs.OfShape.{IsLineOf, all_made, line_of, line_read, made_fewer, made_no_more, names-known, streams_first, the_pass_of}
 pub use Rattle.networks.specs.Lines.{Exchanger, exchanger_of, is_pass_of, uses}
 unfoldable pub use Rattle.networks.specs.Lines.{exchangers_of, made_by, pass_of, stream_at}
@@ -75,6 +75,7 @@ pub use Rattle.std.specs.Option.{option_map_or, option_or}
 pub use Rattle.stream_case.proofs.CaseLemmas.{IsSourceOf-side, length-AreStreams}
 pub use Rattle.stream_case.proofs.CompleteLemmas.{AreStreams-IsComplete, HasValidStreams-IsComplete, IsPlaced-IsComplete, IsUtility, StaysValid-IsComplete}
 pub use Rattle.stream_case.proofs.CompleteLemmas.{length-utilities}
+pub use Rattle.stream_case.proofs.ListLemmas.{All-back, All-front}
 pub use Rattle.stream_case.specs.Case.{IsComplete, IsSourceOf, is_forbidden, side_of}
 pub use Rattle.stream_case.specs.Limits.{IsBetween, IsContribution, IsLevel, IsTemperature}
 pub use Rattle.stream_case.specs.Source.{same_side, same_source}
@@ -88,4 +89,5 @@ pub use Rattle.stream_case.specs.declared.stream.Stream.{Stream}
 pub use Rattle.stream_case.specs.declared.utility.Utility.{Utility}
 pub use Rattle.sums.proofs.EnumerationLemmas.{All-enumerated, enumerate_from-append}
 pub use Rattle.sums.proofs.FirstLemmas.{first-append, first-behind, first-front, first-here, first-more, first-none, items-more, items_of}
+pub use Rattle.sums.proofs.ListLemmas.{All-flat_map}
 pub use Rattle.sums.proofs.ProductLemmas.{*ℤ_cancel_right}

@@ -1,5 +1,5 @@
 //! The auditor of a network.
-ghost use Rattle.std.specs.Prelude.{◌≡◌, None, Some, IfOk, MatchResult, slice_get, option_and_then, length};
+ghost use Rattle.std.specs.Prelude.{◌≡◌, None, Some, IfOk, MatchResult, slice_get, option_and_then};
 ghost use Rattle.stream_case.specs.Case.{IsComplete};
 ghost use Rattle.fractions.specs.Rationals.{IsAtMost, rational_zero};
 ghost use Rattle.networks.specs.Shape.{HasShape};

@@ -1,6 +1,5 @@
 //! The balance of a network from the heats of its utilities, step by step.
-ghost use Rattle.std.specs.Prelude.{◌≡◌, ◌+◌, ◌*◌, ◌<◌, ◌≤◌, ◌^◌, length, map};
-ghost use Rattle.std.specs.List.{enumerate_from};
+ghost use Rattle.std.specs.Prelude.{◌≡◌, ◌+◌, ◌*◌, ◌<◌, ◌≤◌, ◌^◌, length};
 ghost use Rattle.fractions.specs.Rationals.{minus, rational_sum, rational_zero, whole};
 ghost use Rattle.problem_table.specs.Deficit.{hot_target};
 ghost use Rattle.stream_case.specs.Stream.{AreStreams};

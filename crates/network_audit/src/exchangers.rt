@@ -1,5 +1,5 @@
 //! The audit of the exchangers: whether each may stand, and keeps its approach at both ends.
-ghost use Rattle.std.specs.Prelude.{◌≡◌, ◌<◌, ◌≤◌, ◌^◌, length};
+ghost use Rattle.std.specs.Prelude.{◌≡◌, ◌<◌, ◌^◌, length};
 ghost use Rattle.fractions.specs.Rationals.{whole};
 ghost use Rattle.network_values.specs.Sides.{approach_of, contribution_of, fixed_level};
 ghost use Rattle.network_values.specs.Values.{value_at};

@@ -1,5 +1,5 @@
 //! The exchangers of a network with the branches that pass them, in one table.
-ghost use Rattle.std.specs.Prelude.{◌≡◌, ℕ, ◌<◌, [], List, length, All, IfOk};
+ghost use Rattle.std.specs.Prelude.{◌≡◌, ◌<◌, [], List, length, All, IfOk};
 ghost use Rattle.networks.specs.Lines.{Exchanger, exchangers_of, stream_at};
 ghost use Rattle.network_audit.specs.Joints.{PassesBelow, joints_among, joints_of, noted, passed_joint};
 

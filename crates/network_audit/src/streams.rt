@@ -1,5 +1,5 @@
 //! What streams carry at their ends, and whether each of them ends.
-ghost use Rattle.std.specs.Prelude.{◌≡◌, ◌<◌, ◌≤◌, ◌^◌, ◌++◌, length, map, take, All};
+ghost use Rattle.std.specs.Prelude.{◌≡◌, ◌<◌, ◌≤◌, length, map, take, All};
 ghost use Rattle.std.specs.List.{list_any};
 ghost use Rattle.stream_case.specs.Stream.{AreStreams, IsValidStream};
 ghost use Rattle.network_values.specs.Values.{first_state, first_value, full_size, last_state};

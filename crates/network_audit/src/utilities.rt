@@ -1,5 +1,5 @@
 //! The audit of the utilities: the heat of each lies in its range.
-ghost use Rattle.std.specs.Prelude.{◌≡◌, ◌<◌, ◌≤◌, ◌^◌, ◌++◌, length};
+ghost use Rattle.std.specs.Prelude.{◌≡◌, ◌<◌, ◌^◌, length};
 ghost use Rattle.fractions.specs.Rationals.{rational_sum, rational_zero, whole};
 ghost use Rattle.network_audit.specs.AllItems.{range_items, sum_steps};
 ghost use Rattle.network_audit.specs.Answers.{Formed, Judged, Tested};

@@ -1,5 +1,5 @@
 //! The walk over the statements, from the streams' own branches to the last that is made.
-ghost use Rattle.std.specs.Prelude.{◌≡◌, ◌+◌, ◌<◌, ◌≤◌, ◌^◌, ◌++◌, length, take};
+ghost use Rattle.std.specs.Prelude.{◌≡◌, ◌+◌, ◌<◌, ◌≤◌, ◌++◌, length, take};
 ghost use Rattle.networks.specs.Lines.{members};
 ghost use Rattle.stream_case.specs.Case.{IsComplete};
 ghost use Rattle.networks.specs.Shape.{HasShape};

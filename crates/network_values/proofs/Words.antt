@@ -30,7 +30,7 @@ pub use Rattle.network_values.specs.Values.{last_part_of_load, last_state, last_
 unfoldable pub use Rattle.network_values.specs.Values.{branch_side, duty_at, ended_by, ended_streams, is_latent_branch}
 pub use Rattle.network_values.specs.Weights.{EndOnce, IsAdditive, StreamsEndOnce, Weight, WeightsBalance, mix_loss, pass_loss, stream_loss, weight_at}
 pub use Rattle.network_values.specs.declared.values.BranchValue.{BranchValue}
-pub use Rattle.networks.proofs.Lists.{All-flat_map, all_at, slice_get-take}
+pub use Rattle.networks.proofs.Lists.{all_at, slice_get-take}
 pub use Rattle.networks.proofs.OfShape.{HasNumbers, all_made, count-passages, declared_parts, line_at, line_of, made_fewer, own_stream, stands_at}
 pub use Rattle.networks.proofs.OfShape.{stream_within, streams_first, the_pass_of, used_there, used_within}
 pub use Rattle.networks.specs.Lines.{Exchanger, is_pass_of, makes, uses}
@@ -72,7 +72,7 @@ pub use Rattle.stream_case.specs.declared.utility.Utility.{Utility}
 pub use Rattle.sums.proofs.CountLemmas.{found, none_any}
 pub use Rattle.sums.proofs.EnumerationLemmas.{range_with_len-append}
 pub use Rattle.sums.proofs.IntegerLemmas.{int_le-from, int_le-true, int_lt-from, int_lt-true}
-pub use Rattle.sums.proofs.ListLemmas.{Contains-slice_get, slice_get-append}
+pub use Rattle.sums.proofs.ListLemmas.{All-flat_map, Contains-slice_get, slice_get-append}
 pub use Rattle.sums.proofs.ProductLemmas.{*ℤ--ℤ}
 pub use Rattle.sums.proofs.SumLemmas.{int_sum_by-sub}
 pub use Rattle.sums.specs.Sum.{int_sum_by}

@@ -10,8 +10,8 @@ use Rattle.penalties.proofs.Words.{joint_rows, joints_of, line_steps, map-append
 use Rattle.penalties.proofs.Words.{one_valuation, penalties_excess, penalties_of, penalties_sign, plus, rational_sum_by, rational_sum_by-append}
 use Rattle.penalties.proofs.Words.{rational_sum_by-map, rational_zero, sum_of, value_formed, values_of}
 use Rattle.penalties.proofs.Words.{zero-plus}
-use Rattle.std.proofs.Common.{All, Bool, Err, IsErrAnd, List, None, Ok, Option, Result, Some, [], ap, append_assoc, ap₂, false, get_or, length, map, refl}
-use Rattle.std.proofs.Common.{subst, sym, take, true, ℕ, ℤ, ◌++◌, ◌+◌, ◌<◌, ◌↔◌, ◌∙◌, ◌∷◌, ◌≡◌}
+use Rattle.std.proofs.Common.{All, Err, IsErrAnd, List, None, Ok, Option, Result, Some, [], ap, append_assoc, ap₂, get_or, length, map, refl}
+use Rattle.std.proofs.Common.{subst, sym, take, ℕ, ◌++◌, ◌+◌, ◌<◌, ◌↔◌, ◌∙◌, ◌∷◌, ◌≡◌}
 use Rattle.penalties.proofs.SurveyLemmas.{rows-joints, steps-joints}
 use Rattle.network_audit.proofs.ItemLemmas.{found-behind, found-formed, found-front, found-not_formed, found-nothing}
 use Rattle.network_audit.proofs.VerdictLemmas.{faultless_values}

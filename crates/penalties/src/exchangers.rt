@@ -1,5 +1,5 @@
 //! Penalties of exchangers.
-ghost use Rattle.std.specs.Prelude.{◌≡◌, ◌+◌, ◌<◌, ◌^◌, ◌++◌, ◌∷◌, IfOk, length};
+ghost use Rattle.std.specs.Prelude.{◌≡◌, ◌+◌, ◌<◌, ◌^◌, ◌++◌, IfOk, length};
 ghost use Rattle.fractions.specs.Rationals.{minus};
 ghost use Rattle.penalties.specs.Answers.{Finds, Formed};
 ghost use Rattle.penalties.specs.Steps.{absorbed_steps, loss_steps, released_steps};

@@ -1,8 +1,8 @@
 -- The stages of streams: pieces that exchange heat, with a share for each of their exchanges.
 use Rattle.pieces.proofs.Words.{All-cons, All-enumerated, All-head, All-map, All-nil, All-reverse, All-tail, AreStages, Case, Exchange, LedStage, Piece, Share}
 use Rattle.pieces.proofs.Words.{Side, Source, Stream, and_parts, append-nil, cond_some, cons_option, course_of, courses_along, courses_of, enumerate_from}
-use Rattle.pieces.proofs.Words.{eqb-true, false≢true, filter_map, filter_map-append, filter_map-enumerate_more, filter_map-push, get_or-reverse, is_of_stream}
-use Rattle.pieces.proofs.Words.{is_stage, kept_hold, led_course, led_piece, led_stage, length-reverse, ltb-true, map-map, nat_lt, ne_eqb}
+use Rattle.pieces.proofs.Words.{eqb-true, false≢true, filter_map, filter_map-append, filter_map-enumerate_more, filter_map-push, is_of_stream}
+use Rattle.pieces.proofs.Words.{is_stage, kept_hold, led_course, led_piece, led_stage, ltb-true, map-map, nat_lt, ne_eqb}
 use Rattle.pieces.proofs.Words.{numbered-item, on_side, on_the_way, option_map, option_to_list, own_share, own_shares, piece_on, reverse, reverse-append}
 use Rattle.pieces.proofs.Words.{same_Some, same_source, same_source-true, share_at, share_for, share_of, shares_along, shares_of, size_on, slice_get-map}
 use Rattle.pieces.proofs.Words.{source_at, sources_of, stage_of, stream_course, take_more, unwrap_or}

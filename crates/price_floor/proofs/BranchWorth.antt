@@ -7,7 +7,7 @@ use Rattle.price_floor.proofs.Words.{height_on-mixed, inlet_height, item_at, min
 use Rattle.price_floor.proofs.Words.{plus-times, plus-zero, rational_zero, released_heat, run_of, run_on_scale}
 use Rattle.price_floor.proofs.Words.{share_in, shifted_run, side_of, side_taken, step_worth, stream_at, stream_within}
 use Rattle.price_floor.proofs.Words.{subst₂, there_and_back, times, times-minus, uses, value_at, value_worth, weight_at}
-use Rattle.std.proofs.Common.{All, None, Option, Some, ap, ap₂, arith, if◌then◌else◌, inl, inr, length, refl, slice_get}
+use Rattle.std.proofs.Common.{All, None, Option, Some, ap, ap₂, arith, inl, inr, length, refl, slice_get}
 use Rattle.std.proofs.Common.{sym, ℕ, ◌<◌, ◌∙◌, ◌≡◌}
 use Rattle.price_floor.proofs.StepLemmas.{step_worth-at_most, step_worth-minus, step_worth-plus, step_worth-same}
 use Rattle.fractions.proofs.Comparisons.{at_most_refl, not_negative-minus}

@@ -2,7 +2,7 @@
 use Rattle.price_floor.proofs.Words.{All-cons, All-contains, All-contains_itself, All-head, All-nil, All-tail}
 use Rattle.price_floor.proofs.Words.{All-weaker, AllPairs-cons_if, AllPairs-head, AllPairs-nil, AllPairs-tail}
 use Rattle.price_floor.proofs.Words.{Contains-append_right, Contains-cons, IsInterval, Part, View, comes_below}
-use Rattle.price_floor.proofs.Words.{if◌then◌else◌, int_le, int_le-false, int_le-from, int_le-true, int_lt}
+use Rattle.price_floor.proofs.Words.{int_le, int_le-false, int_le-from, int_le-true, int_lt}
 use Rattle.price_floor.proofs.Words.{int_lt-false, int_lt-from, int_lt-true, interval_below, interval_ends}
 use Rattle.price_floor.proofs.Words.{interval_falls, ints, last_price, stands_above, views_of, ◌<ℤ◌}
 use Rattle.std.proofs.Common.{All, AllPairs, Bool, Contains, List, [], ap, arith, false, get_or, inl, inr, refl, subst}

@@ -4,7 +4,7 @@ ghost use Rattle.std.specs.List.{list_any};
 ghost use Rattle.stream_case.specs.Limits.{IsContribution, IsTemperature};
 ghost use Rattle.heat_flow.specs.Table.{reaches};
 ghost use Rattle.site_text.specs.Site.{IsValidSite};
-ghost use Rattle.site.specs.Reach.{are_together, part_reaches, passes_through, plant_of, reach_between, reaches_within, stream_plants};
+ghost use Rattle.site.specs.Reach.{are_together, passes_through, plant_of, reach_between, reaches_within, stream_plants};
 
 use crate::places::{gives_at, takes_at};
 use grid::{Part, Parts};

@@ -1,5 +1,5 @@
 //! Names of streams, utilities, exchangers and branches.
-ghost use Rattle.std.specs.Prelude.{◌≡◌, ◌↔◌, ◌⊎◌, ◌+◌, ◌-◌, ◌*◌, ◌<◌, ◌≤◌, SomeIff, IsTrue, slice_index, length};
+ghost use Rattle.std.specs.Prelude.{◌≡◌, ◌↔◌, ◌+◌, ◌-◌, ◌*◌, ◌<◌, SomeIff, IsTrue, slice_index, length};
 ghost use Rattle.std.specs.Prelude.{nat_eq, Some, refl, is_some, IfSome};
 ghost use Rattle.std.specs.Ordering.{nat_cmp};
 ghost use Rattle.std.specs.Hash as fed;

@@ -1,4 +1,4 @@
-use Rattle.std.proofs.Common.{Ok, Some, [], ap, arith, inl, inr, length, length-append, slice_get, subst, sym, ℕ, ◌*◌, ◌++◌, ◌+◌, ◌<◌, ◌⊎◌, ◌∙◌, ◌∷◌, ◌≡◌, ◌≤◌}
+use Rattle.std.proofs.Common.{Ok, Some, [], ap, arith, inl, inr, length, length-append, slice_get, subst, sym, ◌*◌, ◌++◌, ◌+◌, ◌<◌, ◌⊎◌, ◌∙◌, ◌∷◌, ◌≡◌, ◌≤◌}
 use Rattle.workers.proofs.Words.{div_ceil_times, item_of, mul-le}
 use Rattle.workers.proofs.ShareLemmas.{all-made, earlier-round, none-left, one_more, one_within}
 use Rattle.workers.proofs.sharing.share_of.Given as given

@@ -1,4 +1,4 @@
-use Rattle.std.proofs.Common.{List, ap, ap₂, ℕ, ◌∙◌}
+use Rattle.std.proofs.Common.{ap₂, ◌∙◌}
 use Rattle.std.specs.Hash.DefaultHasher.{write}
 use Rattle.keyed_index.specs.Key.{keyed_by}
 use Rattle.keyed_index.proofs.text_key.TextKey.of_digest.Goals as goal
