@@ -1,18 +1,8 @@
 use Rattle.corner_flow.specs.Corner.{NeedsHeat, UtilityHeat, corner_price, counts_low}
-use Rattle.transport.proofs.Words.{Cold, Hot, IsTrue, Least, ints, reach_between, to_z-of_z, weak_duality}
-use Rattle.problem_table.specs.Deficit.{CountsFromItself}
+use Rattle.transport.proofs.Words.{Cold, Hot, Least, ints, reach_between, to_z-of_z, weak_duality}
 use Rattle.std.proofs.lemmas.List.{length-map}
-use Rattle.std.specs.Prelude.{◌↔◌}
-use Rattle.std.proofs.Common.{FitsSigned, ap, ap₂, arith, length, map, rules, subst, sym, w32, ◌∙◌}
+use Rattle.std.proofs.Common.{FitsSigned, ap, ap₂, arith, length, map, rules, subst, w32, ◌∙◌}
 use Rattle.transport.proofs.case_flow.corner_answer.Goals as goal
-
-pub corner_prices-requires-clause-from_itself : goal.corner_prices-requires-clause-from_itself
-corner_prices-requires-clause-from_itself c =
-    let place = c.reference_place-place.result in
-    let fits : FitsSigned w32 place = search rules in
-    subst (λ p. IsTrue c.reference_from-from_itself.result ↔ CountsFromItself c.args.case.now.streams p)
-    (sym (to_z-of_z w32 place fits))
-    (c.reference_from-from_itself.ensures place c.reference_place-place.ensures)
 
 pub returns-clause-answer : goal.returns-clause-answer
 returns-clause-answer c =
@@ -53,10 +43,10 @@ returns-clause-corner c =
     let prices = c.in_ok-prices in
     let hot = c.targets-targets.ensures.hot in
     let cold = c.targets-targets.ensures.cold in
-    let fits : FitsSigned w32 c.reference_place-place.result = search rules in
-    let from_itself = c.reference_from-from_itself.result in
-    let price = ap₂ (λ t p. corner_price t (counts_low case.streams from_itself p) p) hot
-    (to_z-of_z w32 c.reference_place-place.result fits) in
+    let reference = c.reference_of-reference in
+    let fits : FitsSigned w32 reference.result.place = search rules in
+    let counts = counts_low case.streams reference.result.from_itself in
+    let price = ap₂ (λ t p. corner_price t (counts p) p) hot (to_z-of_z w32 reference.result.place fits) in
     record {
       flow = flow.flow;
       prices = prices.prices;
@@ -68,10 +58,10 @@ returns-clause-corner c =
       least_hot = subst (NeedsHeat case parts.hot parts.cold Hot) hot flow.ensures.least_hot;
       least_cold = subst (NeedsHeat case parts.hot parts.cold Cold) cold flow.ensures.least_cold;
       corner_prices = record {
-        place = c.reference_place-place.result;
-        from_itself = from_itself;
-        reference = c.reference_place-place.ensures;
-        counts = c.reference_from-from_itself.ensures c.reference_place-place.result c.reference_place-place.ensures;
+        place = reference.result.place;
+        from_itself = reference.result.from_itself;
+        reference = reference.ensures.place;
+        counts = reference.ensures.from_itself;
         hot_prices = prices.ensures.hot ∙ ap (λ f. map f parts.hot) price;
         cold_prices = prices.ensures.cold ∙ ap (λ f. map f parts.cold) price;
       };
