@@ -1,18 +1,18 @@
 -- The prices of a report that the grammar gives are within the limits of a certificate.
-use Rattle.certify.proofs.Words.{All-nil, All-push, Check, CutKind, Draft, Entry, HasPartPrices, IsKept, IsPartPrice, IsReport, Kind, Passes, Priced, Report}
+use Rattle.certify.proofs.Words.{All-nil, All-push, Check, CutKind, Entry, Given, HasPartPrices, IsKept, IsPartPrice, IsReport, Kind, Passes, Priced, Report}
 use Rattle.certify.proofs.Words.{Span, Statement, and_parts, checks, entry_as, entry_by, entry_in, field, field_checks, given_by, given_has, grammar}
 use Rattle.certify.proofs.Words.{int_le-true, kind_checks, kind_of, lengthened, number, priced_checks, report_in, span_checks, with_any, with_entry}
 use Rattle.std.proofs.Common.{List, None, Option, Some, [], arith, ℤ, ◌++◌, ◌∷◌, ◌≡◌}
-use Rattle.certify.specs.declared.draft.Draft.TheVariants as draft
+use Rattle.certify.specs.declared.given.Given.TheVariants as gave
 use Rattle.certify.specs.declared.entry.Entry.TheVariants as entry
 use Rattle.certify.specs.declared.kind.Kind.TheVariants as kind
 use Rattle.certify.specs.declared.report.Report.TheVariants as report
 
--- a draft with such prices
-abbrev HasPrices : Draft → Type 0
-HasPrices draft.Nothing = Unit {0}
-HasPrices draft.Infeasible = Unit {0}
-HasPrices (draft.Whole r) = HasPartPrices r
+-- what statements gave, with such prices
+abbrev HasPrices : Given → Type 0
+HasPrices gave.Nothing = Unit {0}
+HasPrices gave.Infeasible = Unit {0}
+HasPrices (gave.Whole r) = HasPartPrices r
 
 passes_behind : {Cause : Type 0} → (group others : List (Check Cause)) → Passes (group ++ others) → Passes others
 passes_behind [] others h = h
@@ -48,16 +48,16 @@ longer (report.Flow cost uses moves gives takes) (entry.Take t) has priced =
 longer (report.Flow cost uses moves gives takes) other has priced = has
 longer (report.Cut side need offer parts) e has priced = cut_longer side need offer parts e
 
-first : (e : Entry) → HasPrices (with_entry draft.Nothing e)
+first : (e : Entry) → HasPrices (with_entry gave.Nothing e)
 first = grind (arith, All-nil {X = Priced} (λ g. IsPartPrice g.price))
 
-behind_the_word : (e : Entry) → HasPrices (with_entry draft.Infeasible e)
+behind_the_word : (e : Entry) → HasPrices (with_entry gave.Infeasible e)
 behind_the_word = grind arith
 
-step : (given : Draft) (e : Entry) → HasPrices given → IsPriced e → HasPrices (with_entry given e)
-step draft.Nothing e has priced = first e
-step draft.Infeasible e has priced = behind_the_word e
-step (draft.Whole r) e has priced = longer r e has priced
+step : (given : Given) (e : Entry) → HasPrices given → IsPriced e → HasPrices (with_entry given e)
+step gave.Nothing e has priced = first e
+step gave.Infeasible e has priced = behind_the_word e
+step (gave.Whole r) e has priced = longer r e has priced
 
 kept : IsKept grammar HasPrices
 unfolding checks entry_in
@@ -67,10 +67,10 @@ kept given s has passes = by (kind_of s) passes.1
     by None h = has
     by (Some k) h = step given (entry_as k s) has (entry_priced k s h.1.1)
 
-priced : (given : Draft) (r : Report) → HasPrices given → r ≡ report_in given → HasPartPrices r
-priced draft.Nothing r has is = rw is (All-nil _, All-nil _)
-priced draft.Infeasible r has is = rw is (All-nil _, All-nil _)
-priced (draft.Whole w) r has is = rw is has
+priced : (given : Given) (r : Report) → HasPrices given → r ≡ report_in given → HasPartPrices r
+priced gave.Nothing r has is = rw is (All-nil _, All-nil _)
+priced gave.Infeasible r has is = rw is (All-nil _, All-nil _)
+priced (gave.Whole w) r has is = rw is has
 
 pub report_prices : (statements : List Statement) (r : Report) → IsReport statements r → HasPartPrices r
 report_prices statements r is =

@@ -1,6 +1,6 @@
 -- The text of a report is read as the report.
 use Rattle.certify.proofs.Numbers.{IsNumber, amount_number, cost_number, level_number}
-use Rattle.certify.proofs.Words.{All-append, All-cons, All-map, All-nil, All-slice_get, All-weaker, CutKind, Draft, Follows, Give, IsPlainField}
+use Rattle.certify.proofs.Words.{All-append, All-cons, All-map, All-nil, All-slice_get, All-weaker, CutKind, Follows, Give, Given, IsPlainField}
 use Rattle.certify.proofs.Words.{IsPlainStatement, IsReport, IsWithin, Kind, MOST_AMOUNT, MOST_COST, MOST_LEVEL, Moved, Passes, Priced, Report, Span, Statement}
 use Rattle.certify.proofs.Words.{Used, all_give, checks, codes, cut_kind, cut_kind_in, entry_in, field_checks, first_failing, grammar, is_name, kind_checks}
 use Rattle.certify.proofs.Words.{kind_of, name-passes, none_fails, nothing_gives, one_more_gives, slice_get-seam, span_at, span_checks, true}
@@ -8,14 +8,14 @@ use Rattle.certify.specs.Printed.{IsMove, IsPrice, IsReadable, IsSpan, IsUse, Pr
 use Rattle.certify.specs.Printed.{move_statement, part_statement, priced_statement, statements_in, use_statement}
 use Rattle.statements.proofs.PlainStatements.{name_plain, plain_statement, statements-back, word_plain}
 use Rattle.std.proofs.Common.{All, List, None, Some, [], ap, arith, false, get_or, is_some, length, map, refl, subst, sym, ℕ, ℤ, ◌++◌, ◌==◌, ◌∷◌, ◌≡◌}
-use Rattle.certify.specs.declared.draft.Draft.TheVariants as draft
+use Rattle.certify.specs.declared.given.Given.TheVariants as gave
 use Rattle.certify.specs.declared.kind.Kind.TheVariants as kind
 use Rattle.certify.specs.declared.report.Report.TheVariants as report
 use Rattle.heat_flow.specs.declared.cut.CutKind.TheVariants as cut
 
 -- ---- the statements, one after the other
 
-passes_of : (given : Draft) (s : Statement) (k : Kind) → kind_of s ≡ Some k
+passes_of : (given : Given) (s : Statement) (k : Kind) → kind_of s ≡ Some k
     → Passes (kind_checks (Some k) given s) → first_failing (checks given s) ≡ None
 unfolding checks
 passes_of given s k is passes =
@@ -33,27 +33,29 @@ read_span s is =
     record { name = name-passes s.name is.name; high = level_number s.high is.high; low = level_number s.low is.low }
 
 cost_follows : (cost : ℤ) → IsWithin MOST_COST cost
-    → Follows grammar draft.Nothing (cost_statement cost) (draft.Whole (report.Flow cost [] [] [] []))
+    → Follows grammar gave.Nothing (cost_statement cost) (gave.Whole (report.Flow cost [] [] [] []))
 unfolding entry_in field_checks
 cost_follows cost is =
     let n = cost_number cost is in record {
-      passes = passes_of draft.Nothing (cost_statement cost) kind.Cost refl (refl, (refl, (n.some, (n.within, tt))));
-      next_is = λ i. draft.Whole (report.Flow (sym n.value i) [] [] [] []);
+      passes = passes_of gave.Nothing (cost_statement cost) kind.Cost refl (refl, (refl, (n.some, (n.within, tt))));
+      next_is = λ i. gave.Whole (report.Flow (sym n.value i) [] [] [] []);
     }
 
 use_follows : (cost : ℤ) (before : List Used) (u : Used) → IsUse u
-    → Follows grammar (draft.Whole (report.Flow cost before [] [] [])) (use_statement u) (draft.Whole (report.Flow cost (before ++ u ∷ []) [] [] []))
+    → Follows grammar (gave.Whole (report.Flow cost before [] [] [])) (use_statement u)
+    (gave.Whole (report.Flow cost (before ++ u ∷ []) [] [] []))
 unfolding entry_in field_checks
 use_follows cost before u is =
     let n = amount_number u.heat is.heat in record {
       passes =
           passes_of _ (use_statement u) kind.Use refl (refl, (refl, (name-passes u.name is.name, (n.some, (n.within, tt)))));
       next_is =
-          λ i. draft.Whole (report.Flow cost (before ++ record { name = u.name; heat = sym n.value i } ∷ []) [] [] []);
+          λ i. gave.Whole (report.Flow cost (before ++ record { name = u.name; heat = sym n.value i } ∷ []) [] [] []);
     }
 
 move_follows : (cost : ℤ) (uses : List Used) (before : List Moved) (m : Moved) → IsMove m
-    → Follows grammar (draft.Whole (report.Flow cost uses before [] [])) (move_statement m) (draft.Whole (report.Flow cost uses (before ++ m ∷ []) [] []))
+    → Follows grammar (gave.Whole (report.Flow cost uses before [] [])) (move_statement m)
+    (gave.Whole (report.Flow cost uses (before ++ m ∷ []) [] []))
 unfolding entry_in field_checks span_checks span_at
 move_follows cost uses before m is =
     let n = amount_number m.heat is.heat in
@@ -66,7 +68,7 @@ move_follows cost uses before m is =
     record {
       passes = passes_of _ (move_statement m) kind.Move refl
           (refl, (refl, (h.name, (a.some, (a.within, (b.some, (b.within, (k.name, (d.some, (d.within, (e.some, (e.within, (n.some, (n.within, tt))))))))))))));
-      next_is = λ i. draft.Whole (report.Flow cost uses (before ++ record {
+      next_is = λ i. gave.Whole (report.Flow cost uses (before ++ record {
         hot = record { name = m.hot.name; high = sym h.high.value i; low = sym h.low.value i };
         cold = record { name = m.cold.name; high = sym k.high.value i; low = sym k.low.value i };
         heat = sym n.value i;
@@ -74,8 +76,8 @@ move_follows cost uses before m is =
     }
 
 give_follows : (cost : ℤ) (uses : List Used) (moves : List Moved) (before : List Priced) (g : Priced) → IsPrice g
-    → Follows grammar (draft.Whole (report.Flow cost uses moves before [])) (priced_statement (codes "give") g)
-    (draft.Whole (report.Flow cost uses moves (before ++ g ∷ []) []))
+    → Follows grammar (gave.Whole (report.Flow cost uses moves before [])) (priced_statement (codes "give") g)
+    (gave.Whole (report.Flow cost uses moves (before ++ g ∷ []) []))
 unfolding entry_in field_checks span_checks span_at
 give_follows cost uses moves before g is =
     let n = amount_number g.price is.price in
@@ -83,15 +85,15 @@ give_follows cost uses moves before g is =
     record {
       passes = passes_of _ (priced_statement (codes "give") g) kind.Give refl
           (refl, (refl, (p.name, (p.high.some, (p.high.within, (p.low.some, (p.low.within, (n.some, (n.within, tt)))))))));
-      next_is = λ i. draft.Whole (report.Flow cost uses moves (before ++ record {
+      next_is = λ i. gave.Whole (report.Flow cost uses moves (before ++ record {
         part = record { name = g.part.name; high = sym p.high.value i; low = sym p.low.value i };
         price = sym n.value i;
       } ∷ []) []);
     }
 
 take_follows : (cost : ℤ) (uses : List Used) (moves : List Moved) (gives before : List Priced) (g : Priced) → IsPrice g
-    → Follows grammar (draft.Whole (report.Flow cost uses moves gives before)) (priced_statement (codes "take") g)
-    (draft.Whole (report.Flow cost uses moves gives (before ++ g ∷ [])))
+    → Follows grammar (gave.Whole (report.Flow cost uses moves gives before)) (priced_statement (codes "take") g)
+    (gave.Whole (report.Flow cost uses moves gives (before ++ g ∷ [])))
 unfolding entry_in field_checks span_checks span_at
 take_follows cost uses moves gives before g is =
     let n = amount_number g.price is.price in
@@ -99,16 +101,19 @@ take_follows cost uses moves gives before g is =
     record {
       passes = passes_of _ (priced_statement (codes "take") g) kind.Take refl
           (refl, (refl, (p.name, (p.high.some, (p.high.within, (p.low.some, (p.low.within, (n.some, (n.within, tt)))))))));
-      next_is = λ i. draft.Whole (report.Flow cost uses moves gives (before ++ record {
+      next_is = λ i. gave.Whole (report.Flow cost uses moves gives (before ++ record {
         part = record { name = g.part.name; high = sym p.high.value i; low = sym p.low.value i };
         price = sym n.value i;
       } ∷ []));
     }
 
-infeasible_follows : Follows grammar draft.Nothing (codes "infeasible" ∷ []) draft.Infeasible
+infeasible_follows : Follows grammar gave.Nothing (codes "infeasible" ∷ []) gave.Infeasible
 unfolding entry_in field_checks
 infeasible_follows =
-    record { passes = passes_of draft.Nothing (codes "infeasible" ∷ []) kind.Infeasible refl (refl, (refl, tt)); next_is = refl }
+    record {
+      passes = passes_of gave.Nothing (codes "infeasible" ∷ []) kind.Infeasible refl (refl, (refl, tt));
+      next_is = refl;
+    }
 
 kind_known : (kind : CutKind) → cut_kind (kind_word kind) ≡ kind
 unfolding cut_kind
@@ -120,26 +125,28 @@ kind_passes cut.Demand = refl
 kind_passes cut.Supply = refl
 
 cut_follows : (kind : CutKind) (need offer : ℤ) → IsWithin MOST_AMOUNT need → IsWithin MOST_AMOUNT offer
-    → Follows grammar draft.Infeasible (cut_statement kind need offer) (draft.Whole (report.Cut kind need offer []))
+    → Follows grammar gave.Infeasible (cut_statement kind need offer) (gave.Whole (report.Cut kind need offer []))
 unfolding entry_in field_checks
 cut_follows of need offer need_within offer_within =
     let n = amount_number need need_within in
     let o = amount_number offer offer_within in
     record {
-      passes = passes_of draft.Infeasible (cut_statement of need offer) kind.Cut refl
+      passes = passes_of gave.Infeasible (cut_statement of need offer) kind.Cut refl
           (refl, (refl, (kind_passes of, (n.some, (n.within, (o.some, (o.within, tt)))))));
-      next_is = λ i. draft.Whole (report.Cut (sym (kind_known of) i) (sym n.value i) (sym o.value i) []);
+      next_is = λ i. gave.Whole (report.Cut (sym (kind_known of) i) (sym n.value i) (sym o.value i) []);
     }
 
 part_follows : (kind : CutKind) (need offer : ℤ) (before : List Span) (s : Span) → IsSpan s
-    → Follows grammar (draft.Whole (report.Cut kind need offer before)) (part_statement s) (draft.Whole (report.Cut kind need offer (before ++ s ∷ [])))
+    → Follows grammar (gave.Whole (report.Cut kind need offer before)) (part_statement s)
+    (gave.Whole (report.Cut kind need offer (before ++ s ∷ [])))
 unfolding entry_in field_checks span_checks span_at
 part_follows of need offer before s is =
     let p = read_span s is in record {
       passes =
           passes_of _ (part_statement s) kind.Part refl (refl, (refl, (p.name, (p.high.some, (p.high.within, (p.low.some, (p.low.within, tt)))))));
       next_is =
-          λ i. draft.Whole (report.Cut of need offer (before ++ record { name = s.name; high = sym p.high.value i; low = sym p.low.value i } ∷ []));
+          λ i. gave.Whole (report.Cut of need offer
+          (before ++ record { name = s.name; high = sym p.high.value i; low = sym p.low.value i } ∷ []));
     }
 
 -- ---- all of them
@@ -150,27 +157,31 @@ of_all : {X : Type 0} (P : X → Type 0) (xs before : List X) (x : X) (after : L
 of_all P xs before x after all is =
     All-slice_get P (before ++ x ∷ after) (length before) x (subst (All P) is all) (slice_get-seam before x after)
 
-given_in : (r : Report) → IsReadable r → Give grammar (statements_in r) (draft.Whole r)
+given_in : (r : Report) → IsReadable r → Give grammar (statements_in r) (gave.Whole r)
 given_in (report.Flow cost uses moves gives takes) is =
     let base : List Statement = cost_statement cost ∷ [] in
-    let first = one_more_gives grammar [] draft.Nothing (cost_statement cost) (draft.Whole (report.Flow cost [] [] [] []))
-    (nothing_gives grammar draft.Nothing refl) (cost_follows cost is.0) in
-    let with_uses = all_give grammar use_statement (λ us. draft.Whole (report.Flow cost us [] [] [])) base uses
+    let first = one_more_gives grammar [] gave.Nothing (cost_statement cost) (gave.Whole (report.Flow cost [] [] [] []))
+    (nothing_gives grammar gave.Nothing refl) (cost_follows cost is.0) in
+    let with_uses = all_give grammar use_statement (λ us. gave.Whole (report.Flow cost us [] [] [])) base uses
     (λ before u after at. use_follows cost before u (of_all IsUse uses before u after is.1 at)) first in
-    let with_moves = all_give grammar move_statement (λ ms. draft.Whole (report.Flow cost uses ms [] [])) (base ++ map use_statement uses) moves
+    let with_moves = all_give grammar move_statement (λ ms. gave.Whole (report.Flow cost uses ms [] []))
+    (base ++ map use_statement uses) moves
     (λ before m after at. move_follows cost uses before m (of_all IsMove moves before m after is.2 at)) with_uses in
-    let with_gives = all_give grammar (priced_statement (codes "give")) (λ gs. draft.Whole (report.Flow cost uses moves gs []))
+    let with_gives =
+    all_give grammar (priced_statement (codes "give")) (λ gs. gave.Whole (report.Flow cost uses moves gs []))
     ((base ++ map use_statement uses) ++ map move_statement moves) gives
     (λ before g after at. give_follows cost uses moves before g (of_all IsPrice gives before g after is.3 at)) with_moves in
-    all_give grammar (priced_statement (codes "take")) (λ ts. draft.Whole (report.Flow cost uses moves gives ts))
+    all_give grammar (priced_statement (codes "take")) (λ ts. gave.Whole (report.Flow cost uses moves gives ts))
     (((base ++ map use_statement uses) ++ map move_statement moves) ++ map (priced_statement (codes "give")) gives) takes
     (λ before g after at. take_follows cost uses moves gives before g (of_all IsPrice takes before g after is.4 at)) with_gives
 given_in (report.Cut of need offer parts) is =
     let word : Statement = codes "infeasible" ∷ [] in
-    let first = one_more_gives grammar [] draft.Nothing word draft.Infeasible (nothing_gives grammar draft.Nothing refl) infeasible_follows in
-    let second = one_more_gives grammar (word ∷ []) draft.Infeasible (cut_statement of need offer)
-    (draft.Whole (report.Cut of need offer [])) first (cut_follows of need offer is.0 is.1) in
-    all_give grammar part_statement (λ ps. draft.Whole (report.Cut of need offer ps)) (word ∷ cut_statement of need offer ∷ []) parts
+    let first = one_more_gives grammar [] gave.Nothing word gave.Infeasible
+    (nothing_gives grammar gave.Nothing refl) infeasible_follows in
+    let second = one_more_gives grammar (word ∷ []) gave.Infeasible (cut_statement of need offer)
+    (gave.Whole (report.Cut of need offer [])) first (cut_follows of need offer is.0 is.1) in
+    all_give grammar part_statement (λ ps. gave.Whole (report.Cut of need offer ps))
+    (word ∷ cut_statement of need offer ∷ []) parts
     (λ before s after at. part_follows of need offer before s (of_all IsSpan parts before s after is.2 at)) second
 
 -- ---- their fields are plain

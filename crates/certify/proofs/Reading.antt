@@ -1,7 +1,7 @@
 -- The outcomes of reading a report, and its end.
-use Rattle.certify.proofs.Words.{Draft, IsOutcome, Report, ReportFault, Statement, end_fault, report_in}
+use Rattle.certify.proofs.Words.{Given, IsOutcome, Report, ReportFault, Statement, end_fault, report_in}
 use Rattle.std.proofs.Common.{Err, IsErrAnd, List, None, Ok, Result, Some, refl, subst, sym, ℕ, ◌+◌, ◌≡◌}
-use Rattle.certify.specs.declared.draft.Draft.TheVariants as draft
+use Rattle.certify.specs.declared.given.Given.TheVariants as gave
 use Rattle.certify.specs.declared.fault.ReportFault.TheVariants as fault
 use Rattle.certify.specs.declared.fault.ReportWhy.TheVariants as why
 
@@ -13,14 +13,14 @@ no_outcome statements (Err f) h = subst (λ (g : ReportFault). IsOutcome stateme
 
 -- ---- the end
 
-pub whole-end : (number : ℕ) (given : Draft) (r : Report) → given ≡ draft.Whole r → end_fault number given ≡ None
+pub whole-end : (number : ℕ) (given : Given) (r : Report) → given ≡ gave.Whole r → end_fault number given ≡ None
 whole-end number given r is = rw is refl
 
-pub whole-value : (given : Draft) (r : Report) → given ≡ draft.Whole r → r ≡ report_in given
+pub whole-value : (given : Given) (r : Report) → given ≡ gave.Whole r → r ≡ report_in given
 whole-value given r is = rw is refl
 
-pub early-end : (number : ℕ) (given : Draft) → ((r : Report) → given ≡ draft.Whole r → ⊥)
+pub early-end : (number : ℕ) (given : Given) → ((r : Report) → given ≡ gave.Whole r → ⊥)
     → end_fault number given ≡ Some (number + 1, why.Ended)
-early-end number draft.Nothing none = refl
-early-end number draft.Infeasible none = refl
-early-end number (draft.Whole r) none = absurd (none r refl)
+early-end number gave.Nothing none = refl
+early-end number gave.Infeasible none = refl
+early-end number (gave.Whole r) none = absurd (none r refl)

@@ -9,7 +9,7 @@ pub use Rattle.certify.specs.Permits.{HavePermits}
 pub use Rattle.certify.specs.Setting.{cold_parts, hot_parts}
 pub use Rattle.certify.specs.Table.{IsTableOf, IsWithSpan, bytes_of_span, index_in, same_span}
 unfoldable pub use Rattle.certify.specs.Table.{bytes_of_parts}
-pub use Rattle.certify.specs.declared.draft.Draft.{Draft}
+pub use Rattle.certify.specs.declared.given.Given.{Given}
 pub use Rattle.certify.specs.declared.entry.Entry.{Entry}
 pub use Rattle.certify.specs.declared.fault.ReportFault.{ReportFault}
 pub use Rattle.certify.specs.declared.kind.Kind.{Kind}

@@ -5,7 +5,7 @@ use Rattle.stream_case.specs.Name.{is_name}
 use Rattle.stream_case.specs.Digits.{integer_in}
 use Rattle.statements.specs.Statements.{Statement, field}
 use Rattle.certify.specs.Given.{admits, cut_kind_in, field_count, kind_of, number}
-use Rattle.certify.specs.declared.draft.Draft.{Draft}
+use Rattle.certify.specs.declared.given.Given.{Given}
 use Rattle.certify.specs.declared.fault.ReportWhy.{ReportWhy}
 use Rattle.certify.specs.declared.fault.ReportWhy.TheVariants as why
 use Rattle.certify.specs.declared.kind.Kind.{Kind}
@@ -53,12 +53,12 @@ field_checks kind.Part s = span_checks s 1
 
 -- ---- a statement, behind statements that gave this
 
-abbrev pub kind_checks : Option Kind → Draft → Statement → List (Check ReportWhy)
+abbrev pub kind_checks : Option Kind → Given → Statement → List (Check ReportWhy)
 kind_checks None given s = []
 kind_checks (Some kind) given s =
     (length s == field_count kind, why.FieldCount)
     ∷ (admits given kind, why.OutOfOrder)
     ∷ field_checks kind s
 
-unfoldable pub checks : Draft → Statement → List (Check ReportWhy)
+unfoldable pub checks : Given → Statement → List (Check ReportWhy)
 checks given s = (is_some (kind_of s), why.UnknownWord) ∷ kind_checks (kind_of s) given s

@@ -5,8 +5,8 @@ use Rattle.heat_flow.specs.declared.cut.CutKind.{CutKind}
 use Rattle.heat_flow.specs.declared.cut.CutKind.TheVariants as cut
 use Rattle.stream_case.specs.Digits.{integer_in}
 use Rattle.statements.specs.Statements.{Statement, field}
-use Rattle.certify.specs.declared.draft.Draft.{Draft}
-use Rattle.certify.specs.declared.draft.Draft.TheVariants as draft
+use Rattle.certify.specs.declared.given.Given.{Given}
+use Rattle.certify.specs.declared.given.Given.TheVariants as gave
 use Rattle.certify.specs.declared.entry.Entry.{Entry}
 use Rattle.certify.specs.declared.entry.Entry.TheVariants as entry
 use Rattle.certify.specs.declared.kind.Kind.{Kind}
@@ -93,15 +93,16 @@ is_empty xs = length xs == 0
 
 -- a statement of this kind may come next: first a cost or the word that there is no heat flow; behind a cost uses, then moves, then gives, then
 -- takes; behind the word a cut, and then parts
-abbrev pub admits : Draft → Kind → Bool
-admits draft.Nothing kind.Cost = true
-admits draft.Nothing kind.Infeasible = true
-admits draft.Infeasible kind.Cut = true
-admits (draft.Whole (report.Flow cost uses moves gives takes)) kind.Use = is_empty moves && is_empty gives && is_empty takes
-admits (draft.Whole (report.Flow cost uses moves gives takes)) kind.Move = is_empty gives && is_empty takes
-admits (draft.Whole (report.Flow cost uses moves gives takes)) kind.Give = is_empty takes
-admits (draft.Whole (report.Flow cost uses moves gives takes)) kind.Take = true
-admits (draft.Whole (report.Cut side need offer parts)) kind.Part = true
+abbrev pub admits : Given → Kind → Bool
+admits gave.Nothing kind.Cost = true
+admits gave.Nothing kind.Infeasible = true
+admits gave.Infeasible kind.Cut = true
+admits (gave.Whole (report.Flow cost uses moves gives takes)) kind.Use =
+    is_empty moves && is_empty gives && is_empty takes
+admits (gave.Whole (report.Flow cost uses moves gives takes)) kind.Move = is_empty gives && is_empty takes
+admits (gave.Whole (report.Flow cost uses moves gives takes)) kind.Give = is_empty takes
+admits (gave.Whole (report.Flow cost uses moves gives takes)) kind.Take = true
+admits (gave.Whole (report.Cut side need offer parts)) kind.Part = true
 admits d k = false
 
 -- a report with one statement more; what may not come next changes nothing
@@ -114,38 +115,38 @@ lengthened (report.Cut kind need offer parts) (entry.Part p) = report.Cut kind n
 lengthened r e = r
 
 -- the same of what the statements so far give
-abbrev pub with_entry : Draft → Entry → Draft
-with_entry draft.Nothing (entry.Cost n) = draft.Whole (report.Flow n [] [] [] [])
-with_entry draft.Nothing entry.Infeasible = draft.Infeasible
-with_entry draft.Infeasible (entry.Cut kind need offer) = draft.Whole (report.Cut kind need offer [])
-with_entry (draft.Whole r) e = draft.Whole (lengthened r e)
+abbrev pub with_entry : Given → Entry → Given
+with_entry gave.Nothing (entry.Cost n) = gave.Whole (report.Flow n [] [] [] [])
+with_entry gave.Nothing entry.Infeasible = gave.Infeasible
+with_entry gave.Infeasible (entry.Cut kind need offer) = gave.Whole (report.Cut kind need offer [])
+with_entry (gave.Whole r) e = gave.Whole (lengthened r e)
 with_entry d e = d
 
 -- a statement that a list of the report is lengthened by, which takes memory
-abbrev pub Lengthens : Draft → Entry → Type 0
-Lengthens (draft.Whole (report.Flow cost uses moves gives takes)) (entry.Use u) = ⊤
-Lengthens (draft.Whole (report.Flow cost uses moves gives takes)) (entry.Move m) = ⊤
-Lengthens (draft.Whole (report.Flow cost uses moves gives takes)) (entry.Give g) = ⊤
-Lengthens (draft.Whole (report.Flow cost uses moves gives takes)) (entry.Take t) = ⊤
-Lengthens (draft.Whole (report.Cut kind need offer parts)) (entry.Part p) = ⊤
+abbrev pub Lengthens : Given → Entry → Type 0
+Lengthens (gave.Whole (report.Flow cost uses moves gives takes)) (entry.Use u) = ⊤
+Lengthens (gave.Whole (report.Flow cost uses moves gives takes)) (entry.Move m) = ⊤
+Lengthens (gave.Whole (report.Flow cost uses moves gives takes)) (entry.Give g) = ⊤
+Lengthens (gave.Whole (report.Flow cost uses moves gives takes)) (entry.Take t) = ⊤
+Lengthens (gave.Whole (report.Cut kind need offer parts)) (entry.Part p) = ⊤
 Lengthens d e = ⊥
 
-abbrev pub with_any : Draft → Option Entry → Draft
+abbrev pub with_any : Given → Option Entry → Given
 with_any given None = given
 with_any given (Some e) = with_entry given e
 
 -- what there is with one statement more
-abbrev pub next : Draft → Statement → Draft
+abbrev pub next : Given → Statement → Given
 next given s = with_any given (entry_in s)
 
 -- a cost or a cut was read
-abbrev pub is_whole : Draft → Bool
-is_whole draft.Nothing = false
-is_whole draft.Infeasible = false
-is_whole (draft.Whole r) = true
+abbrev pub is_whole : Given → Bool
+is_whole gave.Nothing = false
+is_whole gave.Infeasible = false
+is_whole (gave.Whole r) = true
 
 -- the report that is read; where none is, one of which no rule speaks
-abbrev pub report_in : Draft → Report
-report_in draft.Nothing = report.Flow (pos 0) [] [] [] []
-report_in draft.Infeasible = report.Flow (pos 0) [] [] [] []
-report_in (draft.Whole r) = r
+abbrev pub report_in : Given → Report
+report_in gave.Nothing = report.Flow (pos 0) [] [] [] []
+report_in gave.Infeasible = report.Flow (pos 0) [] [] [] []
+report_in (gave.Whole r) = r

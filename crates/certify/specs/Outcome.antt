@@ -4,8 +4,8 @@ use Rattle.first_fault.specs.Outcome.{Grammar, IsFault as IsFaultOf, IsValue}
 use Rattle.statements.specs.Statements.{Statement, statements_of}
 use Rattle.certify.specs.Given.{is_whole, next, report_in}
 use Rattle.certify.specs.Checks.{checks}
-use Rattle.certify.specs.declared.draft.Draft.{Draft}
-use Rattle.certify.specs.declared.draft.Draft.TheVariants as draft
+use Rattle.certify.specs.declared.given.Given.{Given}
+use Rattle.certify.specs.declared.given.Given.TheVariants as gave
 use Rattle.certify.specs.declared.fault.ReportFault.{ReportFault}
 use Rattle.certify.specs.declared.fault.ReportFault.TheVariants as fault
 use Rattle.certify.specs.declared.fault.ReportWhy.{ReportWhy}
@@ -13,12 +13,12 @@ use Rattle.certify.specs.declared.fault.ReportWhy.TheVariants as why
 use Rattle.certify.specs.declared.report.Report.{Report}
 
 -- behind the last statement it is a fault that no cost and no cut was read
-abbrev pub end_fault : ℕ → Draft → Option (ℕ × ReportWhy)
+abbrev pub end_fault : ℕ → Given → Option (ℕ × ReportWhy)
 end_fault count given = if is_whole given then None else Some (count + 1, why.Ended)
 
 -- how statements are read
-abbrev pub grammar : Grammar Statement Draft Report ReportWhy
-grammar = record { start = draft.Nothing; checks = checks; next = next; end_fault = end_fault; value = report_in }
+abbrev pub grammar : Grammar Statement Given Report ReportWhy
+grammar = record { start = gave.Nothing; checks = checks; next = next; end_fault = end_fault; value = report_in }
 
 -- the statement at fault, counted from 1, and its cause
 abbrev pub IsFault : List Statement → ℕ → ReportWhy → Type 0

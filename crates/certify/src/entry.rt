@@ -6,9 +6,9 @@ ghost use Rattle.certify.specs.Given.{entry_as, entry_in, priced_in};
 ghost use Rattle.certify.specs.Checks.{checks, field_checks, priced_checks};
 ghost use Rattle.certify.specs.declared.kind.Kind.TheVariants as kind;
 
-use crate::draft::Draft;
 use crate::fault::ReportWhy;
 use crate::fields::{amount, cost, cut_kind, name, span};
+use crate::given::Given;
 use crate::kind::{Kind, kind_of};
 use crate::report::{Moved, Priced, Span, Used};
 use heat_flow::CutKind;
@@ -90,10 +90,10 @@ fn entry_as(kind: Kind, s: &Statement<'_>) -> Result<Entry, ReportWhy>
     }
 }
 
-/// What a statement gives behind those that gave the draft, or the first of its checks that fails.
+/// What a statement gives behind those that gave this, or the first of its checks that fails.
 #[tactic(auto, unfolding(crate::specs::Checks::checks, crate::specs::Given::entry_in))]
-pub fn entry_of(draft: &Draft, s: &Statement<'_>) -> Result<Entry, ReportWhy>
-    ensures { Checked (checks draft.now s.now) (λ e. entry_in s.now ≡ Some e) result }
+pub fn entry_of(given: &Given, s: &Statement<'_>) -> Result<Entry, ReportWhy>
+    ensures { Checked (checks given.now s.now) (λ e. entry_in s.now ≡ Some e) result }
 {
     let Some(kind) = kind_of(s.field(0)) else {
         return Err(ReportWhy::UnknownWord);
@@ -101,7 +101,7 @@ pub fn entry_of(draft: &Draft, s: &Statement<'_>) -> Result<Entry, ReportWhy>
     if s.len() != kind.field_count() {
         return Err(ReportWhy::FieldCount);
     }
-    if !draft.admits(kind) {
+    if !given.admits(kind) {
         return Err(ReportWhy::OutOfOrder);
     }
     entry_as(kind, s)

@@ -6,10 +6,10 @@
 #![tactic(auto)]
 
 mod check;
-mod draft;
 mod entry;
 mod fault;
 mod fields;
+mod given;
 mod kind;
 mod laws;
 mod limits;

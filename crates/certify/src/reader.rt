@@ -5,9 +5,9 @@ ghost use Rattle.statements.specs.Statements.{statements_of};
 ghost use Rattle.certify.specs.Answers.{HasPartPrices};
 ghost use Rattle.certify.specs.Outcome.{IsOutcome};
 
-use crate::draft::Draft;
 use crate::entry::entry_of;
 use crate::fault::{ReportFault, ReportWhy};
+use crate::given::Given;
 use crate::report::Report;
 use statements::{Statement, first_line};
 use std::alloc::Global;
@@ -19,7 +19,7 @@ pub fn read_report(alloc: Global, bytes: &[u8]) -> Result<Report, ReportFault>
     ensures outcome { IsOutcome (statements_of bytes.now) result }
     ensures prices { IfOk result HasPartPrices }
 {
-    let mut draft = Draft::Nothing;
+    let mut given = Given::Nothing;
     let mut rest = bytes;
     let mut number: u32 = 0;
     while !rest.is_empty() {
@@ -30,13 +30,13 @@ pub fn read_report(alloc: Global, bytes: &[u8]) -> Result<Report, ReportFault>
             continue;
         }
         number += 1;
-        match entry_of(&draft, &statement) {
-            Ok(entry) => draft = draft.with(alloc, entry)?,
+        match entry_of(&given, &statement) {
+            Ok(entry) => given = given.with(alloc, entry)?,
             Err(why) => return Err(ReportFault::At { line: number, why }),
         }
     }
-    match draft {
-        Draft::Whole(report) => Ok(report),
+    match given {
+        Given::Whole(report) => Ok(report),
         _ => Err(ReportFault::At {
             line: number + 1,
             why: ReportWhy::Ended,

@@ -24,7 +24,7 @@ unfoldable pub use Rattle.network_text.specs.Given.{branch_at, branch_named, ent
 unfoldable pub use Rattle.network_text.specs.Names.{is_branch_name, is_dotted_name}
 pub use Rattle.network_text.specs.Outcome.{IsNetwork, IsNetworkOf, IsOutcome, grammar}
 unfoldable pub use Rattle.network_text.specs.Printed.{HasShortLines, branch_name, exchanger_name, exchanger_names, statement_of, text_of}
-pub use Rattle.network_text.specs.declared.builder.Sides.{Sides}
+pub use Rattle.network_text.specs.declared.given.Sides.{Sides}
 pub use Rattle.network_text.specs.declared.entry.Entry.{Entry}
 pub use Rattle.network_text.specs.declared.fault.NetFault.{NetFault}
 pub use Rattle.network_text.specs.declared.kind.Kind.{Kind}

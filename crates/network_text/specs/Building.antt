@@ -9,7 +9,7 @@ use Rattle.stream_case.specs.declared.stream.Stream.{Stream}
 use Rattle.networks.specs.Lines.{Exchanger, exchanger_of, exchangers_of, members, names_of, passage_of, passages_of, used_by, uses}
 use Rattle.network_text.specs.Given.{branch_of}
 use Rattle.network_text.specs.Checks.{is_passed}
-use Rattle.network_text.specs.declared.builder.Sides.{Sides}
+use Rattle.network_text.specs.declared.given.Sides.{Sides}
 use Rattle.network_text.specs.declared.entry.Entry.{Entry}
 use Rattle.networks.specs.declared.limits.TheConstants.{MOST_STATEMENTS}
 use Rattle.networks.specs.declared.network.Branch.{Branch}

@@ -5,39 +5,39 @@ ghost use Rattle.first_fault.specs.Checks.{Checked};
 ghost use Rattle.network_text.specs.Given.{branch_at, branch_named, exchanger_at, exchanger_named};
 ghost use Rattle.network_text.specs.Checks.{mixed_checks, new_branch_checks, new_exchanger_checks, passed_checks, used_branch_checks};
 
-use crate::builder::NetworkBuilder;
 use crate::fault::NetWhy;
+use crate::given::Given;
 use crate::names::{branch_name, exchanger_name};
 use stream_case::Name;
 
 /// The number of the branch with this name, if it was made.
 #[tactic(auto, unfolding(crate::specs::Given::branch_at))]
-fn known_branch(builder: &NetworkBuilder, name: &[u8]) -> Option<u32>
-    ensures some { is_some result ≡ is_some (branch_named builder.now name.now) }
-    ensures value { IfSome result (λ number. number ≡ branch_at builder.now name.now) }
+fn known_branch(given: &Given, name: &[u8]) -> Option<u32>
+    ensures some { is_some result ≡ is_some (branch_named given.now name.now) }
+    ensures value { IfSome result (λ number. number ≡ branch_at given.now name.now) }
 {
-    builder.branch_named(name)
+    given.branch_named(name)
 }
 
 /// The number of the exchanger with this name, if it was declared.
 #[tactic(auto, unfolding(crate::specs::Given::exchanger_at))]
-fn known_exchanger(builder: &NetworkBuilder, name: &[u8]) -> Option<u32>
-    ensures some { is_some result ≡ is_some (exchanger_named builder.now name.now) }
-    ensures value { IfSome result (λ number. number ≡ exchanger_at builder.now name.now) }
+fn known_exchanger(given: &Given, name: &[u8]) -> Option<u32>
+    ensures some { is_some result ≡ is_some (exchanger_named given.now name.now) }
+    ensures value { IfSome result (λ number. number ≡ exchanger_at given.now name.now) }
 {
-    builder.exchanger_named(name)
+    given.exchanger_named(name)
 }
 
 /// The number of a branch that is used.
 #[tactic(auto, unfolding(crate::specs::Checks::used_branch_checks))]
-pub fn used_branch(builder: &NetworkBuilder, field: &[u8]) -> Result<u32, NetWhy>
-    ensures { Checked (used_branch_checks builder.now field.now) (λ number.
-        number ≡ branch_at builder.now field.now) result }
+pub fn used_branch(given: &Given, field: &[u8]) -> Result<u32, NetWhy>
+    ensures { Checked (used_branch_checks given.now field.now) (λ number.
+        number ≡ branch_at given.now field.now) result }
 {
-    let Some(number) = known_branch(builder, field) else {
+    let Some(number) = known_branch(given, field) else {
         return Err(NetWhy::UnknownBranch);
     };
-    if builder.is_used(number) {
+    if given.is_used(number) {
         return Err(NetWhy::SpentBranch);
     }
     Ok(number)
@@ -45,13 +45,13 @@ pub fn used_branch(builder: &NetworkBuilder, field: &[u8]) -> Result<u32, NetWhy
 
 /// The name of a branch that is made.
 #[tactic(auto, unfolding(crate::specs::Checks::new_branch_checks))]
-pub fn new_branch(builder: &NetworkBuilder, field: &[u8]) -> Result<Name, NetWhy>
-    ensures { Checked (new_branch_checks builder.now field.now) (λ name. name ≡ field.now) result }
+pub fn new_branch(given: &Given, field: &[u8]) -> Result<Name, NetWhy>
+    ensures { Checked (new_branch_checks given.now field.now) (λ name. name ≡ field.now) result }
 {
     let Some(name) = branch_name(field) else {
         return Err(NetWhy::BadName);
     };
-    if builder.branch_named(field).is_some() {
+    if given.branch_named(field).is_some() {
         return Err(NetWhy::SameName);
     }
     Ok(name)
@@ -59,14 +59,14 @@ pub fn new_branch(builder: &NetworkBuilder, field: &[u8]) -> Result<Name, NetWhy
 
 /// The name of an exchanger that is declared.
 #[tactic(auto, unfolding(crate::specs::Checks::new_exchanger_checks))]
-pub fn new_exchanger(builder: &NetworkBuilder, field: &[u8]) -> Result<Name, NetWhy>
-    ensures { Checked (new_exchanger_checks builder.now field.now) (λ name.
+pub fn new_exchanger(given: &Given, field: &[u8]) -> Result<Name, NetWhy>
+    ensures { Checked (new_exchanger_checks given.now field.now) (λ name.
         name ≡ field.now) result }
 {
     let Some(name) = exchanger_name(field) else {
         return Err(NetWhy::BadName);
     };
-    if builder.exchanger_named(field).is_some() {
+    if given.exchanger_named(field).is_some() {
         return Err(NetWhy::SameName);
     }
     Ok(name)
@@ -74,14 +74,14 @@ pub fn new_exchanger(builder: &NetworkBuilder, field: &[u8]) -> Result<Name, Net
 
 /// The number of an exchanger that a branch passes.
 #[tactic(auto, unfolding(crate::specs::Checks::passed_checks))]
-pub fn passed_exchanger(builder: &NetworkBuilder, branch: u32, field: &[u8]) -> Result<u32, NetWhy>
-    ensures { Checked (passed_checks builder.now branch field.now) (λ exchanger.
-        exchanger ≡ exchanger_at builder.now field.now) result }
+pub fn passed_exchanger(given: &Given, branch: u32, field: &[u8]) -> Result<u32, NetWhy>
+    ensures { Checked (passed_checks given.now branch field.now) (λ exchanger.
+        exchanger ≡ exchanger_at given.now field.now) result }
 {
-    let Some(exchanger) = known_exchanger(builder, field) else {
+    let Some(exchanger) = known_exchanger(given, field) else {
         return Err(NetWhy::UnknownName);
     };
-    if !builder.is_free_side(exchanger, builder.stream_of(branch)) {
+    if !given.is_free_side(exchanger, given.stream_of(branch)) {
         return Err(NetWhy::WrongPass);
     }
     Ok(exchanger)
@@ -89,13 +89,13 @@ pub fn passed_exchanger(builder: &NetworkBuilder, branch: u32, field: &[u8]) -> 
 
 /// Tests that two branches are two, and of one stream.
 #[tactic(auto, unfolding(crate::specs::Checks::mixed_checks))]
-pub fn check_mixed(builder: &NetworkBuilder, first: u32, second: u32) -> Result<(), NetWhy>
-    ensures { Checked (mixed_checks builder.now first second) (λ _. Unit {0}) result }
+pub fn check_mixed(given: &Given, first: u32, second: u32) -> Result<(), NetWhy>
+    ensures { Checked (mixed_checks given.now first second) (λ _. Unit {0}) result }
 {
     if second == first {
         return Err(NetWhy::SpentBranch);
     }
-    if builder.stream_of(first) != builder.stream_of(second) {
+    if given.stream_of(first) != given.stream_of(second) {
         return Err(NetWhy::OtherStream);
     }
     Ok(())

@@ -7,9 +7,9 @@ ghost use Rattle.network_text.specs.Given.{end_entry, entry_in, exchanger_entry,
 ghost use Rattle.network_text.specs.Checks.{checks, end_checks, exchanger_checks, exchanger_field_checks, mix_checks, pass_checks, split_checks};
 
 use crate::branch_fields::{check_mixed, new_branch, new_exchanger, passed_exchanger, used_branch};
-use crate::builder::NetworkBuilder;
 use crate::fault::NetWhy;
 use crate::fraction_text::positive_fraction;
+use crate::given::Given;
 use crate::kind::{Kind, kind_of};
 use crate::sources::hot_and_cold;
 use networks::{AtMostTwo, Line, MOST_EXCHANGERS, MOST_STATEMENTS};
@@ -25,16 +25,12 @@ pub struct Entry {
 
 /// What the fields of the statement of an exchanger give.
 #[tactic(auto, using(first_fault::proofs::CheckLemmas::then_others), unfolding(crate::specs::Checks::exchanger_field_checks))]
-fn exchanger_fields(
-    case: &Case,
-    builder: &NetworkBuilder,
-    s: &Statement<'_>,
-) -> Result<Entry, NetWhy>
+fn exchanger_fields(case: &Case, given: &Given, s: &Statement<'_>) -> Result<Entry, NetWhy>
     requires { IsComplete case.now }
-    ensures { Checked (exchanger_field_checks case.now builder.now s.now) (λ e.
+    ensures { Checked (exchanger_field_checks case.now given.now s.now) (λ e.
         e ≡ exchanger_entry case.now s.now) result }
 {
-    let name = new_exchanger(builder, s.field(1))?;
+    let name = new_exchanger(given, s.field(1))?;
     let sides = hot_and_cold(case, s.field(2), s.field(3))?;
     let duty = positive_fraction(s.field(4))?;
     Ok(Entry {
@@ -50,41 +46,37 @@ fn exchanger_fields(
 
 /// What the statement of an exchanger gives.
 #[tactic(auto, unfolding(crate::specs::Checks::exchanger_checks))]
-fn exchanger_entry(
-    case: &Case,
-    builder: &NetworkBuilder,
-    s: &Statement<'_>,
-) -> Result<Entry, NetWhy>
+fn exchanger_entry(case: &Case, given: &Given, s: &Statement<'_>) -> Result<Entry, NetWhy>
     requires { IsComplete case.now }
-    ensures { Checked (exchanger_checks case.now builder.now s.now) (λ e.
+    ensures { Checked (exchanger_checks case.now given.now s.now) (λ e.
         e ≡ exchanger_entry case.now s.now) result }
 {
     if s.len() != 5 {
         return Err(NetWhy::FieldCount);
     }
-    if builder.count_exchangers() >= MOST_EXCHANGERS {
+    if given.count_exchangers() >= MOST_EXCHANGERS {
         return Err(NetWhy::TooMany);
     }
-    exchanger_fields(case, builder, s)
+    exchanger_fields(case, given, s)
 }
 
 /// What the statement of a split gives.
 #[tactic(auto, using(first_fault::proofs::CheckLemmas::then_others), unfolding(crate::specs::Checks::split_checks))]
-fn split_entry(builder: &NetworkBuilder, s: &Statement<'_>) -> Result<Entry, NetWhy>
-    ensures { Checked (split_checks builder.now s.now) (λ e.
-        e ≡ split_entry builder.now s.now) result }
+fn split_entry(given: &Given, s: &Statement<'_>) -> Result<Entry, NetWhy>
+    ensures { Checked (split_checks given.now s.now) (λ e.
+        e ≡ split_entry given.now s.now) result }
 {
     if s.len() != 5 {
         return Err(NetWhy::FieldCount);
     }
-    let from = used_branch(builder, s.field(1))?;
-    let first = new_branch(builder, s.field(2))?;
+    let from = used_branch(given, s.field(1))?;
+    let first = new_branch(given, s.field(2))?;
     let cp = positive_fraction(s.field(3))?;
-    let second = new_branch(builder, s.field(4))?;
+    let second = new_branch(given, s.field(4))?;
     if second == first {
         return Err(NetWhy::SameName);
     }
-    let number = builder.count_branches();
+    let number = given.count_branches();
     Ok(Entry {
         line: Line::Split {
             from,
@@ -98,21 +90,21 @@ fn split_entry(builder: &NetworkBuilder, s: &Statement<'_>) -> Result<Entry, Net
 
 /// What the statement of a pass gives.
 #[tactic(auto, using(first_fault::proofs::CheckLemmas::then_others), unfolding(crate::specs::Checks::pass_checks))]
-fn pass_entry(builder: &NetworkBuilder, s: &Statement<'_>) -> Result<Entry, NetWhy>
-    ensures { Checked (pass_checks builder.now s.now) (λ e.
-        e ≡ pass_entry builder.now s.now) result }
+fn pass_entry(given: &Given, s: &Statement<'_>) -> Result<Entry, NetWhy>
+    ensures { Checked (pass_checks given.now s.now) (λ e.
+        e ≡ pass_entry given.now s.now) result }
 {
     if s.len() != 4 {
         return Err(NetWhy::FieldCount);
     }
-    let from = used_branch(builder, s.field(1))?;
-    let exchanger = passed_exchanger(builder, from, s.field(2))?;
-    let name = new_branch(builder, s.field(3))?;
+    let from = used_branch(given, s.field(1))?;
+    let exchanger = passed_exchanger(given, from, s.field(2))?;
+    let name = new_branch(given, s.field(3))?;
     Ok(Entry {
         line: Line::Pass {
             from,
             exchanger,
-            to: builder.count_branches(),
+            to: given.count_branches(),
         },
         names: AtMostTwo::One(name),
     })
@@ -120,21 +112,21 @@ fn pass_entry(builder: &NetworkBuilder, s: &Statement<'_>) -> Result<Entry, NetW
 
 /// What the statement of a mix gives.
 #[tactic(auto, using(first_fault::proofs::CheckLemmas::then_others), unfolding(crate::specs::Checks::mix_checks))]
-fn mix_entry(builder: &NetworkBuilder, s: &Statement<'_>) -> Result<Entry, NetWhy>
-    ensures { Checked (mix_checks builder.now s.now) (λ e. e ≡ mix_entry builder.now s.now) result }
+fn mix_entry(given: &Given, s: &Statement<'_>) -> Result<Entry, NetWhy>
+    ensures { Checked (mix_checks given.now s.now) (λ e. e ≡ mix_entry given.now s.now) result }
 {
     if s.len() != 4 {
         return Err(NetWhy::FieldCount);
     }
-    let first = used_branch(builder, s.field(1))?;
-    let second = used_branch(builder, s.field(2))?;
-    check_mixed(builder, first, second)?;
-    let name = new_branch(builder, s.field(3))?;
+    let first = used_branch(given, s.field(1))?;
+    let second = used_branch(given, s.field(2))?;
+    check_mixed(given, first, second)?;
+    let name = new_branch(given, s.field(3))?;
     Ok(Entry {
         line: Line::Mix {
             first,
             second,
-            to: builder.count_branches(),
+            to: given.count_branches(),
         },
         names: AtMostTwo::One(name),
     })
@@ -142,13 +134,13 @@ fn mix_entry(builder: &NetworkBuilder, s: &Statement<'_>) -> Result<Entry, NetWh
 
 /// What the statement of an end gives.
 #[tactic(auto, using(first_fault::proofs::CheckLemmas::then_others), unfolding(crate::specs::Checks::end_checks))]
-fn end_entry(builder: &NetworkBuilder, s: &Statement<'_>) -> Result<Entry, NetWhy>
-    ensures { Checked (end_checks builder.now s.now) (λ e. e ≡ end_entry builder.now s.now) result }
+fn end_entry(given: &Given, s: &Statement<'_>) -> Result<Entry, NetWhy>
+    ensures { Checked (end_checks given.now s.now) (λ e. e ≡ end_entry given.now s.now) result }
 {
     if s.len() != 2 {
         return Err(NetWhy::FieldCount);
     }
-    let branch = used_branch(builder, s.field(1))?;
+    let branch = used_branch(given, s.field(1))?;
     Ok(Entry {
         line: Line::End { branch },
         names: AtMostTwo::Nothing,
@@ -157,20 +149,20 @@ fn end_entry(builder: &NetworkBuilder, s: &Statement<'_>) -> Result<Entry, NetWh
 
 /// What a statement gives, or the first of its checks that fails.
 #[tactic(auto, unfolding(crate::specs::Checks::checks, crate::specs::Checks::kind_checks, crate::specs::Given::entry_in))]
-pub fn entry_of(case: &Case, builder: &NetworkBuilder, s: &Statement<'_>) -> Result<Entry, NetWhy>
+pub fn entry_of(case: &Case, given: &Given, s: &Statement<'_>) -> Result<Entry, NetWhy>
     requires { IsComplete case.now }
-    ensures { Checked (checks case.now builder.now s.now) (λ e.
-        entry_in case.now builder.now s.now ≡ Some e) result }
+    ensures { Checked (checks case.now given.now s.now) (λ e.
+        entry_in case.now given.now s.now ≡ Some e) result }
 {
-    if builder.count_lines() >= MOST_STATEMENTS {
+    if given.count_lines() >= MOST_STATEMENTS {
         return Err(NetWhy::TooMany);
     }
     match kind_of(s.field(0)) {
         None => Err(NetWhy::UnknownWord),
-        Some(Kind::Exchanger) => exchanger_entry(case, builder, s),
-        Some(Kind::Split) => split_entry(builder, s),
-        Some(Kind::Pass) => pass_entry(builder, s),
-        Some(Kind::Mix) => mix_entry(builder, s),
-        Some(Kind::End) => end_entry(builder, s),
+        Some(Kind::Exchanger) => exchanger_entry(case, given, s),
+        Some(Kind::Split) => split_entry(given, s),
+        Some(Kind::Pass) => pass_entry(given, s),
+        Some(Kind::Mix) => mix_entry(given, s),
+        Some(Kind::End) => end_entry(given, s),
     }
 }

@@ -11,10 +11,10 @@
 #![tactic(auto)]
 
 mod branch_fields;
-mod builder;
 mod entry;
 mod fault;
 mod fraction_text;
+mod given;
 mod kind;
 mod laws;
 mod limits;

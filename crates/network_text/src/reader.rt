@@ -6,9 +6,9 @@ ghost use Rattle.statements.specs.Statements.{statements_of};
 ghost use Rattle.network_text.specs.Outcome.{IsOutcome};
 ghost use Rattle.networks.specs.Shape.{HasShape, KeepsCounts};
 
-use crate::builder::NetworkBuilder;
 use crate::entry::entry_of;
 use crate::fault::{NetFault, NetWhy};
+use crate::given::Given;
 use keyed_index::TextKey;
 use networks::Network;
 use statements::{Statement, first_line};
@@ -23,7 +23,7 @@ pub fn read_network(alloc: Global, case: &Case, bytes: &[u8]) -> Result<Network,
     ensures shape { IfOk result (HasShape case.now) }
     ensures counts { IfOk result KeepsCounts }
 {
-    let mut builder = NetworkBuilder::new(alloc, TextKey::of_text(bytes), case)?;
+    let mut given = Given::new(alloc, TextKey::of_text(bytes), case)?;
     let mut rest = bytes;
     let mut number: u32 = 0;
     while !rest.is_empty() {
@@ -34,13 +34,13 @@ pub fn read_network(alloc: Global, case: &Case, bytes: &[u8]) -> Result<Network,
             continue;
         }
         number += 1;
-        match entry_of(case, &builder, &statement) {
-            Ok(entry) => builder = builder.with(entry)?,
+        match entry_of(case, &given, &statement) {
+            Ok(entry) => given = given.with(entry)?,
             Err(why) => return Err(NetFault::At { line: number, why }),
         }
     }
-    match builder.first_missing() {
-        None => Ok(builder.into_network(alloc)?),
+    match given.first_missing() {
+        None => Ok(given.into_network(alloc)?),
         Some(index) => Err(NetFault::At {
             line: index + 1,
             why: NetWhy::MissingPass,

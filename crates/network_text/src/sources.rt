@@ -6,8 +6,8 @@ ghost use Rattle.first_fault.specs.Checks.{Checked};
 ghost use Rattle.network_text.specs.Given.{source_at};
 ghost use Rattle.network_text.specs.Checks.{source_checks};
 
-use crate::builder::Sides;
 use crate::fault::NetWhy;
+use crate::given::Sides;
 use stream_case::{Case, Side, Source};
 
 /// The source of the case with this name.

@@ -10,7 +10,8 @@ loop-rest-preserved-then-is_passed_over c =
     let same = passed_over c.loop-rest.rest.now c.first_line.result.0.now c.first_line.result.1.now c.first_line.ensures.line c.in_ok-statement.ensures over in
     record {
       reads =
-          subst (λ left. Reads grammar (statements_of c.args.bytes.now) left c.loop-rest.draft c.loop-rest.number) same c.loop-rest.invariant.reads;
+          subst (λ left. Reads grammar (statements_of c.args.bytes.now) left c.loop-rest.given c.loop-rest.number) same
+          c.loop-rest.invariant.reads;
       few = omega (arith, c.loop-rest.invariant.few, c.first_line.ensures.shorter);
     }
 
@@ -26,7 +27,7 @@ loop-rest-preserved c =
     let counts = sym c.is_passed_over.ensures ∙ c.if-is_passed_over.false in
     let at = statement_next c.loop-rest.rest.now c.first_line.result.0.now c.first_line.result.1.now c.first_line.ensures.line
     c.in_ok-statement.ensures counts in
-    let next = c.in_ok-draft-in-Ok.ensures.with ∙ sym (ap (with_any c.loop-rest.draft) c.in-Ok.ensures.1) in
+    let next = c.in_ok-given-in-Ok.ensures.with ∙ sym (ap (with_any c.loop-rest.given) c.in-Ok.ensures.1) in
     record {
       reads = one_more c.loop-rest.invariant.reads at c.in-Ok.ensures.0 next;
       few = omega (arith, c.loop-rest.invariant.few, c.first_line.ensures.shorter);
@@ -35,9 +36,9 @@ loop-rest-preserved c =
 pub returns-in-Whole-clause-outcome : goal.returns-in-Whole-clause-outcome
 returns-in-Whole-clause-outcome c =
     let whole = c.in-Whole.is in
-    let end = whole-end c.loop-rest.number c.loop-rest.draft c.in-Whole.report whole in
+    let end = whole-end c.loop-rest.number c.loop-rest.given c.in-Whole.report whole in
     value_here c.loop-rest.invariant.reads (nothing_left c.loop-rest.rest.now c.loop-rest-test.ensures) end
-    (whole-value c.loop-rest.draft c.in-Whole.report whole)
+    (whole-value c.loop-rest.given c.in-Whole.report whole)
 
 pub returns-in-Whole-clause-prices : goal.returns-in-Whole-clause-prices
 returns-in-Whole-clause-prices c =
@@ -45,5 +46,5 @@ returns-in-Whole-clause-prices c =
 
 pub returns-in_default : goal.returns-in_default
 returns-in_default c =
-    let early = early-end c.loop-rest.number c.loop-rest.draft c.in_default.not-Whole in
+    let early = early-end c.loop-rest.number c.loop-rest.given c.in_default.not-Whole in
     record { outcome = end_here c.loop-rest.invariant.reads (nothing_left c.loop-rest.rest.now c.loop-rest-test.ensures) early; prices = tt }

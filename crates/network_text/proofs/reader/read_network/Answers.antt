@@ -7,8 +7,8 @@ use Rattle.network_text.proofs.reader.read_network.Goals as goal
 
 pub loop-rest-init : goal.loop-rest-init
 loop-rest-init c = record {
-  reads = none_read (statements_of c.args.bytes.now) c.in_ok-builder.ensures;
-  count = ap (λ (n : Network). length n.lines) c.in_ok-builder.ensures ∙ lines-start c.args.case.now;
+  reads = none_read (statements_of c.args.bytes.now) c.in_ok-given.ensures;
+  count = ap (λ (n : Network). length n.lines) c.in_ok-given.ensures ∙ lines-start c.args.case.now;
   few = omega arith;
 }
 
@@ -22,14 +22,14 @@ loop-rest-preserved-then-is_passed_over c =
     let same = passed_over c.loop-rest.rest.now c.first_line.result.0.now c.first_line.result.1.now c.first_line.ensures.line c.in_ok-statement.ensures over in
     record {
       reads = subst (λ left. Reads (grammar c.args.case.now)
-          (statements_of c.args.bytes.now) left c.loop-rest.builder c.loop-rest.number) same c.loop-rest.invariant.reads;
+          (statements_of c.args.bytes.now) left c.loop-rest.given c.loop-rest.number) same c.loop-rest.invariant.reads;
       count = c.loop-rest.invariant.count;
       few = c.loop-rest.invariant.few;
     }
 
 pub with-requires-clause-room : goal.with-requires-clause-room
 with-requires-clause-room c =
-    room_next c.args.case.now c.loop-rest.builder c.in_ok-statement.statement c.in-Ok.ensures.0
+    room_next c.args.case.now c.loop-rest.given c.in_ok-statement.statement c.in-Ok.ensures.0
 
 pub with-requires-clause-fresh : goal.with-requires-clause-fresh
 with-requires-clause-fresh c =
@@ -45,14 +45,14 @@ returns-in-Err-clause-outcome c =
 pub loop-rest-preserved : goal.loop-rest-preserved
 loop-rest-preserved c =
     let case = c.args.case.now in
-    let given = c.loop-rest.builder in
+    let given = c.loop-rest.given in
     let counts = sym c.is_passed_over.ensures ∙ c.if-is_passed_over.false in
     let at = statement_next c.loop-rest.rest.now c.first_line.result.0.now c.first_line.result.1.now c.first_line.ensures.line
     c.in_ok-statement.ensures counts in
-    let next = c.in_ok-builder-in-Ok.ensures ∙ sym (ap (with_any given) c.in-Ok.ensures.1) in
+    let next = c.in_ok-given-in-Ok.ensures ∙ sym (ap (with_any given) c.in-Ok.ensures.1) in
     let room : length given.lines < MOST_STATEMENTS
     = room_next case given c.in_ok-statement.statement c.in-Ok.ensures.0 in
-    let lines = ap (λ (n : Network). length n.lines) c.in_ok-builder-in-Ok.ensures
+    let lines = ap (λ (n : Network). length n.lines) c.in_ok-given-in-Ok.ensures
     ∙ lines-with_entry given c.in-Ok.entry in
     let count = c.loop-rest.invariant.count in
     record { reads = one_more c.loop-rest.invariant.reads at c.in-Ok.ensures.0 next; count = lines ∙ ap (λ n. n + 1) count; few = omega (arith, room, count) }

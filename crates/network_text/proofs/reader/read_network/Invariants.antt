@@ -4,8 +4,8 @@ use Rattle.network_text.proofs.reader.read_network.Given as goal
 
 abbrev pub invariant-loop-rest : goal.invariant-loop-rest
 invariant-loop-rest l = record {
-  reads : Reads (grammar l.case) (statements_of l.bytes) (statements_of l.rest) l.builder l.number;
-  count : length l.builder.lines ≡ l.number;
+  reads : Reads (grammar l.case) (statements_of l.bytes) (statements_of l.rest) l.given l.number;
+  count : length l.given.lines ≡ l.number;
   few : l.number ≤ MOST_STATEMENTS;
 }
 

@@ -1,7 +1,7 @@
 use Rattle.network_text.proofs.Tables.{own-tracked, own-view}
 use Rattle.std.proofs.Common.{List, map, ℕ, ◌≢◌}
 use Rattle.network_text.proofs.Words.{AllPairs-front, StaysValid-IsComplete, Stream, Utility, length-AreStreams}
-use Rattle.network_text.proofs.builder.NetworkBuilder.new.Goals as goal
+use Rattle.network_text.proofs.given.Given.new.Goals as goal
 
 pub own_branches-requires : goal.own_branches-requires
 own_branches-requires c =

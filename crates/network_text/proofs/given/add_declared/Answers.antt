@@ -1,7 +1,7 @@
 use Rattle.network_text.proofs.Tables.{first_new, new_entry}
 use Rattle.network_text.proofs.Words.{Sides, bytes_decides, keys_of}
 use Rattle.std.proofs.Common.{[], bytes_eq, refl, ◌∙◌}
-use Rattle.network_text.proofs.builder.add_declared.Goals as goal
+use Rattle.network_text.proofs.given.add_declared.Goals as goal
 use Rattle.networks.specs.declared.few.AtMostTwo.TheVariants as few
 
 pub returns-in_ok-insert-clause-added : goal.returns-in_ok-insert-clause-added

@@ -170,7 +170,7 @@ fn mark_any_passed(
 
 /// The network that the statements read so far give, and tables to look things up in it.
 #[derive(Drop)]
-pub struct NetworkBuilder {
+pub struct Given {
     /// The streams of the branches, by name, in the order of their numbers.
     branches: KeyedMap<Name, u32>,
     /// The branches that are used.
@@ -182,7 +182,7 @@ pub struct NetworkBuilder {
     lines: Vec<Line>,
 }
 
-impl Model for NetworkBuilder {
+impl Model for Given {
     ghost use Rattle.std.specs.Prelude.{map};
     ghost use Rattle.networks.specs.declared.network.Network.{Network};
     ghost use Rattle.network_text.specs.Building.{IsTracked, named_branch};
@@ -198,13 +198,13 @@ impl Model for NetworkBuilder {
         IsTracked b.branches.entries b.used.keys b.exchangers.entries b.passed.keys b.lines.items };
 }
 
-impl NetworkBuilder {
+impl Given {
     /// What no statement gives: the streams' own branches. The hashes of the tables have this key.
-    pub fn new(alloc: Global, key: TextKey, case: &Case) -> Result<NetworkBuilder, AllocError>
+    pub fn new(alloc: Global, key: TextKey, case: &Case) -> Result<Given, AllocError>
         requires { IsComplete case.now }
-        ensures { IfOk result (λ builder. builder ≡ start case.now) }
+        ensures { IfOk result (λ given. given ≡ start case.now) }
     {
-        Ok(NetworkBuilder {
+        Ok(Given {
             branches: own_branches(alloc, key, case.streams.as_slice())?,
             used: IndexSet::with_hasher(alloc, key),
             exchangers: IndexMap::with_hasher(alloc, key),
@@ -341,21 +341,21 @@ impl NetworkBuilder {
     }
 
     /// What there is with one statement more, which gives this entry.
-    pub fn with(self, entry: Entry) -> Result<NetworkBuilder, AllocError>
+    pub fn with(self, entry: Entry) -> Result<Given, AllocError>
         requires room { length self.lines < MOST_STATEMENTS }
         requires fresh { IsFresh self entry }
-        ensures { IfOk result (λ builder. builder ≡ with_entry self entry) }
+        ensures { IfOk result (λ given. given ≡ with_entry self entry) }
     {
         let used = entry.line.uses();
         let stream = self.first_stream(used);
         let passage = self.passage_of(&entry.line);
-        let mut builder = self;
-        mark_all_used(&mut builder.used, used)?;
-        add_declared(&mut builder.exchangers, &entry.line)?;
-        mark_any_passed(&mut builder.passed, passage)?;
-        add_branches(&mut builder.branches, entry.names, stream)?;
-        builder.lines.push(entry.line)?;
-        Ok(builder)
+        let mut given = self;
+        mark_all_used(&mut given.used, used)?;
+        add_declared(&mut given.exchangers, &entry.line)?;
+        mark_any_passed(&mut given.passed, passage)?;
+        add_branches(&mut given.branches, entry.names, stream)?;
+        given.lines.push(entry.line)?;
+        Ok(given)
     }
 
     /// Whether a source is a stream, and no statement passes the exchanger on its side.

@@ -1,6 +1,6 @@
 use Rattle.network_text.proofs.Words.{own_entries}
 use Rattle.std.proofs.Common.{take, ◌≡◌}
-use Rattle.network_text.proofs.builder.own_branches.Given as goal
+use Rattle.network_text.proofs.given.own_branches.Given as goal
 
 abbrev pub invariant-loop-index : goal.invariant-loop-index
 invariant-loop-index l = l.branches.entries ≡ own_entries (take l.index l.streams)

@@ -1,7 +1,7 @@
 use Rattle.network_text.proofs.Tables.{first_new, second_new}
 use Rattle.network_text.proofs.Words.{bytes_decides, keys_of, map-append, members}
 use Rattle.std.proofs.Common.{List, [], ap, bytes_eq, ℕ, ◌∙◌, ◌∷◌}
-use Rattle.network_text.proofs.builder.add_branches.Goals as goal
+use Rattle.network_text.proofs.given.add_branches.Goals as goal
 
 pub add_branch-requires : goal.add_branch-requires
 add_branch-requires c =

@@ -1,7 +1,7 @@
 use Rattle.network_text.proofs.Tables.{own_entries-more, own_entries-new}
 use Rattle.network_text.proofs.Words.{own_entries}
 use Rattle.std.proofs.Common.{List, [], ap, sym, take_all, ℕ, ◌++◌, ◌∙◌, ◌∷◌}
-use Rattle.network_text.proofs.builder.own_branches.Goals as goal
+use Rattle.network_text.proofs.given.own_branches.Goals as goal
 
 pub loop-index-init : goal.loop-index-init
 unfolding own_entries

@@ -1,8 +1,8 @@
 use Rattle.network_text.proofs.Missing.{count-more, few_before, first-found, missing-at, none-found}
-use Rattle.network_text.proofs.builder.NetworkBuilder.first_missing.Goals.{else-is_exchanger, then-is_exchanger}
+use Rattle.network_text.proofs.given.Given.first_missing.Goals.{else-is_exchanger, then-is_exchanger}
 use Rattle.network_text.proofs.Words.{Network, exchangers_of, misses_pass}
 use Rattle.std.proofs.Common.{ap, arith, below_more, false, length, refl, sym, true, ◌∙◌, ◌≡◌}
-use Rattle.network_text.proofs.builder.NetworkBuilder.first_missing.Goals as goal
+use Rattle.network_text.proofs.given.Given.first_missing.Goals as goal
 
 pub loop-index-init : goal.loop-index-init
 unfolding exchangers_of

@@ -1,7 +1,7 @@
 use Rattle.network_text.proofs.Tables.{exchanger_named-keys, unnamed}
 use Rattle.network_text.proofs.Words.{exchangers_of, few_exchangers, length-map, named_branch, named_sides}
 use Rattle.std.proofs.Common.{ap, arith, length, map, sym, ◌∙◌}
-use Rattle.network_text.proofs.builder.NetworkBuilder.exchanger_named.Goals as goal
+use Rattle.network_text.proofs.given.Given.exchanger_named.Goals as goal
 
 pub returns-in_default : goal.returns-in_default
 returns-in_default c =

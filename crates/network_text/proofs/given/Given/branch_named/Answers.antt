@@ -1,6 +1,6 @@
 use Rattle.network_text.proofs.Tables.{branch_named-keys, unnamed}
 use Rattle.std.proofs.Common.{sym, ◌∙◌}
-use Rattle.network_text.proofs.builder.NetworkBuilder.branch_named.Goals as goal
+use Rattle.network_text.proofs.given.Given.branch_named.Goals as goal
 
 pub returns-in_default : goal.returns-in_default
 returns-in_default c =

@@ -1,7 +1,7 @@
 use Rattle.network_text.proofs.Tables.{first_new, second_new}
 use Rattle.network_text.proofs.Words.{members}
 use Rattle.std.proofs.Common.{[], ap, eqb-true, nat_eq, ◌∷◌}
-use Rattle.network_text.proofs.builder.mark_all_used.Goals as goal
+use Rattle.network_text.proofs.given.mark_all_used.Goals as goal
 
 pub mark_used-requires : goal.mark_used-requires
 mark_used-requires c =

@@ -1,6 +1,6 @@
 use Rattle.network_text.proofs.Tables.{stream_at-entry, stream_at-none}
 use Rattle.std.proofs.Common.{sym}
-use Rattle.network_text.proofs.builder.NetworkBuilder.stream_of.Goals as goal
+use Rattle.network_text.proofs.given.Given.stream_of.Goals as goal
 
 pub returns-in-Some : goal.returns-in-Some
 returns-in-Some c = rw (← c.self.view_is)

@@ -1,6 +1,6 @@
 use Rattle.network_text.proofs.Words.{exchangers_of, misses_pass}
 use Rattle.std.proofs.Common.{false, length, take, ℕ, ◌<◌, ◌≡◌}
-use Rattle.network_text.proofs.builder.NetworkBuilder.first_missing.Given as goal
+use Rattle.network_text.proofs.given.Given.first_missing.Given as goal
 
 abbrev pub invariant-loop-index : goal.invariant-loop-index
 invariant-loop-index l = record {

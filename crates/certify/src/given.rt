@@ -2,7 +2,7 @@
 
 ghost use Rattle.std.specs.Prelude.{◌≡◌, IfOk, OnErr};
 ghost use Rattle.certify.specs.Given.{Lengthens, admits, lengthened, with_entry};
-ghost use Rattle.certify.specs.declared.draft.Draft.TheVariants as draft;
+ghost use Rattle.certify.specs.declared.given.Given.TheVariants as gave;
 
 use crate::entry::Entry;
 use crate::kind::Kind;
@@ -12,7 +12,7 @@ use stream_case::Items;
 
 /// A report, as far as it is read.
 #[derive(Drop)]
-pub enum Draft {
+pub enum Given {
     /// No statement is read yet.
     Nothing,
     /// There is to be no heat flow; the cut is not read yet.
@@ -21,16 +21,16 @@ pub enum Draft {
     Whole(Report),
 }
 
-impl Draft {
+impl Given {
     /// Whether a statement of this kind may come next.
     pub fn admits(&self, kind: Kind) -> bool
         ensures { result ≡ admits self.now kind }
     {
         match self {
-            Draft::Nothing => matches!(kind, Kind::Cost | Kind::Infeasible),
-            Draft::Infeasible => matches!(kind, Kind::Cut),
-            Draft::Whole(Report::Cut { .. }) => matches!(kind, Kind::Part),
-            Draft::Whole(
+            Given::Nothing => matches!(kind, Kind::Cost | Kind::Infeasible),
+            Given::Infeasible => matches!(kind, Kind::Cut),
+            Given::Whole(Report::Cut { .. }) => matches!(kind, Kind::Part),
+            Given::Whole(
                 Report::Flow {
                     moves,
                     gives,
@@ -49,54 +49,54 @@ impl Draft {
 
     /// The same with one statement more. What may not come next changes nothing, and takes no
     /// memory.
-    pub fn with(self, alloc: Global, entry: Entry) -> Result<Draft, AllocError>
-        ensures with { IfOk result (λ draft. draft ≡ with_entry self entry) }
+    pub fn with(self, alloc: Global, entry: Entry) -> Result<Given, AllocError>
+        ensures with { IfOk result (λ given. given ≡ with_entry self entry) }
         ensures memory { OnErr result (Lengthens self entry) }
     {
         match self {
-            Draft::Nothing => Ok(opened(alloc, entry)),
-            Draft::Infeasible => Ok(opened_cut(alloc, entry)),
-            Draft::Whole(report) => Ok(Draft::Whole(lengthened(report, entry)?)),
+            Given::Nothing => Ok(opened(alloc, entry)),
+            Given::Infeasible => Ok(opened_cut(alloc, entry)),
+            Given::Whole(report) => Ok(Given::Whole(lengthened(report, entry)?)),
         }
     }
 }
 
 /// What the first statement gives.
-fn opened(alloc: Global, entry: Entry) -> Draft
-    ensures { result ≡ with_entry draft.Nothing entry }
+fn opened(alloc: Global, entry: Entry) -> Given
+    ensures { result ≡ with_entry gave.Nothing entry }
 {
     match entry {
-        Entry::Cost(cost) => Draft::Whole(Report::Flow {
+        Entry::Cost(cost) => Given::Whole(Report::Flow {
             cost,
             uses: Items::new(alloc),
             moves: Items::new(alloc),
             gives: Items::new(alloc),
             takes: Items::new(alloc),
         }),
-        Entry::Infeasible => Draft::Infeasible,
-        _ => Draft::Nothing,
+        Entry::Infeasible => Given::Infeasible,
+        _ => Given::Nothing,
     }
 }
 
 /// What a cut gives behind the word that there is no heat flow.
-fn opened_cut(alloc: Global, entry: Entry) -> Draft
-    ensures { result ≡ with_entry draft.Infeasible entry }
+fn opened_cut(alloc: Global, entry: Entry) -> Given
+    ensures { result ≡ with_entry gave.Infeasible entry }
 {
     match entry {
-        Entry::Cut { kind, need, offer } => Draft::Whole(Report::Cut {
+        Entry::Cut { kind, need, offer } => Given::Whole(Report::Cut {
             kind,
             need,
             offer,
             parts: Items::new(alloc),
         }),
-        _ => Draft::Infeasible,
+        _ => Given::Infeasible,
     }
 }
 
 /// A report with one statement more.
 fn lengthened(mut report: Report, entry: Entry) -> Result<Report, AllocError>
     ensures longer { IfOk result (λ longer. longer ≡ lengthened report entry) }
-    ensures memory { OnErr result (Lengthens (draft.Whole report) entry) }
+    ensures memory { OnErr result (Lengthens (gave.Whole report) entry) }
 {
     match (&mut report, entry) {
         (Report::Flow { uses, .. }, Entry::Use(used)) => uses.push(used)?,
