@@ -9,9 +9,9 @@ pub use Rattle.certify.specs.Permits.{HavePermits}
 pub use Rattle.certify.specs.Setting.{cold_parts, hot_parts}
 pub use Rattle.certify.specs.Table.{IsTableOf, IsWithSpan, bytes_of_span, index_in, same_span}
 unfoldable pub use Rattle.certify.specs.Table.{bytes_of_parts}
-pub use Rattle.certify.specs.declared.given.Given.{Given}
 pub use Rattle.certify.specs.declared.entry.Entry.{Entry}
 pub use Rattle.certify.specs.declared.fault.ReportFault.{ReportFault}
+pub use Rattle.certify.specs.declared.given.Given.{Given}
 pub use Rattle.certify.specs.declared.kind.Kind.{Kind}
 pub use Rattle.certify.specs.declared.limits.TheConstants.{MOST_AMOUNT, MOST_COST, MOST_DIGITS, MOST_LEVEL}
 pub use Rattle.certify.specs.declared.report.Checked.{Checked}
@@ -30,13 +30,11 @@ pub use Rattle.grid.proofs.MakingLemmas.{AreParts-made, HoldsPlaces-IsGrid, hold
 pub use Rattle.grid.proofs.PlaceLemmas.{interval_ends, interval_falls}
 pub use Rattle.grid.proofs.RunLemmas.{latent_run, level_run, level_run-is, stream_run, sum-made}
 pub use Rattle.grid.proofs.SizeLemmas.{IsLength-covered, IsSide, IsSide-made, length-grid}
-pub use Rattle.grid.proofs.Words.{All, All-append, All-cons, All-contains, All-head, All-nil, All-slice_get, All-tail, All-weaker, AllPairs, AllPairs-head}
-pub use Rattle.grid.proofs.Words.{AllPairs-tail, AreCaseParts, AreParts, AreStreams-IsComplete, Contains, Decides-int_eq, IsComplete, IsGrid, IsOnPlaces}
-pub use Rattle.grid.proofs.Words.{IsPartOf, IsPiece, IsPlaced, IsPlaced-IsComplete, IsValidStream, and_from, and_parts, cases_Bool, cases_lt, comes_before}
-pub use Rattle.grid.proofs.Words.{comes_before_source, covers, false_from_ne_true, heat-between, if◌then◌else◌, int_le-from, int_le-true, int_sum_by}
-pub use Rattle.grid.proofs.Words.{int_sum_by-at_most, int_sum_by-same, int_sum_by-zero, ints, is_stream, length-AreStreams, length-utilities, load-between}
-pub use Rattle.grid.proofs.Words.{made_parts, none-some, places_of, pos, same_Some, same_side, shifted_level, slice_get, slice_get-get_or, slice_get_within}
-pub use Rattle.grid.proofs.Words.{stands_at, stream_ends, take_more, to_z-of_z, ℤ, ◌*ℤ◌, ◌+ℤ◌, ◌-ℤ◌, ◌<ℤ◌, ◌≤ℤ◌}
+pub use Rattle.grid.specs.Bounds.{IsBounded}
+pub use Rattle.grid.specs.Grid.{IsGrid, places_of}
+pub use Rattle.grid.specs.Making.{covers, made_parts, stands_at}
+pub use Rattle.grid.specs.OnGrid.{IsOnPlaces}
+pub use Rattle.grid.specs.Part.{AreCaseParts, AreParts, IsPartOf, IsPiece, comes_before, comes_before_source}
 pub use Rattle.grid.specs.declared.part.Part.{Part}
 pub use Rattle.heat_flow.proofs.Blanks.{blank}
 pub use Rattle.heat_flow.proofs.CostLemmas.{HasCost-flow}
@@ -44,15 +42,14 @@ pub use Rattle.heat_flow.proofs.CutLemmas.{cuts_refuse_flows}
 pub use Rattle.heat_flow.proofs.Duality.{weak_duality}
 pub use Rattle.heat_flow.proofs.PartLemmas.{HoldsOfParts-some}
 pub use Rattle.heat_flow.proofs.ReachLemmas.{reach_between-among, sources_of_parts}
-pub use Rattle.heat_flow.proofs.Words.{ArePermissions, HaveParts, IsBounded, IsSourceOf, IsSourceOf-side, IsTrue, IsWithin, KeepsRanges, StaysValid-IsComplete}
-pub use Rattle.heat_flow.proofs.Words.{cut_side, heat_at, heat_of_utility, int_sum_from, int_sum_from-grouped, is_some, least_at, length-take-le}
-pub use Rattle.heat_flow.proofs.Words.{meets, nat_tests, need_of, offer_of, opposite, part_index, parts_of, price_at, product_within, reach_between, side_cost}
-pub use Rattle.heat_flow.proofs.Words.{slice_get_past, true≢false, w128}
-pub use Rattle.heat_flow.specs.Cells.{source_index}
-pub use Rattle.heat_flow.specs.Certificate.{IsCertified, IsCutOf, is_of_utility, utility_heat}
+pub use Rattle.heat_flow.specs.Cells.{ArePermissions, source_index}
+pub use Rattle.heat_flow.specs.Certificate.{IsCertified, IsCutOf, heat_of_utility, is_of_utility, utility_heat}
 pub use Rattle.heat_flow.specs.Checks.{ReachesAmong}
-pub use Rattle.heat_flow.specs.Cuts.{HasNoFlow}
-pub use Rattle.heat_flow.specs.Flow.{IsLeastCost, cost_of}
+pub use Rattle.heat_flow.specs.Cuts.{HasNoFlow, cut_side, least_at, meets, need_of, offer_of, opposite, parts_of}
+pub use Rattle.heat_flow.specs.Flow.{HaveParts, IsLeastCost, KeepsRanges, cost_of, heat_at, part_index, side_cost}
+pub use Rattle.heat_flow.specs.Prices.{price_at}
+pub use Rattle.heat_flow.specs.Ranges.{IsWithin}
+pub use Rattle.heat_flow.specs.Reach.{reach_between}
 pub use Rattle.heat_flow.specs.declared.cut.Cut.{Cut}
 pub use Rattle.heat_flow.specs.declared.cut.CutKind.{CutKind}
 pub use Rattle.heat_flow.specs.declared.cut.CutKind.TheVariants.{Demand, Supply}
@@ -61,29 +58,40 @@ pub use Rattle.indexmap.specs.IndexMap.{IndexMap, Updates}
 pub use Rattle.sha2.specs.Hashers.{Holds256}
 pub use Rattle.statements.proofs.NextLine.{nothing_left, passed_over, statement_next}
 pub use Rattle.statements.proofs.PlainNumbers.{number_plain}
-pub use Rattle.statements.proofs.Words.{IsPlainField, IsPlainStatement, Statement, position_or_len, signed_decimal}
-unfoldable pub use Rattle.statements.proofs.Words.{statements_of}
-pub use Rattle.stream_case.proofs.DigitLemmas.{integer_read}
-unfoldable pub use Rattle.stream_case.specs.Digits.{integer_in}
-pub use Rattle.statements.specs.Statements.{field}
+pub use Rattle.statements.specs.Statements.{IsPlainField, IsPlainStatement, Statement, field}
+unfoldable pub use Rattle.statements.specs.Statements.{statements_of}
 pub use Rattle.std.proofs.Math.ListN.{get_or-append}
 pub use Rattle.std.proofs.Math.Seq.{get_or-append_seam}
-pub use Rattle.std.proofs.lemmas.List.Elements.{All-push}
-pub use Rattle.std.proofs.lemmas.List.{flat_map_more}
-pub use Rattle.std.specs.List.{flat_map}
+pub use Rattle.std.proofs.lemmas.Bool.{and_from, and_parts, cases_Bool, cases_lt, false_from_ne_true, false≢true, true≢false}
+pub use Rattle.std.proofs.lemmas.Bool.Decides.{Decides-int_eq, nat_tests}
+pub use Rattle.std.proofs.lemmas.Int.{ints, to_z-of_z}
+pub use Rattle.std.proofs.lemmas.List.{flat_map_more, length-take-le, take_more}
+pub use Rattle.std.proofs.lemmas.List.Elements.{All-append, All-cons, All-contains, All-head, All-map, All-nil, All-push, All-tail, All-weaker}
+pub use Rattle.std.proofs.lemmas.List.Elements.{filter_map-append}
 pub use Rattle.std.proofs.lemmas.List.Folds.{position_or_len_push}
-pub use Rattle.std.proofs.lemmas.List.Sums.{prefix_len-le-length}
+pub use Rattle.std.proofs.lemmas.List.Sums.{position_or_len_is, prefix_len-le-length}
+pub use Rattle.std.proofs.lemmas.Option.{none-some, same_Some, slice_get-get_or, slice_get_past, slice_get_within}
 pub use Rattle.std.specs.Cmp.{both_ways}
-pub use Rattle.std.specs.Option.{option_or}
-pub use Rattle.std.specs.Prelude.{Bool, true}
-pub use Rattle.stream_case.proofs.CaseLemmas.{IsName-source_name, source_named-source_name}
-pub use Rattle.stream_case.proofs.CompleteLemmas.{IsUtility}
+pub use Rattle.std.specs.Cmp.Lexicographic.{bytes_decides}
+pub use Rattle.std.specs.Fmt.{signed_decimal}
+pub use Rattle.std.specs.Int.{w128}
+pub use Rattle.std.specs.List.{filter_map, flat_map, position_or_len}
+pub use Rattle.std.specs.Option.{option_map_or, option_or}
+pub use Rattle.std.specs.Prelude.{All, AllPairs, Bool, Contains, IsTrue, codes, if◌then◌else◌, is_some, pos, slice_get, true, ℤ, ◌*ℤ◌, ◌+ℤ◌, ◌-ℤ◌, ◌<ℤ◌, ◌≤ℤ◌}
+pub use Rattle.stream_case.proofs.CaseLemmas.{IsName-source_name, IsSourceOf-side, length-AreStreams, source_named-source_name}
+pub use Rattle.stream_case.proofs.CompleteLemmas.{AreStreams-IsComplete, IsPlaced-IsComplete, IsUtility, StaysValid-IsComplete, length-utilities}
+pub use Rattle.stream_case.proofs.DigitLemmas.{integer_read}
 pub use Rattle.stream_case.proofs.EndLemmas.{stream_ends-between}
+pub use Rattle.stream_case.proofs.HeatLemmas.{heat-between, load-between}
 pub use Rattle.stream_case.proofs.NameTests.{name-passes}
-pub use Rattle.stream_case.proofs.Words.{All-map, IsShifted, bytes_decides, codes, false≢true, filter_map, filter_map-append, option_map_or, position_or_len_is}
-pub use Rattle.stream_case.proofs.Words.{source_name}
-unfoldable pub use Rattle.stream_case.proofs.Words.{is_name, source_named}
-pub use Rattle.stream_case.specs.Limits.{IsPartPrice}
+pub use Rattle.stream_case.specs.Case.{IsComplete, IsSourceOf, source_name}
+unfoldable pub use Rattle.stream_case.specs.Case.{source_named}
+unfoldable pub use Rattle.stream_case.specs.Digits.{integer_in}
+pub use Rattle.stream_case.specs.Limits.{IsPartPrice, IsShifted}
+unfoldable pub use Rattle.stream_case.specs.Name.{is_name}
+pub use Rattle.stream_case.specs.Source.{is_stream, same_side}
+pub use Rattle.stream_case.specs.Stream.{IsValidStream, stream_ends}
+pub use Rattle.stream_case.specs.Utility.{IsPlaced, shifted_level}
 pub use Rattle.stream_case.specs.declared.case.Case.{Case}
 pub use Rattle.stream_case.specs.declared.limits.TheConstants.{ALL_UTILITIES}
 pub use Rattle.stream_case.specs.declared.source.Side.{Side}
@@ -91,5 +99,9 @@ pub use Rattle.stream_case.specs.declared.source.Side.TheVariants.{Cold, Hot}
 pub use Rattle.stream_case.specs.declared.source.Source.{Source}
 pub use Rattle.stream_case.specs.declared.stream.Stream.{Stream}
 pub use Rattle.stream_case.specs.declared.utility.Utility.{Utility}
-pub use Rattle.sums.proofs.IntegerLemmas.{if_between, if_one-times, if_zero}
-pub use Rattle.sums.proofs.ProductLemmas.{zero_times}
+pub use Rattle.sums.proofs.IntegerLemmas.{if_between, if_one-times, if_zero, int_le-from, int_le-true}
+pub use Rattle.sums.proofs.ListLemmas.{All-slice_get}
+pub use Rattle.sums.proofs.OrderLemmas.{AllPairs-head, AllPairs-tail}
+pub use Rattle.sums.proofs.ProductLemmas.{product_within, zero_times}
+pub use Rattle.sums.proofs.SumLemmas.{int_sum_by-at_most, int_sum_by-same, int_sum_by-zero, int_sum_from-grouped}
+pub use Rattle.sums.specs.Sum.{int_sum_by, int_sum_from}

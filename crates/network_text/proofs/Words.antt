@@ -14,9 +14,9 @@ pub use Rattle.indexmap.specs.IndexMap.{IndexMap, insert_entry}
 pub use Rattle.network_text.specs.Building.{IsFresh, IsTracked, named_branch, named_sides, own_entry}
 unfoldable pub use Rattle.network_text.specs.Building.{own_entries}
 pub use Rattle.network_text.specs.Checks.{has_stream, is_free_side, is_missed, is_used, misses_side}
-unfoldable pub use Rattle.network_text.specs.Checks.{checks, end_checks, exchanger_checks, exchanger_field_checks, first_missing, fraction_checks}
-unfoldable pub use Rattle.network_text.specs.Checks.{is_passed, joins_stream, kind_checks, misses_pass, mix_checks, mixed_checks, new_branch_checks}
-unfoldable pub use Rattle.network_text.specs.Checks.{new_exchanger_checks, pass_checks, passed_checks, source_checks, split_checks, used_branch_checks}
+unfoldable pub use Rattle.network_text.specs.Checks.{checks, end_checks, exchanger_checks, exchanger_field_checks, first_missing, fraction_checks, is_passed}
+unfoldable pub use Rattle.network_text.specs.Checks.{joins_stream, kind_checks, misses_pass, mix_checks, mixed_checks, new_branch_checks, new_exchanger_checks}
+unfoldable pub use Rattle.network_text.specs.Checks.{pass_checks, passed_checks, source_checks, split_checks, used_branch_checks}
 unfoldable pub use Rattle.network_text.specs.Fractions.{denominator_in, fraction, fraction_in, is_slash, ratio_of}
 pub use Rattle.network_text.specs.Given.{branch_of, branches_in, end_entry, entry_by, exchanger_entry, first_stream, kind_of, mix_entry, next, pass_entry}
 pub use Rattle.network_text.specs.Given.{split_entry, with_any}
@@ -24,15 +24,15 @@ unfoldable pub use Rattle.network_text.specs.Given.{branch_at, branch_named, ent
 unfoldable pub use Rattle.network_text.specs.Names.{is_branch_name, is_dotted_name}
 pub use Rattle.network_text.specs.Outcome.{IsNetwork, IsNetworkOf, IsOutcome, grammar}
 unfoldable pub use Rattle.network_text.specs.Printed.{HasShortLines, branch_name, exchanger_name, exchanger_names, statement_of, text_of}
-pub use Rattle.network_text.specs.declared.given.Sides.{Sides}
 pub use Rattle.network_text.specs.declared.entry.Entry.{Entry}
 pub use Rattle.network_text.specs.declared.fault.NetFault.{NetFault}
+pub use Rattle.network_text.specs.declared.given.Sides.{Sides}
 pub use Rattle.network_text.specs.declared.kind.Kind.{Kind}
 pub use Rattle.network_text.specs.declared.limits.TheConstants.{LONGEST_LINE, MOST_DIGITS}
 pub use Rattle.networks.proofs.Counts.{StandsBefore, counted, find_none, none_counted, none_found, some_counted, stands_before, uncounted}
 pub use Rattle.networks.proofs.LineLaws.{exchangers_of-push, few_exchangers, made_by-push, names_of-append, passage_of-front, passages_of-front}
 pub use Rattle.networks.proofs.LineLaws.{passages_of-push, stream_at-front, used_by-push}
-pub use Rattle.networks.proofs.Lists.{All-front, AllPairs-take, all_at, enumerate_from-push, two_pushed}
+pub use Rattle.networks.proofs.Lists.{AllPairs-take, all_at, enumerate_from-push, two_pushed}
 pub use Rattle.networks.proofs.OfShape.{IsLineOf, all_made, declared_parts, line_at, line_of, line_read, made_no_more, made_there, many_own, own_exchanger}
 pub use Rattle.networks.proofs.OfShape.{passed_parts, stream_at-get_or, stream_at-take, streams_first, used_before, used_parts, used_there, used_within}
 pub use Rattle.networks.specs.Lines.{Exchanger, exchanger_of, makes, members, own_branch, passage_of, same_passage, uses}
@@ -73,17 +73,15 @@ pub use Rattle.std.specs.Option.{ForSome, option_to_list}
 pub use Rattle.stream_case.proofs.CaseLemmas.{IsName-source_name, IsSourceOf-side, length-AreStreams, source_named-source_name}
 pub use Rattle.stream_case.proofs.CompleteLemmas.{StaysValid, StaysValid-IsComplete}
 pub use Rattle.stream_case.proofs.DigitLemmas.{integer_read, natural_read}
-unfoldable pub use Rattle.stream_case.specs.Digits.{integer_in}
 pub use Rattle.stream_case.proofs.DistinctLemmas.{AllPairs-across, AllPairs-back, AllPairs-before, AllPairs-front, no_place_of, other_name, place_of}
-pub use Rattle.stream_case.proofs.ListLemmas.{none_there, slice_get-append}
+pub use Rattle.stream_case.proofs.ListLemmas.{All-front, none_there, slice_get-append}
 pub use Rattle.stream_case.proofs.NameTests.{name-passes, passed-name}
 pub use Rattle.stream_case.proofs.SourceLemmas.{is_on-true, own_side, same_source-same, same_source-true}
-unfoldable pub use Rattle.stream_case.specs.Case.{is_on}
-pub use Rattle.stream_case.specs.Source.{same_source}
 pub use Rattle.stream_case.specs.Case.{IsComplete, IsSourceOf, side_of, source_name}
-unfoldable pub use Rattle.stream_case.specs.Case.{source_named}
-unfoldable pub use Rattle.stream_case.specs.Digits.{natural_in}
+unfoldable pub use Rattle.stream_case.specs.Case.{is_on, source_named}
+unfoldable pub use Rattle.stream_case.specs.Digits.{integer_in, natural_in}
 pub use Rattle.stream_case.specs.Name.{IsAnyName, IsName}
+pub use Rattle.stream_case.specs.Source.{same_source}
 pub use Rattle.stream_case.specs.declared.case.Case.{Case}
 pub use Rattle.stream_case.specs.declared.source.Side.{Side}
 pub use Rattle.stream_case.specs.declared.source.Source.{Source}

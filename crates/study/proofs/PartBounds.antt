@@ -1,10 +1,10 @@
 -- How large the cost of a heat flow can be, and what parts keep where they are priced anew.
-use Rattle.study.proofs.Words.{All, All-cons, All-head, All-nil, All-set, All-slice_get, All-tail, AreOnGrid, Bool, Case, Cold, Hot, IsBounded, IsComplete}
-use Rattle.study.proofs.Words.{IsCost, IsLeastCost, IsOnPlaces, IsPrice, IsWithin, KeepsRanges, MOST_PARTS, Part, Side, Source}
-use Rattle.study.proofs.Words.{Transfer, Utility, case_prices, cases_lt, get_or_past, heat_at, int_sum_from, ints, pos, price_of, priced, priced_part}
+use Rattle.study.proofs.Words.{All, All-cons, All-head, All-nil, All-set, All-slice_get, All-tail, Bool, Case, Cold, Hot, IsBounded, IsComplete}
+use Rattle.study.proofs.Words.{IsCost, IsLeastCost, IsPrice, IsWithin, KeepsRanges, MOST_PARTS, Part, Side, Source}
+use Rattle.study.proofs.Words.{Transfer, case_prices, cases_lt, get_or_past, heat_at, int_sum_from, ints, pos, price_of, priced, priced_part}
 use Rattle.study.proofs.Words.{prices_with, product_within, side_cost, ℤ, ◌*ℤ◌}
 use Rattle.study_text.proofs.Accepted.{case_prices-within}
-use Rattle.std.proofs.Common.{List, Some, [], add-zero, ap, arith, length, map, refl, slice_get, subst, suc, sym, zero-add, ℕ, ⊎_elim, ◌*◌, ◌+◌, ◌∙◌, ◌∷◌, ◌≡◌}
+use Rattle.std.proofs.Common.{List, Some, [], add-zero, ap, arith, length, refl, slice_get, subst, suc, sym, zero-add, ℕ, ⊎_elim, ◌*◌, ◌+◌, ◌∙◌, ◌∷◌, ◌≡◌}
 use Rattle.std.proofs.Common.{◌≤◌}
 use Rattle.stream_case.specs.declared.source.Source.TheVariants.{Stream as of_stream, Utility as of_utility}
 

@@ -1,5 +1,5 @@
 -- Chords: lines through the least costs over a span, of which its segments are made.
-use Rattle.std.specs.Prelude.{◌≡◌, ℕ, ◌^◌, ℤ, pos, ◌+ℤ◌, ◌-ℤ◌, ◌*ℤ◌, ◌<ℤ◌}
+use Rattle.std.specs.Prelude.{ℕ, ◌^◌, ℤ, pos, ◌+ℤ◌, ◌-ℤ◌, ◌*ℤ◌, ◌<ℤ◌}
 use Rattle.heat_flow.specs.Ranges.{IsWithin}
 use Rattle.stream_case.specs.Limits.{IsBetween, IsPrice}
 use Rattle.stream_case.specs.declared.case.Case.{Case}

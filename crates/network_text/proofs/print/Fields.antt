@@ -2,10 +2,10 @@
 use Rattle.network_text.proofs.Words.{All-append, All-cons, All-weaker, IsAnyName, IsPlainField, IsVisible, IsWithinLimits}
 use Rattle.network_text.proofs.Words.{MOST_DIGITS, Rational, after_first, before_first, bounded_back, denominator_in, fraction_in, fraction_text}
 use Rattle.network_text.proofs.Words.{get_or_append_left, get_or_at, is_slash, list_any, list_any-append, list_any_none, name_plain, nat_tests, natural_in}
-use Rattle.network_text.proofs.Words.{natural_read, integer_in, integer_read, or-true, position_or_len, position_or_len_is, ratio, ratio-self, signed_decimal}
+use Rattle.network_text.proofs.Words.{natural_read, integer_in, integer_read, or-true, position_or_len, position_or_len_is, signed_decimal}
 use Rattle.statements.proofs.PlainNumbers.{IsNumberByte, bytes_visible, decimal_bytes, signed_bytes, signed_some}
 use Rattle.std.proofs.Common.{All, Bool, List, Some, [], ap, append_assoc, arith, decimal, drop, drop_at, false, if◌then◌else◌, inl, inr, length, length-append}
-use Rattle.std.proofs.Common.{refl, suc, sym, take, take_all, take_at, true, unsigned_abs, zero, ℕ, ◌++◌, ◌+◌, ◌<◌, ◌==◌, ◌^◌, ◌∙◌, ◌∷◌, ◌≡◌}
+use Rattle.std.proofs.Common.{refl, sym, take, take_all, take_at, true, unsigned_abs, ℕ, ◌++◌, ◌+◌, ◌<◌, ◌==◌, ◌^◌, ◌∙◌, ◌∷◌, ◌≡◌}
 
 -- ---- names
 

@@ -3,16 +3,16 @@ use Rattle.network_text.proofs.Words.{All-from_recursion, All-nil, AreExchangers
 use Rattle.network_text.proofs.Words.{AreUsedOnce, Branch, Case, Decides-is_below, Entry, Exchanger, ForSome, HasPositiveSize}
 use Rattle.network_text.proofs.Words.{IsAnyName, IsExchanger, IsFresh, IsOfOneStream, IsPositive, IsWithinLimits, Joins, Kind, Network, Passage, Passes}
 use Rattle.network_text.proofs.Words.{PassesDeclared, Rational, Side, Source, Statement, all_pairs_push, and_parts, bounded_within, branch_at, branch_named}
-use Rattle.network_text.proofs.Words.{bytes_decides, checks, cond_some, end_checks, end_entry, entry_by, entry_in, eqb-false, exchanger_at, exchanger_checks}
+use Rattle.network_text.proofs.Words.{bytes_decides, checks, end_checks, end_entry, entry_by, entry_in, eqb-false, exchanger_at, exchanger_checks}
 use Rattle.network_text.proofs.Words.{exchanger_entry, exchanger_field_checks, exchanger_named, exchanger_of, exchangers_of, false≢true, field, first_stream}
 use Rattle.network_text.proofs.Words.{fraction, fraction_checks, fraction_in, get_or-map, has_stream, index_within, is_below, is_on, is_on-true, is_passed}
-use Rattle.network_text.proofs.Words.{is_some-position, is_used, is_within_limits, joins_stream, kind_checks, kind_of, length-map, makes, members}
+use Rattle.network_text.proofs.Words.{is_some-position, is_used, joins_stream, kind_checks, kind_of, length-map, makes, members}
 use Rattle.network_text.proofs.Words.{mix_checks, mix_entry, mixed_checks, names_of, nat_tests, new_branch_checks, new_exchanger_checks, none_any, not-true}
-use Rattle.network_text.proofs.Words.{or_cases, pass_checks, pass_entry, passed-name, passed_checks, passes, positive_num, range_with_len, ratio, ratio_of}
-use Rattle.network_text.proofs.Words.{rational_zero, same_Some, same_source, same_source-true, side_of, source_at, source_checks, split_checks, split_entry, stream_at}
+use Rattle.network_text.proofs.Words.{or_cases, pass_checks, pass_entry, passed-name, passed_checks, passes, positive_num, range_with_len, ratio_of}
+use Rattle.network_text.proofs.Words.{rational_zero, same_Some, same_source, same_source-true, source_at, source_checks, split_checks, split_entry, stream_at}
 use Rattle.network_text.proofs.Words.{two_pushed, used_branch_checks, used_by, uses}
-use Rattle.std.proofs.Common.{All, AllPairs, List, None, Option, Some, [], ap, append-nil, arith, bytes_eq, eqb-true, false, get_or, inl, inr, is_some, length}
-use Rattle.std.proofs.Common.{map, not, position, refl, slice_get, subst, suc, sym, true, unwrap_or, zero, ℕ, ℤ, ◌++◌, ◌<◌, ◌==◌, ◌∙◌, ◌∷◌, ◌≡◌, ◌≢◌, ◌≤◌, ◌⊎◌}
+use Rattle.std.proofs.Common.{All, AllPairs, List, None, Option, Some, [], append-nil, arith, bytes_eq, eqb-true, false, get_or, inl, inr, is_some, length}
+use Rattle.std.proofs.Common.{map, not, position, refl, slice_get, subst, sym, true, unwrap_or, ℕ, ℤ, ◌++◌, ◌<◌, ◌==◌, ◌∙◌, ◌∷◌, ◌≡◌, ◌≢◌, ◌≤◌, ◌⊎◌}
 use Rattle.network_text.proofs.NameTests.{passed-branch_name}
 use Rattle.stream_case.specs.declared.source.Source.TheVariants as source
 use Rattle.network_text.specs.declared.kind.Kind.TheVariants as kind

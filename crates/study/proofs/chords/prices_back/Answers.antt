@@ -1,4 +1,4 @@
-use Rattle.std.proofs.Common.{FitsSigned, arith, of_z, rules, subst, sym, to_z, ◌≡◌}
+use Rattle.std.proofs.Common.{FitsSigned, arith, of_z, rules, subst, sym, to_z}
 use Rattle.std.proofs.lemmas.Int.{clamps, quot_fits}
 use Rattle.study.proofs.Words.{IsGap, IsWithin, ints, pos, to_z-of_z, w128, ℤ, ◌*ℤ◌, ◌-ℤ◌, ◌<ℤ◌}
 use Rattle.study.proofs.ChordBounds.{gap-times}
