@@ -26,29 +26,31 @@ sensible_below-between t s h =
     let below = length_below (lower_temperature s) (higher_temperature s) t in
     heat-between s below h (record { from = omega (arith, ints, clamps); upto = omega (arith, ints, clamps) })
 
-pub load_under-between : (upto : Bool) (t : ℤ) (s : Stream) → IsValidStream s → IsStreamHeat (load_under upto t s)
-load_under-between upto t s h = by_heat h.heat
+pub load_under-between : (upto_itself : Bool) (t : ℤ) (s : Stream) → IsValidStream s
+    → IsStreamHeat (load_under upto_itself t s)
+load_under-between upto_itself t s h = by_heat h.heat
   where
-    by_heat : IsSensible s ⊎ IsLatent s → IsStreamHeat (load_under upto t s)
+    by_heat : IsSensible s ⊎ IsLatent s → IsStreamHeat (load_under upto_itself t s)
     by_heat (inl sensible) =
-        let none = if_zero (counts_above upto s.supply t) s.load sensible.load in
+        let none = if_zero (counts_above upto_itself s.supply t) s.load sensible.load in
         record { from = omega (arith, ints); upto = omega (arith, ints) }
     by_heat (inr latent) =
         let load = latent.load in
-        let some = if_between (counts_above upto s.supply t) s.load (omega (arith, ints)) in
+        let some = if_between (counts_above upto_itself s.supply t) s.load (omega (arith, ints)) in
         record { from = some.0; upto = omega (arith, ints, some.1) }
 
 -- one of the two summands is 0
-pub heat_under-between : (upto : Bool) (t : ℤ) (s : Stream) → IsValidStream s → IsStreamHeat (heat_under upto t s)
-heat_under-between upto t s h = by_heat h.heat
+pub heat_under-between : (upto_itself : Bool) (t : ℤ) (s : Stream) → IsValidStream s
+    → IsStreamHeat (heat_under upto_itself t s)
+heat_under-between upto_itself t s h = by_heat h.heat
   where
-    by_heat : IsSensible s ⊎ IsLatent s → IsStreamHeat (heat_under upto t s)
+    by_heat : IsSensible s ⊎ IsLatent s → IsStreamHeat (heat_under upto_itself t s)
     by_heat (inl sensible) =
         let product = sensible_below-between t s h in
-        let none = if_zero (counts_above upto s.supply t) s.load sensible.load in
+        let none = if_zero (counts_above upto_itself s.supply t) s.load sensible.load in
         record { from = omega (arith, ints); upto = omega (arith, ints) }
     by_heat (inr latent) =
-        let some = load_under-between upto t s h in
+        let some = load_under-between upto_itself t s h in
         let none : sensible_below t s ≡ pos 0 = rw latent.cp (omega (arith, ints)) in
         record { from = omega (arith, ints); upto = omega (arith, ints) }
 

@@ -16,11 +16,11 @@ sensible_below t s = s.cp *ℤ length_below (lower_temperature s) (higher_temper
 
 -- the load of a latent stream whose temperature counts as below t: one that is lower, and one that is equal up to t
 abbrev pub load_under : Bool → ℤ → Stream → ℤ
-load_under upto t s = if counts_above upto s.supply t then s.load else pos 0
+load_under upto_itself t s = if counts_above upto_itself s.supply t then s.load else pos 0
 
 -- the heat of a stream under t, with what is given or taken at t itself or not
 abbrev pub heat_under : Bool → ℤ → Stream → ℤ
-heat_under upto t s = sensible_below t s +ℤ load_under upto t s
+heat_under upto_itself t s = sensible_below t s +ℤ load_under upto_itself t s
 
 -- its heat below t
 abbrev pub heat_below : ℤ → Stream → ℤ

@@ -18,38 +18,38 @@ fn sensible_below(stream: &Stream, t: i32) -> i64
 }
 
 // The load of a stream, if its temperature counts as below `t`.
-fn load_under(stream: &Stream, upto: bool, t: i32) -> i64
+fn load_under(stream: &Stream, upto_itself: bool, t: i32) -> i64
     requires { IsValidStream stream.now }
-    ensures value { result ≡ load_under upto t stream.now }
+    ensures value { result ≡ load_under upto_itself t stream.now }
     ensures range { IsStreamHeat result }
 {
-    if counts_above(upto, stream.supply, t) {
+    if counts_above(upto_itself, stream.supply, t) {
         stream.load
     } else {
         0
     }
 }
 
-// The heat of a stream below `t`, with that of a latent one at `t` itself if `upto`.
-fn heat_under(stream: &Stream, upto: bool, t: i32) -> i64
+// The heat of a stream below `t`, with that of a latent one at `t` itself if `upto_itself`.
+fn heat_under(stream: &Stream, upto_itself: bool, t: i32) -> i64
     requires { IsValidStream stream.now }
-    ensures value { result ≡ heat_under upto t stream.now }
+    ensures value { result ≡ heat_under upto_itself t stream.now }
     ensures range { IsStreamHeat result }
 {
-    sensible_below(stream, t) + load_under(stream, upto, t)
+    sensible_below(stream, t) + load_under(stream, upto_itself, t)
 }
 
 // The heat of all streams of a side below `t`, with that of the latent ones at `t` itself if
-// `upto`.
-pub(crate) fn side_heat_under(streams: &[Stream], side: Side, upto: bool, t: i32) -> i64
+// `upto_itself`.
+pub(crate) fn side_heat_under(streams: &[Stream], side: Side, upto_itself: bool, t: i32) -> i64
     requires { AreStreams streams.now }
-    ensures value { result ≡ sum_side side (heat_under upto t) streams.now }
+    ensures value { result ≡ sum_side side (heat_under upto_itself t) streams.now }
     ensures range { IsStreamsHeat result }
 {
     let mut heat = 0;
     for stream in streams {
         if stream.is_on(side) {
-            heat += heat_under(stream, upto, t);
+            heat += heat_under(stream, upto_itself, t);
         }
     }
     heat

@@ -8,16 +8,18 @@ use Rattle.curves.proofs.below.side_heat_under.Goals as goal
 pub overflow_add-heat : goal.overflow_add-heat
 overflow_add-heat c =
     let t = to_z w32 (of_z w32 c.args.t) in
-    let heat = heat_under c.args.upto t in
-    let so_far = sum_side-so_far c.args.side heat (heat_under-between c.args.upto t) c.args.streams.now c.loop-stream.stream-index c.requires in
+    let heat = heat_under c.args.upto_itself t in
+    let within = heat_under-between c.args.upto_itself t in
+    let so_far = sum_side-so_far c.args.side heat within c.args.streams.now c.loop-stream.stream-index c.requires in
     omega (arith, ints)
 
 pub loop-stream-preserved : goal.loop-stream-preserved
 loop-stream-preserved c =
     let t = to_z w32 (of_z w32 c.args.t) in
-    let heat = heat_under c.args.upto t in
+    let heat = heat_under c.args.upto_itself t in
+    let within = heat_under-between c.args.upto_itself t in
     let s = c.stream-item.result in
-    let so_far = sum_side-so_far c.args.side heat (heat_under-between c.args.upto t) c.args.streams.now c.loop-stream.stream-index c.requires in
+    let so_far = sum_side-so_far c.args.side heat within c.args.streams.now c.loop-stream.stream-index c.requires in
     let step = sum_side-more c.args.side heat c.args.streams.now c.loop-stream.stream-index s c.loop-stream-test.true c.stream-item.is in
     let term = λ (b : Bool). if b then heat s else pos 0 in
     elim c.if-is_on.branch [
@@ -32,6 +34,7 @@ loop-stream-preserved c =
 pub returns-clause-range : goal.returns-clause-range
 returns-clause-range c =
     let t = to_z w32 (of_z w32 c.args.t) in
-    let heat = heat_under c.args.upto t in
-    let so_far = sum_side-so_far c.args.side heat (heat_under-between c.args.upto t) c.args.streams.now c.loop-stream.stream-index c.requires in
+    let heat = heat_under c.args.upto_itself t in
+    let within = heat_under-between c.args.upto_itself t in
+    let so_far = sum_side-so_far c.args.side heat within c.args.streams.now c.loop-stream.stream-index c.requires in
     record { from = omega (arith, ints); upto = omega (arith, ints) }
