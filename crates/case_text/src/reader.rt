@@ -15,7 +15,7 @@ use crate::contribution_row::contribution_entry;
 use crate::entry::Entry;
 use crate::fault::{CaseFault, CaseWhy};
 use crate::forbid_row::forbid_entry;
-use crate::found::Found;
+use crate::given::Given;
 use crate::kind::{Kind, kind_of};
 use crate::stream_row::stream_entry;
 use crate::utility_row::utility_entry;
@@ -27,10 +27,10 @@ use stream_case::Case;
 
 /// What a row gives, or the first of its checks that fails.
 #[tactic(auto, unfolding(crate::specs::Checks::checks, crate::specs::Checks::kind_checks))]
-fn entry_of(found: &Found, row: &ByteRecord) -> Result<Entry, CaseWhy>
-    ensures fresh { IfOk result (IsFresh found.now) }
-    ensures checked { Checked (checks found.now (fields_of row.now))
-        (λ e. e ≡ entry_in found.now (fields_of row.now)) result }
+fn entry_of(given: &Given, row: &ByteRecord) -> Result<Entry, CaseWhy>
+    ensures fresh { IfOk result (IsFresh given.now) }
+    ensures checked { Checked (checks given.now (fields_of row.now))
+        (λ e. e ≡ entry_in given.now (fields_of row.now)) result }
 {
     if row.len() != 7 {
         return Err(CaseWhy::FieldCount);
@@ -38,19 +38,19 @@ fn entry_of(found: &Found, row: &ByteRecord) -> Result<Entry, CaseWhy>
     match kind_of(row) {
         None => Err(CaseWhy::UnknownKind),
         Some(Kind::PassedOver) => Ok(Entry::Nothing),
-        Some(Kind::Contribution) => contribution_entry(found, row),
-        Some(Kind::Stream(side)) => stream_entry(found, side, row),
-        Some(Kind::Utility(side)) => utility_entry(found, side, row),
-        Some(Kind::Forbid) => forbid_entry(found, row),
+        Some(Kind::Contribution) => contribution_entry(given, row),
+        Some(Kind::Stream(side)) => stream_entry(given, side, row),
+        Some(Kind::Utility(side)) => utility_entry(given, side, row),
+        Some(Kind::Forbid) => forbid_entry(given, row),
     }
 }
 
 /// Takes what rows give, and answers how many there are, or the first row at fault.
-fn take_rows(alloc: Global, rows: &mut Rows<'_>, found: &mut Found) -> Result<u32, CaseFault>
+fn take_rows(alloc: Global, rows: &mut Rows<'_>, given: &mut Given) -> Result<u32, CaseFault>
     requires few { length rows.old ≤ 2000000000 }
-    requires none { found.old ≡ nothing }
+    requires none { given.old ≡ nothing }
     ensures sound { OnOk result (SoundBefore grammar rows.old (length rows.old)) }
-    ensures given { OnOk result (found.new ≡ given_by grammar rows.old) }
+    ensures given { OnOk result (given.new ≡ given_by grammar rows.old) }
     ensures number { IfOk result (λ n. n ≡ length rows.old) }
     ensures fault { IfErr result (λ fault. IsOutcome rows.old (Err fault)) }
 {
@@ -58,23 +58,23 @@ fn take_rows(alloc: Global, rows: &mut Rows<'_>, found: &mut Found) -> Result<u3
     let mut number: u32 = 0;
     while rows.read(&mut row)? {
         number += 1;
-        match entry_of(found, &row) {
-            Ok(entry) => found.add(entry)?,
+        match entry_of(given, &row) {
+            Ok(entry) => given.add(entry)?,
             Err(why) => return Err(CaseFault::Row { row: number, why }),
         }
     }
     Ok(number)
 }
 
-/// The case of rows, or the first row at fault with its cause; `found` takes what they give.
-fn case_of(alloc: Global, rows: &mut Rows<'_>, found: &mut Found) -> Result<Case, CaseFault>
+/// The case of rows, or the first row at fault with its cause; `given` takes what they give.
+fn case_of(alloc: Global, rows: &mut Rows<'_>, given: &mut Given) -> Result<Case, CaseFault>
     requires few { length rows.old ≤ 2000000000 }
-    requires none { found.old ≡ nothing }
+    requires none { given.old ≡ nothing }
     ensures { IsOutcome rows.old result }
 {
-    let number = take_rows(alloc, rows, found)?;
-    match found.contribution() {
-        Ok(contribution) => Ok(found.case(alloc, contribution)?),
+    let number = take_rows(alloc, rows, given)?;
+    match given.contribution() {
+        Ok(contribution) => Ok(given.case(alloc, contribution)?),
         Err(why) => Err(CaseFault::Row {
             row: number + 1,
             why,
@@ -90,6 +90,6 @@ pub fn read_case(alloc: Global, bytes: &[u8]) -> Result<Case, CaseFault>
     ensures valid { IfOk result IsValid }
 {
     let mut rows = Rows::new(alloc, bytes);
-    let mut found = Found::new(alloc, TextKey::of_text(bytes));
-    case_of(alloc, &mut rows, &mut found)
+    let mut given = Given::new(alloc, TextKey::of_text(bytes));
+    case_of(alloc, &mut rows, &mut given)
 }
