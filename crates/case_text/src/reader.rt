@@ -1,10 +1,9 @@
 //! Reading a case file.
 
-ghost use Rattle.std.specs.Prelude.{◌≡◌, ◌≤◌, Err, length, IfErr, IfOk, OnOk};
+ghost use Rattle.std.specs.Prelude.{◌≡◌, ◌≤◌, length, IfOk};
 ghost use Rattle.csv.specs.Records.{fields_of};
 ghost use Rattle.rows.specs.Rows.{rows_of};
 ghost use Rattle.first_fault.specs.Checks.{Checked};
-ghost use Rattle.first_fault.specs.Outcome.{SoundBefore, given_by};
 ghost use Rattle.stream_case.specs.Case.{IsValid};
 ghost use Rattle.case_text.specs.Given.{entry_in, nothing};
 ghost use Rattle.case_text.specs.Checks.{checks};
@@ -21,8 +20,8 @@ use crate::stream_row::stream_entry;
 use crate::utility_row::utility_entry;
 use csv::ByteRecord;
 use keyed_index::TextKey;
-use rows::Rows;
-use std::alloc::Global;
+use rows::{Collector, Rows, read_rows};
+use std::alloc::{AllocError, Global};
 use stream_case::Case;
 
 /// What a row gives, or the first of its checks that fails.
@@ -45,25 +44,22 @@ fn entry_of(given: &Given, row: &ByteRecord) -> Result<Entry, CaseWhy>
     }
 }
 
-/// Takes what rows give, and answers how many there are, or the first row at fault.
-fn take_rows(alloc: Global, rows: &mut Rows<'_>, given: &mut Given) -> Result<u32, CaseFault>
-    requires few { length rows.old ≤ 2000000000 }
-    requires none { given.old ≡ nothing }
-    ensures sound { OnOk result (SoundBefore grammar rows.old (length rows.old)) }
-    ensures given { OnOk result (given.new ≡ given_by grammar rows.old) }
-    ensures number { IfOk result (λ n. n ≡ length rows.old) }
-    ensures fault { IfErr result (λ fault. IsOutcome rows.old (Err fault)) }
-{
-    let mut row = ByteRecord::new(alloc);
-    let mut number: u32 = 0;
-    while rows.read(&mut row)? {
-        number += 1;
-        match entry_of(given, &row) {
-            Ok(entry) => given.add(entry)?,
-            Err(why) => return Err(CaseFault::Row { row: number, why }),
+impl Collector for Given {
+    type Why = CaseWhy;
+    type Given = Given;
+    type Value = Case;
+
+    ghost grammar = { λ _. grammar };
+
+    ghost given = { λ given. given };
+
+    fn take_row(&mut self, row: &ByteRecord) -> Result<Option<CaseWhy>, AllocError> {
+        match entry_of(self, row) {
+            Ok(entry) => self.add(entry)?,
+            Err(why) => return Ok(Some(why)),
         }
+        Ok(None)
     }
-    Ok(number)
 }
 
 /// The case of rows, or the first row at fault with its cause; `given` takes what they give.
@@ -72,7 +68,7 @@ fn case_of(alloc: Global, rows: &mut Rows<'_>, given: &mut Given) -> Result<Case
     requires none { given.old ≡ nothing }
     ensures { IsOutcome rows.old result }
 {
-    let number = take_rows(alloc, rows, given)?;
+    let number = read_rows(alloc, rows, given)?;
     match given.contribution() {
         Ok(contribution) => Ok(given.case(alloc, contribution)?),
         Err(why) => Err(CaseFault::Row {

@@ -6,11 +6,15 @@
 //! answers the cause that the caller names for it.
 #![tactic(auto)]
 
+mod collector;
+mod contribution_row;
 mod fault;
 mod fields;
 mod numbers;
 mod row_reader;
 
+pub use collector::{Collector, read_rows};
+pub use contribution_row::{ContributionCauses, contribution_in};
 pub use fault::RowFault;
 pub use fields::{are_empty, field, is_passed_over, name_in, number_in, optional_number_in};
 pub use numbers::{

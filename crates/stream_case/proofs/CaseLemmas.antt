@@ -79,7 +79,8 @@ other_source c source side index u side_is here other =
     ∙ ap (option_map (λ (v : Utility). v.side)) here in
     other (same_Some u.side side (sym own ∙ side_is)))
 
-name_at : {X : Type 0} (name : X → List ℕ) (xs : List X) (i : ℕ)
+-- the name of the item at an index, and none behind the last
+pub name_at : {X : Type 0} (name : X → List ℕ) (xs : List X) (i : ℕ)
     → option_map_or name (slice_get xs i) [] ≡ get_or (map name xs) i []
 name_at name [] i = refl
 name_at name (x ∷ xs) zero = refl
