@@ -87,7 +87,8 @@ forbids_stay given e fits = record {
 contribution_fits : (given : Given) (contribution : ℤ) → Fits given → IsContribution contribution
     → Fits (with_entry given (entry.Contribution contribution))
 contribution_fits given contribution fits range =
-    record { contribution = range; sources = fits.sources; forbids = forbids_stay given (entry.Contribution contribution) fits.forbids }
+    let forbids = forbids_stay given (entry.Contribution contribution) fits.forbids in
+    record { contribution = range; sources = fits.sources; forbids = forbids }
 
 own_range : (row : Row) (contribution : ℤ) → is_own_contribution (optional_number row 6) ≡ true
     → IsContribution contribution
@@ -227,7 +228,8 @@ unfolding kind_checks
 row_kept given row None fits passes = fits
 row_kept given row (Some kind.PassedOver) fits passes = fits
 row_kept given row (Some kind.Contribution) fits passes =
-    contribution_fits given (number row 2) fits (passed-contribution contribution_causes (is_some given.contribution) row passes)
+    let range = passed-contribution contribution_causes (is_some given.contribution) row passes in
+    contribution_fits given (number row 2) fits range
 row_kept given row (Some (kind.Stream of)) fits passes = stream_kept given row of fits passes
 row_kept given row (Some (kind.Utility of)) fits passes = utility_kept given row of fits passes
 row_kept given row (Some kind.Forbid) fits passes = forbid_kept given row fits passes

@@ -49,7 +49,12 @@ is_source of earlier name = is_side of (option_and_then (side_of earlier) (sourc
 -- ---- the checks of each kind of row
 
 abbrev pub contribution_causes : ContributionCauses CaseWhy
-contribution_causes = record { field_count = why.FieldCount; repeated = why.Repeated; bad_number = why.BadNumber; out_of_range = why.OutOfRange }
+contribution_causes = record {
+  field_count = why.FieldCount;
+  repeated = why.Repeated;
+  bad_number = why.BadNumber;
+  out_of_range = why.OutOfRange;
+}
 
 abbrev pub contribution_checks : Given → Row → List (Check CaseWhy)
 contribution_checks earlier row = of_rows.contribution_checks contribution_causes (is_some earlier.contribution) row

@@ -1,6 +1,6 @@
 //! Reading a case file.
 
-ghost use Rattle.std.specs.Prelude.{◌≡◌, ◌≤◌, length, IfOk};
+ghost use Rattle.std.specs.Prelude.{◌≡◌, ◌≤◌, length, ⊤, IfOk};
 ghost use Rattle.csv.specs.Records.{fields_of};
 ghost use Rattle.rows.specs.Rows.{rows_of};
 ghost use Rattle.first_fault.specs.Checks.{Checked};
@@ -46,8 +46,12 @@ fn entry_of(given: &Given, row: &ByteRecord) -> Result<Entry, CaseWhy>
 
 impl Collector for Given {
     type Why = CaseWhy;
+
     type Given = Given;
+
     type Value = Case;
+
+    ghost is_sound = { λ _. ⊤ };
 
     ghost grammar = { λ _. grammar };
 

@@ -35,7 +35,8 @@ contribution-passes causes c range =
 pub stream_row-kind : {Kind : Type 0} (passed_over : Kind) (kind_in : List ℕ → Option Kind) (kind_on : Side → Kind)
     → kind_in (codes "hot") ≡ Some (kind_on side.Hot) → kind_in (codes "cold") ≡ Some (kind_on side.Cold)
     → (of : Side) (fields : Row)
-    → (if is_passed_over (stream_kind of ∷ fields) then Some passed_over else kind_in (stream_kind of)) ≡ Some (kind_on of)
+    → (if is_passed_over (stream_kind of ∷ fields) then Some passed_over else kind_in (stream_kind of))
+    ≡ Some (kind_on of)
 unfolding is_passed_over are_empty
 stream_row-kind passed_over kind_in kind_on hot cold side.Hot fields = hot
 stream_row-kind passed_over kind_in kind_on hot cold side.Cold fields = cold

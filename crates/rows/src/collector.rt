@@ -23,6 +23,9 @@ pub trait Collector {
     /// What is made of a whole file.
     type Value;
 
+    /// It may take rows.
+    ghost is_sound: { Self → Type 0 };
+
     /// The grammar of the file.
     ghost grammar: { Self → Grammar Row Self.Given Self.Value Self.Why };
 
@@ -32,11 +35,13 @@ pub trait Collector {
     /// Takes what the next row gives, or answers the cause of the first of its checks that fails.
     /// The only error is want of memory.
     fn take_row(&mut self, row: &ByteRecord) -> Result<Option<Self::Why>, AllocError>
+        requires { is_sound self.old }
         ensures cause { IfOk result (λ why. why
             ≡ first_failing ((grammar self.old).checks (given self.old) (fields_of row.now))) }
         ensures taken { IfOk result (λ why. IfNone why (given self.new
             ≡ (grammar self.old).next (given self.old) (fields_of row.now))) }
-        ensures stays { OnOk result (grammar self.new ≡ grammar self.old) };
+        ensures sound { OnOk result (is_sound self.new) }
+        ensures same { OnOk result (grammar self.new ≡ grammar self.old) };
 }
 
 /// Takes what rows give, and answers how many there are, or the first row at fault with its cause.
@@ -45,6 +50,7 @@ pub fn read_rows<C: Collector>(
     rows: &mut Rows<'_>,
     collector: &mut C,
 ) -> Result<u32, RowFault<C::Why>>
+    requires collects { C.is_sound collector.old }
     requires few { length rows.old ≤ 2000000000 }
     requires none { C.given collector.old ≡ (C.grammar collector.old).start }
     ensures sound { OnOk result

@@ -1,6 +1,6 @@
 //! The rows of CSV files and what stands in their fields: which fields are empty, the names and
-//! the numbers in them, and the limits of the numbers. The readers of cases, of sites and of price
-//! studies are made of these.
+//! the numbers in them, and the limits of the numbers; and the loop that reads rows by a grammar.
+//! The readers of cases, of sites and of price studies are made of these.
 //!
 //! A row of a case or of a site has seven fields, one of a price study four. A check that fails
 //! answers the cause that the caller names for it.

@@ -115,7 +115,8 @@ module _ (site : Site) (valid : IsValidSite site) where
       let row = contribution_row site.contribution in
       let passes : Passes (checks nothing row)
       = (refl, (refl, contribution-passes contribution_causes site.contribution valid.contribution)) in
-      record { passes = none_fails (checks nothing row) passes; next_is = rw (contribution-read site.contribution valid.contribution) refl }
+      let read = contribution-read site.contribution valid.contribution in
+      record { passes = none_fails (checks nothing row) passes; next_is = rw read refl }
 
   mains_give : Give grammar (contribution_row site.contribution ∷ map main_row site.mains) (given_with site site.mains [])
   mains_give =

@@ -44,7 +44,12 @@ is_stream earlier name = is_among (λ s. s.name) (streams_of earlier.plants) nam
 -- ---- the checks of each kind of row
 
 abbrev pub contribution_causes : ContributionCauses SiteWhy
-contribution_causes = record { field_count = why.FieldCount; repeated = why.Repeated; bad_number = why.BadNumber; out_of_range = why.OutOfRange }
+contribution_causes = record {
+  field_count = why.FieldCount;
+  repeated = why.Repeated;
+  bad_number = why.BadNumber;
+  out_of_range = why.OutOfRange;
+}
 
 abbrev pub contribution_checks : Given → Row → List (Check SiteWhy)
 contribution_checks earlier row = of_rows.contribution_checks contribution_causes (is_some earlier.contribution) row

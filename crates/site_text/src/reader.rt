@@ -1,6 +1,6 @@
 //! Reading a site file.
 
-ghost use Rattle.std.specs.Prelude.{◌≡◌, ◌≤◌, length, IfOk};
+ghost use Rattle.std.specs.Prelude.{◌≡◌, ◌≤◌, length, ⊤, IfOk};
 ghost use Rattle.csv.specs.Records.{fields_of};
 ghost use Rattle.rows.specs.Rows.{rows_of};
 ghost use Rattle.first_fault.specs.Checks.{Checked};
@@ -45,8 +45,12 @@ fn entry_of(given: &Given, row: &ByteRecord) -> Result<Entry, SiteWhy>
 
 impl Collector for Given {
     type Why = SiteWhy;
+
     type Given = Given;
+
     type Value = Site;
+
+    ghost is_sound = { λ _. ⊤ };
 
     ghost grammar = { λ _. grammar };
 

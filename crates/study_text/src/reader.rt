@@ -57,13 +57,16 @@ fn take(given: &mut Given, entry: Option<Entry>) -> Result<(), AllocError>
 struct Collected<'a> {
     case: &'a Case,
     given: Given,
-    ghost complete: { IsComplete case.now },
 }
 
 impl Collector for Collected<'_> {
     type Why = StudyWhy;
+
     type Given = Given;
+
     type Value = Study;
+
+    ghost is_sound = { λ collected. IsComplete collected.case.now };
 
     ghost grammar = { λ collected. grammar collected.case.now };
 

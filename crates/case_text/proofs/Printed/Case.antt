@@ -164,7 +164,8 @@ first_step k valid =
     let row = contribution_row k.contribution in
     let passes : Passes (checks nothing row)
     = (refl, (refl, contribution-passes contribution_causes k.contribution valid.contribution)) in
-    record { passes = none_fails (checks nothing row) passes; next_is = rw (contribution-read k.contribution valid.contribution) refl }
+    let read = contribution-read k.contribution valid.contribution in
+    record { passes = none_fails (checks nothing row) passes; next_is = rw read refl }
 
 rows_give : (k : Case) → IsValid k → Give grammar (printed_rows k) (given_with k k.streams k.utilities k.forbids)
 unfolding printed_rows

@@ -135,8 +135,9 @@ stream_follows given k s valid unreserved few new =
     let to = within-passes _ _ _ valid.target in
     let numbers : Passes (stream_number_checks s.side row) = rw (supply, target, cp, load, own.read)
     (refl, (refl, (refl, (is_load, (own.is_number, (from, (to, (heat.cp, (heat.load, (own.range, heat.heat _)))))))))) in
+    let reserved = (Decides-neither s.name (codes "HOT") (codes "COLD")).1 unreserved in
     let passes : Passes (checks given row) =
-    rw is (refl, (refl, (place, (name-passes s.name valid.name, ((Decides-neither s.name (codes "HOT") (codes "COLD")).1 unreserved, (free, numbers)))))) in
+    rw is (refl, (refl, (place, (name-passes s.name valid.name, (reserved, (free, numbers)))))) in
     record { passes = none_fails (checks given row) passes; next_is = rw (is, supply, target, cp, load, own.read) refl }
 
 -- ---- utilities
