@@ -1,7 +1,7 @@
 -- The case of a file that is accepted is valid.
 use Rattle.case_text.proofs.ListLemmas.{AllPairs-insert}
 use Rattle.case_text.proofs.Sources.{Streams, Utilities, count_on-case, few_with_stream, names_of-case, side_in, side_of-case}
-use Rattle.case_text.proofs.Tests.{Decides-is_forbidden, Decides-is_reserved, Decides-is_reserved_from, Decides-is_taken, IsRightNameOf, source_on}
+use Rattle.case_text.proofs.Tests.{Decides-is_forbidden, Decides-is_reserved_from, Decides-is_taken, IsRightNameOf, source_on}
 use Rattle.case_text.proofs.Words.{All-back, All-front, All-map, All-nil, All-push, All-weaker, Case, CaseWhy, Decides-and, Decides-int_eq, Decides-int_le}
 use Rattle.case_text.proofs.Words.{Decides-is_own_contribution, Entry, Forbid, Given, HasFewSources, IsCase, IsContribution, IsKept, IsLatent, IsOutcome}
 use Rattle.case_text.proofs.Words.{IsRightlyNamed, IsSensible, IsUnreserved, IsValid, IsValidForbid, IsValidStream, IsValidUtility, Kind, MOST_FORBIDS}
@@ -10,7 +10,8 @@ use Rattle.case_text.proofs.Words.{count_on, end_checks, end_fault, entry_by, fi
 use Rattle.case_text.proofs.Words.{is_own_contribution, is_own_load, is_reserved, is_reserved_from, is_taken, keys_of, kind_of, length-map, map-append}
 use Rattle.case_text.proofs.Words.{nat_tests, no_contribution, nothing, number, optional_number, passed-latent, passed-name, passed-room, passed-sensible}
 use Rattle.case_text.proofs.Words.{passed-within, range_of, source_at, stream-is_valid, stream_data, stream_of, utility_data, utility_of, with_entry}
-use Rattle.case_text.specs.Checks.{checks, contribution_checks, forbid_checks, heat_checks, kind_checks, latent_checks, sensible_checks, stream_checks}
+use Rattle.case_text.proofs.Words.{Decides-neither, codes, passed-contribution}
+use Rattle.case_text.specs.Checks.{checks, contribution_causes, forbid_checks, heat_checks, kind_checks, latent_checks, sensible_checks, stream_checks}
 use Rattle.case_text.specs.Checks.{stream_number_checks, utility_checks, utility_number_checks}
 use Rattle.std.proofs.Common.{All, AllPairs, Err, IfOk, IfSome, List, None, Ok, Option, Result, Some, [], append_assoc, arith, if◌then◌else◌, inl, inr, is_some}
 use Rattle.std.proofs.Common.{length, length-append, not, option_map, pos, refl, slice_get, suc, sym, true, unwrap_or, zero, ℕ, ℤ, ◌++◌, ◌<◌, ◌∙◌, ◌∷◌, ◌≡◌}
@@ -83,11 +84,11 @@ forbids_stay given e fits = record {
   distinct = fits.distinct;
 }
 
-contribution_kept : (given : Given) (row : Row) → Fits given → Passes (contribution_checks given row)
-    → Fits (with_entry given (entry.Contribution (number row 2)))
-unfolding contribution_checks
-contribution_kept given row fits (_, (_, (_, (range, _)))) =
-    record { contribution = passed-within _ _ _ range; sources = fits.sources; forbids = forbids_stay given (entry.Contribution (number row 2)) fits.forbids }
+contribution_fits : (given : Given) (contribution : ℤ) → Fits given → IsContribution contribution
+    → Fits (with_entry given (entry.Contribution contribution))
+contribution_fits given contribution fits range =
+    let forbids = forbids_stay given (entry.Contribution contribution) fits.forbids in
+    record { contribution = range; sources = fits.sources; forbids = forbids }
 
 own_range : (row : Row) (contribution : ℤ) → is_own_contribution (optional_number row 6) ≡ true
     → IsContribution contribution
@@ -113,12 +114,12 @@ heat_of s contribution = by s.1.load refl
 stream_fits : (of : Side) (row : Row) → is_name (field row 1) ≡ true → not (is_reserved (field row 1)) ≡ true
     → Passes (stream_number_checks of row)
     → StreamFits (field row 1, stream_data of row)
-unfolding stream_number_checks
+unfolding stream_number_checks is_reserved
 stream_fits of row name unreserved (_, (_, (_, (_, (_, (supply, (target, (cp, (load, (own, heat)))))))))) = record {
   valid = λ contribution range.
       let s : List ℕ × StreamData = (field row 1, stream_data of row) in
       stream-is_valid (stream_of contribution s) name supply target (heat_of s contribution cp load heat) (own_range row contribution own range);
-  name = (Decides-is_reserved (field row 1)).0 unreserved;
+  name = (Decides-neither (field row 1) (codes "HOT") (codes "COLD")).0 unreserved;
 }
 
 keys_push : {V : Type 0} (es : List (List ℕ × V)) (e : List ℕ × V) → keys_of (es ++ e ∷ []) ≡ keys_of es ++ e.0 ∷ []
@@ -226,7 +227,9 @@ row_kept : (given : Given) (row : Row) (k : Option Kind) → Fits given → Pass
 unfolding kind_checks
 row_kept given row None fits passes = fits
 row_kept given row (Some kind.PassedOver) fits passes = fits
-row_kept given row (Some kind.Contribution) fits passes = contribution_kept given row fits passes
+row_kept given row (Some kind.Contribution) fits passes =
+    let range = passed-contribution contribution_causes (is_some given.contribution) row passes in
+    contribution_fits given (number row 2) fits range
 row_kept given row (Some (kind.Stream of)) fits passes = stream_kept given row of fits passes
 row_kept given row (Some (kind.Utility of)) fits passes = utility_kept given row of fits passes
 row_kept given row (Some kind.Forbid) fits passes = forbid_kept given row fits passes

@@ -14,10 +14,6 @@ unfolding is_taken
 Decides-is_taken c name =
     Decides-none (bytes_eq name) (λ other. other ≡ name) (λ other. Decides-like _ sym sym (bytes_decides name other)) (names_of c)
 
-pub Decides-is_reserved : (name : List ℕ) → Decides (not (is_reserved name)) (IsUnreserved name)
-unfolding is_reserved
-Decides-is_reserved name = Decides-neither name (codes "HOT") (codes "COLD")
-
 -- a utility of this side may have the name
 abbrev pub IsRightNameOf : Side → List ℕ → Type 0
 IsRightNameOf of name = (name ≡ codes "HOT" → of ≡ side.Hot) × (name ≡ codes "COLD" → of ≡ side.Cold)

@@ -1,10 +1,12 @@
 -- The words and lemmas from elsewhere that the proofs of this crate speak in, passed on from one place. Declares nothing.
 pub use Rattle.case_text.specs.Additions.{HasFewSources}
+pub use Rattle.case_text.specs.Checks.{contribution_causes}
 unfoldable pub use Rattle.case_text.specs.Checks.{end_checks, is_reserved, is_reserved_from, is_source, is_taken}
 pub use Rattle.case_text.specs.Given.{Given, case_of, entry_by, nothing, source_at, stream_data, stream_of, utility_data, utility_of, with_entry}
 pub use Rattle.case_text.specs.Outcome.{IsCase, IsOutcome, end_fault, grammar}
 pub use Rattle.case_text.specs.Printed.{forbid_row, own_contribution, own_load, stream_row, utility_kind, utility_row}
 unfoldable pub use Rattle.case_text.specs.Printed.{contribution_field, load_field, printed_rows}
+pub use Rattle.case_text.specs.Rows.{kind_in}
 unfoldable pub use Rattle.case_text.specs.Rows.{kind_of}
 pub use Rattle.case_text.specs.declared.entry.Entry.{Entry}
 pub use Rattle.case_text.specs.declared.entry.StreamData.{StreamData}
@@ -19,6 +21,7 @@ pub use Rattle.first_fault.specs.Outcome.{given_by}
 pub use Rattle.indexmap.proofs.CallerLemmas.{insert_entry-new}
 pub use Rattle.rows.proofs.PrintedNumbers.{IsPrintable, contribution, heat, load, number_read, optional_read, price, stream_flow_rate, temperature}
 pub use Rattle.rows.proofs.Seams.{All-seam, AllPairs-seam, length-seam}
+pub use Rattle.rows.proofs.SharedRows.{contribution-passes, contribution-read, passed-contribution, stream_row-kind}
 pub use Rattle.rows.proofs.Streams.{passed-latent, passed-sensible, stream-is_valid}
 pub use Rattle.rows.proofs.Tests.{Decides-int_le, Decides-is_own_contribution, Decides-neither, Decides-none, passed-room, passed-within, room-passes}
 pub use Rattle.rows.proofs.Tests.{within-passes}

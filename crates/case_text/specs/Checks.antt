@@ -1,5 +1,5 @@
 -- The checks of a row, in their order. A check is a sentence on the row and on what the rows before it gave.
-use Rattle.std.specs.Prelude.{ℕ, pos, Bool, not, ◌==◌, ◌&&◌, ◌||◌, List, [], ◌∷◌, length, Option, Some, None, is_some, is_none, if◌then◌else◌, nat_lt, int_le, option_and_then, codes}
+use Rattle.std.specs.Prelude.{ℕ, pos, Bool, not, ◌==◌, ◌&&◌, ◌||◌, List, [], ◌∷◌, length, Option, Some, None, is_some, if◌then◌else◌, nat_lt, int_le, option_and_then, codes}
 use Rattle.std.specs.List.{list_any}
 use Rattle.std.specs.Ordering.{int_eq}
 use Rattle.std.specs.Str.{bytes_eq}
@@ -13,8 +13,10 @@ use Rattle.stream_case.specs.declared.case.Case.{Case}
 use Rattle.stream_case.specs.declared.limits.TheConstants.{MOST_FORBIDS, MOST_STREAMS, MOST_UTILITIES}
 use Rattle.stream_case.specs.declared.source.Side.{Side}
 use Rattle.stream_case.specs.declared.source.Side.TheVariants as side
+use Rattle.rows.specs.ContributionRow as of_rows
+use Rattle.rows.specs.declared.contribution_row.ContributionCauses.{ContributionCauses}
 use Rattle.rows.specs.Fields.{are_empty, field, is_number, is_number_or_empty, number, optional_number}
-use Rattle.rows.specs.Numbers.{is_contribution, is_flow_rate_beside, is_heat, is_own_contribution, is_own_load, is_price, is_temperature}
+use Rattle.rows.specs.Numbers.{is_flow_rate_beside, is_heat, is_own_contribution, is_own_load, is_price, is_temperature}
 use Rattle.case_text.specs.Rows.{kind_of}
 use Rattle.case_text.specs.Given.{Given, case_of, source_at, stream_data}
 use Rattle.case_text.specs.declared.entry.StreamData.{StreamData}
@@ -46,13 +48,16 @@ is_source of earlier name = is_side of (option_and_then (side_of earlier) (sourc
 
 -- ---- the checks of each kind of row
 
-unfoldable pub contribution_checks : Given → Row → List (Check CaseWhy)
-contribution_checks earlier row =
-    (are_empty row (1 ∷ 3 ∷ 4 ∷ 5 ∷ 6 ∷ []), why.FieldCount)
-    ∷ (is_none earlier.contribution, why.Repeated)
-    ∷ (is_number row 2, why.BadNumber)
-    ∷ (is_contribution (number row 2), why.OutOfRange)
-    ∷ []
+abbrev pub contribution_causes : ContributionCauses CaseWhy
+contribution_causes = record {
+  field_count = why.FieldCount;
+  repeated = why.Repeated;
+  bad_number = why.BadNumber;
+  out_of_range = why.OutOfRange;
+}
+
+abbrev pub contribution_checks : Given → Row → List (Check CaseWhy)
+contribution_checks earlier row = of_rows.contribution_checks contribution_causes (is_some earlier.contribution) row
 
 -- it stays at one temperature, by no heat-capacity flow
 abbrev pub latent_checks : StreamData → List (Check CaseWhy)

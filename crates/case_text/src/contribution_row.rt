@@ -8,23 +8,21 @@ ghost use Rattle.case_text.specs.Checks.{contribution_checks};
 
 use crate::entry::Entry;
 use crate::fault::CaseWhy;
-use crate::found::Found;
+use crate::given::Given;
 use csv::ByteRecord;
-use rows::{are_empty, contribution, number_in};
+use rows::{ContributionCauses, contribution_in};
 
 /// What a row of that kind gives.
-#[tactic(auto, unfolding(crate::specs::Checks::contribution_checks))]
-pub fn contribution_entry(found: &Found, row: &ByteRecord) -> Result<Entry, CaseWhy>
-    ensures { Checked (contribution_checks found.now (fields_of row.now))
+pub fn contribution_entry(given: &Given, row: &ByteRecord) -> Result<Entry, CaseWhy>
+    ensures { Checked (contribution_checks given.now (fields_of row.now))
         (λ e. e ≡ Entry.Contribution (number (fields_of row.now) 2)) result }
 {
-    if !are_empty(row, &[1, 3, 4, 5, 6]) {
-        return Err(CaseWhy::FieldCount);
-    }
-    if found.has_contribution() {
-        return Err(CaseWhy::Repeated);
-    }
-    let number = number_in(row, 2, CaseWhy::BadNumber)?;
-    let contribution = contribution(number, CaseWhy::OutOfRange)?;
+    let causes = ContributionCauses {
+        field_count: CaseWhy::FieldCount,
+        repeated: CaseWhy::Repeated,
+        bad_number: CaseWhy::BadNumber,
+        out_of_range: CaseWhy::OutOfRange,
+    };
+    let contribution = contribution_in(row, given.has_contribution(), causes)?;
     Ok(Entry::Contribution(contribution))
 }

@@ -11,7 +11,7 @@ mod contribution_row;
 mod entry;
 mod fault;
 mod forbid_row;
-mod found;
+mod given;
 mod kind;
 mod laws;
 mod printer;

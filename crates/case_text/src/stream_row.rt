@@ -10,7 +10,7 @@ ghost use Rattle.case_text.specs.Additions.{IsFresh};
 
 use crate::entry::{Entry, StreamData};
 use crate::fault::CaseWhy;
-use crate::found::Found;
+use crate::given::Given;
 use csv::ByteRecord;
 use rows::{
     flow_rate_beside, name_in, number_in, optional_number_in, own_contribution, own_load,
@@ -79,20 +79,20 @@ fn stream_data(side: Side, row: &ByteRecord) -> Result<StreamData, CaseWhy>
 
 /// What a row of that kind gives.
 #[tactic(auto, unfolding(crate::specs::Checks::stream_checks))]
-pub fn stream_entry(found: &Found, side: Side, row: &ByteRecord) -> Result<Entry, CaseWhy>
-    ensures fresh { IfOk result (IsFresh found.now) }
-    ensures checked { Checked (stream_checks side found.now (fields_of row.now))
+pub fn stream_entry(given: &Given, side: Side, row: &ByteRecord) -> Result<Entry, CaseWhy>
+    ensures fresh { IfOk result (IsFresh given.now) }
+    ensures checked { Checked (stream_checks side given.now (fields_of row.now))
         (λ e. e ≡ Entry.Stream (field (fields_of row.now) 1)
         (stream_data side (fields_of row.now))) result }
 {
-    if found.count_streams(side) >= MOST_STREAMS {
+    if given.count_streams(side) >= MOST_STREAMS {
         return Err(CaseWhy::TooMany);
     }
     let name = name_in(row, 1, CaseWhy::BadName)?;
     if is_reserved(name.as_bytes()) {
         return Err(CaseWhy::BadName);
     }
-    if found.has_name(&name) {
+    if given.has_name(&name) {
         return Err(CaseWhy::SameName);
     }
     Ok(Entry::Stream(name, stream_data(side, row)?))

@@ -10,7 +10,7 @@ ghost use Rattle.case_text.specs.Additions.{IsFresh};
 
 use crate::entry::{Entry, UtilityData};
 use crate::fault::CaseWhy;
-use crate::found::Found;
+use crate::given::Given;
 use csv::ByteRecord;
 use rows::{heat, name_in, number_in, optional_number_in, own_contribution, price, temperature};
 use stream_case::{MOST_UTILITIES, Side};
@@ -57,20 +57,20 @@ fn utility_data(side: Side, row: &ByteRecord) -> Result<UtilityData, CaseWhy>
 
 /// What a row of that kind gives.
 #[tactic(auto, unfolding(crate::specs::Checks::utility_checks))]
-pub fn utility_entry(found: &Found, side: Side, row: &ByteRecord) -> Result<Entry, CaseWhy>
-    ensures fresh { IfOk result (IsFresh found.now) }
-    ensures checked { Checked (utility_checks side found.now (fields_of row.now))
+pub fn utility_entry(given: &Given, side: Side, row: &ByteRecord) -> Result<Entry, CaseWhy>
+    ensures fresh { IfOk result (IsFresh given.now) }
+    ensures checked { Checked (utility_checks side given.now (fields_of row.now))
         (λ e. e ≡ Entry.Utility (field (fields_of row.now) 1)
         (utility_data side (fields_of row.now))) result }
 {
-    if found.count_utilities() >= MOST_UTILITIES {
+    if given.count_utilities() >= MOST_UTILITIES {
         return Err(CaseWhy::TooMany);
     }
     let name = name_in(row, 1, CaseWhy::BadName)?;
     if is_reserved_from(side, name.as_bytes()) {
         return Err(CaseWhy::BadName);
     }
-    if found.has_name(&name) {
+    if given.has_name(&name) {
         return Err(CaseWhy::SameName);
     }
     Ok(Entry::Utility(name, utility_data(side, row)?))

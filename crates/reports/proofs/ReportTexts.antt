@@ -6,6 +6,7 @@ use Rattle.reports.proofs.Words.{part_at, part_text, parts_of, price_at, price_l
 use Rattle.reports.proofs.Words.{source_name, span_of, statement_text, stuck_text, texts_from, use_line, use_of, utility_heat}
 use Rattle.certify.specs.Printed.{cost_statement, cut_statement, move_statement, part_statement, priced_statement, report_text, use_statement}
 use Rattle.std.proofs.Common.{All, List, [], ap, append_assoc, ap₂, get_or, length, map, pos, refl, slice_get, suc, sym, zero, ℕ, ℤ, ◌++◌, ◌<◌, ◌∙◌, ◌∷◌, ◌≡◌}
+use Rattle.stream_case.proofs.CaseLemmas.{name_at}
 use Rattle.stream_case.specs.Case.{source_name as name_of}
 use Rattle.stream_case.specs.declared.source.Source.TheVariants.{Stream as of_stream}
 use Rattle.stream_case.specs.declared.source.Source.TheVariants.{Utility as of_utility}
@@ -28,15 +29,9 @@ texts_each f statement g (x ∷ xs) same =
 
 -- ---- parts
 
-name_at : {X : Type 0} (name : X → List ℕ) (xs : List X) (i : ℕ)
-    → get_or (map name xs) i [] ≡ option_map_or name (slice_get xs i) []
-name_at name [] i = refl
-name_at name (x ∷ xs) zero = refl
-name_at name (x ∷ xs) (suc i) = name_at name xs i
-
 own_name : (c : Case) (source : Source) → source_name (case_names c) source ≡ name_of c source
-own_name c (of_stream i) = name_at (λ (s : Stream). s.name) c.streams i
-own_name c (of_utility i) = name_at (λ (u : Utility). u.name) c.utilities i
+own_name c (of_stream i) = sym (name_at (λ (s : Stream). s.name) c.streams i)
+own_name c (of_utility i) = sym (name_at (λ (u : Utility). u.name) c.utilities i)
 
 -- a part before more text
 span_text : Span → List ℕ → List ℕ

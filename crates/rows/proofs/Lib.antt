@@ -4,5 +4,6 @@ pub mod PlainRows
 pub mod PrintedRows
 pub mod Tests
 pub mod Streams
+pub mod SharedRows
 pub mod Seams
 pub mod Words

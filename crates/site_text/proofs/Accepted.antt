@@ -4,14 +4,15 @@ use Rattle.site_text.proofs.Words.{IsSite, IsTemperature, IsUnreserved, IsValidS
 use Rattle.site_text.proofs.Words.{RowFault, Side, Site, SiteWhy, Stream, all_pairs_push, append-nil, count_on, end_checks, end_fault, entry_by, given_by, given_has}
 use Rattle.site_text.proofs.Words.{grammar, is_among, is_name, is_reserved, kind_of, length-map, main_in, map-append, nat_tests, nothing, passed-name, passed-room}
 use Rattle.site_text.proofs.Words.{passed-within, plant_with, site_of, stream_in, streams_of, stream_with, with_entry}
+use Rattle.site_text.proofs.Words.{Decides-neither, codes, passed-contribution}
 use Rattle.rows.proofs.Streams.{passed-sensible, stream-is_valid}
 use Rattle.stream_case.proofs.CaseLemmas.{no_contribution, range_of}
 use Rattle.rows.specs.Fields.{field, number}
 use Rattle.site_text.proofs.Plants.{count_on-with, few_with_stream, length-with_stream, named-with_stream, names-with_stream, plant_names-with, stream_names-with}
 use Rattle.site_text.proofs.Plants.{streams_of-plant, streams_of-plant_with, streams_of-with_stream}
-use Rattle.site_text.proofs.Tests.{Decides-is_among, Decides-is_reserved}
-use Rattle.site_text.specs.Checks.{checks, contribution_checks, kind_checks, main_checks, plant_checks, stream_checks, stream_number_checks}
-use Rattle.std.proofs.Common.{All, Err, IfOk, IfSome, List, None, Ok, Option, Result, Some, [], arith, inl, length, length-append, map, not, pos, refl, true}
+use Rattle.site_text.proofs.Tests.{Decides-is_among}
+use Rattle.site_text.specs.Checks.{checks, contribution_causes, kind_checks, main_checks, plant_checks, stream_checks, stream_number_checks}
+use Rattle.std.proofs.Common.{All, Err, IfOk, IfSome, List, None, Ok, Option, Result, Some, [], arith, inl, is_some, length, length-append, map, not, pos, refl, true}
 use Rattle.std.proofs.Common.{unwrap_or, ℕ, ℤ, ◌++◌, ◌<◌, ◌==◌, ◌∷◌, ◌≡◌, ◌≢◌, ◌≤◌}
 use Rattle.site_text.specs.declared.entry.Entry.TheVariants as entry
 use Rattle.site_text.specs.declared.kind.Kind.TheVariants as kind
@@ -48,12 +49,6 @@ distinct_push : {X : Type 0} (name : X → List ℕ) (xs : List X) (x : X) → A
     → AreDistinct (map name (xs ++ x ∷ []))
 distinct_push name xs x distinct new =
     rw (map-append name xs (x ∷ [])) (all_pairs_push (λ (a b : List ℕ). a ≢ b) (map name xs) (name x) distinct ((Decides-is_among name xs (name x)).0 new))
-
-contribution_kept : (given : Given) (row : Row) → Fits given → Passes (contribution_checks given row)
-    → Fits (with_entry given (entry.Contribution (number row 2)))
-unfolding contribution_checks
-contribution_kept given row fits (_, (_, (_, (range, _)))) =
-    record { contribution = passed-within _ _ _ range; plants = fits.plants; mains = fits.mains; streams = fits.streams }
 
 plant_kept : (given : Given) (row : Row) → Fits given → Passes (plant_checks given row)
     → Fits (with_entry given (entry.Plant (field row 1)))
@@ -92,12 +87,12 @@ main_kept given row fits (_, (few, (name, (new, (_, (level, _)))))) = record {
 stream_fits : (of : Side) (row : Row) → is_name (field row 1) ≡ true → not (is_reserved (field row 1)) ≡ true
     → Passes (stream_number_checks of row)
     → StreamFits (stream_in of row)
-unfolding stream_number_checks
+unfolding stream_number_checks is_reserved
 stream_fits of row name unreserved (_, (_, (_, (supply, (target, (cp, (way, _))))))) = record {
   valid = λ contribution range. stream-is_valid (stream_with contribution (stream_in of row)) name supply target
       (inl (passed-sensible (stream_with contribution (stream_in of row)) cp refl way)) range;
   sensible = λ contribution. passed-sensible (stream_with contribution (stream_in of row)) cp refl way;
-  name = (Decides-is_reserved (field row 1)).0 unreserved;
+  name = (Decides-neither (field row 1) (codes "BOILER") (codes "COOLING")).0 unreserved;
 }
 
 -- there is a plant
@@ -134,7 +129,12 @@ row_kept : (given : Given) (row : Row) (k : Option Kind) → Fits given → Pass
 unfolding kind_checks
 row_kept given row None fits passes = fits
 row_kept given row (Some kind.PassedOver) fits passes = fits
-row_kept given row (Some kind.Contribution) fits passes = contribution_kept given row fits passes
+row_kept given row (Some kind.Contribution) fits passes = record {
+  contribution = passed-contribution contribution_causes (is_some given.contribution) row passes;
+  plants = fits.plants;
+  mains = fits.mains;
+  streams = fits.streams;
+}
 row_kept given row (Some kind.Plant) fits passes = plant_kept given row fits passes
 row_kept given row (Some kind.Main) fits passes = main_kept given row fits passes
 row_kept given row (Some (kind.Stream of)) fits passes = stream_kept given row of fits passes

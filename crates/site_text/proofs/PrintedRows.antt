@@ -3,23 +3,14 @@ use Rattle.site_text.proofs.Words.{Decides-is_right_way, Follows, Given, IsContr
 use Rattle.site_text.proofs.Words.{MOST_PLANTS, MOST_SIDE_STREAMS, Main, Passes, Plant, Row, Side, Stream, contribution, contribution_row, count_on, flow_rate}
 use Rattle.site_text.proofs.Words.{grammar, kind_of, main_row, name-passes, nat_tests, none_fails, nothing, number_read, plant_row, room-passes, stream_kind}
 use Rattle.site_text.proofs.Words.{stream_row, streams_of, temperature, stream_with, with_entry, within-passes}
+use Rattle.site_text.proofs.Words.{Decides-neither, codes, is_reserved, kind_in, stream_row-kind}
 use Rattle.rows.specs.Fields.{are_empty, is_number, is_passed_over, number}
-use Rattle.site_text.proofs.Tests.{Decides-is_among, Decides-is_reserved}
-use Rattle.site_text.specs.Checks.{checks, contribution_checks, kind_checks, main_checks, plant_checks, stream_checks, stream_number_checks}
+use Rattle.site_text.proofs.Tests.{Decides-is_among}
+use Rattle.site_text.specs.Checks.{checks, kind_checks, main_checks, plant_checks, stream_checks, stream_number_checks}
 use Rattle.std.proofs.Common.{All, List, Some, [], arith, length, map, not, pos, refl, true, ℤ, ◌<◌, ◌==◌, ◌∷◌, ◌≡◌, ◌≢◌}
 use Rattle.site_text.specs.declared.entry.Entry.TheVariants as entry
 use Rattle.site_text.specs.declared.kind.Kind.TheVariants as kind
 use Rattle.stream_case.specs.declared.source.Side.TheVariants as side
-
--- the row of the contribution comes first
-pub contribution_follows : (c : ℤ) → IsContribution c
-    → Follows grammar nothing (contribution_row c) (with_entry nothing (entry.Contribution c))
-unfolding checks kind_checks contribution_checks kind_of is_passed_over are_empty is_number number
-contribution_follows c range =
-    let read = number_read c (contribution c range) in
-    let passes : Passes (checks nothing (contribution_row c))
-    = rw read (refl, (refl, (refl, (refl, (refl, (within-passes _ _ _ range, tt)))))) in
-    record { passes = none_fails (checks nothing (contribution_row c)) passes; next_is = rw read refl }
 
 pub main_follows : (given : Given) (main : Main) → IsName main.name → IsTemperature main.level
     → length given.mains < MOST_MAINS
@@ -43,10 +34,9 @@ plant_follows given plant named few new =
     = (refl, (refl, (refl, (room-passes _ _ few, (name-passes plant.name named, (free, tt)))))) in
     record { passes = none_fails (checks given (plant_row plant)) passes; next_is = refl }
 
-stream_row_kind : (of : Side) (fields : Row) → kind_of (stream_kind of ∷ fields) ≡ Some (kind.Stream of)
-unfolding kind_of is_passed_over are_empty
-stream_row_kind side.Hot fields = refl
-stream_row_kind side.Cold fields = refl
+kind_of-stream_row : (s : Stream) → kind_of (stream_row [] [] s) ≡ Some (kind.Stream s.side)
+unfolding kind_of
+kind_of-stream_row s = stream_row-kind kind.PassedOver kind_in kind.Stream refl refl s.side _
 
 some_plant : (plants : List Plant) → 0 < length plants → not (length plants == 0) ≡ true
 some_plant plants some = grind (arith, nat_tests)
@@ -57,16 +47,16 @@ pub stream_follows : (given : Given) (s : Stream) → IsValidStream s → IsSens
     → count_on s.side (streams_of given.plants) < MOST_SIDE_STREAMS
     → All (λ other. other ≢ s.name) (map (λ t. t.name) (streams_of given.plants))
     → Follows grammar given (stream_row [] [] s) (with_entry given (entry.Stream (stream_with (pos 0) s)))
-unfolding checks kind_checks stream_checks stream_number_checks are_empty is_number number
+unfolding checks kind_checks stream_checks stream_number_checks are_empty is_number number is_reserved
 stream_follows given s valid sensible unreserved some few new =
     let no_load = sensible.load in
-    let is : kind_of (stream_row [] [] s) ≡ Some (kind.Stream s.side) = stream_row_kind s.side _ in
+    let is = kind_of-stream_row s in
     let supply = number_read s.supply (temperature s.supply valid.supply) in
     let target = number_read s.target (temperature s.target valid.target) in
     let cp = number_read s.cp (flow_rate s.cp sensible.cp) in
     let free = (Decides-is_among (λ (t : Stream). t.name) (streams_of given.plants) s.name).1 new in
     let way = (Decides-is_right_way s.side s.supply s.target).1 sensible.way in
-    let reserved = (Decides-is_reserved s.name).1 unreserved in
+    let reserved = (Decides-neither s.name (codes "BOILER") (codes "COOLING")).1 unreserved in
     let numbers : Passes (stream_number_checks s.side (stream_row [] [] s)) = rw (supply, target, cp)
     (refl, (refl, (refl, (within-passes _ _ _ valid.supply, (within-passes _ _ _ valid.target, (within-passes _ _ _ sensible.cp, (way, tt))))))) in
     let passes : Passes (checks given (stream_row [] [] s)) = rw is

@@ -5,7 +5,10 @@ use Rattle.site_text.proofs.Words.{all_give, append-nil, append_snoc, contributi
 use Rattle.site_text.proofs.Words.{length-map, length-seam, main_row, map-append, nat_tests, nothing, nothing_gives, one_more_gives, own_side, plant_row, plant_rows}
 use Rattle.site_text.proofs.Words.{plant_with, printed_rows, same_side, site_of, stream_row, streams_of, sum_by-append, sum_by-cons, stream_with}
 use Rattle.site_text.proofs.Plants.{count_on-with, plant_names-with, stream_names-with, streams_of-plant, streams_of-plant_with, with_stream-last}
-use Rattle.site_text.proofs.PrintedRows.{contribution_follows, main_follows, plant_follows, stream_follows}
+use Rattle.site_text.proofs.PrintedRows.{main_follows, plant_follows, stream_follows}
+use Rattle.rows.specs.Fields.{are_empty, is_passed_over}
+use Rattle.site_text.proofs.Words.{Passes, contribution-passes, contribution-read, contribution_causes, kind_of, none_fails}
+use Rattle.site_text.specs.Checks.{checks, kind_checks}
 use Rattle.std.proofs.Common.{All, AllPairs, Bool, List, None, Some, [], ap, append_assoc, arith, cond, is_some, length, length-append, map, pos, refl, subst}
 use Rattle.std.proofs.Common.{sym, true, ℕ, ℤ, ◌++◌, ◌<◌, ◌∙◌, ◌∷◌, ◌≡◌, ◌≢◌}
 
@@ -105,10 +108,20 @@ module _ (site : Site) (valid : IsValidSite site) where
 
   -- ---- all rows
 
+  -- the row of the contribution comes first
+  first_step : Follows grammar nothing (contribution_row site.contribution) (given_with site [] [])
+  unfolding checks kind_checks kind_of is_passed_over are_empty
+  first_step =
+      let row = contribution_row site.contribution in
+      let passes : Passes (checks nothing row)
+      = (refl, (refl, contribution-passes contribution_causes site.contribution valid.contribution)) in
+      let read = contribution-read site.contribution valid.contribution in
+      record { passes = none_fails (checks nothing row) passes; next_is = rw read refl }
+
   mains_give : Give grammar (contribution_row site.contribution ∷ map main_row site.mains) (given_with site site.mains [])
   mains_give =
       let first = one_more_gives grammar [] nothing (contribution_row site.contribution) (given_with site [] []) (nothing_gives grammar nothing refl)
-      (contribution_follows site.contribution valid.contribution) in
+      first_step in
       all_give grammar main_row (λ mains. given_with site mains []) (contribution_row site.contribution ∷ []) site.mains main_step first
 
   -- plant by plant

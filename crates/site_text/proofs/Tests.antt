@@ -10,7 +10,3 @@ unfolding is_among
 Decides-is_among name_of xs name =
     Decides-like _ (All-map (λ (other : List ℕ). other ≢ name) name_of xs) (All-from_map (λ (other : List ℕ). other ≢ name) name_of xs)
     (Decides-none (λ x. bytes_eq name (name_of x)) (λ x. name_of x ≡ name) (λ x. Decides-like _ sym sym (bytes_decides name (name_of x))) xs)
-
-pub Decides-is_reserved : (name : List ℕ) → Decides (not (is_reserved name)) (IsUnreserved name)
-unfolding is_reserved
-Decides-is_reserved name = Decides-neither name (codes "BOILER") (codes "COOLING")

@@ -6,6 +6,7 @@ pub use Rattle.first_fault.proofs.Steps.{Follows, Give, IsKept, all_give, given_
 pub use Rattle.first_fault.specs.Outcome.{given_by}
 pub use Rattle.rows.proofs.PrintedNumbers.{contribution, flow_rate, number_read, temperature}
 pub use Rattle.rows.proofs.Seams.{All-seam, AllPairs-seam, length-seam}
+pub use Rattle.rows.proofs.SharedRows.{contribution-passes, contribution-read, passed-contribution, stream_row-kind}
 pub use Rattle.rows.proofs.Tests.{Decides-neither, Decides-none, passed-room, passed-within, room-passes, within-passes}
 pub use Rattle.rows.proofs.Words.{All-back, Decides-is_right_way, contribution_row, passed-name, stream_kind, stream_row}
 unfoldable pub use Rattle.rows.proofs.Words.{rows_of}
@@ -14,8 +15,9 @@ pub use Rattle.rows.specs.Text.{rows_text}
 pub use Rattle.rows.specs.declared.fault.RowFault.{RowFault}
 pub use Rattle.site_text.proofs.SiteLemmas.{All-plants, streams_of-more}
 pub use Rattle.site_text.specs.Additions.{HaveFewStreams}
+pub use Rattle.site_text.specs.Checks.{contribution_causes}
 unfoldable pub use Rattle.site_text.specs.Checks.{end_checks, is_among, is_reserved}
-pub use Rattle.site_text.specs.Given.{Given, entry_by, main_in, nothing, plant_with, site_of, stream_in, with_entry, with_stream}
+pub use Rattle.site_text.specs.Given.{Given, entry_by, kind_in, main_in, nothing, plant_with, site_of, stream_in, with_entry, with_stream}
 unfoldable pub use Rattle.site_text.specs.Given.{kind_of}
 pub use Rattle.site_text.specs.Outcome.{IsOutcome, IsSite, end_fault, grammar}
 unfoldable pub use Rattle.site_text.specs.Printed.{main_row, plant_row, plant_rows, printed_rows}

@@ -1,5 +1,5 @@
 -- The checks of a row, in their order. A check is a sentence on the row and on what the rows before it gave.
-use Rattle.std.specs.Prelude.{ℕ, Bool, not, ◌==◌, ◌||◌, List, [], ◌∷◌, length, Option, Some, None, is_some, is_none, nat_lt, codes}
+use Rattle.std.specs.Prelude.{ℕ, Bool, not, ◌==◌, ◌||◌, List, [], ◌∷◌, length, Option, Some, None, is_some, nat_lt, codes}
 use Rattle.std.specs.List.{list_any}
 use Rattle.std.specs.Str.{bytes_eq}
 use Rattle.rows.specs.Rows.{Row}
@@ -9,8 +9,10 @@ use Rattle.stream_case.specs.Source.{is_right_way}
 use Rattle.stream_case.specs.Stream.{count_on}
 use Rattle.stream_case.specs.declared.limits.TheConstants.{MOST_MAINS}
 use Rattle.stream_case.specs.declared.source.Side.{Side}
+use Rattle.rows.specs.ContributionRow as of_rows
+use Rattle.rows.specs.declared.contribution_row.ContributionCauses.{ContributionCauses}
 use Rattle.rows.specs.Fields.{are_empty, field, is_number, number}
-use Rattle.rows.specs.Numbers.{is_contribution, is_flow_rate, is_temperature}
+use Rattle.rows.specs.Numbers.{is_flow_rate, is_temperature}
 use Rattle.site_text.specs.Site.{streams_of}
 use Rattle.site_text.specs.declared.limits.TheConstants.{MOST_PLANTS, MOST_SIDE_STREAMS}
 use Rattle.site_text.specs.Given.{Given, kind_of}
@@ -41,13 +43,16 @@ is_stream earlier name = is_among (λ s. s.name) (streams_of earlier.plants) nam
 
 -- ---- the checks of each kind of row
 
-unfoldable pub contribution_checks : Given → Row → List (Check SiteWhy)
-contribution_checks earlier row =
-    (are_empty row (1 ∷ 3 ∷ 4 ∷ 5 ∷ 6 ∷ []), why.FieldCount)
-    ∷ (is_none earlier.contribution, why.Repeated)
-    ∷ (is_number row 2, why.BadNumber)
-    ∷ (is_contribution (number row 2), why.OutOfRange)
-    ∷ []
+abbrev pub contribution_causes : ContributionCauses SiteWhy
+contribution_causes = record {
+  field_count = why.FieldCount;
+  repeated = why.Repeated;
+  bad_number = why.BadNumber;
+  out_of_range = why.OutOfRange;
+}
+
+abbrev pub contribution_checks : Given → Row → List (Check SiteWhy)
+contribution_checks earlier row = of_rows.contribution_checks contribution_causes (is_some earlier.contribution) row
 
 unfoldable pub plant_checks : Given → Row → List (Check SiteWhy)
 plant_checks earlier row =

@@ -10,21 +10,19 @@ use crate::entry::Entry;
 use crate::fault::SiteWhy;
 use crate::given::Given;
 use csv::ByteRecord;
-use rows::{are_empty, contribution, number_in};
+use rows::{ContributionCauses, contribution_in};
 
 /// What a row of that kind gives.
-#[tactic(auto, unfolding(crate::specs::Checks::contribution_checks))]
 pub fn contribution_entry(given: &Given, row: &ByteRecord) -> Result<Entry, SiteWhy>
     ensures { Checked (contribution_checks given.now (fields_of row.now))
         (λ e. e ≡ Entry.Contribution (number (fields_of row.now) 2)) result }
 {
-    if !are_empty(row, &[1, 3, 4, 5, 6]) {
-        return Err(SiteWhy::FieldCount);
-    }
-    if given.has_contribution() {
-        return Err(SiteWhy::Repeated);
-    }
-    let number = number_in(row, 2, SiteWhy::BadNumber)?;
-    let contribution = contribution(number, SiteWhy::OutOfRange)?;
+    let causes = ContributionCauses {
+        field_count: SiteWhy::FieldCount,
+        repeated: SiteWhy::Repeated,
+        bad_number: SiteWhy::BadNumber,
+        out_of_range: SiteWhy::OutOfRange,
+    };
+    let contribution = contribution_in(row, given.has_contribution(), causes)?;
     Ok(Entry::Contribution(contribution))
 }

@@ -1,10 +1,9 @@
 //! Reading a site file.
 
-ghost use Rattle.std.specs.Prelude.{◌≡◌, ◌≤◌, Err, length, IfErr, IfOk, OnOk};
+ghost use Rattle.std.specs.Prelude.{◌≡◌, ◌≤◌, length, ⊤, IfOk};
 ghost use Rattle.csv.specs.Records.{fields_of};
 ghost use Rattle.rows.specs.Rows.{rows_of};
 ghost use Rattle.first_fault.specs.Checks.{Checked};
-ghost use Rattle.first_fault.specs.Outcome.{SoundBefore, given_by};
 ghost use Rattle.site_text.specs.Site.{IsValidSite};
 ghost use Rattle.site_text.specs.Given.{entry_in, nothing};
 ghost use Rattle.site_text.specs.Checks.{checks};
@@ -21,8 +20,8 @@ use crate::plant_row::plant_entry;
 use crate::site::Site;
 use crate::stream_row::stream_entry;
 use csv::ByteRecord;
-use rows::Rows;
-use std::alloc::Global;
+use rows::{Collector, Rows, read_rows};
+use std::alloc::{AllocError, Global};
 
 /// What a row gives, or the first of its checks that fails.
 #[tactic(auto, unfolding(crate::specs::Checks::checks, crate::specs::Checks::kind_checks))]
@@ -44,25 +43,26 @@ fn entry_of(given: &Given, row: &ByteRecord) -> Result<Entry, SiteWhy>
     }
 }
 
-/// Takes what rows give, and answers how many there are, or the first row at fault.
-fn take_rows(alloc: Global, rows: &mut Rows<'_>, given: &mut Given) -> Result<u32, SiteFault>
-    requires few { length rows.old ≤ 2000000000 }
-    requires none { given.old ≡ nothing }
-    ensures sound { OnOk result (SoundBefore grammar rows.old (length rows.old)) }
-    ensures given { OnOk result (given.new ≡ given_by grammar rows.old) }
-    ensures number { IfOk result (λ n. n ≡ length rows.old) }
-    ensures fault { IfErr result (λ fault. IsOutcome rows.old (Err fault)) }
-{
-    let mut row = ByteRecord::new(alloc);
-    let mut number: u32 = 0;
-    while rows.read(&mut row)? {
-        number += 1;
-        match entry_of(given, &row) {
-            Ok(entry) => given.add(entry)?,
-            Err(why) => return Err(SiteFault::Row { row: number, why }),
+impl Collector for Given {
+    type Why = SiteWhy;
+
+    type Given = Given;
+
+    type Value = Site;
+
+    ghost is_sound = { λ _. ⊤ };
+
+    ghost grammar = { λ _. grammar };
+
+    ghost given = { λ given. given };
+
+    fn take_row(&mut self, row: &ByteRecord) -> Result<Option<SiteWhy>, AllocError> {
+        match entry_of(self, row) {
+            Ok(entry) => self.add(entry)?,
+            Err(why) => return Ok(Some(why)),
         }
+        Ok(None)
     }
-    Ok(number)
 }
 
 /// The site of rows, or the first row at fault with its cause; `given` takes what they give.
@@ -71,7 +71,7 @@ fn site_of(alloc: Global, rows: &mut Rows<'_>, given: &mut Given) -> Result<Site
     requires none { given.old ≡ nothing }
     ensures { IsOutcome rows.old result }
 {
-    let number = take_rows(alloc, rows, given)?;
+    let number = read_rows(alloc, rows, given)?;
     match given.contribution() {
         Ok(contribution) => Ok(given.site(alloc, contribution)?),
         Err(why) => Err(SiteFault::Row {

@@ -1,10 +1,9 @@
 //! Reading a study file.
 
-ghost use Rattle.std.specs.Prelude.{◌≡◌, ◌≤◌, [], Err, length, IfErr, IfOk, IsSome, OnErr, OnOk, option_to_list, ◌++◌};
+ghost use Rattle.std.specs.Prelude.{◌≡◌, ◌≤◌, length, IfOk, IsSome, OnErr, OnOk, option_to_list, ◌++◌};
 ghost use Rattle.csv.specs.Records.{fields_of};
 ghost use Rattle.rows.specs.Rows.{rows_of};
 ghost use Rattle.first_fault.specs.Checks.{Checked};
-ghost use Rattle.first_fault.specs.Outcome.{SoundBefore, given_by};
 ghost use Rattle.stream_case.specs.Case.{IsComplete};
 ghost use Rattle.study_text.specs.Study.{IsStudy};
 ghost use Rattle.study_text.specs.Checks.{checks};
@@ -19,7 +18,7 @@ use crate::kind::{Kind, kind_of};
 use crate::row::{price_entry, scenario_entry, span_entry};
 use crate::study::Study;
 use csv::ByteRecord;
-use rows::Rows;
+use rows::{Collector, Rows, read_rows};
 use std::alloc::{AllocError, Global};
 use stream_case::Case;
 
@@ -53,48 +52,46 @@ fn take(given: &mut Given, entry: Option<Entry>) -> Result<(), AllocError>
     }
 }
 
-/// Takes what rows say, and answers how many there are, or the first row at fault.
-fn take_rows(
-    alloc: Global,
-    case: &Case,
-    rows: &mut Rows<'_>,
-    given: &mut Given,
-) -> Result<u32, StudyFault>
-    requires complete { IsComplete case.now }
-    requires few { length rows.old ≤ 2000000000 }
-    requires none { given.old ≡ [] }
-    ensures sound { OnOk result (SoundBefore (grammar case.now) rows.old (length rows.old)) }
-    ensures given { OnOk result (given.new ≡ given_by (grammar case.now) rows.old) }
-    ensures number { IfOk result (λ n. n ≡ length rows.old) }
-    ensures fault { IfErr result (λ fault. IsStudyOutcome case.now rows.old (Err fault)) }
-{
-    let mut row = ByteRecord::new(alloc);
-    let mut number: u32 = 0;
-    while rows.read(&mut row)? {
-        number += 1;
-        match entry_of(case, given, &row) {
-            Ok(entry) => take(given, entry)?,
-            Err(why) => return Err(StudyFault::Row { row: number, why }),
-        }
-    }
-    Ok(number)
+/// What the rows of a study file for a case say.
+#[derive(Drop)]
+struct Collected<'a> {
+    case: &'a Case,
+    given: Given,
 }
 
-/// The study of rows, or the first row at fault with its cause; `given` takes what they say.
-fn study_of(
-    alloc: Global,
-    case: &Case,
-    rows: &mut Rows<'_>,
-    given: &mut Given,
-) -> Result<Study, StudyFault>
+impl Collector for Collected<'_> {
+    type Why = StudyWhy;
+
+    type Given = Given;
+
+    type Value = Study;
+
+    ghost is_sound = { λ collected. IsComplete collected.case.now };
+
+    ghost grammar = { λ collected. grammar collected.case.now };
+
+    ghost given = { λ collected. collected.given };
+
+    fn take_row(&mut self, row: &ByteRecord) -> Result<Option<StudyWhy>, AllocError> {
+        match entry_of(self.case, &self.given, row) {
+            Ok(entry) => take(&mut self.given, entry)?,
+            Err(why) => return Ok(Some(why)),
+        }
+        Ok(None)
+    }
+}
+
+/// The study of rows, or the first row at fault with its cause.
+fn study_of(alloc: Global, case: &Case, rows: &mut Rows<'_>) -> Result<Study, StudyFault>
     requires complete { IsComplete case.now }
     requires few { length rows.old ≤ 2000000000 }
-    requires none { given.old ≡ [] }
     ensures { IsStudyOutcome case.now rows.old result }
 {
-    let number = take_rows(alloc, case, rows, given)?;
-    match given.missing() {
-        None => Ok(given.study(alloc, case)?),
+    let given = Given::new(alloc);
+    let mut collected = Collected { case, given };
+    let number = read_rows(alloc, rows, &mut collected)?;
+    match collected.given.missing() {
+        None => Ok(collected.given.study(alloc, case)?),
         Some(why) => Err(StudyFault::Row {
             row: number + 1,
             why,
@@ -116,5 +113,5 @@ pub fn read_study(alloc: Global, case: &Case, bytes: &[u8]) -> Result<Study, Stu
     ensures study { IfOk result (IsStudy case.now) }
 {
     let mut rows = Rows::new(alloc, bytes);
-    study_of(alloc, case, &mut rows, &mut Given::new(alloc))
+    study_of(alloc, case, &mut rows)
 }

@@ -1,5 +1,5 @@
 -- The printed rows of a valid case give the case.
-use Rattle.case_text.proofs.Printed.Rows.{IsFound, contribution_follows, forbid_follows, stream_entry, stream_follows, utility_entry, utility_follows}
+use Rattle.case_text.proofs.Printed.Rows.{IsFound, forbid_follows, stream_entry, stream_follows, utility_entry, utility_follows}
 use Rattle.case_text.proofs.Sources.{count_of}
 use Rattle.case_text.proofs.Words.{All-append, All-map, All-seam, All-weaker, AllPairs-seam, Case, Decides-int_eq, Follows, Forbid, Give, Given, IsCase, IsName}
 use Rattle.case_text.proofs.Words.{IsName-source_name, IsRightlyNamed, IsSourceOf-side, IsUnreserved, IsValid, IsValidForbid, IsValidStream, IsValidUtility}
@@ -8,6 +8,8 @@ use Rattle.case_text.proofs.Words.{case_of, contribution_row, count_by-map, coun
 use Rattle.case_text.proofs.Words.{length-seam, map-append, map-map, names_of, nat_tests, nothing, nothing_gives, one_more_gives, own_contribution, own_load}
 use Rattle.case_text.proofs.Words.{own_side, printed_rows, same_side, side_of, source_name, source_named, source_named-source_name, stream_of, stream_row}
 use Rattle.case_text.proofs.Words.{sum_by-append, sum_by-cons, utility_of, utility_row}
+use Rattle.case_text.proofs.Words.{Passes, are_empty, contribution-passes, contribution-read, contribution_causes, is_passed_over, kind_of, none_fails}
+use Rattle.case_text.specs.Checks.{checks, kind_checks}
 use Rattle.std.proofs.Common.{All, Bool, List, None, Some, [], ap, append_assoc, arith, cond, false, if◌then◌else◌, is_some, length, map, pos, refl, subst, sym}
 use Rattle.std.proofs.Common.{true, unwrap_or, ℕ, ℤ, ◌++◌, ◌<◌, ◌∙◌, ◌∷◌, ◌≡◌, ◌≢◌, ◌≤◌}
 use Rattle.stream_case.specs.declared.source.Side.TheVariants as side
@@ -155,11 +157,21 @@ forbid_step k valid before f after is =
 
 -- ---- all rows
 
+-- the row of the contribution comes first
+first_step : (k : Case) → IsValid k → Follows grammar nothing (contribution_row k.contribution) (given_with k [] [] [])
+unfolding checks kind_checks kind_of is_passed_over are_empty
+first_step k valid =
+    let row = contribution_row k.contribution in
+    let passes : Passes (checks nothing row)
+    = (refl, (refl, contribution-passes contribution_causes k.contribution valid.contribution)) in
+    let read = contribution-read k.contribution valid.contribution in
+    record { passes = none_fails (checks nothing row) passes; next_is = rw read refl }
+
 rows_give : (k : Case) → IsValid k → Give grammar (printed_rows k) (given_with k k.streams k.utilities k.forbids)
 unfolding printed_rows
 rows_give k valid =
     let first = one_more_gives grammar [] nothing (contribution_row k.contribution) (given_with k [] [] []) (nothing_gives grammar nothing refl)
-    (contribution_follows k.contribution valid.contribution) in
+    (first_step k valid) in
     let streams = all_give grammar (stream_row k) (λ ss. given_with k ss [] []) (contribution_row k.contribution ∷ []) k.streams (stream_step k valid) first in
     let utilities = all_give grammar (utility_row k) (λ us. given_with k k.streams us [])
     (contribution_row k.contribution ∷ map (stream_row k) k.streams) k.utilities (utility_step k valid) streams in

@@ -1,7 +1,7 @@
 -- Each printed row follows on the rows before it.
 use Rattle.case_text.proofs.Sources.{count_of, count_on-case, names_of-case}
-use Rattle.case_text.proofs.Tests.{Decides-is_forbidden, Decides-is_reserved, Decides-is_reserved_from, Decides-is_taken, is_source-named}
-use Rattle.case_text.specs.Checks.{checks, contribution_checks, forbid_checks, heat_checks, kind_checks, stream_checks, stream_number_checks, utility_checks}
+use Rattle.case_text.proofs.Tests.{Decides-is_forbidden, Decides-is_reserved_from, Decides-is_taken, is_source-named}
+use Rattle.case_text.specs.Checks.{checks, forbid_checks, heat_checks, kind_checks, stream_checks, stream_number_checks, utility_checks}
 use Rattle.case_text.specs.Checks.{utility_number_checks}
 use Rattle.case_text.proofs.Words.{Case, Decides-and, Decides-int_eq, Decides-int_le, Decides-is_own_contribution, Decides-is_right_way, Decides-not, Follows}
 use Rattle.case_text.proofs.Words.{Forbid, Given, IsContribution, IsHeat, IsLatent, IsName, IsPrintable, IsRightWay, IsRightlyNamed, IsSensible, IsUnreserved}
@@ -11,21 +11,12 @@ use Rattle.case_text.proofs.Words.{grammar, heat, int_eq, ints, is_flow_rate_bes
 use Rattle.case_text.proofs.Words.{is_passed_over, keys_of, kind_of, load, load_field, name-passes, none_fails, nothing, number, number_read, optional_number}
 use Rattle.case_text.proofs.Words.{optional_read, own_contribution, own_load, price, room-passes, side_of, source_name, source_named, stream_flow_rate}
 use Rattle.case_text.proofs.Words.{stream_kind, stream_row, temperature, utility_kind, utility_row, with_entry, within-passes}
+use Rattle.case_text.proofs.Words.{Decides-neither, codes, is_reserved, kind_in, stream_row-kind}
 use Rattle.std.proofs.Common.{All, Bool, IfSome, List, None, Option, Some, arith, false, if◌then◌else◌, inl, inr, length, not, pos, refl, true, unwrap_or, ℕ, ℤ}
 use Rattle.std.proofs.Common.{◌++◌, ◌<◌, ◌∷◌, ◌≡◌, ◌≢◌, ◌⊎◌}
 use Rattle.case_text.specs.declared.entry.Entry.TheVariants as entry
 use Rattle.case_text.specs.declared.kind.Kind.TheVariants as kind
 use Rattle.stream_case.specs.declared.source.Side.TheVariants as side
-
--- the row of the contribution comes first
-pub contribution_follows : (c : ℤ) → IsContribution c
-    → Follows grammar nothing (contribution_row c) (with_entry nothing (entry.Contribution c))
-unfolding checks kind_checks contribution_checks kind_of is_passed_over are_empty is_number number
-contribution_follows c range =
-    let read = number_read c (contribution c range) in
-    let passes : Passes (checks nothing (contribution_row c))
-    = rw read (refl, (refl, (refl, (refl, (refl, (within-passes _ _ _ range, tt)))))) in
-    record { passes = none_fails (checks nothing (contribution_row c)) passes; next_is = rw read refl }
 
 -- ---- contributions of sources
 
@@ -118,20 +109,19 @@ reads_load s row valid printed = optional_read row 5 (own_load s.load) (load_pri
 abbrev pub stream_entry : Case → Stream → List ℕ × StreamData
 stream_entry k s = (s.name, data_of s (own_load s.load) (own_contribution k s.contribution))
 
-stream_row_kind : (of : Side) (fields : Row) → kind_of (stream_kind of ∷ fields) ≡ Some (kind.Stream of)
-unfolding kind_of is_passed_over are_empty
-stream_row_kind side.Hot fields = refl
-stream_row_kind side.Cold fields = refl
+kind_of-stream_row : (k : Case) (s : Stream) → kind_of (stream_row k s) ≡ Some (kind.Stream s.side)
+unfolding kind_of
+kind_of-stream_row k s = stream_row-kind kind.PassedOver kind_in kind.Stream refl refl s.side _
 
 -- a stream of which an earlier row gave neither the name nor too many of its side
 pub stream_follows : (given : Given) (k : Case) (s : Stream) → IsValidStream s → IsUnreserved s.name
     → count_of s.side given.streams < MOST_STREAMS
     → All (λ other. other ≢ s.name) (keys_of given.streams ++ keys_of given.utilities)
     → Follows grammar given (stream_row k s) (with_entry given (entry.Stream s.name (stream_entry k s).1))
-unfolding checks kind_checks stream_checks stream_number_checks are_empty is_number number
+unfolding checks kind_checks stream_checks stream_number_checks are_empty is_number number is_reserved
 stream_follows given k s valid unreserved few new =
     let row = stream_row k s in
-    let is : kind_of row ≡ Some (kind.Stream s.side) = stream_row_kind s.side _ in
+    let is = kind_of-stream_row k s in
     let supply = number_read s.supply (temperature s.supply valid.supply) in
     let target = number_read s.target (temperature s.target valid.target) in
     let cp = number_read s.cp (stream_flow_rate s valid) in
@@ -145,8 +135,9 @@ stream_follows given k s valid unreserved few new =
     let to = within-passes _ _ _ valid.target in
     let numbers : Passes (stream_number_checks s.side row) = rw (supply, target, cp, load, own.read)
     (refl, (refl, (refl, (is_load, (own.is_number, (from, (to, (heat.cp, (heat.load, (own.range, heat.heat _)))))))))) in
+    let reserved = (Decides-neither s.name (codes "HOT") (codes "COLD")).1 unreserved in
     let passes : Passes (checks given row) =
-    rw is (refl, (refl, (place, (name-passes s.name valid.name, ((Decides-is_reserved s.name).1 unreserved, (free, numbers)))))) in
+    rw is (refl, (refl, (place, (name-passes s.name valid.name, (reserved, (free, numbers)))))) in
     record { passes = none_fails (checks given row) passes; next_is = rw (is, supply, target, cp, load, own.read) refl }
 
 -- ---- utilities

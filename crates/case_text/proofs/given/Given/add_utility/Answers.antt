@@ -1,7 +1,7 @@
 use Rattle.case_text.proofs.Sources.{free_name}
 use Rattle.case_text.proofs.Words.{bytes_eq, insert_entry-new}
 use Rattle.std.proofs.Common.{refl, ◌∙◌}
-use Rattle.case_text.proofs.found.Found.add_utility.Goals as goal
+use Rattle.case_text.proofs.given.Given.add_utility.Goals as goal
 
 pub returns : goal.returns
 returns c =

@@ -1,7 +1,7 @@
 use Rattle.case_text.proofs.Sources.{count_on-case, few_with_stream, free_name}
 use Rattle.case_text.proofs.Words.{bytes_eq, insert_entry-new}
 use Rattle.std.proofs.Common.{refl, ◌∙◌}
-use Rattle.case_text.proofs.found.Found.add_stream.Goals as goal
+use Rattle.case_text.proofs.given.Given.add_stream.Goals as goal
 
 pub invariant_of-self-2 : goal.invariant_of-self-2
 invariant_of-self-2 c =

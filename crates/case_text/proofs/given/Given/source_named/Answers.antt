@@ -1,7 +1,7 @@
 use Rattle.case_text.proofs.Sources.{few_streams, side_of-case, source_named-case}
 use Rattle.std.proofs.Common.{arith, refl, ◌∙◌}
 use Rattle.case_text.proofs.Words.{slice_get_within}
-use Rattle.case_text.proofs.found.Found.source_named.Goals as goal
+use Rattle.case_text.proofs.given.Given.source_named.Goals as goal
 use Rattle.stream_case.specs.declared.source.Source.TheVariants as source
 
 pub overflow_cast-result : goal.overflow_cast-result

@@ -18,30 +18,30 @@ use stream_case::{Case, Forbid, Items, Name, Side, Source, Stream, Utility};
 
 /// What the rows read so far gave.
 #[derive(Drop)]
-pub struct Found {
+pub struct Given {
     contribution: Option<i32>,
     streams: KeyedMap<Name, StreamData>,
     utilities: KeyedMap<Name, UtilityData>,
     forbids: Vec<Forbid>,
 }
 
-impl Model for Found {
-    ghost use Rattle.case_text.specs.Given.{Given};
+impl Model for Given {
+    ghost use Rattle.case_text.specs.Given.{Given as GivenByRows};
     ghost use Rattle.case_text.specs.Additions.{HasFewSources};
 
-    ghost Value = { Given };
+    ghost Value = { GivenByRows };
 
     ghost view = { λ f. record { contribution = f.contribution; streams = f.streams.entries; utilities = f.utilities.entries; forbids = f.forbids.items } };
 
     ghost invariant = { λ f. HasFewSources f.streams.entries f.utilities.entries };
 }
 
-impl Found {
+impl Given {
     /// Nothing yet. The hashes of the names have this key.
-    pub fn new(alloc: Global, key: TextKey) -> Found
+    pub fn new(alloc: Global, key: TextKey) -> Given
         ensures { result ≡ nothing }
     {
-        Found {
+        Given {
             contribution: None,
             streams: IndexMap::with_hasher(alloc, key),
             utilities: IndexMap::with_hasher(alloc, key),
