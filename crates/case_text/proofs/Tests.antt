@@ -1,6 +1,6 @@
 -- What the tests of the checks decide.
-use Rattle.case_text.proofs.Words.{Case, Decides-and, Decides-like, Decides-neither, Decides-none, Decides-not, Forbid, Given, IsUnreserved, Side, Source}
-use Rattle.case_text.proofs.Words.{bytes_decides, bytes_eq, case_of, codes, is_forbidden, is_reserved, is_reserved_from, is_source, is_taken, names_of}
+use Rattle.case_text.proofs.Words.{Case, Decides-and, Decides-like, Decides-none, Decides-not, Forbid, Given, Side, Source}
+use Rattle.case_text.proofs.Words.{bytes_decides, bytes_eq, case_of, codes, is_forbidden, is_reserved_from, is_source, is_taken, names_of}
 use Rattle.case_text.proofs.Words.{is_side-true, own_side, same_source, same_source-same, same_source-true, side_of, source_at, source_named}
 use Rattle.std.proofs.Common.{All, Decides, List, None, Option, Some, ap, not, refl, sym, true, ℕ, ◌&&◌, ◌∙◌, ◌≡◌, ◌≢◌}
 use Rattle.stream_case.specs.declared.source.Side.TheVariants as side

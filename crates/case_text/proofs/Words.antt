@@ -25,37 +25,47 @@ pub use Rattle.rows.proofs.SharedRows.{contribution-passes, contribution-read, p
 pub use Rattle.rows.proofs.Streams.{passed-latent, passed-sensible, stream-is_valid}
 pub use Rattle.rows.proofs.Tests.{Decides-int_le, Decides-is_own_contribution, Decides-neither, Decides-none, passed-room, passed-within, room-passes}
 pub use Rattle.rows.proofs.Tests.{within-passes}
-pub use Rattle.rows.proofs.Words.{All-back, AllPairs-across, Decides-is_right_way, Decides-not, IsHeat, contribution_row, list_any, passed-name, stream_kind}
-unfoldable pub use Rattle.rows.proofs.Words.{is_number, is_number_or_empty, is_own_contribution, number, optional_number, rows_of}
 pub use Rattle.rows.specs.Fields.{field}
-unfoldable pub use Rattle.rows.specs.Fields.{are_empty, is_passed_over}
+unfoldable pub use Rattle.rows.specs.Fields.{are_empty, is_number, is_number_or_empty, is_passed_over, number, optional_number}
 pub use Rattle.rows.specs.Numbers.{is_flow_rate_beside}
-unfoldable pub use Rattle.rows.specs.Numbers.{is_own_load}
+unfoldable pub use Rattle.rows.specs.Numbers.{is_own_contribution, is_own_load}
+pub use Rattle.rows.specs.Printed.{contribution_row, stream_kind}
 pub use Rattle.rows.specs.Rows.{Row}
+unfoldable pub use Rattle.rows.specs.Rows.{rows_of}
 pub use Rattle.rows.specs.Text.{row_text, rows_text}
 pub use Rattle.rows.specs.declared.fault.RowFault.{RowFault}
 pub use Rattle.std.proofs.lemmas.Bool.{or_parts}
+pub use Rattle.std.proofs.lemmas.Bool.Decides.{Decides-and, Decides-int_eq, Decides-like, Decides-not, nat_tests}
+pub use Rattle.std.proofs.lemmas.Int.{ints}
+pub use Rattle.std.proofs.lemmas.List.{append-nil, length-map, map-append}
 pub use Rattle.std.proofs.lemmas.List.Concat.{flat_map-append}
-pub use Rattle.std.proofs.lemmas.List.Elements.{All-push}
+pub use Rattle.std.proofs.lemmas.List.Elements.{All-append, All-cons, All-map, All-nil, All-push, All-weaker}
 pub use Rattle.std.proofs.lemmas.List.Folds.{flat_map-map, list_any-append}
-pub use Rattle.std.proofs.lemmas.List.Sums.{sum_by_push}
+pub use Rattle.std.proofs.lemmas.List.Quantifiers.{all_pairs_push}
+pub use Rattle.std.proofs.lemmas.List.Sums.{sum_by-append, sum_by-cons, sum_by_push}
 pub use Rattle.std.proofs.lemmas.Map.Made.{is_some-lookup}
 pub use Rattle.std.proofs.lemmas.Option.{slice_get-map, slice_get_within}
 pub use Rattle.std.proofs.lemmas.Simd.{map-map}
-pub use Rattle.std.specs.List.{flat_map}
+pub use Rattle.std.specs.Cmp.Lexicographic.{bytes_decides}
+pub use Rattle.std.specs.List.{flat_map, list_any}
 pub use Rattle.std.specs.Map.{keys_of, lookup}
+pub use Rattle.std.specs.Ordering.{int_eq}
+pub use Rattle.std.specs.Prelude.{codes}
+pub use Rattle.std.specs.Str.{bytes_eq}
 pub use Rattle.stream_case.proofs.CaseLemmas.{IsName-source_name, IsSourceOf-side, count_on-add, length-AreStreams, no_contribution, one_more_on, range_of}
 pub use Rattle.stream_case.proofs.CaseLemmas.{source_named-source_name}
-pub use Rattle.stream_case.proofs.DistinctLemmas.{AllPairs-back, AllPairs-front}
-pub use Rattle.stream_case.proofs.ListLemmas.{All-front, none_there, position-map}
-pub use Rattle.stream_case.proofs.NameTests.{name-passes}
-pub use Rattle.stream_case.proofs.SourceLemmas.{is_side-true, own_side, same_source-same, same_source-true}
-pub use Rattle.stream_case.proofs.Words.{All-append, All-cons, All-map, All-nil, All-weaker, Decides-and, Decides-int_eq, Decides-like, IsContribution}
-pub use Rattle.stream_case.proofs.Words.{IsLatent, IsName, IsRightWay, IsSensible, IsValidStream, IsValidUtility, all_pairs_push, append-nil, bytes_decides}
-pub use Rattle.stream_case.proofs.Words.{bytes_eq, codes, count_on, int_eq, ints, length-map, map-append, names_of, nat_tests, same_side, same_source, side_of}
-pub use Rattle.stream_case.proofs.Words.{source_name, sum_by-append, sum_by-cons}
-unfoldable pub use Rattle.stream_case.proofs.Words.{is_name, source_named}
-pub use Rattle.stream_case.specs.Case.{IsRightlyNamed, IsUnreserved, IsValid, IsValidForbid, first_source, is_forbidden}
+pub use Rattle.stream_case.proofs.DistinctLemmas.{AllPairs-across, AllPairs-back, AllPairs-front}
+pub use Rattle.stream_case.proofs.ListLemmas.{All-back, All-front, none_there, position-map}
+pub use Rattle.stream_case.proofs.NameTests.{name-passes, passed-name}
+pub use Rattle.stream_case.proofs.SourceLemmas.{Decides-is_right_way, is_side-true, own_side, same_source-same, same_source-true}
+pub use Rattle.stream_case.specs.Case.{IsRightlyNamed, IsUnreserved, IsValid, IsValidForbid, first_source, is_forbidden, names_of, side_of, source_name}
+unfoldable pub use Rattle.stream_case.specs.Case.{source_named}
+pub use Rattle.stream_case.specs.Limits.{IsContribution, IsHeat}
+pub use Rattle.stream_case.specs.Name.{IsName}
+unfoldable pub use Rattle.stream_case.specs.Name.{is_name}
+pub use Rattle.stream_case.specs.Source.{IsRightWay, same_side, same_source}
+pub use Rattle.stream_case.specs.Stream.{IsLatent, IsSensible, IsValidStream, count_on}
+pub use Rattle.stream_case.specs.Utility.{IsValidUtility}
 pub use Rattle.stream_case.specs.declared.case.Case.{Case}
 pub use Rattle.stream_case.specs.declared.case.Forbid.{Forbid}
 pub use Rattle.stream_case.specs.declared.limits.TheConstants.{ALL_STREAMS, MOST_FORBIDS, MOST_STREAMS, MOST_UTILITIES}

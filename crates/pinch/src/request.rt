@@ -1,5 +1,5 @@
 //! What is asked: all files are read here, and all that is refused is refused here.
-ghost use Rattle.std.specs.Prelude.{◌≡◌, ◌↔◌, IfErr, IfOk, IsTrue, Some};
+ghost use Rattle.std.specs.Prelude.{◌↔◌, IfErr, IfOk, IsTrue, Some};
 ghost use Rattle.stream_case.specs.Case.{IsComplete};
 ghost use Rattle.stream_case.specs.Stream.{AreSensible};
 ghost use Rattle.study.specs.Plan.{IsSweepPlan};

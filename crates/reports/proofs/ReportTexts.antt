@@ -2,10 +2,10 @@
 use Rattle.reports.proofs.Words.{All-head, All-tail, Case, Cold, Cut, CutKind, Demand, HaveParts, Hot, Part, Parts, Prices, Side, Source, Span, Statement}
 use Rattle.reports.proofs.Words.{Stream, Supply, Transfer, Utility, blank, case_names, codes, cut_line, cut_report, fields_text, flat_map}
 use Rattle.reports.proofs.Words.{flat_map-append, flow_report, flow_text, line, made_from, member_line, move_line, move_of, named_at, option_map_or, own_parts}
-use Rattle.reports.proofs.Words.{part_at, part_text, parts_of, price_at, price_line, price_word, priced_by, signed_decimal, slice_get-get_or}
-use Rattle.reports.proofs.Words.{source_name, span_of, statement_text, stuck_text, texts_from, use_line, use_of, utility_heat}
+use Rattle.reports.proofs.Words.{part_at, part_text, price_at, price_line, price_word, priced_by, signed_decimal, slice_get-get_or}
+use Rattle.reports.proofs.Words.{source_name, span_of, statement_text, stuck_text, texts_from, use_line, use_of}
 use Rattle.certify.specs.Printed.{cost_statement, cut_statement, move_statement, part_statement, priced_statement, report_text, use_statement}
-use Rattle.std.proofs.Common.{All, List, [], ap, append_assoc, ap₂, get_or, length, map, pos, refl, slice_get, suc, sym, zero, ℕ, ℤ, ◌++◌, ◌<◌, ◌∙◌, ◌∷◌, ◌≡◌}
+use Rattle.std.proofs.Common.{All, List, [], ap, append_assoc, ap₂, get_or, length, map, pos, refl, suc, sym, ℕ, ℤ, ◌++◌, ◌<◌, ◌∙◌, ◌∷◌, ◌≡◌}
 use Rattle.stream_case.proofs.CaseLemmas.{name_at}
 use Rattle.stream_case.specs.Case.{source_name as name_of}
 use Rattle.stream_case.specs.declared.source.Source.TheVariants.{Stream as of_stream}

@@ -1,5 +1,5 @@
 //! The text of a heat flow with its prices.
-ghost use Rattle.std.specs.Prelude.{◌≡◌, ◌++◌, IfOk, codes, string_bytes};
+ghost use Rattle.std.specs.Prelude.{◌≡◌, IfOk, string_bytes};
 ghost use Rattle.std.specs.List.{flat_map};
 ghost use Rattle.reports.specs.Lines.{line, texts_from};
 ghost use Rattle.reports.specs.Flow.{part_text, part_at, side_prices, use_line, move_line, price_word, price_line, price_lines, certificate_lines, flow_text};

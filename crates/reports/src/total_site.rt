@@ -1,6 +1,5 @@
 //! The text of a site: its profiles, and the least boiler heat with its certificate.
 ghost use Rattle.std.specs.Prelude.{◌≡◌, IfOk, string_bytes};
-ghost use Rattle.reports.specs.Lines.{texts_from};
 ghost use Rattle.reports.specs.Site.{answer_lines, boiler_heat, cooling_heat, least_lines, profile_line, profile_lines, total_site_text};
 
 use crate::cut::stuck_text;

@@ -16,15 +16,20 @@ pub use Rattle.rows.specs.Printed.{contribution_row, optional_field, stream_kind
 unfoldable pub use Rattle.rows.specs.Rows.{Row, rows_of}
 unfoldable pub use Rattle.rows.specs.Text.{fields_text, row_text, rows_text}
 pub use Rattle.rows.specs.declared.numbers.TheConstants.{MOST_DIGITS}
-pub use Rattle.std.proofs.lemmas.Bool.Decides.{Decides-by_and, Decides-ltb, Decides-not, Decides-or}
+pub use Rattle.std.proofs.lemmas.Bool.Decides.{Decides-and, Decides-by_and, Decides-like, Decides-ltb, Decides-not, Decides-or, nat_tests}
 pub use Rattle.std.proofs.lemmas.Fmt.{decimal_is_IsNumeral, length-decimal-le}
+pub use Rattle.std.proofs.lemmas.Int.{ints}
+pub use Rattle.std.proofs.lemmas.List.{get_or_default}
 pub use Rattle.std.proofs.lemmas.List.Concat.{length-flat_map}
+pub use Rattle.std.proofs.lemmas.List.Elements.{All-cons, All-from_recursion, All-head, All-tail, All-weaker}
 pub use Rattle.std.proofs.lemmas.List.Folds.{list_any_none}
 pub use Rattle.std.proofs.lemmas.List.Sums.{sum_by-le}
 pub use Rattle.std.proofs.lemmas.Str.Parse.{digit_at}
-pub use Rattle.std.specs.Fmt.{signed_decimal}
+pub use Rattle.std.specs.Cmp.Lexicographic.{bytes_decides}
+pub use Rattle.std.specs.Fmt.{decimal, signed_decimal}
 pub use Rattle.std.specs.List.{list_any}
-pub use Rattle.std.specs.Prelude.{int_le}
+pub use Rattle.std.specs.Prelude.{codes, int_le}
+pub use Rattle.std.specs.Str.{bytes_eq}
 pub use Rattle.stream_case.proofs.DigitLemmas.{integer_read}
 pub use Rattle.stream_case.proofs.DistinctLemmas.{AllPairs-across}
 pub use Rattle.stream_case.proofs.HeatLemmas.{cp-between}
@@ -32,12 +37,13 @@ pub use Rattle.stream_case.proofs.ListLemmas.{All-back}
 pub use Rattle.stream_case.proofs.NameLemmas.{length-IsName}
 pub use Rattle.stream_case.proofs.NameTests.{passed-name}
 pub use Rattle.stream_case.proofs.SourceLemmas.{Decides-is_right_way}
-pub use Rattle.stream_case.proofs.Words.{All-cons, All-from_recursion, All-head, All-tail, All-weaker, Decides-and, Decides-like, IsBetween, IsContribution}
-pub use Rattle.stream_case.proofs.Words.{IsLatent, IsName, IsSensible, IsTemperature, IsValidStream, bytes_decides, bytes_eq, codes, decimal, get_or_default}
-pub use Rattle.stream_case.proofs.Words.{ints, is_name_byte, is_right_way, nat_tests, same_side}
-pub use Rattle.stream_case.proofs.Words.{IsOfDigits}
-unfoldable pub use Rattle.stream_case.proofs.Words.{integer_in, is_name, natural_in}
-pub use Rattle.stream_case.specs.Limits.{IsFlowRate, IsHeat, IsLoad, IsPrice}
+pub use Rattle.stream_case.specs.Digits.{IsOfDigits}
+unfoldable pub use Rattle.stream_case.specs.Digits.{integer_in, natural_in}
+pub use Rattle.stream_case.specs.Limits.{IsBetween, IsContribution, IsFlowRate, IsHeat, IsLoad, IsPrice, IsTemperature}
+pub use Rattle.stream_case.specs.Name.{IsName, is_name_byte}
+unfoldable pub use Rattle.stream_case.specs.Name.{is_name}
+pub use Rattle.stream_case.specs.Source.{is_right_way, same_side}
+pub use Rattle.stream_case.specs.Stream.{IsLatent, IsSensible, IsValidStream}
 pub use Rattle.stream_case.specs.declared.limits.TheConstants.{MOST_CONTRIBUTION}
 pub use Rattle.stream_case.specs.declared.source.Side.{Side}
 pub use Rattle.stream_case.specs.declared.stream.Stream.{Stream}

@@ -7,7 +7,7 @@ use Rattle.site_text.proofs.Words.{passed-within, plant_with, site_of, stream_in
 use Rattle.site_text.proofs.Words.{Decides-neither, codes, passed-contribution}
 use Rattle.rows.proofs.Streams.{passed-sensible, stream-is_valid}
 use Rattle.stream_case.proofs.CaseLemmas.{no_contribution, range_of}
-use Rattle.rows.specs.Fields.{field, number}
+use Rattle.rows.specs.Fields.{field}
 use Rattle.site_text.proofs.Plants.{count_on-with, few_with_stream, length-with_stream, named-with_stream, names-with_stream, plant_names-with, stream_names-with}
 use Rattle.site_text.proofs.Plants.{streams_of-plant, streams_of-plant_with, streams_of-with_stream}
 use Rattle.site_text.proofs.Tests.{Decides-is_among}

@@ -1,13 +1,13 @@
 -- Each printed row follows on the rows before it.
-use Rattle.site_text.proofs.Words.{Decides-is_right_way, Follows, Given, IsContribution, IsName, IsSensible, IsTemperature, IsUnreserved, IsValidStream, MOST_MAINS}
-use Rattle.site_text.proofs.Words.{MOST_PLANTS, MOST_SIDE_STREAMS, Main, Passes, Plant, Row, Side, Stream, contribution, contribution_row, count_on, flow_rate}
-use Rattle.site_text.proofs.Words.{grammar, kind_of, main_row, name-passes, nat_tests, none_fails, nothing, number_read, plant_row, room-passes, stream_kind}
+use Rattle.site_text.proofs.Words.{Decides-is_right_way, Follows, Given, IsName, IsSensible, IsTemperature, IsUnreserved, IsValidStream, MOST_MAINS}
+use Rattle.site_text.proofs.Words.{MOST_PLANTS, MOST_SIDE_STREAMS, Main, Passes, Plant, Side, Stream, count_on, flow_rate}
+use Rattle.site_text.proofs.Words.{grammar, kind_of, main_row, name-passes, nat_tests, none_fails, number_read, plant_row, room-passes}
 use Rattle.site_text.proofs.Words.{stream_row, streams_of, temperature, stream_with, with_entry, within-passes}
 use Rattle.site_text.proofs.Words.{Decides-neither, codes, is_reserved, kind_in, stream_row-kind}
 use Rattle.rows.specs.Fields.{are_empty, is_number, is_passed_over, number}
 use Rattle.site_text.proofs.Tests.{Decides-is_among}
 use Rattle.site_text.specs.Checks.{checks, kind_checks, main_checks, plant_checks, stream_checks, stream_number_checks}
-use Rattle.std.proofs.Common.{All, List, Some, [], arith, length, map, not, pos, refl, true, ℤ, ◌<◌, ◌==◌, ◌∷◌, ◌≡◌, ◌≢◌}
+use Rattle.std.proofs.Common.{All, List, Some, [], arith, length, map, not, pos, refl, true, ◌<◌, ◌==◌, ◌≡◌, ◌≢◌}
 use Rattle.site_text.specs.declared.entry.Entry.TheVariants as entry
 use Rattle.site_text.specs.declared.kind.Kind.TheVariants as kind
 use Rattle.stream_case.specs.declared.source.Side.TheVariants as side

@@ -1,5 +1,5 @@
 -- What the tests of the checks decide.
-use Rattle.site_text.proofs.Words.{All-from_map, All-map, Decides-like, Decides-neither, Decides-none, IsUnreserved, bytes_eq, codes, is_among, is_reserved}
+use Rattle.site_text.proofs.Words.{All-from_map, All-map, Decides-like, Decides-none, bytes_eq, is_among}
 use Rattle.std.proofs.Common.{All, Decides, List, map, not, sym, ℕ, ◌≡◌, ◌≢◌}
 use Rattle.std.specs.Cmp.Lexicographic.{bytes_decides}
 

@@ -8,9 +8,9 @@ pub use Rattle.rows.proofs.PrintedNumbers.{contribution, flow_rate, number_read,
 pub use Rattle.rows.proofs.Seams.{All-seam, AllPairs-seam, length-seam}
 pub use Rattle.rows.proofs.SharedRows.{contribution-passes, contribution-read, passed-contribution, stream_row-kind}
 pub use Rattle.rows.proofs.Tests.{Decides-neither, Decides-none, passed-room, passed-within, room-passes, within-passes}
-pub use Rattle.rows.proofs.Words.{All-back, Decides-is_right_way, contribution_row, passed-name, stream_kind, stream_row}
-unfoldable pub use Rattle.rows.proofs.Words.{rows_of}
+pub use Rattle.rows.specs.Printed.{contribution_row, stream_kind, stream_row}
 pub use Rattle.rows.specs.Rows.{Row}
+unfoldable pub use Rattle.rows.specs.Rows.{rows_of}
 pub use Rattle.rows.specs.Text.{rows_text}
 pub use Rattle.rows.specs.declared.fault.RowFault.{RowFault}
 pub use Rattle.site_text.proofs.SiteLemmas.{All-plants, streams_of-more}
@@ -30,22 +30,27 @@ pub use Rattle.site_text.specs.declared.site.Plant.{Plant}
 pub use Rattle.site_text.specs.declared.site.Site.{Site}
 pub use Rattle.std.proofs.Math.ListN.{set}
 pub use Rattle.std.proofs.Math.Seq.{append_snoc}
-pub use Rattle.std.proofs.lemmas.List.{take-append-drop}
+pub use Rattle.std.proofs.lemmas.Bool.{false≢true}
+pub use Rattle.std.proofs.lemmas.Bool.Decides.{Decides-like, nat_tests}
+pub use Rattle.std.proofs.lemmas.List.{append-nil, length-map, map-append, take-append-drop}
 pub use Rattle.std.proofs.lemmas.List.Concat.{flat_map-append}
-pub use Rattle.std.proofs.lemmas.List.Elements.{All-push}
+pub use Rattle.std.proofs.lemmas.List.Elements.{All-append, All-cons, All-head, All-map, All-nil, All-push, All-tail, All-weaker}
 pub use Rattle.std.proofs.lemmas.List.Folds.{list_any-append}
-pub use Rattle.std.proofs.lemmas.List.Sums.{sum_by_push}
+pub use Rattle.std.proofs.lemmas.List.Quantifiers.{all_pairs_push}
+pub use Rattle.std.proofs.lemmas.List.Sums.{sum_by-append, sum_by-cons, sum_by_push}
 pub use Rattle.std.proofs.lemmas.Simd.{map-map}
 pub use Rattle.std.specs.List.{flat_map, list_any}
-pub use Rattle.std.specs.Prelude.{vec_len}
+pub use Rattle.std.specs.Prelude.{All, codes, vec_len}
+pub use Rattle.std.specs.Str.{bytes_eq}
 pub use Rattle.stream_case.proofs.CaseLemmas.{count_on-append}
-pub use Rattle.stream_case.proofs.NameTests.{name-passes}
-pub use Rattle.stream_case.proofs.SourceLemmas.{own_side}
-pub use Rattle.stream_case.proofs.Words.{All, All-append, All-cons, All-head, All-map, All-nil, All-tail, All-weaker, Decides-like, IsContribution, IsName}
-pub use Rattle.stream_case.proofs.Words.{IsSensible, IsTemperature, IsValidStream, all_pairs_push, append-nil, bytes_eq, codes, count_on, false≢true}
-pub use Rattle.stream_case.proofs.Words.{length-map, map-append, nat_tests, same_side, sum_by-append, sum_by-cons}
-unfoldable pub use Rattle.stream_case.proofs.Words.{is_name}
-pub use Rattle.stream_case.specs.Stream.{stream_with}
+pub use Rattle.stream_case.proofs.ListLemmas.{All-back}
+pub use Rattle.stream_case.proofs.NameTests.{name-passes, passed-name}
+pub use Rattle.stream_case.proofs.SourceLemmas.{Decides-is_right_way, own_side}
+pub use Rattle.stream_case.specs.Limits.{IsContribution, IsTemperature}
+pub use Rattle.stream_case.specs.Name.{IsName}
+unfoldable pub use Rattle.stream_case.specs.Name.{is_name}
+pub use Rattle.stream_case.specs.Source.{same_side}
+pub use Rattle.stream_case.specs.Stream.{IsSensible, IsValidStream, count_on, stream_with}
 pub use Rattle.stream_case.specs.declared.limits.TheConstants.{MOST_MAINS}
 pub use Rattle.stream_case.specs.declared.source.Side.{Side}
 pub use Rattle.stream_case.specs.declared.stream.Stream.{Stream}

@@ -31,8 +31,8 @@ use Rattle.study_text.specs.declared.kind.Kind.{Kind}
 use Rattle.study_text.specs.declared.limits.TheConstants.{MOST_ITEMS}
 use Rattle.study_text.specs.declared.study.Study.{Study}
 use Rattle.sums.proofs.CountLemmas.{count_by-cons}
-use Rattle.std.proofs.Common.{All, Bool, Err, IfOk, List, None, Ok, Option, Result, Some, [], ap, append-nil, arith, cond, drop, false, is_some, length, map}
-use Rattle.std.proofs.Common.{length-append, not, option_to_list, position, refl, sym, true, unwrap_or, ℕ, ℤ, ◌&&◌, ◌++◌, ◌+◌, ◌<◌, ◌||◌, ◌∙◌, ◌∷◌, ◌≡◌, ◌≤◌}
+use Rattle.std.proofs.Common.{All, Err, IfOk, List, None, Ok, Option, Result, Some, [], ap, append-nil, arith, cond, is_some, length, map}
+use Rattle.std.proofs.Common.{option_to_list, position, refl, sym, true, unwrap_or, ℕ, ℤ, ◌++◌, ◌+◌, ◌<◌, ◌∙◌, ◌∷◌, ◌≡◌, ◌≤◌}
 use Rattle.rows.specs.Fields.{field, number}
 use Rattle.study_text.specs.Checks.{checks, kind_checks, price_checks, scenario_checks, span_checks, span_number_checks}
 use Rattle.study_text.specs.declared.entry.Entry.TheVariants as entry

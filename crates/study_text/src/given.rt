@@ -1,6 +1,6 @@
 //! What the rows of a study file say, and the study that is made of it.
 
-ghost use Rattle.std.specs.Prelude.{◌≡◌, [], ◌∷◌, ◌++◌, length, All, IfOk, OnOk, not, ◌==◌};
+ghost use Rattle.std.specs.Prelude.{◌≡◌, [], ◌∷◌, ◌++◌, All, IfOk, OnOk, ◌==◌};
 ghost use Rattle.std.specs.List.{list_any};
 ghost use Rattle.first_fault.specs.Checks.{first_failing};
 ghost use Rattle.study_text.specs.Study.{case_prices};

@@ -6,11 +6,11 @@ use Rattle.case_text.specs.Checks.{utility_number_checks}
 use Rattle.case_text.proofs.Words.{Case, Decides-and, Decides-int_eq, Decides-int_le, Decides-is_own_contribution, Decides-is_right_way, Decides-not, Follows}
 use Rattle.case_text.proofs.Words.{Forbid, Given, IsContribution, IsHeat, IsLatent, IsName, IsPrintable, IsRightWay, IsRightlyNamed, IsSensible, IsUnreserved}
 use Rattle.case_text.proofs.Words.{IsValidStream, IsValidUtility, MOST_FORBIDS, MOST_STREAMS, MOST_UTILITIES, Passes, Row, Side, Source, Stream, StreamData}
-use Rattle.case_text.proofs.Words.{Utility, UtilityData, are_empty, case_of, contribution, contribution_field, contribution_row, count_on, field, forbid_row}
+use Rattle.case_text.proofs.Words.{Utility, UtilityData, are_empty, case_of, contribution, contribution_field, count_on, field, forbid_row}
 use Rattle.case_text.proofs.Words.{grammar, heat, int_eq, ints, is_flow_rate_beside, is_number, is_number_or_empty, is_own_contribution, is_own_load}
-use Rattle.case_text.proofs.Words.{is_passed_over, keys_of, kind_of, load, load_field, name-passes, none_fails, nothing, number, number_read, optional_number}
+use Rattle.case_text.proofs.Words.{is_passed_over, keys_of, kind_of, load, load_field, name-passes, none_fails, number, number_read, optional_number}
 use Rattle.case_text.proofs.Words.{optional_read, own_contribution, own_load, price, room-passes, side_of, source_name, source_named, stream_flow_rate}
-use Rattle.case_text.proofs.Words.{stream_kind, stream_row, temperature, utility_kind, utility_row, with_entry, within-passes}
+use Rattle.case_text.proofs.Words.{stream_row, temperature, utility_kind, utility_row, with_entry, within-passes}
 use Rattle.case_text.proofs.Words.{Decides-neither, codes, is_reserved, kind_in, stream_row-kind}
 use Rattle.std.proofs.Common.{All, Bool, IfSome, List, None, Option, Some, arith, false, if◌then◌else◌, inl, inr, length, not, pos, refl, true, unwrap_or, ℕ, ℤ}
 use Rattle.std.proofs.Common.{◌++◌, ◌<◌, ◌∷◌, ◌≡◌, ◌≢◌, ◌⊎◌}
