@@ -1,5 +1,5 @@
-// The files of a folder as a shelf, and standard output as a sink. They tell nothing of content, and count each
-// refusal of the system once, whatever its cause.
+//! The files of a folder as a shelf, and standard output as a sink. They tell nothing of content, and count each
+//! refusal of the system once, whatever its cause.
 ghost use Rattle.std.specs.Prelude.{◌≡◌, ◌+◌, ◌-◌, ◌^◌, ◌<◌, ◌≤◌, None, true, false, length, is_some, refl};
 ghost use Rattle.std.specs.Io.KnownBytes.{WriteAppends};
 ghost use Rattle.pinch_outside.specs.Faults.{HasCause, faults_after};

@@ -1,4 +1,4 @@
-// The count of the calls of an object in memory.
+//! The count of the calls of an object in memory.
 ghost use Rattle.std.specs.Prelude.{◌≡◌};
 ghost use Rattle.pinch_outside.specs.Faults.{counted};
 ghost use Rattle.pinch_outside.specs.Failing.{is_failing};

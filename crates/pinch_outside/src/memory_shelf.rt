@@ -1,4 +1,4 @@
-// A shelf in memory, which tells everything and fails at the calls that it is told to fail at.
+//! A shelf in memory, which tells everything and fails at the calls that it is told to fail at.
 ghost use Rattle.std.specs.Prelude.{◌≡◌, ◌+◌, ◌-◌, ◌^◌, ◌≤◌, ◌&&◌, not, false, min, length, Some, is_some, is_ok, is_err, IfOk};
 ghost use Rattle.pinch_outside.specs.Faults.{counted, faults_after};
 ghost use Rattle.pinch_outside.specs.Failing.{is_failing};

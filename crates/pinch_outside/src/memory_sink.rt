@@ -1,4 +1,4 @@
-// A sink in memory, which tells everything and fails at the writes that it is told to fail at.
+//! A sink in memory, which tells everything and fails at the writes that it is told to fail at.
 ghost use Rattle.std.specs.Prelude.{◌≡◌, ◌-◌, ◌<◌, ◌≤◌, ◌&&◌, not, nat_lt, min, [], length, Some, is_ok, IfOk, vec_len, vec_capacity};
 ghost use Rattle.std.specs.Io.KnownBytes.{WriteAppends};
 ghost use Rattle.pinch_outside.specs.Faults.{HasCause, counted, faults_after};

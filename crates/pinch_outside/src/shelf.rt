@@ -1,4 +1,4 @@
-// Where files are taken from.
+//! Where files are taken from.
 ghost use Rattle.std.specs.Prelude.{◌≡◌, ◌+◌, ◌-◌, ◌^◌, ◌≤◌, ◌↔◌, true, length, IfOk, IsErrOf};
 ghost use Rattle.pinch_outside.specs.Shelf.{ShelfState, IsToldTogether, Starts, Takes, KeepsFiles, IsWhole, IsTooLong, HasFailed};
 

@@ -1,4 +1,4 @@
-// Where bytes are written to.
+//! Where bytes are written to.
 ghost use Rattle.std.specs.Prelude.{◌<◌, List, ℕ, Option, length, OnOk};
 ghost use Rattle.std.specs.Io.KnownBytes.{Appends, WriteAppends};
 ghost use Rattle.pinch_outside.specs.Faults.{HasCause};

@@ -1,3 +1,4 @@
+//! Case files that are read, refused at a row, and printed again.
 ghost use Rattle.std.specs.Prelude.{IfOk};
 ghost use Rattle.stream_case.specs.Case.{IsValid};
 

@@ -1,3 +1,4 @@
+//! Rows of CSV texts as `csv` gives them.
 use crate::compare::assert_same;
 use csv::ByteRecord;
 use rows::Rows;

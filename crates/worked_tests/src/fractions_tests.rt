@@ -1,3 +1,4 @@
+//! Fractions in lowest terms, at their limits too.
 use crate::compare::assert_same;
 use fractions::Frac;
 use std::alloc::{AllocError, Global};

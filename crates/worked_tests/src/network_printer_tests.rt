@@ -1,3 +1,4 @@
+//! Networks that are printed and read again.
 ghost use Rattle.stream_case.specs.Case.{IsComplete};
 
 use crate::compare::assert_lists;

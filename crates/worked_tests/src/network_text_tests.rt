@@ -1,3 +1,4 @@
+//! Texts of networks that are read, or refused at a line.
 ghost use Rattle.stream_case.specs.Case.{IsComplete};
 
 use crate::compare::{assert_lists, assert_same};

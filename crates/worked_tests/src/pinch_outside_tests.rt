@@ -1,3 +1,4 @@
+//! Shelves and sinks in memory, and how they fail.
 ghost use Rattle.std.specs.Prelude.{refl};
 ghost use Rattle.pinch_outside.specs.Memory.{memory_state};
 

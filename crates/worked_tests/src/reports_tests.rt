@@ -1,3 +1,4 @@
+//! Texts of what is shown.
 ghost use Rattle.reports.specs.Text.{IsPrintable};
 
 use crate::compare::assert_same;

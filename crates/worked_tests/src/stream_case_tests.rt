@@ -1,3 +1,4 @@
+//! Names, streams, utilities and cases: what is valid, complete and standard.
 use crate::compare::{assert_lists, assert_same};
 use crate::tables::{
     FOUR_STREAMS, MOST_HEAT, Table, UtilityRow, any_case, case_of, completed, name, utilities_of,

@@ -1,3 +1,4 @@
+//! Lists in order, and amounts laid end to end.
 use crate::compare::assert_lists;
 use std::alloc::{AllocError, Global};
 use std::test::Fail;

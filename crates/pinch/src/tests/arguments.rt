@@ -1,3 +1,5 @@
+//! The words of the arguments, and the status as the exit code.
+
 use super::support::{FOUR_STREAM, FOUR_STREAM_TARGETS, WORDS, shelf_of, sink_of};
 use crate::arguments::{collect_words, run_arguments};
 use pinch_outside::{MemoryShelf, MemorySink};

@@ -1,3 +1,5 @@
+//! Networks that are accepted, and that are rejected for their first reason.
+
 use super::support::{FOUR_STREAM, OWN_CONTRIBUTION, check_audit, check_audits};
 use std::test::Fail;
 

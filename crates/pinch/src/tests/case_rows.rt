@@ -1,3 +1,5 @@
+//! Rows of a case that are refused, each with its row and cause.
+
 use super::support::{check_answer, check_answers};
 use std::test::Fail;
 

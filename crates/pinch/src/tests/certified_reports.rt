@@ -1,3 +1,5 @@
+//! Reports that are certified, and that are not for the first sentence that fails.
+
 use super::flow::FOUR_STREAM_FLOW;
 use super::latent::{CONDENSING, CONDENSING_FLOW, EVAPORATING, EVAPORATING_FLOW};
 use super::support::{FOUR_STREAM, Fails, NONE, answer_under, check_end};

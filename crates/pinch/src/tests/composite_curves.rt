@@ -1,3 +1,5 @@
+//! The curves of cases that were worked by hand.
+
 use super::support::{FOUR_STREAM, OWN_CONTRIBUTION, check_answers};
 use std::test::Fail;
 

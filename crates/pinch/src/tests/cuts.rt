@@ -1,3 +1,5 @@
+//! Cases without a heat flow, with the cuts that prove it.
+
 use super::support::{check_answer, check_answers};
 use std::test::Fail;
 

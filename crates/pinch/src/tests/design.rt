@@ -1,3 +1,5 @@
+//! Designs of cases that were worked by hand, each accepted again.
+
 use super::support::{FOUR_STREAM, OWN_CONTRIBUTION, check_answer, check_answers, check_audits};
 use std::test::Fail;
 

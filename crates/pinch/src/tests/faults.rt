@@ -1,3 +1,5 @@
+//! Files that are too long or cannot be read, and writes that are refused.
+
 use super::support::{
     FOUR_STREAM, FOUR_STREAM_TARGETS, Fails, audit_under, check_count, check_end, outcome_of,
     outcome_under,

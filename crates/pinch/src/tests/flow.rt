@@ -1,3 +1,5 @@
+//! Heat flows of least cost, with their prices, of cases that were worked by hand.
+
 use super::support::{FOUR_STREAM, OWN_CONTRIBUTION, check_answers};
 use std::test::Fail;
 

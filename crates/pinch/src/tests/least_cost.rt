@@ -1,3 +1,5 @@
+//! Least costs with several utilities and with forbidden matches, worked by hand.
+
 use super::support::{FOUR_STREAM, answer_of, check_front};
 use std::process::Abort;
 use std::test::Fail;

@@ -1,3 +1,5 @@
+//! The largest cases, and those with one stream or utility too many.
+
 use super::support::{
     FOUR_STREAM, FOUR_STREAM_TARGETS, NONE, answer_of, audit_under, check_answer, check_count,
     check_front, line_count,

@@ -1,3 +1,5 @@
+//! Statements of a network that are refused, each with its line and cause.
+
 use super::support::check_audit;
 use std::fmt::Write;
 use std::test::Fail;

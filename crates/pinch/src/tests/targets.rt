@@ -1,3 +1,5 @@
+//! Targets and pinches of cases that were worked by hand.
+
 use super::support::{FOUR_STREAM, FOUR_STREAM_TARGETS, check_answer, check_answers};
 use std::test::Fail;
 

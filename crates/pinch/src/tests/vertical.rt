@@ -1,3 +1,5 @@
+//! Vertical designs of cases that were worked by hand, each accepted again.
+
 use super::support::{FOUR_STREAM, OWN_CONTRIBUTION, check_answer, check_audits};
 use std::test::Fail;
 

@@ -1,3 +1,5 @@
+//! Words that form no command.
+
 use super::support::{FOUR_STREAM, WORDS, check_count, check_end, outcome_of};
 use std::test::Fail;
 
