@@ -41,7 +41,7 @@ pub use Rattle.pinch.specs.Certify.{IsCheckOf, shown_check}
 pub use Rattle.pinch.specs.Complete.{Holds, HoldsFault, HoldsText}
 unfoldable pub use Rattle.pinch.specs.Complete.{CanAnswer, HasBadFile}
 pub use Rattle.pinch.specs.Design.{AnswersDesign, IsDesignOf, IsShownNetwork, IsTightDesign, ShowsDesignOf}
-pub use Rattle.pinch.specs.Files.{FromText, IsRefused, NoFile, NoText, ReadsCompleted, ReadsText, by_text, failed, no_file, no_text, refused, too_long}
+pub use Rattle.pinch.specs.Files.{FromText, IsRefused, NoFile, NoText, ReadsCompleted, by_text, failed, no_file, no_text, refused, too_long}
 unfoldable pub use Rattle.pinch.specs.Files.{EndsIn}
 pub use Rattle.pinch.specs.Flow.{AnswersFlow, IsCaseAnswer, shown_answer}
 pub use Rattle.pinch.specs.Formats.{Format, case_file, network_file, report_file, site_file, study_file}
@@ -65,7 +65,6 @@ pub use Rattle.pinch.specs.declared.status.Status.TheVariants.{Answered, OutOfMe
 pub use Rattle.pinch.specs.declared.stop.Stop.{Stop}
 pub use Rattle.pinch_outside.specs.Faults.{Rose}
 pub use Rattle.pinch_outside.specs.Shelf.{IsFile, IsFileAbove, IsWhole, KeepsFiles, NamedFile, ShelfState}
-pub use Rattle.pinch_outside.specs.Sink.{AppendsFront}
 pub use Rattle.pinch_outside.specs.declared.limits.TheConstants.{MAX_FILE}
 pub use Rattle.site.specs.Profiles.{sink_profile, source_profile}
 pub use Rattle.site_text.specs.Site.{streams_of}
@@ -80,7 +79,7 @@ pub use Rattle.reports.specs.Site.{boiler_heat}
 unfoldable pub use Rattle.reports.specs.Text.{IsPrintable, text}
 pub use Rattle.reports.specs.declared.shown.FileRole.{FileRole}
 pub use Rattle.reports.specs.declared.shown.Shown.{Shown}
-pub use Rattle.reports.specs.declared.shown.Shown.TheVariants.{Accepted, BadWords, ReadFault, SiteShown, TooLong}
+pub use Rattle.reports.specs.declared.shown.Shown.TheVariants.{Accepted, SiteShown}
 unfoldable pub use Rattle.rows.specs.Rows.{rows_of}
 pub use Rattle.site.specs.Target.{AreSiteParts}
 unfoldable pub use Rattle.statements.specs.Statements.{statements_of}
@@ -94,7 +93,6 @@ pub use Rattle.std.proofs.lemmas.Option.{none-some, same_Some, slice_get-get_or}
 pub use Rattle.std.proofs.lemmas.Result.{IfOk-weaker}
 pub use Rattle.std.specs.Fmt.{decimal, signed_decimal}
 pub use Rattle.std.specs.Int.{w128}
-pub use Rattle.std.specs.Io.KnownBytes.{Appends}
 pub use Rattle.std.specs.Iterator.Adapters.{skip_count, skip_source}
 pub use Rattle.std.specs.Option.{option_map_or}
 pub use Rattle.std.specs.Prelude.{Any, IsTrue, codes, if◌then◌else◌, nat_le, nat_lt, not, pos, unsigned_abs, ℤ, ⊤, ◌&&◌, ◌*ℤ◌, ◌+ℤ◌, ◌↔◌}

@@ -9,8 +9,7 @@ pub use Rattle.grid.specs.Part.{AreCaseParts}
 pub use Rattle.grid.specs.declared.part.Part.{Part}
 pub use Rattle.grid.specs.declared.parts.Parts.{Parts}
 pub use Rattle.heat_flow.proofs.Blanks.{blank}
-pub use Rattle.heat_flow.specs.Certificate.{IsCertified, IsCutOf, utility_heat}
-pub use Rattle.heat_flow.specs.Cuts.{parts_of}
+pub use Rattle.heat_flow.specs.Certificate.{IsCertified, IsCutOf}
 pub use Rattle.heat_flow.specs.Flow.{HaveParts}
 pub use Rattle.heat_flow.specs.Prices.{price_at}
 pub use Rattle.heat_flow.specs.Reach.{reach_between}

@@ -30,19 +30,19 @@ pub use Rattle.std.proofs.lemmas.Bool.Decides.{nat_tests}
 pub use Rattle.std.proofs.lemmas.Int.{clamps, ints, to_z-of_z}
 pub use Rattle.std.proofs.lemmas.List.{append-nil, get_or-map, get_or_default, length-append, length-map, length-take-le, take_all, take_more}
 pub use Rattle.std.proofs.lemmas.List.Concat.{flat_map-append, get_or-flat_map}
-pub use Rattle.std.proofs.lemmas.List.Elements.{All-cons, All-drop, All-nil, All-take, All-weaker}
+pub use Rattle.std.proofs.lemmas.List.Elements.{All-cons, All-nil, All-weaker}
 pub use Rattle.std.proofs.lemmas.List.Sums.{fold-append}
 pub use Rattle.std.proofs.lemmas.Option.{slice_get-get_or, slice_get_past}
 pub use Rattle.std.specs.Int.{int_max, int_min}
 pub use Rattle.std.specs.List.{flat_map, list_any}
 pub use Rattle.std.specs.Prelude.{All, Contains, filter, fold, if◌then◌else◌, nat_lt, negsuc, pos, unsigned_abs, ℤ, ◌*ℤ◌, ◌+ℤ◌, ◌-ℤ◌, ◌<ℤ◌, ◌≤ℤ◌}
-pub use Rattle.stream_case.proofs.CaseLemmas.{count_on-add, count_on-append, length-AreStreams}
-pub use Rattle.stream_case.proofs.EndLemmas.{AreEnds-IsValidStream, length-stream_ends, stream_ends-append, stream_ends-between, stream_ends-more}
+pub use Rattle.stream_case.proofs.CaseLemmas.{count_on-add, length-AreStreams}
+pub use Rattle.stream_case.proofs.EndLemmas.{AreEnds-IsValidStream, length-stream_ends, stream_ends-between, stream_ends-more}
 pub use Rattle.stream_case.proofs.HeatLemmas.{heat_of-sensible, heat_over-sensible}
 pub use Rattle.stream_case.specs.Case.{greatest, least}
 pub use Rattle.stream_case.specs.Limits.{IsContribution, IsShifted, IsTemperature}
 pub use Rattle.stream_case.specs.Source.{same_side}
-pub use Rattle.stream_case.specs.Stream.{AreSensible, AreStreams, IsSensible, IsValidStream, count_on, heat_above, heat_of, high_end, length_above, low_end}
+pub use Rattle.stream_case.specs.Stream.{AreSensible, AreStreams, IsSensible, IsValidStream, heat_above, heat_of, high_end, length_above, low_end}
 pub use Rattle.stream_case.specs.Stream.{stream_ends}
 pub use Rattle.stream_case.specs.Utility.{IsPlaced, shifted_level}
 pub use Rattle.stream_case.specs.declared.limits.TheConstants.{ALL_STREAMS_HEAT, MOST_MAINS, MOST_PLACES}

@@ -4,14 +4,12 @@ pub use Rattle.corner_flow.proofs.StandardLemmas.{end_of}
 pub use Rattle.grid.proofs.HeatLemmas.{part_over}
 pub use Rattle.grid.proofs.OnGridLemmas.{parts_on_grid}
 pub use Rattle.grid.specs.Bounds.{IsBounded}
-pub use Rattle.grid.specs.OnGrid.{AreOnGrid, IsOnPlaces}
 pub use Rattle.grid.specs.Part.{AreCaseParts, AreParts, utility_part}
 pub use Rattle.grid.specs.declared.part.Part.{Part}
 pub use Rattle.heat_flow.proofs.Blanks.{blank}
 pub use Rattle.heat_flow.proofs.CutLemmas.{cuts_refuse_flows}
-pub use Rattle.heat_flow.proofs.Duality.{weak_duality}
 pub use Rattle.heat_flow.proofs.PartLemmas.{HoldsOfParts-some}
-pub use Rattle.heat_flow.specs.Certificate.{HoldsOfParts, IsCutOf, IsLeastCostOf}
+pub use Rattle.heat_flow.specs.Certificate.{HoldsOfParts}
 pub use Rattle.heat_flow.specs.Cuts.{HasNoFlow, IsCut, cut_side, joins, least_at, meets, need_of, offer_of, opposite, parts_of}
 pub use Rattle.heat_flow.specs.Flow.{IsHeatFlow, IsLeastCost, KeepsRanges, cost_of, heat_at, part_index, side_cost}
 pub use Rattle.heat_flow.specs.Prices.{price_at}
@@ -20,7 +18,6 @@ pub use Rattle.heat_flow.specs.Reach.{both_reach, part_reaches, passes_heat, rea
 pub use Rattle.heat_flow.specs.declared.cut.Cut.{Cut}
 pub use Rattle.heat_flow.specs.declared.flow.Transfer.{Transfer}
 pub use Rattle.problem_table.proofs.SideLemmas.{sum_side-heat}
-pub use Rattle.problem_table.specs.Deficit.{CountsFromItself}
 pub use Rattle.std.proofs.Math.IntN.{*ℤ-zero, *ℤ_comm}
 pub use Rattle.std.proofs.Math.Nat.{le-div_iff_mul-le}
 pub use Rattle.std.proofs.lemmas.Bool.{and_from, and_left, and_right, both_ways, cases_eq, cases_lt, eq-eqb, ne_eqb, true≢false}
@@ -41,11 +38,11 @@ pub use Rattle.std.specs.Int.{IsInRange, is_in_range, w128}
 pub use Rattle.std.specs.Int.RustNames.{unsigned_abs}
 pub use Rattle.std.specs.List.{range_with_len}
 pub use Rattle.std.specs.Ordering.{int_eq}
-pub use Rattle.std.specs.Prelude.{All, AllPairs, Bool, IsSome, IsTrue, MatchOption, MatchResult, SomeIff, codes, count_by, filter, if◌then◌else◌, int_le, neg_ℤ}
-pub use Rattle.std.specs.Prelude.{option_map, pos, set, slice_get, ℤ, ◌*ℤ◌, ◌++◌, ◌+ℤ◌, ◌-ℤ◌, ◌<ℤ◌, ◌==◌, ◌↔◌, ◌≤ℤ◌}
+pub use Rattle.std.specs.Prelude.{All, AllPairs, Bool, IsSome, IsTrue, MatchOption, MatchResult, SomeIff, codes, count_by, filter, if◌then◌else◌, neg_ℤ}
+pub use Rattle.std.specs.Prelude.{option_map, pos, set, slice_get, ℤ, ◌*ℤ◌, ◌++◌, ◌+ℤ◌, ◌-ℤ◌, ◌<ℤ◌, ◌==◌, ◌≤ℤ◌}
 pub use Rattle.std.specs.Result.{result_ok}
 pub use Rattle.stream_case.proofs.CaseLemmas.{length-AreStreams}
-pub use Rattle.stream_case.proofs.CompleteLemmas.{AreStreams-IsComplete, IsPlaced-IsComplete}
+pub use Rattle.stream_case.proofs.CompleteLemmas.{AreStreams-IsComplete}
 pub use Rattle.stream_case.proofs.HeatLemmas.{heat_over-between}
 pub use Rattle.stream_case.proofs.StandardUtilities.{some_utility, standard_side}
 pub use Rattle.stream_case.specs.Case.{IsComplete, IsRightlyNamed, IsStandard, IsUnreserved, IsValid, IsValidForbid, completed, is_forbidden, names_of, side_of}
@@ -54,7 +51,7 @@ pub use Rattle.stream_case.specs.Limits.{IsBetween, IsContribution, IsPrice, IsT
 pub use Rattle.stream_case.specs.Name.{IsName, is_name_byte}
 pub use Rattle.stream_case.specs.Source.{is_stream, same_side, same_source}
 pub use Rattle.stream_case.specs.Stream.{HasValidStreams, IsLatent, IsSensible, IsValidStream, count_on, heat_over, stream_with}
-pub use Rattle.stream_case.specs.Utility.{IsPlaced, IsValidUtility}
+pub use Rattle.stream_case.specs.Utility.{IsValidUtility}
 pub use Rattle.stream_case.specs.declared.case.Case.{Case}
 pub use Rattle.stream_case.specs.declared.case.Forbid.{Forbid}
 pub use Rattle.stream_case.specs.declared.limits.TheConstants.{ALL_STREAMS_HEAT, HIGHEST_TEMPERATURE, MOST_CONTRIBUTION, MOST_PARTS}
@@ -90,7 +87,7 @@ pub use Rattle.study_text.specs.declared.study.StudyItem.{StudyItem}
 pub use Rattle.study_text.specs.declared.study.StudyItem.TheVariants.{Scenario, Span}
 pub use Rattle.sums.proofs.CountLemmas.{count_by-map}
 pub use Rattle.sums.proofs.EnumerationLemmas.{range_with_len-append}
-pub use Rattle.sums.proofs.IntegerLemmas.{if_between, int_le-false, int_le-from}
+pub use Rattle.sums.proofs.IntegerLemmas.{if_between, int_le-from}
 pub use Rattle.sums.proofs.ListLemmas.{All-slice_get, slice_get-append}
 pub use Rattle.sums.proofs.OrderLemmas.{AllPairs-append, AllPairs-head, AllPairs-map, AllPairs-nil, AllPairs-tail}
 pub use Rattle.sums.proofs.ProductLemmas.{*ℤ-+ℤ, *ℤ--ℤ, *ℤ-≤ℤ_left, *ℤ-≤ℤ_right, *ℤ_assoc, +ℤ-*ℤ, -ℤ-*ℤ, neg_ℤ-*ℤ, one_times, product_within, ≤ℤ_from_*ℤ}
@@ -99,4 +96,3 @@ pub use Rattle.sums.specs.Sum.{int_sum_by, int_sum_from}
 pub use Rattle.transport.proofs.CaseNetLemmas.{IsCaseNet-alike}
 pub use Rattle.transport.specs.CaseCost.{IsCaseCost, IsCaseCut}
 pub use Rattle.transport.specs.CaseNet.{IsCaseNet}
-pub use Rattle.transport.specs.declared.answer.Answer.TheVariants.{Least}
