@@ -5,7 +5,8 @@ ghost use Rattle.stream_case.specs.Case.{IsValid};
 use crate::compare::{assert_lists, assert_same};
 use crate::tables::{FOUR_STREAMS, StreamRow, Table, case_of};
 use problem_table::{
-    Target, deficit_above, deficit_from, pinches, reference_from, reference_place, targets,
+    Target, deficit_above, deficit_from, pinches, pinches_at, reference_from, reference_of,
+    reference_place, targets,
 };
 use std::alloc::{AllocGlobal, Global};
 use std::process::Abort;
@@ -187,11 +188,26 @@ fn case_of_streams(
 fn compare(rt: &(impl Abort + AllocGlobal), all: &[Worked]) -> Result<(), Fail> {
     for worked in all {
         let case = case_of_streams(rt.alloc(), worked.contribution, worked.streams)?;
-        assert_same(rt, "targets", &targets(&case), &worked.targets);
+        let targets = targets(&case);
+        assert_same(rt, "targets", &targets, &worked.targets);
         let reference = (reference_place(&case), reference_from(&case));
         assert_same(rt, "reference place", &reference, &worked.reference);
+        let found = reference_of(&case);
+        assert_same(
+            rt,
+            "reference",
+            &(found.place, found.from_itself),
+            &worked.reference,
+        );
         let pinches = pinches(rt.alloc(), &case)?;
         assert_lists(rt, "pinches", pinches.as_slice(), worked.pinches);
+        let known = pinches_at(rt.alloc(), &case, targets.hot)?;
+        assert_lists(
+            rt,
+            "pinches of a known target",
+            known.as_slice(),
+            worked.pinches,
+        );
     }
     Ok(())
 }
