@@ -1,12 +1,12 @@
 -- Every command blames words, length and shelf only with cause.
 use Rattle.pinch.proofs.Formats.{IsLawful}
 use Rattle.pinch.proofs.Plain.{answered-plain, is_plain}
-use Rattle.pinch.proofs.Readings.{IsFurther, IsLawfulReading, lawful}
+use Rattle.pinch.proofs.Readings.{IsFurther, IsLawfulReading, lawful, whole}
 use Rattle.pinch.proofs.Results.{is_result}
-use Rattle.pinch.proofs.Words.{Command, EndsIn, FileRole, Format, FromText, IsWhole, KeepsFiles, MAX_FILE, NoFile, NoText, Reading, Request, ShelfState, Shown}
+use Rattle.pinch.proofs.Words.{EndsIn, FileRole, Format, FromText, IsWhole, KeepsFiles, MAX_FILE, NoFile, NoText, Reading, Request, ShelfState, Shown}
 use Rattle.pinch.proofs.Words.{Shows, ShowsCommand, by_text, failed, file, no_file, no_text, reading_of, ready, refused, status_of, stop, too_long, wanted}
 use Rattle.pinch.specs.Causes.{Causes, HasCause, ReadsFile}
-use Rattle.std.proofs.Common.{List, Option, Result, ap, arith, false, inl, inr, refl, subst, sym, true, ℕ, ◌∙◌, ◌≡◌, ◌≤◌}
+use Rattle.std.proofs.Common.{List, Result, ap, arith, false, inl, inr, refl, subst, sym, true, ℕ, ◌∙◌, ◌≡◌, ◌≤◌}
 
 -- the last file was read to its end
 record Ended (new : ShelfState) : Type 0 where
@@ -122,12 +122,6 @@ of_further (file format name next) further old new end shown shows ended ends =
     of_file format further.0 name next old new end shown shows
     (λ mid value whole then. of_further (next value) (further.1 value) mid new end shown shows whole then) ends
 
--- what is read further is a whole reading
-whole : (reading : Reading) → IsFurther reading → IsLawfulReading reading
-unfolding IsFurther IsLawfulReading
-whole (stop shown) further = absurd further
-whole other further = further
-
 of_reading : (reading : Reading) → IsLawfulReading reading
     → (old new : ShelfState) (end : Result Request Shown) (shown : Shown) → Shows end shown
     → EndsIn reading old new end → HasCause reading old new shown
@@ -142,7 +136,7 @@ of_reading (wanted P refusal next) is old new end shown shows (inr turned) =
 of_reading (file format name next) is old new end shown shows ends =
     of_file format is.0 name next old new end shown shows (λ mid value whole then. of_further (next value) (is.1 value) mid new end shown shows whole then) ends
 
-pub causes : (command : Option Command) (old new : ShelfState) (shown : Shown) → ShowsCommand command old new shown
-    → HasCause (reading_of command) old new shown
-causes command old new shown is =
-    of_reading (reading_of command) (lawful command) old new is.end shown is.shows is.reads
+pub causes : (words : List (List ℕ)) (old new : ShelfState) (shown : Shown) → ShowsCommand words old new shown
+    → HasCause (reading_of words) old new shown
+causes words old new shown is =
+    of_reading (reading_of words) (lawful words) old new is.end shown is.shows is.reads

@@ -2,7 +2,7 @@
 use Rattle.pinch.proofs.Formats.{IsLawful, not_both, one_refusal, one_value}
 use Rattle.pinch.proofs.Readings.{IsFurther, lawful, of_answerable, of_refusable}
 use Rattle.pinch.proofs.Results.{is_result}
-use Rattle.pinch.proofs.Words.{CanAnswer, Command, EndsIn, FileRole, Format, FromText, HasBadFile, Holds, HoldsFault, HoldsText, IsAnswered, IsFile}
+use Rattle.pinch.proofs.Words.{CanAnswer, EndsIn, FileRole, Format, FromText, HasBadFile, Holds, HoldsFault, HoldsText, IsAnswered, IsFile}
 use Rattle.pinch.proofs.Words.{IsFileAbove, IsRefused, KeepsFiles, MAX_FILE, NamedFile, NoFile, NoText, Reading, Request, Rose, ShelfState, Shown, Shows}
 use Rattle.pinch.proofs.Words.{ShowsCommand, by_text, failed, file, no_file, no_text, reading_of, ready, refused, status_of, stop, too_long, wanted}
 use Rattle.std.proofs.Common.{Err, List, Ok, Option, Result, Some, ap, arith, inl, inr, length, subst, sym, ℕ, ◌∙◌, ◌≡◌}
@@ -102,16 +102,16 @@ refusable (file format name next) further old new end no_fault refusal (inr bad)
     (λ mid value keeps rest then. refusable (next value) (further.1 value) mid new end (no_later_fault old mid new keeps no_fault) refusal
     (subst (λ files. HasBadFile (next value) files refusal) (sym keeps.files) rest) then) ends
 
-pub complete : (command : Option Command) (old new : ShelfState) (shown : Shown) → ShowsCommand command old new shown
-    → CanAnswer (reading_of command) old.files → (Rose old.faults new.faults → ⊥) → IsAnswered (status_of shown)
-complete command old new shown is can no_fault =
-    let further = of_answerable (reading_of command) old.files (lawful command) can in
-    let found = answerable (reading_of command) further old new is.end no_fault can is.reads in
+pub complete : (words : List (List ℕ)) (old new : ShelfState) (shown : Shown) → ShowsCommand words old new shown
+    → CanAnswer (reading_of words) old.files → (Rose old.faults new.faults → ⊥) → IsAnswered (status_of shown)
+complete words old new shown is can no_fault =
+    let further = of_answerable (reading_of words) old.files (lawful words) can in
+    let found = answerable (reading_of words) further old new is.end no_fault can is.reads in
     (is_result found.0 shown (subst (λ e. Shows e shown) found.1 is.shows)).answered
 
-pub bad_file : (command : Option Command) (old new : ShelfState) (shown : Shown) → ShowsCommand command old new shown
-    → (refusal : Shown) → HasBadFile (reading_of command) old.files refusal
+pub bad_file : (words : List (List ℕ)) (old new : ShelfState) (shown : Shown) → ShowsCommand words old new shown
+    → (refusal : Shown) → HasBadFile (reading_of words) old.files refusal
     → (Rose old.faults new.faults → ⊥) → shown ≡ refusal
-bad_file command old new shown is refusal bad no_fault =
-    let further = of_refusable (reading_of command) old.files refusal (lawful command) bad in
-    subst (λ e. Shows e shown) (refusable (reading_of command) further old new is.end no_fault refusal bad is.reads) is.shows
+bad_file words old new shown is refusal bad no_fault =
+    let further = of_refusable (reading_of words) old.files refusal (lawful words) bad in
+    subst (λ e. Shows e shown) (refusable (reading_of words) further old new is.end no_fault refusal bad is.reads) is.shows

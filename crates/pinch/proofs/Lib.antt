@@ -12,7 +12,6 @@ mod PrintedProofs
 mod Profiles
 mod Readings
 mod Results
-mod Runnable
 mod Runs
 mod ShownNetworks
 mod SiteCosts

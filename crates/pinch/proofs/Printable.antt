@@ -2,9 +2,9 @@
 use Rattle.pinch.proofs.Formats.{IsLawful}
 use Rattle.pinch.proofs.Readings.{IsFurther, IsLawfulReading, lawful}
 use Rattle.pinch.proofs.Results.{is_result}
-use Rattle.pinch.proofs.Words.{Command, EndsIn, FileRole, Format, FromText, IsPrintable, NoFile, NoText, Reading, Request, ShelfState, Shown, Shows}
+use Rattle.pinch.proofs.Words.{EndsIn, FileRole, Format, FromText, IsPrintable, NoFile, NoText, Reading, Request, ShelfState, Shown, Shows}
 use Rattle.pinch.proofs.Words.{ShowsCommand, by_text, failed, file, no_file, no_text, reading_of, ready, refused, stop, too_long, wanted}
-use Rattle.std.proofs.Common.{List, Option, Result, inl, inr, subst, sym, ℕ, ◌≡◌}
+use Rattle.std.proofs.Common.{List, Result, inl, inr, subst, sym, ℕ, ◌≡◌}
 
 of_is : (shown result : Shown) → shown ≡ result → IsPrintable result → IsPrintable shown
 of_is shown result is printable = subst IsPrintable (sym is) printable
@@ -55,7 +55,7 @@ of_reading (wanted P refusal next) is old new end shown shows ends =
 of_reading (file format name next) is old new end shown shows ends =
     of_further (file format name next) is old new end shown shows ends
 
-pub printable : (command : Option Command) (old new : ShelfState) (shown : Shown)
-    → ShowsCommand command old new shown → IsPrintable shown
-printable command old new shown is =
-    of_reading (reading_of command) (lawful command) old new is.end shown is.shows is.reads
+pub printable : (words : List (List ℕ)) (old new : ShelfState) (shown : Shown)
+    → ShowsCommand words old new shown → IsPrintable shown
+printable words old new shown is =
+    of_reading (reading_of words) (lawful words) old new is.end shown is.shows is.reads

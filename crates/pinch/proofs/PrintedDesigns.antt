@@ -1,13 +1,14 @@
 -- A network that is the text of a design is accepted with the balance of the design.
-use Rattle.pinch.proofs.Words.{AcceptsDesign, Answer, Answered, Answers, AnswersDesign, AuditsDesign, Balance, Case, Command, EndsIn, Holds, HoldsDesign, IsAccepted, IsAuditOf}
+use Rattle.pinch.proofs.Words.{AcceptsDesign, Answer, Answered, Answers, AnswersDesign, AuditsDesign, Balance, Case, EndsIn, Holds, HoldsDesign, IsAccepted, IsAuditOf}
 use Rattle.pinch.proofs.Words.{IsNetwork, IsShownNetwork, IsStandard, IsTightDesign, IsVerdict, IsVerticalAnswer, IsWithinCounts, Network, Parts, Request, Rose}
 use Rattle.pinch.proofs.Words.{ShelfState, Shown, Shows, ShowsCommand, ShowsDesignOf, ShowsVerdict, case_file, completed, file, network_file}
-use Rattle.pinch.proofs.Words.{one_verdict, rational_zero, reading_of, ready, statements_of, status_of, text}
+use Rattle.pinch.proofs.Words.{HoldsText, of_completed, one_verdict, rational_zero, reading_of, ready, statements_of, status_of, text, two_files}
 use Rattle.pinch.proofs.Complete.{no_later_fault, of_held}
+use Rattle.pinch.proofs.Early.{formed_ends}
 use Rattle.pinch.proofs.Formats.{lawful_case, lawful_network}
-use Rattle.std.proofs.Common.{List, Ok, Option, Result, Some, ap, inl, inr, refl, subst, sym, ℕ, ◌≡◌, ◌⊎◌}
+use Rattle.std.proofs.Common.{List, Ok, Result, ap, inl, inr, refl, subst, sym, ℕ, ◌≡◌, ◌⊎◌}
 use Rattle.network_audit.specs.declared.verdict.Verdict.TheVariants as verdict
-use Rattle.pinch.specs.declared.command.Command.TheVariants as command
+use Rattle.pinch.specs.Reading.{audit_form, reading_behind}
 use Rattle.pinch.specs.declared.request.Request.TheVariants as request
 use Rattle.reports.specs.declared.shown.Shown.TheVariants as show
 use Rattle.transport.specs.declared.answer.Answer.TheVariants as answer
@@ -64,17 +65,29 @@ of_text c name old new end design shown no_fault drawn counts held ends shows =
     let accepted = of_audit c network drawn.balance design shown drawn.shows (subst (λ k. IsAuditOf c k shown) same audit) in
     subst (λ d. AcceptsDesign d shown) (sym is) (accepted, drawn.tight)) ends
 
-pub audited : (command : Option Command) (old new : ShelfState) (shown : Shown)
-    → ShowsCommand command old new shown → (design : Shown)
-    → AuditsDesign command old.files design → (Rose old.faults new.faults → ⊥) → AcceptsDesign design shown
-unfolding reading_of EndsIn
-audited (Some (command.Audit case network)) old new shown is design held no_fault =
-    of_held case_file lawful_case case old new is.end no_fault (λ c. HoldsDesign old.files network design (completed c)) _ (AcceptsDesign design shown) held
-    (λ mid c keeps then ends.
+-- and so are the files of these names
+of_names : (names : List ℕ × List ℕ) (old new : ShelfState) (end : Result Request Shown) (design shown : Shown)
+    → (Rose old.faults new.faults → ⊥)
+    → HoldsText case_file old.files names.0 (λ c. HoldsDesign old.files names.1 design (completed c))
+    → EndsIn (of_completed names.0 (λ c. file (network_file c) names.1 (λ n. ready (request.Audit c n)))) old new end
+    → Shows end shown → AcceptsDesign design shown
+unfolding EndsIn
+of_names names old new end design shown no_fault held ends shows =
+    of_held case_file lawful_case names.0 old new end no_fault (λ c. HoldsDesign old.files names.1 design (completed c)) _
+    (AcceptsDesign design shown) held
+    (λ mid c keeps then last.
     let later = no_later_fault old mid new keeps no_fault in
-    of_text (completed c) network mid new is.end design shown later (of_design (completed c) design then.counts then.drawn)
-    then.counts (subst (λ files. Holds files network (text design)) (sym keeps.files) then.file) ends is.shows) is.reads
-audited other old new shown is design held no_fault = absurd held
+    of_text (completed c) names.1 mid new end design shown later (of_design (completed c) design then.counts then.drawn)
+    then.counts (subst (λ files. Holds files names.1 (text design)) (sym keeps.files) then.file) last shows) ends
+
+pub audited : (words : List (List ℕ)) (old new : ShelfState) (shown : Shown)
+    → ShowsCommand words old new shown → (design : Shown)
+    → AuditsDesign words old.files design → (Rose old.faults new.faults → ⊥) → AcceptsDesign design shown
+unfolding reading_of reading_behind audit_form
+audited words old new shown is design held no_fault =
+    let reads = subst (λ w. EndsIn (reading_of w) old new is.end) held.are is.reads in
+    let ends = formed_ends (two_files held.rest) _ held.names old new is.end held.form reads in
+    of_names held.names old new is.end design shown no_fault held.holds ends is.shows
 
 pub accepted-answered : (design shown : Shown) → AcceptsDesign design shown → status_of shown ≡ Answered
 accepted-answered (show.Design c network balance) shown accepts = ap status_of accepts.0.is

@@ -1,14 +1,15 @@
 -- A report that is the text of a proof is answered with yes.
 use Rattle.case_text.proofs.Accepted.{case-is_valid}
-use Rattle.pinch.proofs.Words.{Answered, Answers, Case, Checked, ChecksProof, Command, EndsIn, Holds, HoldsOfCut}
+use Rattle.pinch.proofs.Words.{Answered, Answers, Case, Checked, ChecksProof, EndsIn, Holds, HoldsOfCut}
 use Rattle.pinch.proofs.Words.{HoldsOfFlow, HoldsProof, HoldsText, IsAnswer, IsAnswerOver, IsCheckOf, IsComplete, IsFirstOf, No, NoWhy}
 use Rattle.pinch.proofs.Words.{Part, Report, Request, Rose, ShelfState, Shown, Shows, ShowsCommand, Yes, case_file, completed, cut_causes, file}
-use Rattle.pinch.proofs.Words.{flow_causes, proofs-pass, reading_of, ready, report_file, rows_of, shown_check, status_of, text}
+use Rattle.pinch.proofs.Words.{flow_causes, of_completed, proofs-pass, reading_of, ready, report_file, rows_of, shown_check, status_of, text, two_files}
 use Rattle.pinch.proofs.Complete.{no_later_fault, of_held}
+use Rattle.pinch.proofs.Early.{formed_ends}
 use Rattle.pinch.proofs.Formats.{lawful_case, lawful_report}
-use Rattle.std.proofs.Common.{List, Ok, Option, Result, Some, [], ap, inl, inr, refl, subst, sym, ℕ, ◌∙◌, ◌∷◌, ◌≡◌}
+use Rattle.pinch.specs.Reading.{certify_form, reading_behind}
+use Rattle.std.proofs.Common.{List, Ok, Result, [], ap, inl, inr, refl, subst, sym, ℕ, ◌∙◌, ◌∷◌, ◌≡◌}
 use Rattle.certify.specs.declared.report.Report.TheVariants as report
-use Rattle.pinch.specs.declared.command.Command.TheVariants as command
 use Rattle.pinch.specs.declared.request.Request.TheVariants as request
 
 -- ---- a report has one answer
@@ -56,18 +57,27 @@ reads_yes c name old new end shown no_fault complete held ends shows =
     (record { bytes = text held.shown; file = held.file; value = passed.report; says = passed.is; then = passed.answer })
     (λ mid r keeps passes last. shown_yes c r shown passes (subst (λ e. Shows e shown) last.0 shows)) ends
 
-pub certified : (command : Option Command) (old new : ShelfState) (shown : Shown)
-    → ShowsCommand command old new shown → ChecksProof command old.files
-    → (Rose old.faults new.faults → ⊥) → status_of shown ≡ Answered
-unfolding reading_of EndsIn
-certified (Some (command.Certify case report)) old new shown is proof no_fault =
+-- and so are the files of these names
+names_yes : (names : List ℕ × List ℕ) (old new : ShelfState) (end : Result Request Shown) (shown : Shown)
+    → (Rose old.faults new.faults → ⊥) → HoldsText case_file old.files names.0 (λ c. HoldsProof old.files names.1 (completed c))
+    → EndsIn (of_completed names.0 (λ c. file report_file names.1 (λ r. ready (request.Certify c r)))) old new end
+    → Shows end shown → status_of shown ≡ Answered
+unfolding EndsIn
+names_yes names old new end shown no_fault proof ends shows =
     let valid = case-is_valid (rows_of proof.bytes) proof.value proof.says in
-    let held : HoldsText case_file old.files case (λ c. IsComplete (completed c) × HoldsProof old.files report (completed c))
-    =
+    let is_proof : Case → Type 0 = λ c. IsComplete (completed c) × HoldsProof old.files names.1 (completed c) in
+    let held : HoldsText case_file old.files names.0 is_proof =
     record { bytes = proof.bytes; file = proof.file; value = proof.value; says = proof.says; then = ((proof.value, valid, refl), proof.then) } in
-    of_held case_file lawful_case case old new is.end no_fault (λ c. IsComplete (completed c) × HoldsProof old.files report (completed c)) _
-    (status_of shown ≡ Answered) held
-    (λ mid c keeps then ends.
-    reads_yes (completed c) report mid new is.end shown (no_later_fault old mid new keeps no_fault) then.0
-    (subst (λ files. HoldsProof files report (completed c)) (sym keeps.files) then.1) ends is.shows) is.reads
-certified other old new shown is proof no_fault = absurd proof
+    of_held case_file lawful_case names.0 old new end no_fault is_proof _ (status_of shown ≡ Answered) held
+    (λ mid c keeps then later.
+    reads_yes (completed c) names.1 mid new end shown (no_later_fault old mid new keeps no_fault) then.0
+    (subst (λ files. HoldsProof files names.1 (completed c)) (sym keeps.files) then.1) later shows) ends
+
+pub certified : (words : List (List ℕ)) (old new : ShelfState) (shown : Shown)
+    → ShowsCommand words old new shown → ChecksProof words old.files
+    → (Rose old.faults new.faults → ⊥) → status_of shown ≡ Answered
+unfolding reading_of reading_behind certify_form
+certified words old new shown is proof no_fault =
+    let reads = subst (λ w. EndsIn (reading_of w) old new is.end) proof.are is.reads in
+    let ends = formed_ends (two_files proof.rest) _ proof.names old new is.end proof.form reads in
+    names_yes proof.names old new is.end shown no_fault proof.holds ends is.shows

@@ -41,23 +41,22 @@ pub use Rattle.pinch.specs.Certify.{IsCheckOf, shown_check}
 pub use Rattle.pinch.specs.Complete.{Holds, HoldsFault, HoldsText}
 unfoldable pub use Rattle.pinch.specs.Complete.{CanAnswer, HasBadFile}
 pub use Rattle.pinch.specs.Design.{AnswersDesign, IsDesignOf, IsShownNetwork, IsTightDesign, ShowsDesignOf}
-pub use Rattle.pinch.specs.Files.{FromText, IsRefused, NoFile, NoText, ReadsCompleted, by_text, failed, no_file, no_text, refused, too_long}
+pub use Rattle.pinch.specs.Files.{FromText, IsRefused, NoFile, NoText, ReadsCompleted, ReadsText, by_text, failed, no_file, no_text, refused, too_long}
 unfoldable pub use Rattle.pinch.specs.Files.{EndsIn}
 pub use Rattle.pinch.specs.Flow.{AnswersFlow, IsCaseAnswer, shown_answer}
 pub use Rattle.pinch.specs.Formats.{Format, case_file, network_file, report_file, site_file, study_file}
 pub use Rattle.pinch.specs.PrintedDesigns.{AcceptsDesign, AuditsDesign, HoldsDesign, IsWithinCounts}
 pub use Rattle.pinch.specs.PrintedProofs.{ChecksProof, HoldsProof}
-pub use Rattle.pinch.specs.Reading.{Reading, file, of_completed, ready, stop, wanted}
+pub use Rattle.pinch.specs.Forms.{one_file, sample_words, study_words, sweep_words, two_files}
+pub use Rattle.pinch.specs.Reading.{Reading, WantsFile, file, formed, of_completed, ready, stop, wanted}
 unfoldable pub use Rattle.pinch.specs.Reading.{reading_of}
 pub use Rattle.pinch.specs.Site.{IsLeastBoiler, ShowsSite, profiles_shown}
 pub use Rattle.pinch.specs.Status.{IsAnswered, number_of, status_of, status_of_site}
-pub use Rattle.pinch.specs.Stop.{IfEarly, IfEnd}
+pub use Rattle.pinch.specs.Stop.{IfEarly, Reads}
 pub use Rattle.pinch.specs.Tasks.{ShowsTask}
 pub use Rattle.pinch.specs.Vertical.{IsVerticalAnswer}
-pub use Rattle.pinch.specs.declared.command.CaseTask.{CaseTask}
-pub use Rattle.pinch.specs.declared.command.CaseTask.TheVariants.{Curves, Design, Flow, Targets}
-pub use Rattle.pinch.specs.declared.command.Command.{Command}
-pub use Rattle.pinch.specs.declared.numbers.TheConstants.{MOST_DIGITS, MOST_END, MOST_STEP}
+pub use Rattle.pinch.specs.declared.request.CaseTask.{CaseTask}
+pub use Rattle.pinch.specs.declared.request.CaseTask.TheVariants.{Curves, Design, Flow, Targets}
 pub use Rattle.pinch.specs.declared.request.Request.{Request}
 pub use Rattle.pinch.specs.declared.request.Request.TheVariants.{OfSite, Prices}
 pub use Rattle.pinch.specs.declared.status.Status.{Status}
@@ -76,6 +75,7 @@ pub use Rattle.reports.proofs.ProofTexts.{proofs-pass}
 pub use Rattle.reports.specs.Design.{balance_comment, design_text}
 pub use Rattle.reports.specs.Proofs.{IsProofOf}
 pub use Rattle.reports.specs.Site.{boiler_heat}
+pub use Rattle.reports.specs.declared.shown.Shown.TheVariants.{BadWords}
 unfoldable pub use Rattle.reports.specs.Text.{IsPrintable, text}
 pub use Rattle.reports.specs.declared.shown.FileRole.{FileRole}
 pub use Rattle.reports.specs.declared.shown.Shown.{Shown}
@@ -83,7 +83,6 @@ pub use Rattle.reports.specs.declared.shown.Shown.TheVariants.{Accepted, SiteSho
 unfoldable pub use Rattle.rows.specs.Rows.{rows_of}
 pub use Rattle.site.specs.Target.{AreSiteParts}
 unfoldable pub use Rattle.statements.specs.Statements.{statements_of}
-pub use Rattle.std.proofs.lemmas.Bool.Decides.{nat_tests}
 pub use Rattle.std.proofs.lemmas.Fmt.{length-decimal-le_wide}
 pub use Rattle.std.proofs.lemmas.Int.{ints, to_z-of_z}
 pub use Rattle.std.proofs.lemmas.Iterator.Adapters.{YieldsList-from_skip, YieldsList-from_vec}
@@ -95,13 +94,12 @@ pub use Rattle.std.specs.Fmt.{decimal, signed_decimal}
 pub use Rattle.std.specs.Int.{w128}
 pub use Rattle.std.specs.Iterator.Adapters.{skip_count, skip_source}
 pub use Rattle.std.specs.Option.{option_map_or}
-pub use Rattle.std.specs.Prelude.{Any, IsTrue, codes, if◌then◌else◌, nat_le, nat_lt, not, pos, unsigned_abs, ℤ, ⊤, ◌&&◌, ◌*ℤ◌, ◌+ℤ◌, ◌↔◌}
+pub use Rattle.std.specs.Prelude.{Any, IsTrue, codes, if◌then◌else◌, not, pos, unsigned_abs, ℤ, ⊤, ◌*ℤ◌, ◌+ℤ◌, ◌↔◌}
 pub use Rattle.std.specs.Result.{IsErrAnd}
 pub use Rattle.std.specs.Str.{bytes_eq}
 pub use Rattle.std.specs.Vec.Iter.{into_iter_items}
 pub use Rattle.stream_case.proofs.CompleteLemmas.{AreStreams-IsComplete, StaysValid-IsComplete}
 pub use Rattle.stream_case.specs.Case.{IsComplete, IsStandard, completed}
-unfoldable pub use Rattle.stream_case.specs.Digits.{natural_in}
 pub use Rattle.stream_case.specs.Source.{same_source}
 pub use Rattle.stream_case.specs.Stream.{AreSensible, IsLatent, IsSensible, IsValidStream}
 pub use Rattle.stream_case.specs.declared.case.Case.{Case}
@@ -109,9 +107,6 @@ pub use Rattle.stream_case.specs.declared.source.Side.TheVariants.{Cold, Hot}
 pub use Rattle.stream_case.specs.declared.source.Source.{Source}
 pub use Rattle.stream_case.specs.declared.stream.Stream.{Stream}
 pub use Rattle.stream_case.specs.declared.utility.Utility.{Utility}
-pub use Rattle.study.specs.Plan.{IsSweepPlan}
-pub use Rattle.study.specs.declared.limits.TheConstants.{MOST_ROWS, MOST_SAMPLE_NUMBER, MOST_SAMPLE_STREAMS, MOST_WORKERS}
-pub use Rattle.study.specs.declared.plan.SweepPlan.{SweepPlan}
 pub use Rattle.sums.proofs.IntegerLemmas.{if_one-times}
 pub use Rattle.sums.proofs.SumLemmas.{int_sum_by-same, int_sum_by-zero}
 pub use Rattle.transport.specs.Answer.{IfLeast}

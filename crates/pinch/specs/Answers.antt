@@ -1,5 +1,5 @@
 -- What is shown for the words and the files: all is read first, and then it is answered.
-use Rattle.std.specs.Prelude.{◌≡◌, Option, Result, Ok, Err}
+use Rattle.std.specs.Prelude.{◌≡◌, ℕ, List, Result, Ok, Err}
 use Rattle.stream_case.specs.Case.{IsComplete, IsStandard, IsValid}
 use Rattle.stream_case.specs.Stream.{AreSensible}
 use Rattle.site_text.specs.Site.{IsValidSite}
@@ -11,8 +11,8 @@ use Rattle.reports.specs.declared.shown.Shown.{Shown}
 use Rattle.study.specs.Plan.{IsSweepPlan}
 use Rattle.pinch.specs.Audit.{IsAuditOf}
 use Rattle.pinch.specs.Certify.{IsCheckOf}
-use Rattle.pinch.specs.Command.{CanWork, IsSampleOf}
 use Rattle.pinch.specs.Files.{EndsIn}
+use Rattle.pinch.specs.Numbers.{CanWork, IsSampleOf}
 use Rattle.pinch.specs.Prices.{AnswersStudy}
 use Rattle.pinch.specs.Reading.{reading_of}
 use Rattle.pinch.specs.Sample.{ShowsSample}
@@ -20,7 +20,6 @@ use Rattle.pinch.specs.Site.{ShowsSite}
 use Rattle.pinch.specs.Sweep.{ShowsSweep}
 use Rattle.pinch.specs.Tasks.{ShowsTask}
 use Rattle.pinch.specs.Vertical.{IsVerticalAnswer}
-use Rattle.pinch.specs.declared.command.Command.{Command}
 use Rattle.pinch.specs.declared.request.Request.{Request}
 use Rattle.pinch.specs.declared.request.Request.TheVariants.{OfCase, Vertical, Audit, Certify, Prices, Sweep, OfSite, Sample}
 
@@ -51,8 +50,8 @@ abbrev pub Shows : Result Request Shown → Shown → Type 0
 Shows (Ok request) shown = Answers request shown
 Shows (Err early) shown = shown ≡ early
 
--- what is shown for a command, or for words that form none
-pub record ShowsCommand (command : Option Command) (old new : ShelfState) (shown : Shown) : Type 0 where
+-- what is shown for the words of a command, or for words that form none
+pub record ShowsCommand (words : List (List ℕ)) (old new : ShelfState) (shown : Shown) : Type 0 where
   pub end : Result Request Shown
-  pub reads : EndsIn (reading_of command) old new end
+  pub reads : EndsIn (reading_of words) old new end
   pub shows : Shows end shown

@@ -13,7 +13,8 @@ abbrev pub ReadsFile : Reading → FileRole → (List ℕ → Type 0) → Type 0
 ReadsFile (ready request) role P = ⊥
 ReadsFile (stop shown) role P = ⊥
 ReadsFile (wanted Q refusal next) role P = ReadsFile next role P
-ReadsFile (file {Value} format name next) role P = ((role ≡ format.role) × P name) ⊎ ((value : Value) × ReadsFile (next value) role P)
+ReadsFile (file {Value} format name next) role P =
+    ((role ≡ format.role) × P name) ⊎ ((value : Value) × ReadsFile (next value) role P)
 
 -- when the answers come that are no result, where these files are to be read
 pub record Causes (reading : Reading) (old new : ShelfState) (shown : Shown) : Type 0 where

@@ -15,7 +15,8 @@ pub record Holds (files : Option (List NamedFile)) (name bytes : List ℕ) : Typ
   pub within : length bytes ≤ MAX_FILE
 
 -- it says something, of which this holds
-pub record HoldsText {Value Cause : Type 0} (format : Format Value Cause) (files : Option (List NamedFile)) (name : List ℕ) (P : Value → Type 0) : Type 0 where
+pub record HoldsText {Value Cause : Type 0} (format : Format Value Cause) (files : Option (List NamedFile))
+    (name : List ℕ) (P : Value → Type 0) : Type 0 where
   pub bytes : List ℕ
   pub file : Holds files name bytes
   pub value : Value
@@ -23,7 +24,8 @@ pub record HoldsText {Value Cause : Type 0} (format : Format Value Cause) (files
   pub then : P value
 
 -- it is at fault, and this is shown
-pub record HoldsFault {Value Cause : Type 0} (format : Format Value Cause) (files : Option (List NamedFile)) (name : List ℕ) (shown : Shown) : Type 0 where
+pub record HoldsFault {Value Cause : Type 0} (format : Format Value Cause) (files : Option (List NamedFile))
+    (name : List ℕ) (shown : Shown) : Type 0 where
   pub bytes : List ℕ
   pub file : Holds files name bytes
   pub refused : IsRefused format bytes shown

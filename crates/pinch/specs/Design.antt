@@ -44,17 +44,20 @@ pub record IsDesignOf (c : Case) (parts : Parts) (flow : Flow) (shown : Shown) :
   pub network : Network
   pub balance : Balance
   pub shows : IsShownNetwork c network balance shown
-  pub exchangers : exchangers_of network.lines ≡ map (exchanger_of parts.hot parts.cold) (enumerate_from 0 flow.transfers)
+  pub exchangers : exchangers_of network.lines
+      ≡ map (exchanger_of parts.hot parts.cold) (enumerate_from 0 flow.transfers)
   pub costs : balance.cost ≡ whole (cost_of parts.hot parts.cold flow.transfers)
 
 -- a design that needs no more hot utility than the hot target, keeps the counts of a text, and has few lines
 abbrev pub IsTightDesign : Shown → Type 0
-IsTightDesign (show.Design c network balance) = (balance.excess ≡ rational_zero) × KeepsCounts network × HasFewLines network
+IsTightDesign (show.Design c network balance) =
+    (balance.excess ≡ rational_zero) × KeepsCounts network × HasFewLines network
 IsTightDesign other = ⊥
 
 -- what is shown of what answers a case: a network of the heat flow, which for a standard case needs no more hot utility than the hot target; or the cut
 abbrev pub ShowsDesignOf : Case → Parts → Answer → Shown → Type 0
-ShowsDesignOf c parts (answer.Least flow prices cost) shown = IsDesignOf c parts flow shown × (IsStandard c → IsTightDesign shown)
+ShowsDesignOf c parts (answer.Least flow prices cost) shown =
+    IsDesignOf c parts flow shown × (IsStandard c → IsTightDesign shown)
 ShowsDesignOf c parts (answer.Stuck cut) shown = shown ≡ show.Stuck c parts cut
 
 -- a network of a heat flow of least cost, for a standard case of the corner flow; or a cut where there is no heat flow

@@ -38,12 +38,20 @@ case_file = record { role = roles.Case; Gives = λ bytes. IsOutcome case_text.gr
 -- network files, for a completed case
 abbrev pub network_file : Case → Format Network NetWhy
 network_file case =
-    record { role = roles.Network; Gives = λ bytes. IsOutcome (network_text.grammar case) (statements_of bytes); bad = BadNetwork }
+    record {
+      role = roles.Network;
+      Gives = λ bytes. IsOutcome (network_text.grammar case) (statements_of bytes);
+      bad = BadNetwork;
+    }
 
 -- reports
 abbrev pub report_file : Format Report ReportWhy
 report_file =
-    record { role = roles.Report; Gives = λ bytes. IsOutcome report_text.grammar (statements_of bytes); bad = BadReport }
+    record {
+      role = roles.Report;
+      Gives = λ bytes. IsOutcome report_text.grammar (statements_of bytes);
+      bad = BadReport;
+    }
 
 -- site files
 abbrev pub site_file : Format Site SiteWhy

@@ -3,12 +3,12 @@ pub mod Arguments
 pub mod Audit
 pub mod Causes
 pub mod Certify
-pub mod Command
 pub mod Complete
 pub mod Design
 pub mod Files
 pub mod Flow
 pub mod Formats
+pub mod Forms
 pub mod Numbers
 pub mod Prices
 pub mod PrintedDesigns

@@ -1,5 +1,5 @@
 -- The numbers of a sweep and of a sample, as words spell them.
-use Rattle.std.specs.Prelude.{ℕ, pos, ◌+◌, ◌*◌, ◌&&◌, nat_le, nat_lt, List, Option, Some, None, if◌then◌else◌}
+use Rattle.std.specs.Prelude.{ℕ, ◌≤◌, pos, ◌+◌, ◌*◌, ◌&&◌, nat_le, nat_lt, List, Option, Some, None, if◌then◌else◌}
 use Rattle.stream_case.specs.Digits.{natural_in}
 use Rattle.study.specs.declared.limits.TheConstants.{MOST_ROWS, MOST_SAMPLE_NUMBER, MOST_SAMPLE_STREAMS, MOST_WORKERS}
 use Rattle.study.specs.declared.plan.SweepPlan.{SweepPlan}
@@ -22,7 +22,8 @@ plan_with from to step = None
 
 -- the plan of these words
 abbrev pub plan_of : List ℕ → List ℕ → List ℕ → Option SweepPlan
-plan_of from to step = plan_with (number_within 0 MOST_END from) (number_within 0 MOST_END to) (number_within 1 MOST_STEP step)
+plan_of from to step =
+    plan_with (number_within 0 MOST_END from) (number_within 0 MOST_END to) (number_within 1 MOST_STEP step)
 
 -- how many workers a word asks for
 abbrev pub workers_of : List ℕ → Option ℕ
@@ -35,3 +36,19 @@ sample_number_of word = number_within 1 MOST_SAMPLE_NUMBER word
 -- how many streams of each side a word asks for
 abbrev pub sample_count_of : List ℕ → Option ℕ
 sample_count_of word = number_within 1 MOST_SAMPLE_STREAMS word
+
+-- so many workers can work
+abbrev pub CanWork : ℕ → Type 0
+CanWork workers = (1 ≤ workers) × (workers ≤ MOST_WORKERS)
+
+-- a sample has this number
+abbrev pub IsSampleNumber : ℕ → Type 0
+IsSampleNumber number = (1 ≤ number) × (number ≤ MOST_SAMPLE_NUMBER)
+
+-- a sample has so many streams on each side
+abbrev pub IsSampleCount : ℕ → Type 0
+IsSampleCount count = (1 ≤ count) × (count ≤ MOST_SAMPLE_STREAMS)
+
+-- there is a sample of this number and count
+abbrev pub IsSampleOf : ℕ → ℕ → Type 0
+IsSampleOf number count = IsSampleNumber number × IsSampleCount count

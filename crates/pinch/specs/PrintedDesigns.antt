@@ -1,5 +1,5 @@
 -- Networks that are what the program prints of a design, and how they are audited.
-use Rattle.std.specs.Prelude.{◌≡◌, ◌⊎◌, List, ℕ, Option, Some}
+use Rattle.std.specs.Prelude.{◌≡◌, ◌⊎◌, List, ◌∷◌, ℕ, Option, Some, codes}
 use Rattle.fractions.specs.Rationals.{rational_zero}
 use Rattle.networks.specs.Shape.{KeepsCounts}
 use Rattle.pinch_outside.specs.Shelf.{NamedFile}
@@ -9,12 +9,11 @@ use Rattle.reports.specs.Text.{text}
 use Rattle.reports.specs.declared.shown.Shown.{Shown}
 use Rattle.reports.specs.declared.shown.Shown.TheVariants.{Design}
 use Rattle.pinch.specs.Formats.{case_file}
+use Rattle.pinch.specs.Forms.{two_files}
 use Rattle.pinch.specs.Complete.{Holds, HoldsText}
 use Rattle.pinch.specs.Design.{AnswersDesign}
 use Rattle.pinch.specs.Audit.{IsAccepted}
 use Rattle.pinch.specs.Vertical.{IsVerticalAnswer}
-use Rattle.pinch.specs.declared.command.Command.{Command}
-use Rattle.pinch.specs.declared.command.Command.TheVariants.{Audit}
 
 -- a network is shown, within the two counts of a text
 abbrev pub IsWithinCounts : Shown → Type 0
@@ -27,12 +26,16 @@ pub record HoldsDesign (files : Option (List NamedFile)) (name : List ℕ) (desi
   pub counts : IsWithinCounts design
   pub file : Holds files name (text design)
 
--- a case and a network are to be audited, and the network is the text of this design of the completed case
-abbrev pub AuditsDesign : Option Command → Option (List NamedFile) → Shown → Type 0
-AuditsDesign (Some (Audit case network)) files design = HoldsText case_file files case (λ c. HoldsDesign files network design (completed c))
-AuditsDesign other files design = ⊥
+-- the words are `audit CASE NETWORK`, and the network is the text of this design of the completed case
+pub record AuditsDesign (words : List (List ℕ)) (files : Option (List NamedFile)) (design : Shown) : Type 0 where
+  pub rest : List (List ℕ)
+  pub names : List ℕ × List ℕ
+  pub are : words ≡ codes "audit" ∷ rest
+  pub form : two_files rest ≡ Some names
+  pub holds : HoldsText case_file files names.0 (λ c. HoldsDesign files names.1 design (completed c))
 
 -- the network of a design is accepted with the balance of the design, which has no excess where the case is standard
 abbrev pub AcceptsDesign : Shown → Shown → Type 0
-AcceptsDesign (Design c network balance) shown = IsAccepted c network balance shown × (IsStandard c → balance.excess ≡ rational_zero)
+AcceptsDesign (Design c network balance) shown =
+    IsAccepted c network balance shown × (IsStandard c → balance.excess ≡ rational_zero)
 AcceptsDesign other shown = ⊥

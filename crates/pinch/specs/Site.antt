@@ -18,7 +18,9 @@ use Rattle.reports.specs.declared.shown.Shown.TheVariants.{SiteShown}
 -- in a heat flow of these parts the boiler gives just this heat, and in none does it give less
 pub record IsLeastBoiler (site : Site) (parts : Parts) (transfers : List Transfer) (heat : ℤ) : Type 0 where
   pub gives : boiler_heat parts transfers ≡ heat
-  pub least : (others : List Transfer) → IsHeatFlow (reach_between site parts.hot parts.cold) parts.hot parts.cold others → heat ≤ℤ boiler_heat parts others
+  pub least : (others : List Transfer)
+      → IsHeatFlow (reach_between site parts.hot parts.cold) parts.hot parts.cold others
+      → heat ≤ℤ boiler_heat parts others
 
 -- what answers these parts of the site: a heat flow with prices that prove that none costs less, which is what the boiler gives; or a cut that proves
 -- that there is none
@@ -28,7 +30,8 @@ pub record IsSiteAnswer (site : Site) (parts : Parts) (answer : Answer) : Type 0
 
 -- the profiles of a site at each place of its table, with what answers its parts
 abbrev pub profiles_shown : Site → SiteTable → Answer → Shown
-profiles_shown site table answer = SiteShown site table (map (sink_profile site) table.places) (map (source_profile site) table.places) answer
+profiles_shown site table answer =
+    SiteShown site table (map (sink_profile site) table.places) (map (source_profile site) table.places) answer
 
 -- the profiles of a site at each place of its grid, and its answer
 pub record ShowsSite (site : Site) (shown : Shown) : Type 0 where

@@ -1,6 +1,9 @@
 -- What is shown in the end or early, and how reading ends.
 use Rattle.std.specs.Prelude.{⊤, Result, Ok, Err}
+use Rattle.pinch_outside.specs.Shelf.{ShelfState}
 use Rattle.reports.specs.declared.shown.Shown.{Shown}
+use Rattle.pinch.specs.Files.{EndsIn}
+use Rattle.pinch.specs.Reading.{Reading, WantsFile}
 use Rattle.pinch.specs.declared.request.Request.{Request}
 use Rattle.pinch.specs.declared.stop.Stop.{Stop}
 use Rattle.pinch.specs.declared.stop.Stop.TheVariants.{Early, OutOfMemory}
@@ -15,7 +18,8 @@ abbrev pub IfNoMemory : Stop → Type 0 → Type 0
 IfNoMemory (Early shown) P = ⊤
 IfNoMemory OutOfMemory P = P
 
--- how reading ends, if memory was found: with a request, or with what is shown in its place
-abbrev pub IfEnd : Result Request Stop → (Result Request Shown → Type 0) → Type 0
-IfEnd (Ok request) P = P (Ok request)
-IfEnd (Err stop) P = IfEarly stop (λ shown. P (Err shown))
+-- this was read, up to a request, or to what is shown in its place. Memory is wanted only where a file is read
+abbrev pub Reads : Reading → ShelfState → ShelfState → Result Request Stop → Type 0
+Reads reading old new (Ok request) = EndsIn reading old new (Ok request)
+Reads reading old new (Err (Early shown)) = EndsIn reading old new (Err shown)
+Reads reading old new (Err OutOfMemory) = WantsFile reading

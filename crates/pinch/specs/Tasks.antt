@@ -11,8 +11,8 @@ use Rattle.reports.specs.declared.shown.Shown.{Shown}
 use Rattle.reports.specs.declared.shown.Shown.TheVariants as show
 use Rattle.pinch.specs.Design.{AnswersDesign}
 use Rattle.pinch.specs.Flow.{AnswersFlow}
-use Rattle.pinch.specs.declared.command.CaseTask.{CaseTask}
-use Rattle.pinch.specs.declared.command.CaseTask.TheVariants.{Targets, Flow, Design, Curves}
+use Rattle.pinch.specs.declared.request.CaseTask.{CaseTask}
+use Rattle.pinch.specs.declared.request.CaseTask.TheVariants.{Targets, Flow, Design, Curves}
 
 -- the targets of streams, and their pinches from the highest down
 pub record AreTargetsOf (streams : List Stream) (shown : Shown) : Type 0 where
@@ -34,5 +34,5 @@ pub record AreCurvesOf (streams : List Stream) (shown : Shown) : Type 0 where
 abbrev pub ShowsTask : CaseTask → Case → Shown → Type 0
 ShowsTask Targets case shown = AreTargetsOf case.streams shown
 ShowsTask Flow case shown = AnswersFlow case shown
-ShowsTask Design case shown = AnswersDesign case shown
 ShowsTask Curves case shown = AreCurvesOf case.streams shown
+ShowsTask Design case shown = AnswersDesign case shown

@@ -3,7 +3,6 @@ ghost use Rattle.std.specs.Prelude.{◌≡◌, ◌↔◌, IfErr, IfOk, IsErr};
 ghost use Rattle.std.specs.IoError.{error_kind};
 ghost use Rattle.std.specs.Process.{exit_status};
 ghost use Rattle.pinch.specs.Arguments.{words_of, words_behind_name, Ends};
-ghost use Rattle.pinch.specs.Command.{command_of};
 ghost use Rattle.pinch.specs.Status.{number_of};
 ghost use Rattle.pinch.specs.declared.status.Status.TheVariants.{OutOfMemory};
 
@@ -26,7 +25,7 @@ pub fn run_arguments<R: Threads + Sync, S: Shelf, K: Sink>(
     shelf: &mut S,
     sink: &mut K,
 ) -> ExitCode
-    ensures ends { Ends K.written K.faults (command_of (words_of texts)) (S.state shelf.old)
+    ensures ends { Ends K.written K.faults (words_of texts) (S.state shelf.old)
         (S.state shelf.new) sink.old sink.new (exit_status result) }
     ensures memory { IfErr texts (λ error. error_kind error ≡ ErrorKind.OutOfMemory
         → exit_status result ≡ number_of OutOfMemory) }

@@ -1,6 +1,7 @@
 //! The numbers of a sweep and of a sample, as words spell them.
 ghost use Rattle.std.specs.Prelude.{◌≡◌, ◌≤◌, IfSome};
-ghost use Rattle.pinch.specs.Numbers.{number_within, plan_of, sample_count_of, sample_number_of, workers_of};
+ghost use Rattle.study.specs.Plan.{IsSweepPlan};
+ghost use Rattle.pinch.specs.Numbers.{CanWork, IsSampleCount, IsSampleNumber, number_within, plan_of, sample_count_of, sample_number_of, workers_of};
 
 use crate::word::Word;
 use stream_case::{MOST_CONTRIBUTION, natural_of};
@@ -32,7 +33,8 @@ fn number_within(least: u32, most: u32, word: &Word) -> Option<u32>
 
 /// The plan that these words spell, if a sweep can have it.
 pub fn plan_of(from: &Word, to: &Word, step: &Word) -> Option<SweepPlan>
-    ensures { result ≡ plan_of from.now to.now step.now }
+    ensures plan { result ≡ plan_of from.now to.now step.now }
+    ensures runs { IfSome result IsSweepPlan }
 {
     let from = number_within(0, MOST_END, from)?;
     let to = number_within(0, MOST_END, to)?;
@@ -50,21 +52,24 @@ pub fn plan_of(from: &Word, to: &Word, step: &Word) -> Option<SweepPlan>
 
 /// How many workers a word asks for, if a sweep can have so many.
 pub fn workers_of(word: &Word) -> Option<u32>
-    ensures { result ≡ workers_of word.now }
+    ensures workers { result ≡ workers_of word.now }
+    ensures work { IfSome result CanWork }
 {
     number_within(1, MOST_WORKERS, word)
 }
 
 /// The number of a sample that a word spells, if there is a sample of it.
 pub fn sample_number_of(word: &Word) -> Option<u32>
-    ensures { result ≡ sample_number_of word.now }
+    ensures number { result ≡ sample_number_of word.now }
+    ensures within { IfSome result IsSampleNumber }
 {
     number_within(1, MOST_SAMPLE_NUMBER, word)
 }
 
 /// How many streams of each side a word asks for, if a sample can have so many.
 pub fn sample_count_of(word: &Word) -> Option<u32>
-    ensures { result ≡ sample_count_of word.now }
+    ensures count { result ≡ sample_count_of word.now }
+    ensures within { IfSome result IsSampleCount }
 {
     number_within(1, MOST_SAMPLE_STREAMS, word)
 }

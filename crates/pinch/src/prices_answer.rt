@@ -2,7 +2,7 @@
 ghost use Rattle.std.specs.Prelude.{IfOk};
 ghost use Rattle.stream_case.specs.Case.{IsComplete};
 ghost use Rattle.study_text.specs.Study.{IsStudy};
-ghost use Rattle.pinch.specs.Command.{CanWork};
+ghost use Rattle.pinch.specs.Numbers.{CanWork};
 ghost use Rattle.pinch.specs.Prices.{AnswersStudy};
 
 use reports::Shown;

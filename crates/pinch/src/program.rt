@@ -2,7 +2,6 @@
 ghost use Rattle.std.specs.Prelude.{◌≡◌, IfErr, IfOk, IsNone};
 ghost use Rattle.reports.specs.Text.{IsPrintable};
 ghost use Rattle.pinch.specs.Answers.{ShowsCommand};
-ghost use Rattle.pinch.specs.Command.{command_of};
 ghost use Rattle.pinch.specs.Run.{Prints, Runs};
 ghost use Rattle.pinch.specs.Status.{number_of};
 ghost use Rattle.pinch.specs.declared.status.Status.TheVariants.{OutOfMemory};
@@ -49,7 +48,7 @@ pub fn run<R: Threads + Sync, S: Shelf, K: Sink>(
     shelf: &mut S,
     sink: &mut K,
 ) -> Done
-    ensures { Runs K.written K.faults (command_of words.now) (S.state shelf.old) (S.state shelf.new)
+    ensures { Runs K.written K.faults words.now (S.state shelf.old) (S.state shelf.new)
         sink.old sink.new result }
 {
     run_gated(rt, alloc, &OpenGate, words, shelf, sink)
@@ -64,7 +63,7 @@ pub fn run_gated<R: Threads + Sync, G: Gate + Sync, S: Shelf, K: Sink>(
     shelf: &mut S,
     sink: &mut K,
 ) -> Done
-    ensures { Runs K.written K.faults (command_of words.now) (S.state shelf.old) (S.state shelf.new)
+    ensures { Runs K.written K.faults words.now (S.state shelf.old) (S.state shelf.new)
         sink.old sink.new result }
 {
     let Ok(shown) = show(rt, alloc, gate, words, shelf) else {
@@ -92,7 +91,7 @@ fn show<R: Threads + Sync, G: Gate + Sync, S: Shelf>(
     shelf: &mut S,
 ) -> Result<Shown, AllocError>
     ensures { IfOk result
-        (ShowsCommand (command_of words.now) (S.state shelf.old) (S.state shelf.new)) }
+        (ShowsCommand words.now (S.state shelf.old) (S.state shelf.new)) }
 {
     match request_of(alloc, shelf, words) {
         Ok(request) => Ok(answer(rt, alloc, gate, request)?),

@@ -1,18 +1,16 @@
 //! What is asked: all files are read here, and all that is refused is refused here.
-ghost use Rattle.std.specs.Prelude.{◌↔◌, IfErr, IfOk, IsTrue, Some};
+ghost use Rattle.std.specs.Prelude.{◌↔◌, IfErr, IfOk, IsTrue};
 ghost use Rattle.stream_case.specs.Case.{IsComplete};
 ghost use Rattle.stream_case.specs.Stream.{AreSensible};
-ghost use Rattle.study.specs.Plan.{IsSweepPlan};
 ghost use Rattle.pinch.specs.Answers.{IsRequest};
-ghost use Rattle.pinch.specs.Command.{command_of, CanWork, IsRunnable, NamesFiles};
-ghost use Rattle.pinch.specs.Files.{EndsIn, NoText, ReadsCompleted};
+ghost use Rattle.pinch.specs.Files.{NoText, ReadsCompleted};
 ghost use Rattle.pinch.specs.Formats.{case_file};
-ghost use Rattle.pinch.specs.Reading.{reading_of};
-ghost use Rattle.pinch.specs.Stop.{IfEarly, IfEnd, IfNoMemory};
-ghost use Rattle.pinch.specs.declared.command.Command.TheVariants.{Audit, Certify, OfCase, Prices, Sweep, Vertical};
+ghost use Rattle.pinch.specs.Reading.{audit_form, certify_form, prices_form, reading_behind, reading_of, sample_form, site_form, sweep_form, task_form};
+ghost use Rattle.pinch.specs.Reading.{vertical_form};
+ghost use Rattle.pinch.specs.Stop.{IfEarly, Reads};
 
-use crate::command::{CaseTask, Command, read_command};
 use crate::files::{take_case, take_network, take_report, take_site, take_study};
+use crate::forms::{one_file, sample_words, study_words, sweep_words, two_files};
 use crate::stop::Stop;
 use crate::word::Word;
 use certify::Report;
@@ -20,9 +18,22 @@ use network_text::Network;
 use pinch_outside::Shelf;
 use reports::Shown;
 use site::Site;
-use std::alloc::{AllocError, Global};
+use std::alloc::Global;
 use stream_case::{Case, Items, complete, has_latent, is_standard};
 use study::{Study, SweepPlan};
+
+/// What is asked of the completed case of a file, with nothing beside it.
+#[derive(Clone, Copy, Debug)]
+pub enum CaseTask {
+    /// The targets and the pinches.
+    Targets,
+    /// A heat flow of least cost, with prices that prove it.
+    Flow,
+    /// The composite curves and the grand composite curve.
+    Curves,
+    /// A network that realises a heat flow of least cost.
+    Design,
+}
 
 /// What is asked, with what its files say.
 #[derive(Debug, Drop)]
@@ -69,81 +80,72 @@ pub enum Request {
     },
 }
 
-/// What the words and the files ask. Memory is wanted only where the words name files.
+/// What the words and the files ask.
+#[tactic(auto, unfolding(crate::specs::Reading::reading_of, crate::specs::Files::EndsIn))]
 pub fn request_of<S: Shelf>(
     alloc: Global,
     shelf: &mut S,
     words: &Items<Word>,
 ) -> Result<Request, Stop>
     ensures request { IfOk result IsRequest }
-    ensures reads { IfEnd result
-        (EndsIn (reading_of (command_of words.now)) (S.state shelf.old) (S.state shelf.new)) }
-    ensures memory { IfErr result (λ stop. IfNoMemory stop (NamesFiles (command_of words.now))) }
+    ensures reads { Reads (reading_of words.now) (S.state shelf.old) (S.state shelf.new) result }
 {
-    match read_command(alloc, words)? {
-        None => Err(Stop::Early(Shown::BadWords)),
-        Some(command) => request_of_command(alloc, shelf, &command),
+    match words.as_slice() {
+        [word, words @ ..] => request_behind(alloc, shelf, word.as_str(), words),
+        [] => Err(Stop::Early(Shown::BadWords)),
     }
 }
 
-fn request_of_command<S: Shelf>(
+/// The table of the commands, in the order in which they are told where words form none.
+#[tactic(auto, unfolding(crate::specs::Reading::reading_behind, crate::specs::Files::EndsIn))]
+fn request_behind<S: Shelf>(
     alloc: Global,
     shelf: &mut S,
-    command: &Command,
+    word: &str,
+    words: &[Word],
 ) -> Result<Request, Stop>
-    requires { IsRunnable command.now }
     ensures request { IfOk result IsRequest }
-    ensures reads { IfEnd result
-        (EndsIn (reading_of (Some command.now)) (S.state shelf.old) (S.state shelf.new)) }
-    ensures memory { IfErr result (λ stop. IfNoMemory stop (NamesFiles (Some command.now))) }
+    ensures reads { Reads (reading_behind word.now words.now) (S.state shelf.old)
+        (S.state shelf.new) result }
 {
-    match command {
-        Command::OfCase { case, task } => request_task(alloc, shelf, case, *task),
-        Command::Vertical { case } => request_vertical(alloc, shelf, case),
-        Command::Audit { case, network } => request_audit(alloc, shelf, case, network),
-        Command::Certify { case, report } => request_certify(alloc, shelf, case, report),
-        Command::Prices {
-            case,
-            study,
-            workers,
-        } => request_prices(alloc, shelf, case, study, *workers),
-        Command::Sweep {
-            case,
-            plan,
-            workers,
-        } => request_sweep(alloc, shelf, case, *plan, *workers),
-        Command::Site { site } => {
-            let site = take_site(alloc, shelf, site)?;
-            Ok(Request::OfSite { site })
-        }
-        Command::Sample { number, count } => Ok(Request::Sample {
-            number: *number,
-            count: *count,
-        }),
+    match word {
+        "targets" => request_task(alloc, shelf, CaseTask::Targets, words),
+        "flow" => request_task(alloc, shelf, CaseTask::Flow, words),
+        "curves" => request_task(alloc, shelf, CaseTask::Curves, words),
+        "design" => request_task(alloc, shelf, CaseTask::Design, words),
+        "vertical" => request_vertical(alloc, shelf, words),
+        "audit" => request_audit(alloc, shelf, words),
+        "site" => request_site(alloc, shelf, words),
+        "sweep" => request_sweep(alloc, shelf, words),
+        "sample" => request_sample(shelf, words),
+        "certify" => request_certify(alloc, shelf, words),
+        "prices" => request_prices(alloc, shelf, words),
+        _ => Err(Stop::Early(Shown::BadWords)),
     }
 }
 
+/// `targets CASE`, `flow CASE`, `curves CASE` and `design CASE`.
 fn request_task<S: Shelf>(
     alloc: Global,
     shelf: &mut S,
-    case: &Word,
     task: CaseTask,
+    words: &[Word],
 ) -> Result<Request, Stop>
     ensures request { IfOk result IsRequest }
-    ensures reads { IfEnd result
-        (EndsIn (reading_of (Some (OfCase case.now task))) (S.state shelf.old)
-        (S.state shelf.new)) }
+    ensures reads { Reads (task_form task words.now) (S.state shelf.old)
+        (S.state shelf.new) result }
 {
+    let case = one_file(words)?;
     let case = take_completed(alloc, shelf, case)?;
     Ok(Request::OfCase { case, task })
 }
 
-/// A case that is not standard is refused, and so is one with latent streams.
-fn request_vertical<S: Shelf>(alloc: Global, shelf: &mut S, case: &Word) -> Result<Request, Stop>
+/// `vertical CASE`. A case that is not standard is refused, and so is one with latent streams.
+fn request_vertical<S: Shelf>(alloc: Global, shelf: &mut S, words: &[Word]) -> Result<Request, Stop>
     ensures request { IfOk result IsRequest }
-    ensures reads { IfEnd result
-        (EndsIn (reading_of (Some (Vertical case.now))) (S.state shelf.old) (S.state shelf.new)) }
+    ensures reads { Reads (vertical_form words.now) (S.state shelf.old) (S.state shelf.new) result }
 {
+    let case = one_file(words)?;
     let case = take_completed(alloc, shelf, case)?;
     if !is_standard(&case) {
         return Err(Stop::Early(Shown::NotStandard));
@@ -155,79 +157,73 @@ fn request_vertical<S: Shelf>(alloc: Global, shelf: &mut S, case: &Word) -> Resu
     }
 }
 
-/// The network is read for the completed case, and only after it.
-fn request_audit<S: Shelf>(
-    alloc: Global,
-    shelf: &mut S,
-    case: &Word,
-    network: &Word,
-) -> Result<Request, Stop>
+/// `audit CASE NETWORK`. The network is read for the completed case, and only after it.
+fn request_audit<S: Shelf>(alloc: Global, shelf: &mut S, words: &[Word]) -> Result<Request, Stop>
     ensures request { IfOk result IsRequest }
-    ensures reads { IfEnd result
-        (EndsIn (reading_of (Some (Audit case.now network.now))) (S.state shelf.old)
-        (S.state shelf.new)) }
+    ensures reads { Reads (audit_form words.now) (S.state shelf.old) (S.state shelf.new) result }
 {
+    let (case, network) = two_files(words)?;
     let case = take_completed(alloc, shelf, case)?;
     let network = take_network(alloc, shelf, &case, network)?;
     Ok(Request::Audit { case, network })
 }
 
-/// The report is read behind the case.
-fn request_certify<S: Shelf>(
-    alloc: Global,
-    shelf: &mut S,
-    case: &Word,
-    report: &Word,
-) -> Result<Request, Stop>
+/// `site SITE`.
+fn request_site<S: Shelf>(alloc: Global, shelf: &mut S, words: &[Word]) -> Result<Request, Stop>
     ensures request { IfOk result IsRequest }
-    ensures reads { IfEnd result (EndsIn (reading_of (Some (Certify case.now report.now)))
-        (S.state shelf.old) (S.state shelf.new)) }
+    ensures reads { Reads (site_form words.now) (S.state shelf.old) (S.state shelf.new) result }
 {
+    let site = one_file(words)?;
+    let site = take_site(alloc, shelf, site)?;
+    Ok(Request::OfSite { site })
+}
+
+/// `sweep CASE FROM TO STEP WORKERS`. The sweep completes the case for each contribution.
+fn request_sweep<S: Shelf>(alloc: Global, shelf: &mut S, words: &[Word]) -> Result<Request, Stop>
+    ensures request { IfOk result IsRequest }
+    ensures reads { Reads (sweep_form words.now) (S.state shelf.old) (S.state shelf.new) result }
+{
+    let (case, plan, workers) = sweep_words(words)?;
+    let case = take_case(alloc, shelf, case)?;
+    Ok(Request::Sweep {
+        case,
+        plan,
+        workers,
+    })
+}
+
+/// `sample NUMBER N`. No file is read.
+#[tactic(auto, unfolding(crate::specs::Reading::sample_form, crate::specs::Files::EndsIn))]
+fn request_sample<S: Shelf>(shelf: &S, words: &[Word]) -> Result<Request, Stop>
+    ensures request { IfOk result IsRequest }
+    ensures reads { Reads (sample_form words.now) (S.state shelf.now) (S.state shelf.now) result }
+{
+    let (number, count) = sample_words(words)?;
+    Ok(Request::Sample { number, count })
+}
+
+/// `certify CASE REPORT`. The report is read behind the case.
+fn request_certify<S: Shelf>(alloc: Global, shelf: &mut S, words: &[Word]) -> Result<Request, Stop>
+    ensures request { IfOk result IsRequest }
+    ensures reads { Reads (certify_form words.now) (S.state shelf.old) (S.state shelf.new) result }
+{
+    let (case, report) = two_files(words)?;
     let case = take_completed(alloc, shelf, case)?;
     let report = take_report(alloc, shelf, report)?;
     Ok(Request::Certify { case, report })
 }
 
-/// The study is read for the completed case, and only after it.
-fn request_prices<S: Shelf>(
-    alloc: Global,
-    shelf: &mut S,
-    case: &Word,
-    study: &Word,
-    workers: u32,
-) -> Result<Request, Stop>
-    requires { CanWork workers }
+/// `prices CASE STUDY WORKERS`. The study is read for the completed case, and only after it.
+fn request_prices<S: Shelf>(alloc: Global, shelf: &mut S, words: &[Word]) -> Result<Request, Stop>
     ensures request { IfOk result IsRequest }
-    ensures reads { IfEnd result (EndsIn (reading_of (Some (Prices case.now study.now workers)))
-        (S.state shelf.old) (S.state shelf.new)) }
+    ensures reads { Reads (prices_form words.now) (S.state shelf.old) (S.state shelf.new) result }
 {
+    let (case, study, workers) = study_words(words)?;
     let case = take_completed(alloc, shelf, case)?;
     let study = take_study(alloc, shelf, &case, study)?;
     Ok(Request::Prices {
         case,
         study,
-        workers,
-    })
-}
-
-/// The sweep completes the case for each contribution.
-fn request_sweep<S: Shelf>(
-    alloc: Global,
-    shelf: &mut S,
-    case: &Word,
-    plan: SweepPlan,
-    workers: u32,
-) -> Result<Request, Stop>
-    requires plan { IsSweepPlan plan }
-    requires workers { CanWork workers }
-    ensures request { IfOk result IsRequest }
-    ensures reads { IfEnd result (EndsIn (reading_of (Some (Sweep case.now plan workers)))
-        (S.state shelf.old) (S.state shelf.new)) }
-{
-    let case = take_case(alloc, shelf, case)?;
-    Ok(Request::Sweep {
-        case,
-        plan,
         workers,
     })
 }

@@ -1,6 +1,6 @@
 //! What `sample` shows.
 ghost use Rattle.std.specs.Prelude.{IfOk};
-ghost use Rattle.pinch.specs.Command.{IsSampleOf};
+ghost use Rattle.pinch.specs.Numbers.{IsSampleOf};
 ghost use Rattle.pinch.specs.Sample.{ShowsSample};
 
 use reports::Shown;

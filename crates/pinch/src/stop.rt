@@ -1,5 +1,6 @@
 //! Why a command ends early.
 
+use crate::forms::NoCommand;
 use reports::Shown;
 use std::alloc::AllocError;
 
@@ -33,5 +34,17 @@ impl From<AllocError> for Stop {
 
     fn from(_: AllocError) -> Self {
         Stop::OutOfMemory
+    }
+}
+
+impl From<NoCommand> for Stop {
+    ghost use Rattle.std.specs.Prelude.{◌≡◌};
+    ghost use Rattle.pinch.specs.declared.stop.Stop.TheVariants.{Early};
+    ghost use Rattle.reports.specs.declared.shown.Shown.TheVariants.{BadWords};
+
+    ghost from_gives = { λ _ stop. stop ≡ Early BadWords };
+
+    fn from(_: NoCommand) -> Self {
+        Stop::Early(Shown::BadWords)
     }
 }

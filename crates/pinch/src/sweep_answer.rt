@@ -2,7 +2,7 @@
 ghost use Rattle.std.specs.Prelude.{IfOk};
 ghost use Rattle.stream_case.specs.Case.{IsValid};
 ghost use Rattle.study.specs.Plan.{IsSweepPlan};
-ghost use Rattle.pinch.specs.Command.{CanWork};
+ghost use Rattle.pinch.specs.Numbers.{CanWork};
 ghost use Rattle.pinch.specs.Sweep.{ShowsSweep};
 
 use reports::Shown;

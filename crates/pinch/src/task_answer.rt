@@ -4,9 +4,9 @@ ghost use Rattle.stream_case.specs.Case.{IsComplete};
 ghost use Rattle.stream_case.specs.Stream.{AreStreams};
 ghost use Rattle.pinch.specs.Tasks.{AreCurvesOf, AreTargetsOf, ShowsTask};
 
-use crate::command::CaseTask;
 use crate::design::show_design;
 use crate::flow::show_flow;
+use crate::request::CaseTask;
 use curves::{cold_curve, grand_curve, hot_curve};
 use problem_table::{pinches_at, targets};
 use reports::Shown;

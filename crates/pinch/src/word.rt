@@ -1,7 +1,6 @@
 //! A word of a command line.
-ghost use Rattle.std.specs.Prelude.{◌≡◌, IfOk, string_bytes};
+ghost use Rattle.std.specs.Prelude.{◌≡◌, string_bytes};
 
-use std::alloc::{AllocError, Global};
 use std::marker::Model;
 
 /// A word, seen as the list of its bytes.
@@ -31,12 +30,5 @@ impl Word {
         ensures { result.now ≡ self.now }
     {
         self.text.as_str()
-    }
-
-    /// A word of the same text.
-    pub fn copied(&self, alloc: Global) -> Result<Word, AllocError>
-        ensures { IfOk result (λ copy. copy ≡ self.now) }
-    {
-        Ok(Word::new(String::from_str(alloc, self.as_str())?))
     }
 }
