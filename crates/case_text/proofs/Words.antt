@@ -15,7 +15,6 @@ pub use Rattle.case_text.specs.declared.fault.CaseWhy.{CaseWhy}
 pub use Rattle.case_text.specs.declared.kind.Kind.{Kind}
 pub use Rattle.first_fault.proofs.CheckLemmas.{Passes, none_fails}
 pub use Rattle.first_fault.proofs.OneOutcome.{fault_or_value, no_value, one_fault, one_value}
-pub use Rattle.first_fault.proofs.Reading.{Reads, fault_here, one_more}
 pub use Rattle.first_fault.proofs.Steps.{Follows, Give, IsKept, all_give, given_has, nothing_gives, one_more_gives}
 pub use Rattle.first_fault.specs.Outcome.{given_by}
 pub use Rattle.indexmap.proofs.CallerLemmas.{insert_entry-new}
@@ -29,7 +28,7 @@ pub use Rattle.rows.specs.Fields.{field}
 unfoldable pub use Rattle.rows.specs.Fields.{are_empty, is_number, is_number_or_empty, is_passed_over, number, optional_number}
 pub use Rattle.rows.specs.Numbers.{is_flow_rate_beside}
 unfoldable pub use Rattle.rows.specs.Numbers.{is_own_contribution, is_own_load}
-pub use Rattle.rows.specs.Printed.{contribution_row, stream_kind}
+pub use Rattle.rows.specs.Printed.{contribution_row}
 pub use Rattle.rows.specs.Rows.{Row}
 unfoldable pub use Rattle.rows.specs.Rows.{rows_of}
 pub use Rattle.rows.specs.Text.{row_text, rows_text}

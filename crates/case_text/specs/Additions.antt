@@ -15,8 +15,10 @@ use Rattle.case_text.specs.declared.entry.UtilityData.{UtilityData}
 abbrev pub IsFresh : Given → Entry → Type 0
 IsFresh given entry.Nothing = Unit {0}
 IsFresh given (entry.Contribution n) = Unit {0}
-IsFresh given (entry.Stream name stream) = (is_taken (case_of given) name ≡ false) × (count_on stream.side (case_of given).streams < MOST_STREAMS)
-IsFresh given (entry.Utility name utility) = (is_taken (case_of given) name ≡ false) × (length given.utilities < MOST_UTILITIES)
+IsFresh given (entry.Stream name stream) =
+    (is_taken (case_of given) name ≡ false) × (count_on stream.side (case_of given).streams < MOST_STREAMS)
+IsFresh given (entry.Utility name utility) =
+    (is_taken (case_of given) name ≡ false) × (length given.utilities < MOST_UTILITIES)
 IsFresh given (entry.Forbid forbid) = Unit {0}
 
 -- an entry that is kept in a list, and so takes memory

@@ -65,7 +65,8 @@ latent_checks s = (int_eq s.supply s.target && int_eq s.cp (pos 0), why.NotLaten
 
 -- it leaves its temperature, the right way
 abbrev pub sensible_checks : StreamData → List (Check CaseWhy)
-sensible_checks s = (not (int_eq s.supply s.target), why.NoLoad) ∷ (is_right_way s.side s.supply s.target, why.WrongWay) ∷ []
+sensible_checks s =
+    (not (int_eq s.supply s.target), why.NoLoad) ∷ (is_right_way s.side s.supply s.target, why.WrongWay) ∷ []
 
 -- the checks of a stream whose numbers are in their ranges: it is latent where it gives a load
 unfoldable pub heat_checks : StreamData → List (Check CaseWhy)
@@ -139,7 +140,8 @@ kind_checks (Some kind.Forbid) earlier row = forbid_checks earlier row
 
 -- the checks of a row, behind rows that gave this
 unfoldable pub checks : Given → Row → List (Check CaseWhy)
-checks earlier row = (length row == 7, why.FieldCount) ∷ (is_some (kind_of row), why.UnknownKind) ∷ kind_checks (kind_of row) earlier row
+checks earlier row =
+    (length row == 7, why.FieldCount) ∷ (is_some (kind_of row), why.UnknownKind) ∷ kind_checks (kind_of row) earlier row
 
 -- the checks at the end of the file
 unfoldable pub end_checks : Given → List (Check CaseWhy)

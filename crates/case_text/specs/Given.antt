@@ -18,7 +18,8 @@ use Rattle.case_text.specs.declared.entry.UtilityData.{UtilityData}
 use Rattle.case_text.specs.declared.kind.Kind.{Kind}
 use Rattle.case_text.specs.declared.kind.Kind.TheVariants as kind
 
--- the contribution, the data of streams and utilities by name, and the forbidden matches, each in the order of their rows
+-- the contribution, the data of streams and utilities by name, and the forbidden matches, each in the order of their
+-- rows
 pub record Given : Type 0 where
   pub contribution : Option ℤ
   pub streams : List (List ℕ × StreamData)
@@ -73,10 +74,24 @@ source_at given name = unwrap_or (source_named (case_of given) name) (source.Str
 -- ---- what a row gives, behind rows that gave this
 
 abbrev pub stream_data : Side → Row → StreamData
-stream_data of row = record { side = of; supply = number row 2; target = number row 3; cp = number row 4; load = optional_number row 5; contribution = optional_number row 6 }
+stream_data of row = record {
+  side = of;
+  supply = number row 2;
+  target = number row 3;
+  cp = number row 4;
+  load = optional_number row 5;
+  contribution = optional_number row 6;
+}
 
 abbrev pub utility_data : Side → Row → UtilityData
-utility_data of row = record { side = of; level = number row 2; least = number row 3; most = number row 4; price = number row 5; contribution = optional_number row 6 }
+utility_data of row = record {
+  side = of;
+  level = number row 2;
+  least = number row 3;
+  most = number row 4;
+  price = number row 5;
+  contribution = optional_number row 6;
+}
 
 -- the names of a forbidden match are those of sources of earlier rows
 abbrev pub forbid_in : Given → Row → Forbid

@@ -39,11 +39,14 @@ utility_kind side.Cold = codes "cooler"
 abbrev pub utility_row : Case → Utility → Row
 utility_row case u =
     let last = contribution_field case u.contribution in
-    utility_kind u.side ∷ u.name ∷ signed_decimal u.level ∷ signed_decimal u.least ∷ signed_decimal u.most ∷ signed_decimal u.price ∷ last ∷ []
+    utility_kind u.side ∷ u.name ∷ signed_decimal u.level ∷ signed_decimal u.least ∷ signed_decimal u.most
+    ∷ signed_decimal u.price ∷ last ∷ []
 
 abbrev pub forbid_row : Case → Forbid → Row
 forbid_row case f = codes "forbid" ∷ source_name case f.hot ∷ source_name case f.cold ∷ [] ∷ [] ∷ [] ∷ [] ∷ []
 
 -- the contribution, the streams, the utilities and the forbidden matches, in their order
 unfoldable pub printed_rows : Case → List Row
-printed_rows case = contribution_row case.contribution ∷ ((map (stream_row case) case.streams ++ map (utility_row case) case.utilities) ++ map (forbid_row case) case.forbids)
+printed_rows case =
+    contribution_row case.contribution
+    ∷ ((map (stream_row case) case.streams ++ map (utility_row case) case.utilities) ++ map (forbid_row case) case.forbids)

@@ -55,7 +55,8 @@ transfers_of c hot cold moves = filter_map (transfer_of c hot cold) moves
 -- there is one price for each of these parts, in their order
 pub record ArePricesOf (c : Case) (parts : List Part) (prices : List Priced) : Type 0 where
   pub one_each : length prices ≡ length parts
-  pub named : (i : ℕ) (g : Priced) (p : Part) → slice_get prices i ≡ Some g → slice_get parts i ≡ Some p → g.part ≡ span_of c p
+  pub named : (i : ℕ) (g : Priced) (p : Part) → slice_get prices i ≡ Some g → slice_get parts i ≡ Some p
+      → g.part ≡ span_of c p
 
 abbrev pub prices_of : List Priced → List ℤ
 prices_of prices = map (λ g. g.price) prices
@@ -64,12 +65,16 @@ prices_of prices = map (λ g. g.price) prices
 
 -- utility number i with what it gives or takes in all
 abbrev pub use_of : List Part → List Part → List Transfer → ℕ → Utility → Used
-use_of hot cold transfers i u = record { name = u.name; heat = utility_heat i u.side (parts_of u.side hot cold) transfers }
+use_of hot cold transfers i u = record {
+  name = u.name;
+  heat = utility_heat i u.side (parts_of u.side hot cold) transfers;
+}
 
 -- there is one use for each utility of the case, in their order
 pub record AreUsesOf (c : Case) (hot cold : List Part) (transfers : List Transfer) (uses : List Used) : Type 0 where
   pub one_each : length uses ≡ length c.utilities
-  pub is : (i : ℕ) (used : Used) (u : Utility) → slice_get uses i ≡ Some used → slice_get c.utilities i ≡ Some u → used ≡ use_of hot cold transfers i u
+  pub is : (i : ℕ) (used : Used) (u : Utility) → slice_get uses i ≡ Some used
+      → slice_get c.utilities i ≡ Some u → used ≡ use_of hot cold transfers i u
 
 -- ---- what has to hold, each with the cause that tells where it fails
 
@@ -95,7 +100,12 @@ module _ (c : Case) (hot cold : List Part) where
   own_parts kind = parts_of (cut_side kind) hot cold
 
   abbrev pub cut_of : CutKind → ℤ → ℤ → List Span → Cut
-  cut_of kind need offer parts = record { kind = kind; parts = filter_map (index_of c (own_parts kind)) parts; need = need; offer = offer }
+  cut_of kind need offer parts = record {
+    kind = kind;
+    parts = filter_map (index_of c (own_parts kind)) parts;
+    need = need;
+    offer = offer;
+  }
 
   -- of a report of a cut
   abbrev pub HoldsOfCut : CutKind → ℤ → ℤ → List Span → NoWhy → Type 0
@@ -108,7 +118,8 @@ abbrev pub IsFirstOf : List NoWhy → (NoWhy → Type 0) → Checked → Type 0
 IsFirstOf [] Holds Yes = Unit {0}
 IsFirstOf [] Holds (No why) = ⊥
 IsFirstOf (cause ∷ causes) Holds Yes = Holds cause × IsFirstOf causes Holds Yes
-IsFirstOf (cause ∷ causes) Holds (No why) = ((why ≡ cause) × (Holds cause → ⊥)) ⊎ (Holds cause × IsFirstOf causes Holds (No why))
+IsFirstOf (cause ∷ causes) Holds (No why) =
+    ((why ≡ cause) × (Holds cause → ⊥)) ⊎ (Holds cause × IsFirstOf causes Holds (No why))
 
 -- the causes in the order of their checks
 abbrev pub transfer_causes : List NoWhy
@@ -122,8 +133,10 @@ cut_causes = why.Parts ∷ why.Cut ∷ []
 
 -- the answer to a report, where these are the parts of the case
 abbrev pub IsAnswerOver : Case → List Part → List Part → Report → Checked → Type 0
-IsAnswerOver c hot cold (report.Flow cost uses moves gives takes) checked = IsFirstOf flow_causes (HoldsOfFlow c hot cold cost uses moves gives takes) checked
-IsAnswerOver c hot cold (report.Cut kind need offer parts) checked = IsFirstOf cut_causes (HoldsOfCut c hot cold kind need offer parts) checked
+IsAnswerOver c hot cold (report.Flow cost uses moves gives takes) checked =
+    IsFirstOf flow_causes (HoldsOfFlow c hot cold cost uses moves gives takes) checked
+IsAnswerOver c hot cold (report.Cut kind need offer parts) checked =
+    IsFirstOf cut_causes (HoldsOfCut c hot cold kind need offer parts) checked
 
 -- the answer to a report of a case
 abbrev pub IsAnswer : Case → Report → Checked → Type 0
@@ -141,5 +154,6 @@ Proves c r (No why) = Unit {0}
 
 -- each price is within the limits of a certificate
 abbrev pub HasPartPrices : Report → Type 0
-HasPartPrices (report.Flow cost uses moves gives takes) = All (λ g. IsPartPrice g.price) gives × All (λ g. IsPartPrice g.price) takes
+HasPartPrices (report.Flow cost uses moves gives takes) =
+    All (λ g. IsPartPrice g.price) gives × All (λ g. IsPartPrice g.price) takes
 HasPartPrices (report.Cut kind need offer parts) = Unit {0}

@@ -1,4 +1,5 @@
--- The checks of a statement, in their order. A check is a sentence on the statement and on what the statements before it gave.
+-- The checks of a statement, in their order. A check is a sentence on the statement and on what the statements before
+-- it gave.
 use Rattle.std.specs.Prelude.{ℕ, ◌+◌, ℤ, neg_ℤ, int_le, Bool, ◌&&◌, ◌==◌, List, [], ◌∷◌, length, Option, Some, None, is_some}
 use Rattle.first_fault.specs.Checks.{Check, in_turn}
 use Rattle.stream_case.specs.Name.{is_name}

@@ -91,7 +91,8 @@ entry_in s = entry_by (kind_of s) s
 abbrev pub is_empty : {X : Type 0} → List X → Bool
 is_empty xs = length xs == 0
 
--- a statement of this kind may come next: first a cost or the word that there is no heat flow; behind a cost uses, then moves, then gives, then
+-- a statement of this kind may come next: first a cost or the word that there is no heat flow; behind a cost uses,
+-- then moves, then gives, then
 -- takes; behind the word a cut, and then parts
 abbrev pub admits : Given → Kind → Bool
 admits gave.Nothing kind.Cost = true
@@ -108,9 +109,12 @@ admits d k = false
 -- a report with one statement more; what may not come next changes nothing
 abbrev pub lengthened : Report → Entry → Report
 lengthened (report.Flow cost uses moves gives takes) (entry.Use u) = report.Flow cost (uses ++ u ∷ []) moves gives takes
-lengthened (report.Flow cost uses moves gives takes) (entry.Move m) = report.Flow cost uses (moves ++ m ∷ []) gives takes
-lengthened (report.Flow cost uses moves gives takes) (entry.Give g) = report.Flow cost uses moves (gives ++ g ∷ []) takes
-lengthened (report.Flow cost uses moves gives takes) (entry.Take t) = report.Flow cost uses moves gives (takes ++ t ∷ [])
+lengthened (report.Flow cost uses moves gives takes) (entry.Move m) =
+    report.Flow cost uses (moves ++ m ∷ []) gives takes
+lengthened (report.Flow cost uses moves gives takes) (entry.Give g) =
+    report.Flow cost uses moves (gives ++ g ∷ []) takes
+lengthened (report.Flow cost uses moves gives takes) (entry.Take t) =
+    report.Flow cost uses moves gives (takes ++ t ∷ [])
 lengthened (report.Cut kind need offer parts) (entry.Part p) = report.Cut kind need offer (parts ++ p ∷ [])
 lengthened r e = r
 

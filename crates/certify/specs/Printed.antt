@@ -79,8 +79,10 @@ pub record IsPrice (g : Priced) : Type 0 where
 
 -- its names are undotted, and its numbers within their ranges
 abbrev pub IsReadable : Report → Type 0
-IsReadable (report.Flow cost uses moves gives takes) = IsWithin MOST_COST cost × All IsUse uses × All IsMove moves × All IsPrice gives × All IsPrice takes
-IsReadable (report.Cut kind need offer parts) = IsWithin MOST_AMOUNT need × IsWithin MOST_AMOUNT offer × All IsSpan parts
+IsReadable (report.Flow cost uses moves gives takes) =
+    IsWithin MOST_COST cost × All IsUse uses × All IsMove moves × All IsPrice gives × All IsPrice takes
+IsReadable (report.Cut kind need offer parts) =
+    IsWithin MOST_AMOUNT need × IsWithin MOST_AMOUNT offer × All IsSpan parts
 
 -- such a report is what the grammar gives for its text
 abbrev pub PrintedReportsAreReadAgain : Type 0

@@ -26,7 +26,8 @@ made_from f n (x ∷ xs) = f n x ∷ made_from f (suc n) xs
 
 -- the part at an index, as a report names it; where there is none, nothing
 abbrev pub named_at : Case → List Part → ℕ → Span
-named_at c parts index = option_map_or (span_of c) (slice_get parts index) (record { name = []; high = pos 0; low = pos 0 })
+named_at c parts index =
+    option_map_or (span_of c) (slice_get parts index) (record { name = []; high = pos 0; low = pos 0 })
 
 abbrev pub move_of : Case → List Part → List Part → Transfer → Moved
 move_of c hot cold t = record { hot = named_at c hot t.hot; cold = named_at c cold t.cold; heat = t.heat }
@@ -43,27 +44,34 @@ flow_report c hot cold transfers y z cost =
 
 -- the report of a cut
 abbrev pub cut_report : Case → List Part → List Part → Cut → Report
-cut_report c hot cold cut = report.Cut cut.kind cut.need cut.offer (map (named_at c (own_parts c hot cold cut.kind)) cut.parts)
+cut_report c hot cold cut =
+    report.Cut cut.kind cut.need cut.offer (map (named_at c (own_parts c hot cold cut.kind)) cut.parts)
 
 -- the report of a heat flow of a case with prices that certify it is answered with yes
 abbrev pub CertifiedFlowsPass : Type 0
 CertifiedFlowsPass =
-    (c : Case) (hot cold : List Part) (transfers : List Transfer) (y z : List ℤ) (cost : ℤ) → IsComplete c → AreCaseParts c hot cold
-    → IsCertified (reach_between c hot cold) hot cold transfers y z cost → IsAnswer c (flow_report c hot cold transfers y z cost) Yes
+    (c : Case) (hot cold : List Part) (transfers : List Transfer) (y z : List ℤ) (cost : ℤ) → IsComplete c
+    → AreCaseParts c hot cold
+    → IsCertified (reach_between c hot cold) hot cold transfers y z cost
+    → IsAnswer c (flow_report c hot cold transfers y z cost) Yes
 
 -- and so is the report of a cut of a case
 abbrev pub CutsPass : Type 0
 CutsPass =
-    (c : Case) (hot cold : List Part) (cut : Cut) → IsComplete c → AreCaseParts c hot cold → IsCutOf (reach_between c hot cold) hot cold cut
+    (c : Case) (hot cold : List Part) (cut : Cut) → IsComplete c → AreCaseParts c hot cold
+    → IsCutOf (reach_between c hot cold) hot cold cut
     → IsAnswer c (cut_report c hot cold cut) Yes
 
 -- both are reports that the grammar can give
 abbrev pub CertifiedFlowsAreReadable : Type 0
 CertifiedFlowsAreReadable =
-    (c : Case) (hot cold : List Part) (transfers : List Transfer) (y z : List ℤ) (cost : ℤ) → IsComplete c → AreCaseParts c hot cold
-    → IsCertified (reach_between c hot cold) hot cold transfers y z cost → IsReadable (flow_report c hot cold transfers y z cost)
+    (c : Case) (hot cold : List Part) (transfers : List Transfer) (y z : List ℤ) (cost : ℤ) → IsComplete c
+    → AreCaseParts c hot cold
+    → IsCertified (reach_between c hot cold) hot cold transfers y z cost
+    → IsReadable (flow_report c hot cold transfers y z cost)
 
 abbrev pub CutsAreReadable : Type 0
 CutsAreReadable =
-    (c : Case) (hot cold : List Part) (cut : Cut) → IsComplete c → AreCaseParts c hot cold → IsCutOf (reach_between c hot cold) hot cold cut
+    (c : Case) (hot cold : List Part) (cut : Cut) → IsComplete c → AreCaseParts c hot cold
+    → IsCutOf (reach_between c hot cold) hot cold cut
     → IsReadable (cut_report c hot cold cut)

@@ -40,4 +40,5 @@ module _ {S : Type 0} where
 
   -- a table with one span more, which keeps the index that it had if it was there
   abbrev pub IsWithSpan : Span → ℕ → IndexMap Span ℕ S → IndexMap Span ℕ S → Type 0
-  IsWithSpan own index old new = (s : Span) → index_in new s ≡ option_or (index_in old s) (if same_span own s then Some index else None)
+  IsWithSpan own index old new =
+      (s : Span) → index_in new s ≡ option_or (index_in old s) (if same_span own s then Some index else None)

@@ -41,39 +41,38 @@ pub use Rattle.heat_flow.specs.declared.flow.Flow.{Flow}
 pub use Rattle.heat_flow.specs.declared.flow.Transfer.{Transfer}
 pub use Rattle.std.proofs.Math.Bool.{or-false, or-true}
 pub use Rattle.std.proofs.Math.ListN.{set}
-pub use Rattle.std.proofs.Math.Nat.{div-mul-le_self, le-div_iff_mul-le}
+pub use Rattle.std.proofs.Math.Nat.{le-div_iff_mul-le}
 pub use Rattle.std.proofs.Math.Path.{subst₂}
-pub use Rattle.std.proofs.lemmas.Bool.{and_from, and_parts, cases_eq, cases_lt, cases_order, eq-eqb, eqb-true, false_from_ne_true, false≢true, le-leb, lt-leb, ne_eqb, not-true}
+pub use Rattle.std.proofs.lemmas.Bool.{and_from, and_parts, cases_eq, cases_lt, cases_order, eq-eqb, eqb-true, false_from_ne_true, false≢true, le-leb, lt-leb}
+pub use Rattle.std.proofs.lemmas.Bool.{ne_eqb, not-true}
 pub use Rattle.std.proofs.lemmas.Bool.{not_from_false, or_cases, or_left, or_right}
-pub use Rattle.std.proofs.lemmas.Bool.Decides.{Decides-int_eq, nat_tests, not_from_Decides}
+pub use Rattle.std.proofs.lemmas.Bool.Decides.{Decides-int_eq, not_from_Decides}
 pub use Rattle.std.proofs.lemmas.Cmp.{by_ranked, ranked}
 pub use Rattle.std.proofs.lemmas.Fn.{always_returns_same}
 pub use Rattle.std.proofs.lemmas.Grind.{get_or-set_at}
 pub use Rattle.std.proofs.lemmas.Int.{by_lt_z, clamps, ints, to_z-of_z}
-pub use Rattle.std.proofs.lemmas.Iterator.Search.{position_from_yields_List}
 pub use Rattle.std.proofs.lemmas.List.{append-nil, flat_map_more, get_or-set_other, get_or-set_same, get_or-take, get_or_default, get_or_read, length-append}
 pub use Rattle.std.proofs.lemmas.List.{at_drop_all, at_drop_more, get_or-map, get_or-replicate, length-map, map-append}
-pub use Rattle.std.proofs.lemmas.List.{length-replicate, length-set, same_lists, take-append-le, length-take, length-take-le, length_push, nil_from_length, take_all, take_more, take_more_set}
-pub use Rattle.std.proofs.lemmas.List.Concat.{length-flat_map}
+pub use Rattle.std.proofs.lemmas.List.{length-replicate, length-set, same_lists, take-append-le, length-take, length-take-le, length_push, nil_from_length}
+pub use Rattle.std.proofs.lemmas.List.{take_all, take_more, take_more_set}
 pub use Rattle.std.proofs.lemmas.List.Elements.{All-append, All-cons, All-contains, All-drop, All-head, All-map, All-nil, All-pop, All-push, All-set, All-tail}
 pub use Rattle.std.proofs.lemmas.List.Elements.{All-weaker, Contains-append_left, Contains-append_right, Contains-get_or, Contains-push, Contains-push_cases}
 pub use Rattle.std.proofs.lemmas.List.Folds.{Any-from_list_any, list_any-append, list_any-from_Any, list_any_at}
 pub use Rattle.std.proofs.lemmas.List.FromFn.{get_or-enumerate_from, length-enumerate_from, map-range_with_len_more}
 pub use Rattle.std.proofs.lemmas.List.Quantifiers.{Any-push, all_pairs_push}
-pub use Rattle.std.proofs.lemmas.List.Recursion.{is_position_or_len}
 pub use Rattle.std.proofs.lemmas.List.Sorted.{All-permutation, Contains-permutation, IsNonDecreasingBy-from_sort_by_key, IsPartitionPoint-from_clause}
 pub use Rattle.std.proofs.lemmas.List.Sorted.{IsPartitionedBy-ltb, IsPermutation-keeps, IsPermutation-sym}
-pub use Rattle.std.proofs.lemmas.List.Sums.{AllPass-from_list_all, count_by-le-length, list_all-from_AllPass, prefix_len-le-length}
-pub use Rattle.std.proofs.lemmas.Nat.{le-div, mul-add-lt, mul-le, same_from_place}
+pub use Rattle.std.proofs.lemmas.List.Sums.{AllPass-from_list_all, count_by-le-length, list_all-from_AllPass}
+pub use Rattle.std.proofs.lemmas.Nat.{mul-add-lt, mul-le, same_from_place}
 pub use Rattle.std.proofs.lemmas.Option.{get_or_from_slice_get, none-some, same_Some, slice_get-get_or, slice_get_read, slice_get_within}
-pub use Rattle.std.proofs.lemmas.Result.{IfOk-weaker, on_ok_weaker}
+pub use Rattle.std.proofs.lemmas.Result.{IfOk-weaker}
 pub use Rattle.std.specs.Fn.{Called, ComputesKey}
 pub use Rattle.std.specs.Int.{int_min}
 pub use Rattle.std.specs.Int.RustNames.{unsigned_abs}
-pub use Rattle.std.specs.List.{enumerate_from, find, flat_map, list_any, position_or_len, range_with_len, swap}
+pub use Rattle.std.specs.List.{enumerate_from, find, flat_map, list_any, range_with_len, swap}
 pub use Rattle.std.specs.List.Sorted.{IsNonDecreasingBy, IsPermutation, IsSortedByKey}
 pub use Rattle.std.specs.Ordering.{int_eq, is_lt, nat_cmp, ordering_then}
-pub use Rattle.std.specs.Prelude.{All, AllPairs, Any, Contains, count_by, if◌then◌else◌, int_lt, negsuc, pos, unwrap_or, ℤ, ◌*◌, ◌+ℤ◌, ◌-ℤ◌, ◌<ℤ◌, ◌≤ℤ◌}
+pub use Rattle.std.specs.Prelude.{All, AllPairs, Any, Contains, count_by, if◌then◌else◌, int_lt, negsuc, pos, ℤ, ◌*◌, ◌+ℤ◌, ◌-ℤ◌, ◌<ℤ◌, ◌≤ℤ◌}
 pub use Rattle.stream_case.proofs.CaseLemmas.{IsSourceOf-side, length-AreStreams}
 pub use Rattle.stream_case.proofs.CompleteLemmas.{AreStreams-IsComplete, StaysValid-IsComplete, length-utilities}
 pub use Rattle.stream_case.proofs.SourceLemmas.{own_side, same_side-true, same_source-same, same_source-true}

@@ -1,4 +1,5 @@
--- The links of a net of chains, as one list. The chain of a group has a node for each rank at which a part stands, in order.
+-- The links of a net of chains, as one list. The chain of a group has a node for each rank at which a part stands, in
+-- order.
 use Rattle.std.specs.Prelude.{◌≡◌, ℕ, ◌+◌, ◌-◌, ◌*◌, ◌/◌, nat_le, nat_lt, Bool, not, ℤ, pos, List, [], ◌∷◌, ◌++◌, length, map, if◌then◌else◌, Option, Some, option_map, option_to_list, slice_get}
 use Rattle.std.specs.List.{enumerate_from, find, flat_map, list_all, list_any, range_with_len}
 use Rattle.stream_case.specs.declared.source.Source.{Source}
@@ -37,7 +38,8 @@ source_at c index = if nat_lt index (length c.streams) then of_stream index else
 
 -- from a hot part, which stands beside its index, into the chain of its source's group, at the depth of the part
 abbrev pub entering_at : (Part → ℕ) → List Group → ℕ × Part → List Link
-entering_at depth groups p = option_to_list (option_map (λ node. open_link p.0 (node + depth p.1)) (first_node_of groups p.1.source))
+entering_at depth groups p =
+    option_to_list (option_map (λ node. open_link p.0 (node + depth p.1)) (first_node_of groups p.1.source))
 
 abbrev pub entering : (Part → ℕ) → List Group → List Part → List Link
 entering depth groups hot = flat_map (entering_at depth groups) (enumerate_from 0 hot)
@@ -55,7 +57,8 @@ stride_links first nodes stride = map (stride_link first stride) (range_with_len
 unfoldable pub strides_within : ℕ → ℕ → List ℕ → List ℕ
 strides_within nodes room [] = []
 strides_within nodes room (stride ∷ strides) =
-    if nat_le ((nodes - 1) / stride) room then stride ∷ strides_within nodes (room - (nodes - 1) / stride) strides else strides_within nodes room strides
+    if nat_le ((nodes - 1) / stride) room then stride ∷ strides_within nodes (room - (nodes - 1) / stride) strides
+    else strides_within nodes room strides
 
 -- no more links in all than the room
 unfoldable pub onward : ℕ → ℕ → ℕ → List Link
@@ -80,7 +83,9 @@ leaving c depth hots g cold = flat_map (leaving_at c depth hots g) (enumerate_fr
 -- down a chain two for each place at most
 abbrev pub links_of_group : Case → List ℤ → List Part → List Part → Group → List Link
 links_of_group c places hot cold g =
-    onward g.first_node (chain_length places hot cold) (2 * length places) ++ leaving c (depth_of places hot cold) (length hot) g cold
+    onward g.first_node (chain_length places hot cold) (2 * length places)
+    ++ leaving c (depth_of places hot cold) (length hot) g cold
 
 abbrev pub chain_links : Case → List ℤ → List Part → List Part → List Group → List Link
-chain_links c places hot cold groups = entering (depth_of places hot cold) groups hot ++ flat_map (links_of_group c places hot cold) groups
+chain_links c places hot cold groups =
+    entering (depth_of places hot cold) groups hot ++ flat_map (links_of_group c places hot cold) groups

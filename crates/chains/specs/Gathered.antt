@@ -34,7 +34,8 @@ pub record IsPushed (old : List Transfer) (t : Transfer) (new : List Transfer) :
 abbrev pub IsAdded : List Transfer → Transfer → List Transfer → Type 0
 IsAdded old t new = IsJoined old t new ⊎ IsPushed old t new
 
--- one positive transfer for each pair of which there are shares, in order: what a part gives or takes is what its shares add up to
+-- one positive transfer for each pair of which there are shares, in order: what a part gives or takes is what its
+-- shares add up to
 pub record AreGathered (hots : ℕ) (shares : List Share) (transfers : List Transfer) : Type 0 where
   pub positive : ArePositive transfers
   pub ordered : AllPairs precedes transfers

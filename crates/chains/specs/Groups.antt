@@ -12,13 +12,15 @@ use Rattle.chains.specs.Path.{LeadsTo}
 
 -- the same cold sources are permitted to two hot sources
 abbrev pub HaveSamePartners : Case → Source → Source → Type 0
-HaveSamePartners c p q = (cold : Source) → side_of c cold ≡ Some Cold → is_forbidden c.forbids p cold ≡ is_forbidden c.forbids q cold
+HaveSamePartners c p q =
+    (cold : Source) → side_of c cold ≡ Some Cold → is_forbidden c.forbids p cold ≡ is_forbidden c.forbids q cold
 
 -- the source stands in the group at an index
 abbrev pub StandsIn : List Group → ℕ → Source → Type 0
 StandsIn groups i source = (g : Group) × (slice_get groups i ≡ Some g) × Contains g.sources source
 
--- each hot source stands in one group, once, and two stand in the same group exactly where the same cold sources are permitted
+-- each hot source stands in one group, once, and two stand in the same group exactly where the same cold sources are
+-- permitted
 -- to them; no group is empty
 pub record AreGroups (c : Case) (groups : List Group) : Type 0 where
   pub hot : (i : ℕ) (source : Source) → StandsIn groups i source → side_of c source ≡ Some Hot
@@ -27,9 +29,11 @@ pub record AreGroups (c : Case) (groups : List Group) : Type 0 where
   pub once : All (λ g. AllPairs (λ p q. p ≢ q) g.sources) groups
   pub alike : (i j : ℕ) (p q : Source) → StandsIn groups i p → StandsIn groups j q → ((i ≡ j) ↔ HaveSamePartners c p q)
 
--- the first node of a group is a chain node, from which a path leads to each cold part that a hot part of the group reaches
+-- the first node of a group is a chain node, from which a path leads to each cold part that a hot part of the group
+-- reaches
 pub record StartsChain (c : Case) (hot cold : List Part) (net : Net) (g : Group) : Type 0 where
   pub from : (length hot + length cold) ≤ g.first_node
   pub within : g.first_node < net.nodes
-  pub leads : (a b : ℕ) (p : Part) → slice_get hot a ≡ Some p → Contains g.sources p.source → IsTrue (reach_between c hot cold a b)
+  pub leads : (a b : ℕ) (p : Part) → slice_get hot a ≡ Some p → Contains g.sources p.source
+      → IsTrue (reach_between c hot cold a b)
       → LeadsTo net.links g.first_node (length hot + b)

@@ -25,13 +25,16 @@ ListsOnce P xs = Lists (λ a b. a ≢ b) P xs
 
 -- the sources of the streams on a side, and of the utilities
 abbrev pub streams_on : Side → List Stream → List Source
-streams_on side streams = flat_map (λ p. cons_if (same_side p.1.side side) (of_stream p.0) []) (enumerate_from 0 streams)
+streams_on side streams =
+    flat_map (λ p. cons_if (same_side p.1.side side) (of_stream p.0) []) (enumerate_from 0 streams)
 
 abbrev pub utilities_on : Side → List Utility → List Source
-utilities_on side utilities = flat_map (λ p. cons_if (same_side p.1.side side) (of_utility p.0) []) (enumerate_from 0 utilities)
+utilities_on side utilities =
+    flat_map (λ p. cons_if (same_side p.1.side side) (of_utility p.0) []) (enumerate_from 0 utilities)
 
 -- the sources of a side among these streams and utilities
-pub record AreSources (streams : List Stream) (utilities : List Utility) (side : Side) (sources : List Source) : Type 0 where
+pub record AreSources (streams : List Stream) (utilities : List Utility) (side : Side)
+    (sources : List Source) : Type 0 where
   pub listed : ListsOnce (λ source. side_among streams utilities source ≡ Some side) sources
   pub few : length sources ≤ count_on side streams + length utilities
 
@@ -61,4 +64,5 @@ pub record IsGroup (c : Case) (g : Group) : Type 0 where
 -- for each source of the case a truth value: that of a cold source is whether it is permitted to the group
 pub record ArePermitted (c : Case) (g : Group) (permitted : List Bool) : Type 0 where
   pub count : length permitted ≡ length c.streams + length c.utilities
-  pub each : (cold : Source) → side_of c cold ≡ Some Cold → slice_index_or permitted (source_index c cold) false ≡ is_permitted c g cold
+  pub each : (cold : Source) → side_of c cold ≡ Some Cold
+      → slice_index_or permitted (source_index c cold) false ≡ is_permitted c g cold

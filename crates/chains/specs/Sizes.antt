@@ -5,9 +5,12 @@ use Rattle.grid.specs.Grid.{IsGrid}
 use Rattle.chains.specs.declared.net.Chains.{Chains}
 use Rattle.chains.specs.declared.net.TheConstants.{MOST_INNER_LINKS, MOST_INNER_NODES}
 
--- for so many hot and cold parts: for each place of the grid a group adds two nodes and two links at most, and for each cold part one link
+-- for so many hot and cold parts: for each place of the grid a group adds two nodes and two links at most, and for
+-- each cold part one link
 pub record IsSmall (c : Case) (hots colds : ℕ) (chains : Chains) : Type 0 where
-  pub links : (places : List ℤ) → IsGrid c places → length chains.net.links ≤ hots + length chains.groups * (colds + 2 * length places)
-  pub nodes : (places : List ℤ) → IsGrid c places → chains.net.nodes ≤ (hots + colds) + 2 * length chains.groups * length places
+  pub links : (places : List ℤ) → IsGrid c places
+      → length chains.net.links ≤ hots + length chains.groups * (colds + 2 * length places)
+  pub nodes : (places : List ℤ) → IsGrid c places
+      → chains.net.nodes ≤ (hots + colds) + 2 * length chains.groups * length places
   pub few_links : length chains.net.links ≤ MOST_INNER_LINKS
   pub few_nodes : chains.net.nodes < MOST_INNER_NODES

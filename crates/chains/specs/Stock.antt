@@ -28,13 +28,17 @@ pub record IsFirstShare (hots : ℕ) (links : List Link) (s : Share) : Type 0 wh
   pub positive : pos 0 <ℤ s.heat
 
 -- what the first n links carry: those that leave hot parts as shares at their ends, the others as ways
-pub record HaveSetOut (hots : ℕ) (links : List Link) (flow : List ℤ) (n : ℕ) (shares : List Share) (ways : List Way) : Type 0 where
+pub record HaveSetOut (hots : ℕ) (links : List Link) (flow : List ℤ) (n : ℕ) (shares : List Share)
+    (ways : List Way) : Type 0 where
   pub first_shares : All (IsFirstShare hots links) shares
   pub ways_stand : All (IsWay hots links) ways
   pub some_left : All (λ w. pos 0 <ℤ w.left) ways
-  pub given : (a : ℕ) → a < hots → held_of shares a ≡ sum_below n (λ k. if (link_at links k).from == a then flow_on flow k else pos 0)
-  pub goes_on : (v : ℕ) → hots ≤ v → left_from ways v ≡ sum_below n (λ k. if (link_at links k).from == v then flow_on flow k else pos 0)
-  pub enters : (v : ℕ) → held_at shares v +ℤ left_into ways v ≡ sum_below n (λ k. if (link_at links k).to == v then flow_on flow k else pos 0)
+  pub given : (a : ℕ) → a < hots
+      → held_of shares a ≡ sum_below n (λ k. if (link_at links k).from == a then flow_on flow k else pos 0)
+  pub goes_on : (v : ℕ) → hots ≤ v
+      → left_from ways v ≡ sum_below n (λ k. if (link_at links k).from == v then flow_on flow k else pos 0)
+  pub enters : (v : ℕ) → held_at shares v +ℤ left_into ways v
+      ≡ sum_below n (λ k. if (link_at links k).to == v then flow_on flow k else pos 0)
 
 -- heat of a hot part at a node to which a path leads from that part
 pub record IsShare (hots : ℕ) (net : Net) (s : Share) : Type 0 where
@@ -46,7 +50,8 @@ pub record IsShare (hots : ℕ) (net : Net) (s : Share) : Type 0 where
 
 -- what a share leaves at its node, if anything, and what a way takes on
 abbrev pub moved : Share → Way → List Share
-moved s part = cons_if (int_lt part.left s.heat) (record s { heat = s.heat -ℤ part.left }) (record s { node = part.to; heat = part.left } ∷ [])
+moved s part =
+    cons_if (int_lt part.left s.heat) (record s { heat = s.heat -ℤ part.left }) (record s { node = part.to; heat = part.left } ∷ [])
 
 -- a share has gone on from its node along a way, as far as the way has heat to carry
 pub record HasPassed (s : Share) (shares after : List Share) (ways ways_after : List Way) : Type 0 where
@@ -54,13 +59,16 @@ pub record HasPassed (s : Share) (shares after : List Share) (ways ways_after : 
   pub carried : IsCarried ways ways_after s.node s.heat part
   pub is : after ≡ shares ++ moved s part
 
--- a part of a flow under way: no heat of a hot part is lost, and at each node behind the hot parts the heat there with what
+-- a part of a flow under way: no heat of a hot part is lost, and at each node behind the hot parts the heat there
+-- with what
 -- still comes and what the flow takes off is what the flow brings with what still goes
-pub record IsUnderWay (hots colds : ℕ) (net : Net) (flow : List ℤ) (moving there : List Share) (ways : List Way) : Type 0 where
+pub record IsUnderWay (hots colds : ℕ) (net : Net) (flow : List ℤ) (moving there : List Share)
+    (ways : List Way) : Type 0 where
   pub moving_shares : All (IsShare hots net) moving
   pub there_shares : All (IsShare hots net) there
   pub at_cold : All (λ s. s.node < (hots + colds)) there
   pub ways_stand : All (IsWay hots net.links) ways
   pub given : (a : ℕ) → a < hots → held_of moving a +ℤ held_of there a ≡ outflow net.links flow a
-  pub balance : (v : ℕ) → hots ≤ v → (held_at moving v +ℤ held_at there v) +ℤ (left_into ways v +ℤ outflow net.links flow v)
+  pub balance : (v : ℕ) → hots ≤ v
+      → (held_at moving v +ℤ held_at there v) +ℤ (left_into ways v +ℤ outflow net.links flow v)
       ≡ inflow net.links flow v +ℤ left_from ways v

@@ -33,20 +33,24 @@ as_pair t = record { first = t.hot; second = t.cold; amount = t.heat }
 abbrev pub as_transfer : Pair → Transfer
 as_transfer p = record { hot = p.first; cold = p.second; heat = p.amount }
 
--- the heats of each side are laid end to end in the order of the parts: the transfers are exactly the pairs of parts whose spans overlap,
+-- the heats of each side are laid end to end in the order of the parts: the transfers are exactly the pairs of parts
+-- whose spans overlap,
 -- each with the length that they share
 abbrev pub IsCornerFlow : Case → List Part → List Part → List Transfer → Type 0
 IsCornerFlow c hot cold transfers =
     ListsOverlaps (heats_of (hot_target c.streams) hot) (heats_of (cold_target c.streams) cold) (map as_pair transfers)
 
--- parts stand above the reference place with their low where it counts from itself and where no latent stream stands at it;
+-- parts stand above the reference place with their low where it counts from itself and where no latent stream stands
+-- at it;
 -- else with their high
 abbrev pub counts_low : List Stream → Bool → ℤ → Bool
 counts_low streams from_itself place = from_itself || not (has_level_at place streams)
 
--- where the hot target is 0 every price is 0; else it is 1 for a part that stands above the reference place, and 0 for the others
+-- where the hot target is 0 every price is 0; else it is 1 for a part that stands above the reference place, and 0
+-- for the others
 abbrev pub corner_price : ℤ → Bool → ℤ → Part → ℤ
-corner_price target low place p = if int_eq target (pos 0) then pos 0 else if stands_above low place p then pos 1 else pos 0
+corner_price target low place p =
+    if int_eq target (pos 0) then pos 0 else if stands_above low place p then pos 1 else pos 0
 
 -- the prices that the corner flow comes with
 pub record AreCornerPrices (c : Case) (hot cold : List Part) (prices : Prices) : Type 0 where
@@ -61,21 +65,28 @@ pub record AreCornerPrices (c : Case) (hot cold : List Part) (prices : Prices) :
 
 -- the utility of this side gives or takes just this heat
 abbrev pub UtilityHeat : Side → List Part → List Transfer → ℤ → Type 0
-UtilityHeat side parts transfers heat = (a : ℕ) (p : Part) → slice_get parts a ≡ Some p → IsTrue (not (is_stream p.source)) → heat_at side transfers a ≡ heat
+UtilityHeat side parts transfers heat =
+    (a : ℕ) (p : Part) → slice_get parts a ≡ Some p → IsTrue (not (is_stream p.source))
+    → heat_at side transfers a ≡ heat
 
 -- and at least this heat
 abbrev pub UtilityHeatAtLeast : Side → List Part → List Transfer → ℤ → Type 0
-UtilityHeatAtLeast side parts transfers heat = (a : ℕ) (p : Part) → slice_get parts a ≡ Some p → IsTrue (not (is_stream p.source)) → heat ≤ℤ heat_at side transfers a
+UtilityHeatAtLeast side parts transfers heat =
+    (a : ℕ) (p : Part) → slice_get parts a ≡ Some p → IsTrue (not (is_stream p.source))
+    → heat ≤ℤ heat_at side transfers a
 
 -- in each heat flow of these parts the utility of this side gives or takes at least this heat
 abbrev pub NeedsHeat : Case → List Part → List Part → Side → ℤ → Type 0
-NeedsHeat c hot cold side heat = (transfers : List Transfer) → IsFlowOf c hot cold transfers → UtilityHeatAtLeast side (parts_of side hot cold) transfers heat
+NeedsHeat c hot cold side heat =
+    (transfers : List Transfer) → IsFlowOf c hot cold transfers
+    → UtilityHeatAtLeast side (parts_of side hot cold) transfers heat
 
 -- the same of the parts of the case
 abbrev pub NeedsHeatOf : Case → Side → ℤ → Type 0
 NeedsHeatOf c side heat = HoldsOfParts c (λ hot cold. NeedsHeat c hot cold side heat)
 
--- a transfer takes heat across a place where it joins a hot part that stands above the place to a cold part that does not
+-- a transfer takes heat across a place where it joins a hot part that stands above the place to a cold part that does
+-- not
 pub record CrossesHeat (from_itself : Bool) (hot cold : List Part) (place : ℤ) (t : Transfer) : Type 0 where
   pub hot_part : Part
   pub cold_part : Part
@@ -88,8 +99,10 @@ pub record CrossesHeat (from_itself : Bool) (hot cold : List Part) (place : ℤ)
 abbrev pub NoHeatCrosses : Bool → List Part → List Part → ℤ → List Transfer → Type 0
 NoHeatCrosses from_itself hot cold place transfers = All (λ t. CrossesHeat from_itself hot cold place t → ⊥) transfers
 
--- in each heat flow of these parts in which the hot utility gives just the hot target, no heat crosses a pinch of the case.
--- Where the deficit above the pinch is the target, none goes from a part with its high above it to one with its high at most there;
+-- in each heat flow of these parts in which the hot utility gives just the hot target, no heat crosses a pinch of the
+-- case.
+-- Where the deficit above the pinch is the target, none goes from a part with its high above it to one with its high
+-- at most there;
 -- where the deficit from it is, none goes from a part with its low at least there to one with its low below
 abbrev pub NoHeatCrossesPinch : Case → List Part → List Part → Type 0
 NoHeatCrossesPinch c hot cold =

@@ -19,7 +19,8 @@ Course = List (List Share)
 -- a stream whose branch is `from` is led through stages, and ended
 abbrev pub course_lines : ℕ → ℕ → Course → List Line
 course_lines next from [] = line.End from ∷ []
-course_lines next from (shares ∷ stages) = stage_lines next from shares ++ course_lines (stage_end next shares + 1) (stage_end next shares) stages
+course_lines next from (shares ∷ stages) =
+    stage_lines next from shares ++ course_lines (stage_end next shares + 1) (stage_end next shares) stages
 
 -- how many branches a stage makes, and how many a course
 abbrev pub stage_branches : List Share → ℕ
@@ -37,7 +38,8 @@ all_branches (course ∷ courses) = course_branches course + all_branches course
 -- the courses of the streams from number `stream` on, in their order
 abbrev pub courses_lines : ℕ → ℕ → List Course → List Line
 courses_lines next stream [] = []
-courses_lines next stream (course ∷ courses) = course_lines next stream course ++ courses_lines (next + course_branches course) (stream + 1) courses
+courses_lines next stream (course ∷ courses) =
+    course_lines next stream course ++ courses_lines (next + course_branches course) (stream + 1) courses
 
 -- the branches with these numbers, which a design makes in a stream
 abbrev pub numbered : ℕ → ℕ → ℕ → List Branch
@@ -47,7 +49,8 @@ numbered first stream count = map (λ k. record { name = branch_name k; stream =
 abbrev pub made_branches : ℕ → ℕ → List Course → List Branch
 made_branches first stream [] = []
 made_branches first stream (course ∷ courses) =
-    numbered first stream (course_branches course) ++ made_branches (first + course_branches course) (stream + 1) courses
+    numbered first stream (course_branches course)
+    ++ made_branches (first + course_branches course) (stream + 1) courses
 
 -- the line that declares an exchanger
 abbrev pub declared_line : Exchanger → Line

@@ -30,7 +30,9 @@ pub record AreLed (case : Case) (exchangers : List Exchanger) (courses : List Co
   pub declared : All (IsExchanger case) exchangers
   pub distinct : AllPairs (λ a b. a.name ≢ b.name) exchangers
   pub all : length courses ≡ length case.streams
-  pub each : (stream : ℕ) (course : Course) → slice_get courses stream ≡ Some course → IsCourseOf exchangers stream course
-  pub once : (number stream : ℕ) (e : Exchanger) (course : Course) → slice_get exchangers number ≡ Some e → Joins e stream
+  pub each : (stream : ℕ) (course : Course) → slice_get courses stream ≡ Some course
+      → IsCourseOf exchangers stream course
+  pub once : (number stream : ℕ) (e : Exchanger) (course : Course) → slice_get exchangers number ≡ Some e
+      → Joins e stream
       → slice_get courses stream ≡ Some course → turns number course ≡ 1
   pub few : length (drawn case exchangers courses).lines ≤ MOST_LINES

@@ -22,7 +22,8 @@ module _ {Item Given Value Cause : Type 0} (grammar : Grammar Item Given Value C
 
   -- the fault of the item at an index, if it has one, behind what the items before it gave
   abbrev pub fault_at : List Item → ℕ → Option Cause
-  fault_at items index = option_and_then (λ item. first_failing (grammar.checks (given_by (take index items)) item)) (slice_get items index)
+  fault_at items index =
+      option_and_then (λ item. first_failing (grammar.checks (given_by (take index items)) item)) (slice_get items index)
 
   -- no item before this index is at fault
   abbrev pub SoundBefore : List Item → ℕ → Type 0
@@ -40,7 +41,8 @@ module _ {Item Given Value Cause : Type 0} (grammar : Grammar Item Given Value C
 
   -- the number of what is at fault, items counted from 1, and its cause
   abbrev pub IsFault : List Item → ℕ → Cause → Type 0
-  IsFault items number cause = ((index : ℕ) × (number ≡ index + 1) × IsFirstFault items index cause) ⊎ IsEndFault items number cause
+  IsFault items number cause =
+      ((index : ℕ) × (number ≡ index + 1) × IsFirstFault items index cause) ⊎ IsEndFault items number cause
 
   -- nothing is at fault, and this is the value of what the items give
   pub record IsValue (items : List Item) (value : Value) : Type 0 where

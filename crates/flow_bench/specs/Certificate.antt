@@ -14,7 +14,8 @@ pub record IsSolvable (p : Problem) (potentials : List ℤ) : Type 0 where
 
 -- no link with room has a reduced cost below 0
 abbrev pub Fit : List Link → List ℤ → Type 0
-Fit links potentials = (k : ℕ) → k < length links → pos 0 <ℤ (link_at links k).room → pos 0 ≤ℤ reduced_cost (link_at links k) potentials
+Fit links potentials =
+    (k : ℕ) → k < length links → pos 0 <ℤ (link_at links k).room → pos 0 ≤ℤ reduced_cost (link_at links k) potentials
 
 -- the flow routes the amount, and the potentials prove that it costs least
 pub record IsCertified (p : Problem) (flow potentials : List ℤ) : Type 0 where

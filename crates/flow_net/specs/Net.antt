@@ -50,7 +50,8 @@ cost_of links flow = sum_below (length links) (λ k. (link_at links k).cost *ℤ
 -- a routing of the amount such that none costs less
 pub record IsLeastRouting (net : Net) (source sink : ℕ) (amount : ℤ) (flow : List ℤ) : Type 0 where
   pub routing : IsRouting net source sink amount flow
-  pub least : (other : List ℤ) → IsRouting net source sink amount other → cost_of net.links flow ≤ℤ cost_of net.links other
+  pub least : (other : List ℤ) → IsRouting net source sink amount other
+      → cost_of net.links flow ≤ℤ cost_of net.links other
 
 -- the cost of a link with the potential of its first node, less that of its second
 abbrev pub reduced_cost : Link → List ℤ → ℤ
@@ -59,8 +60,10 @@ reduced_cost link potentials = (link.cost +ℤ potential_at potentials link.from
 -- potentials that prove a flow to cost least: a link with flow left to add has reduced cost at least 0,
 -- and a link with flow above 0 has reduced cost at most 0
 pub record AreProofOfLeast (links : List Link) (flow potentials : List ℤ) : Type 0 where
-  pub left_to_add : (k : ℕ) → k < length links → flow_on flow k <ℤ (link_at links k).room → pos 0 ≤ℤ reduced_cost (link_at links k) potentials
-  pub flowing : (k : ℕ) → k < length links → pos 0 <ℤ flow_on flow k → reduced_cost (link_at links k) potentials ≤ℤ pos 0
+  pub left_to_add : (k : ℕ) → k < length links → flow_on flow k <ℤ (link_at links k).room
+      → pos 0 ≤ℤ reduced_cost (link_at links k) potentials
+  pub flowing : (k : ℕ) → k < length links → pos 0 <ℤ flow_on flow k
+      → reduced_cost (link_at links k) potentials ≤ℤ pos 0
 
 -- the greatest absolute value of f over a list, and 0 for none
 abbrev pub greatest_size : {X : Type 0} → (X → ℤ) → List X → ℕ
@@ -141,4 +144,5 @@ pub record AreEnds (net : Net) (source sink : ℕ) : Type 0 where
 pub record AreInitialPotentials (net : Net) (start : List ℤ) : Type 0 where
   pub one_each : length start ≡ net.nodes
   pub within : (v : ℕ) → v < net.nodes → IsInitialPotential (potential_at start v)
-  pub fits : (k : ℕ) → k < length net.links → pos 0 <ℤ (link_at net.links k).room → pos 0 ≤ℤ reduced_cost (link_at net.links k) start
+  pub fits : (k : ℕ) → k < length net.links → pos 0 <ℤ (link_at net.links k).room
+      → pos 0 ≤ℤ reduced_cost (link_at net.links k) start

@@ -25,7 +25,8 @@ arc_by_index p k = arc_numbered p.adjacency.arcs.items k
 pub record IsRange (p : Problem) (v first end : ℕ) : Type 0 where
   pub within : end ≤ length p.adjacency.arcs.items
   pub tails : (k : ℕ) → first ≤ k → k < end → (arc_by_index p k).tail ≡ v
-  pub complete : (a : Arc) → IsArc p.net.now.links a → a.tail ≡ v → (k : ℕ) × (first ≤ k) × (k < end) × (arc_by_index p k ≡ a)
+  pub complete : (a : Arc) → IsArc p.net.now.links a → a.tail ≡ v
+      → (k : ℕ) × (first ≤ k) × (k < end) × (arc_by_index p k ≡ a)
 
 -- a part of the amount is routed at least cost. The source's potential is its initial one, no potential
 -- has fallen, and none has risen more than the sink's

@@ -67,17 +67,21 @@ abbrev pub source_label : Label
 source_label = record { distance = pos 0; depth = 0; arc = None }
 
 -- the label of node v comes by arc a: from a settled node, along a residual arc
-pub record IsLabelledBy (p : Problem) (r : Routing) (labels : List (Option Label)) (settled : List Bool) (v : ℕ) (label : Option Label) (a : Arc) : Type 0 where
+pub record IsLabelledBy (p : Problem) (r : Routing) (labels : List (Option Label)) (settled : List Bool)
+    (v : ℕ) (label : Option Label) (a : Arc) : Type 0 where
   pub residual : IsResidualArc p r a
   pub head : a.head ≡ v
   pub tail_settled : is_in settled a.tail ≡ true
   pub distance : distance_of_label label ≡ distance_at labels a.tail +ℤ reduced_cost_of r.potentials.items a
   pub depth : depth_of_label label ≡ depth_at labels a.tail + 1
 
--- the potential of node v, risen so far, differs from the source's by at most a largest cost for each arc that leads to it
+-- the potential of node v, risen so far, differs from the source's by at most a largest cost for each arc that leads
+-- to it
 pub record IsNear (p : Problem) (r : Routing) (v : ℕ) (distance : ℤ) (depth : ℕ) : Type 0 where
-  pub from : potential_at r.potentials.items p.source ≤ℤ (potential_at r.potentials.items v +ℤ distance +ℤ pos (depth * largest_cost p.net.now))
-  pub upto : (potential_at r.potentials.items v +ℤ distance) ≤ℤ (potential_at r.potentials.items p.source +ℤ pos (depth * largest_cost p.net.now))
+  pub from : potential_at r.potentials.items p.source
+      ≤ℤ (potential_at r.potentials.items v +ℤ distance +ℤ pos (depth * largest_cost p.net.now))
+  pub upto : (potential_at r.potentials.items v +ℤ distance)
+      ≤ℤ (potential_at r.potentials.items p.source +ℤ pos (depth * largest_cost p.net.now))
 
 -- the labels make a tree of residual arcs from the source
 pub record AreLabels (p : Problem) (r : Routing) (labels : List (Option Label)) (settled : List Bool) : Type 0 where
@@ -98,9 +102,11 @@ pub record IsEntry (labels : List (Option Label)) (e : Reverse ℤ × ℕ) : Typ
   pub no_less : distance_at labels e.1 ≤ℤ e.0.0
 
 -- no settled node is farther than the level, and each other labelled node has an entry
-pub record IsQueued (labels : List (Option Label)) (settled : List Bool) (level : ℤ) (entries : List (Reverse ℤ × ℕ)) : Type 0 where
+pub record IsQueued (labels : List (Option Label)) (settled : List Bool) (level : ℤ)
+    (entries : List (Reverse ℤ × ℕ)) : Type 0 where
   pub upto_level : (v : ℕ) → is_in settled v ≡ true → distance_at labels v ≤ℤ level
-  pub queued : (v : ℕ) → is_labelled labels v ≡ true → is_in settled v ≡ false → Contains entries (entry (distance_at labels v) v)
+  pub queued : (v : ℕ) → is_labelled labels v ≡ true → is_in settled v ≡ false
+      → Contains entries (entry (distance_at labels v) v)
   pub distances : All (IsEntry labels) entries
 
 abbrev pub HasQueue : Search → Type 0
@@ -153,7 +159,8 @@ pub record Improves (old new : Search) : Type 0 where
   pub level : new.queue.level ≡ old.queue.level
   pub kept : (v : ℕ) → is_in old.settled.items v ≡ true → label_at new.labels.items v ≡ label_at old.labels.items v
   pub labelled : (v : ℕ) → is_labelled old.labels.items v ≡ true → is_labelled new.labels.items v ≡ true
-  pub fell : (v : ℕ) → is_labelled old.labels.items v ≡ true → distance_at new.labels.items v ≤ℤ distance_at old.labels.items v
+  pub fell : (v : ℕ) → is_labelled old.labels.items v ≡ true
+      → distance_at new.labels.items v ≤ℤ distance_at old.labels.items v
 
 -- the distance of an arc's head is no more than that of its tail with the arc
 pub record IsClosed (r : Routing) (labels : List (Option Label)) (a : Arc) : Type 0 where
@@ -174,7 +181,8 @@ pub record HasArrived (p : Problem) (r : Routing) (s : Search) : Type 0 where
   pub search : IsSearch p r s
   pub sink_settled : is_in s.settled.items p.sink ≡ true
   pub level : distance_at s.labels.items p.sink ≡ s.queue.level
-  pub closed : (a : Arc) → IsArc p.net.now.links a → is_in s.settled.items a.tail ≡ true → a.tail ≢ p.sink → IsClosedAt p r s a
+  pub closed : (a : Arc) → IsArc p.net.now.links a → is_in s.settled.items a.tail ≡ true → a.tail ≢ p.sink
+      → IsClosedAt p r s a
 
 -- every node to which a path leads is settled, and the sink is not among them
 pub record IsStuck (p : Problem) (r : Routing) (s : Search) : Type 0 where
@@ -196,7 +204,8 @@ pub record IsTree (p : Problem) (s : Search) : Type 0 where
   pub root : (v : ℕ) → is_in s.settled.items v ≡ true → arc_at p s.labels.items v ≡ None → v ≡ p.source
   pub head : (v : ℕ) (a : Arc) → arc_at p s.labels.items v ≡ Some a → a.head ≡ v
   pub tail_settled : (v : ℕ) (a : Arc) → arc_at p s.labels.items v ≡ Some a → is_in s.settled.items a.tail ≡ true
-  pub depth : (v : ℕ) (a : Arc) → arc_at p s.labels.items v ≡ Some a → depth_at s.labels.items v ≡ depth_at s.labels.items a.tail + 1
+  pub depth : (v : ℕ) (a : Arc) → arc_at p s.labels.items v ≡ Some a
+      → depth_at s.labels.items v ≡ depth_at s.labels.items a.tail + 1
 
 -- the path by which the sink was settled
 pub record IsTreePath (p : Problem) (s : Search) (path : List Arc) : Type 0 where

@@ -22,9 +22,15 @@ signed-sign (negsuc a) = refl
 pub signed-*ℤ-signed : (s t : Bool) (a b : ℕ) → signed s a *ℤ signed t b ≡ signed (not (beq s t)) (a * b)
 signed-*ℤ-signed false false a b = refl
 signed-*ℤ-signed true false a b = neg_ℤ-*ℤ (pos a) (pos b)
-signed-*ℤ-signed false true a b = let turned = *ℤ_comm (pos a) (neg_ℤ (pos b)) in let one = neg_ℤ-*ℤ (pos b) (pos a) in omega (arith, ints)
+signed-*ℤ-signed false true a b =
+    let turned = *ℤ_comm (pos a) (neg_ℤ (pos b)) in
+    let one = neg_ℤ-*ℤ (pos b) (pos a) in
+    omega (arith, ints)
 signed-*ℤ-signed true true a b =
-    let turned = *ℤ_comm (pos a) (neg_ℤ (pos b)) in let one = neg_ℤ-*ℤ (pos b) (pos a) in let other = neg_ℤ-*ℤ (pos a) (neg_ℤ (pos b)) in omega (arith, ints)
+    let turned = *ℤ_comm (pos a) (neg_ℤ (pos b)) in
+    let one = neg_ℤ-*ℤ (pos b) (pos a) in
+    let other = neg_ℤ-*ℤ (pos a) (neg_ℤ (pos b)) in
+    omega (arith, ints)
 
 pub signed-*ℤ : (negative : Bool) (a d : ℕ) → signed negative a *ℤ pos d ≡ signed negative (a * d)
 signed-*ℤ false a d = refl

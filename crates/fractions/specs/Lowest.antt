@@ -36,16 +36,23 @@ record Scales (a b g : ℕ) : Type 0 where
 
 last_remainder-scales : (n a b : ℕ) → b ≤ n → Scales a b (last_remainder n a b)
 unfolding last_remainder
-last_remainder-scales zero a zero h = record { is = IsGcd-from_zero a 0 refl; scaled = λ e some. IsGcd-from_zero (a * e) (0 * e) (omega arith) }
+last_remainder-scales zero a zero h = record {
+  is = IsGcd-from_zero a 0 refl;
+  scaled = λ e some. IsGcd-from_zero (a * e) (0 * e) (omega arith);
+}
 last_remainder-scales zero a (suc b) h = absurd (omega (arith, h))
-last_remainder-scales (suc n) a zero h = record { is = IsGcd-from_zero a 0 refl; scaled = λ e some. IsGcd-from_zero (a * e) (0 * e) (omega arith) }
+last_remainder-scales (suc n) a zero h = record {
+  is = IsGcd-from_zero a 0 refl;
+  scaled = λ e some. IsGcd-from_zero (a * e) (0 * e) (omega arith);
+}
 last_remainder-scales (suc n) a (suc b) h =
     let less : a % suc b ≤ n = omega arith in
     let g = last_remainder n (suc b) (a % suc b) in
     let s = last_remainder-scales n (suc b) (a % suc b) less in
     record {
       is = IsGcd-from_mod a (suc b) g s.is;
-      scaled = λ e some. IsGcd-from_mod (a * e) (suc b * e) (g * e) (rw (mod-scale a (suc b) e (omega arith) some) (s.scaled e some));
+      scaled =
+          λ e some. IsGcd-from_mod (a * e) (suc b * e) (g * e) (rw (mod-scale a (suc b) e (omega arith) some) (s.scaled e some));
     }
 
 gcd-scales : (a b : ℕ) → Scales a b (gcd a b)
@@ -130,10 +137,13 @@ divided a d g hd is =
     }
 
 -- a product of two fractions in lowest form, divided crosswise
-divided_crosswise : (a b c d f g p q r s : ℕ) → IsLowest a b → IsLowest c d → Divides a d f p s → Divides c b g q r → Divides (a * c) (b * d) (f * g) (p * q) (r * s)
+divided_crosswise : (a b c d f g p q r s : ℕ) → IsLowest a b → IsLowest c d → Divides a d f p s
+    → Divides c b g q r → Divides (a * c) (b * d) (f * g) (p * q) (r * s)
 divided_crosswise a b c d f g p q r s la lc one two =
-    let pr = lowest-parts a b p r (subst (λ x. p ∣ x) (sym one.whole) (dvd-mul_right p f)) (subst (λ x. r ∣ x) (sym two.under) (dvd-mul_right r g)) la in
-    let qs = lowest-parts c d q s (subst (λ x. q ∣ x) (sym two.whole) (dvd-mul_right q g)) (subst (λ x. s ∣ x) (sym one.under) (dvd-mul_right s f)) lc in
+    let pr =
+    lowest-parts a b p r (subst (λ x. p ∣ x) (sym one.whole) (dvd-mul_right p f)) (subst (λ x. r ∣ x) (sym two.under) (dvd-mul_right r g)) la in
+    let qs =
+    lowest-parts c d q s (subst (λ x. q ∣ x) (sym two.whole) (dvd-mul_right q g)) (subst (λ x. s ∣ x) (sym one.under) (dvd-mul_right s f)) lc in
     let with_r : IsLowest (p * q) r = lowest-mul p q r pr two.lowest in
     let with_s : IsLowest (p * q) s = lowest-mul p q s one.lowest qs in
     record {
@@ -141,8 +151,11 @@ divided_crosswise a b c d f g p q r s la lc one two =
       whole = rw (one.whole, two.whole) (omega arith);
       under = rw (one.under, two.under) (omega arith);
       positive = mul-pos two.positive one.positive;
-      lowest = lowest-swap (r * s) (p * q) (lowest-mul r s (p * q) (lowest-swap (p * q) r with_r) (lowest-swap (p * q) s with_s));
+      lowest =
+          lowest-swap (r * s) (p * q) (lowest-mul r s (p * q) (lowest-swap (p * q) r with_r) (lowest-swap (p * q) s with_s));
     }
 
-pub crosswise : (a b c d f g : ℕ) → IsLowest a b → IsLowest c d → 0 < b → 0 < d → IsGcd a d f → IsGcd c b g → Divides (a * c) (b * d) (f * g) (a / f * (c / g)) (b / g * (d / f))
-crosswise a b c d f g la lc hb hd one two = divided_crosswise a b c d f g (a / f) (c / g) (b / g) (d / f) la lc (divided a d f hd one) (divided c b g hb two)
+pub crosswise : (a b c d f g : ℕ) → IsLowest a b → IsLowest c d → 0 < b → 0 < d → IsGcd a d f → IsGcd c b g
+    → Divides (a * c) (b * d) (f * g) (a / f * (c / g)) (b / g * (d / f))
+crosswise a b c d f g la lc hb hd one two =
+    divided_crosswise a b c d f g (a / f) (c / g) (b / g) (d / f) la lc (divided a d f hd one) (divided c b g hb two)

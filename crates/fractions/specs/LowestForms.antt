@@ -30,11 +30,13 @@ sizes n m d e same = sym (unsigned_abs-mul n (pos e)) ∙ ap unsigned_abs same �
 -- two rationals whose cross products are equal are one
 pub same_from_value : (a b : Rational) → SameValue a.num a.den b.num b.den → a ≡ b
 same_from_value a b same =
-    let form = one_lowest (unsigned_abs a.num) (unsigned_abs b.num) a.den b.den a.positive b.positive a.lowest b.lowest (sizes a.num b.num a.den b.den same) in
+    let form =
+    one_lowest (unsigned_abs a.num) (unsigned_abs b.num) a.den b.den a.positive b.positive a.lowest b.lowest (sizes a.num b.num a.den b.den same) in
     same_from_fields a b (*ℤ_cancel_right (pos b.den) a.num b.num (pos_above b.den b.positive) (same ∙ ap (λ k. b.num *ℤ pos k) form.1)) form.1
 
 -- what is divided by g keeps its value
-pub same_divided : (negative : Bool) (a d g size den : ℕ) → a ≡ size * g → d ≡ den * g → SameValue (signed negative size) den (signed negative a) d
+pub same_divided : (negative : Bool) (a d g size den : ℕ) → a ≡ size * g → d ≡ den * g
+    → SameValue (signed negative size) den (signed negative a) d
 same_divided negative a d g size den ea ed =
     let cross : size * d ≡ a * den = rw (ea, ed) (omega arith) in
     signed-*ℤ negative size d ∙ ap (signed negative) cross ∙ sym (signed-*ℤ negative a den)
@@ -44,7 +46,8 @@ unfolding lowest_form
 lowest_form-value n d some =
     let g = gcd (unsigned_abs n) d in
     let parts = divided (unsigned_abs n) d g some (gcd_is (unsigned_abs n) d) in
-    same_divided (int_lt n (pos 0)) (unsigned_abs n) d g _ _ parts.whole parts.under ∙ ap (λ z. z *ℤ pos (d / g)) (signed-sign n)
+    same_divided (int_lt n (pos 0)) (unsigned_abs n) d g _ _ parts.whole parts.under
+    ∙ ap (λ z. z *ℤ pos (d / g)) (signed-sign n)
 
 -- a ratio has the value of its two numbers
 pub ratio-value : (n : ℤ) (d : ℕ) → 0 < d → SameValue (ratio n d).num (ratio n d).den n d

@@ -13,7 +13,8 @@ use Rattle.fractions.specs.Integers.{pos_above}
 use Rattle.fractions.specs.LowestForms.{same_from_fields, same_from_value}
 use Rattle.fractions.specs.Rationals.{IsBelow, Rational, rational_cmp, rational_eq}
 
-ranked : (r : Ordering) (P P' Q Q' R R' : Type 0) → (P → P') → (Q → Q') → (R → R') → MatchOrdering r P Q R → MatchOrdering r P' Q' R'
+ranked : (r : Ordering) (P P' Q Q' R R' : Type 0) → (P → P') → (Q → Q') → (R → R') → MatchOrdering r P Q R
+    → MatchOrdering r P' Q' R'
 ranked Less P P' Q Q' R R' f g h m = f m
 ranked Equal P P' Q Q' R R' f g h m = g m
 ranked Greater P P' Q Q' R R' f g h m = h m
@@ -37,7 +38,8 @@ same_from_cmp a b e = subst (λ r. MatchOrdering r (IsBelow a b) (a ≡ b) (IsBe
 
 pub cmp_from_same : (a b : Rational) → a ≡ b → rational_cmp a b ≡ Equal
 unfolding rational_cmp
-cmp_from_same a b e = sym (int_cmp_is (a.num *ℤ pos b.den) (b.num *ℤ pos a.den) Equal (ap (λ r. a.num *ℤ pos r.den) (sym e) ∙ ap (λ r. r.num *ℤ pos a.den) e))
+cmp_from_same a b e =
+    sym (int_cmp_is (a.num *ℤ pos b.den) (b.num *ℤ pos a.den) Equal (ap (λ r. a.num *ℤ pos r.den) (sym e) ∙ ap (λ r. r.num *ℤ pos a.den) e))
 
 pub rational_cmp_total : IsTotalOrder rational_cmp
 unfolding rational_cmp
@@ -49,9 +51,12 @@ rational_cmp_total = record {
   where
     transitive : (a b c : Rational) → rational_cmp a b ≡ Less → rational_cmp b c ≡ Less → rational_cmp a c ≡ Less
     transitive a b c one two =
-        let first = ap (λ z. int_cmp (a.num *ℤ pos b.den *ℤ pos c.den) z) (*ℤ_swap b.num (pos c.den) (pos a.den)) ∙ cmp-scale (a.num *ℤ pos b.den) (b.num *ℤ pos a.den) c.den c.positive ∙ one in
+        let first =
+        ap (λ z. int_cmp (a.num *ℤ pos b.den *ℤ pos c.den) z) (*ℤ_swap b.num (pos c.den) (pos a.den))
+        ∙ cmp-scale (a.num *ℤ pos b.den) (b.num *ℤ pos a.den) c.den c.positive ∙ one in
         let second = cmp-scale (b.num *ℤ pos c.den) (c.num *ℤ pos b.den) a.den a.positive ∙ two in
-        let both = int_cmp_total.trans (a.num *ℤ pos b.den *ℤ pos c.den) (b.num *ℤ pos c.den *ℤ pos a.den) (c.num *ℤ pos b.den *ℤ pos a.den) first second in
+        let both =
+        int_cmp_total.trans (a.num *ℤ pos b.den *ℤ pos c.den) (b.num *ℤ pos c.den *ℤ pos a.den) (c.num *ℤ pos b.den *ℤ pos a.den) first second in
         sym (cmp-scale (a.num *ℤ pos c.den) (c.num *ℤ pos a.den) b.den b.positive)
         ∙ ap (λ z. int_cmp z (c.num *ℤ pos a.den *ℤ pos b.den)) (*ℤ_swap a.num (pos c.den) (pos b.den))
         ∙ ap (λ z. int_cmp (a.num *ℤ pos b.den *ℤ pos c.den) z) (*ℤ_swap c.num (pos a.den) (pos b.den)) ∙ both

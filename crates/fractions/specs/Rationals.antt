@@ -32,7 +32,8 @@ lowest_form n d some =
       num = signed (int_lt n (pos 0)) (unsigned_abs n / g);
       den = d / g;
       positive = parts.positive;
-      lowest = subst (λ size. IsLowest size (d / g)) (sym (unsigned_abs-signed (int_lt n (pos 0)) (unsigned_abs n / g))) parts.lowest;
+      lowest =
+          subst (λ size. IsLowest size (d / g)) (sym (unsigned_abs-signed (int_lt n (pos 0)) (unsigned_abs n / g))) parts.lowest;
     }
 
 -- a whole number

@@ -1,4 +1,5 @@
--- The parts of a side in the order in which they are made: place by place downward, at each place the latent streams and
+-- The parts of a side in the order in which they are made: place by place downward, at each place the latent streams
+-- and
 -- then the utilities at that level, then the streams on the interval below it.
 use Rattle.std.specs.Prelude.{ℕ, suc, ℤ, pos, int_le, Bool, ◌&&◌, List, [], ◌∷◌, ◌++◌}
 use Rattle.std.specs.Ordering.{int_eq}
@@ -20,7 +21,8 @@ picked test make n (x ∷ xs) = cons_if (test x) (make n x) (picked test make (s
 
 -- it gives or takes latent heat: at one temperature, by a load within its limits
 abbrev pub has_latent_heat : Stream → Bool
-has_latent_heat s = int_eq s.supply s.target && (int_eq s.cp (pos 0) && (int_le (pos 1) s.load && int_le s.load MOST_LOAD))
+has_latent_heat s =
+    int_eq s.supply s.target && (int_eq s.cp (pos 0) && (int_le (pos 1) s.load && int_le s.load MOST_LOAD))
 
 -- one of this side at this place
 abbrev pub stands_at : Side → ℤ → Stream → Bool
@@ -37,7 +39,9 @@ covers side high low s = same_side s.side side && (int_le (low_end s) low && int
 module _ (streams : List Stream) (utilities : List Utility) (side : Side) where
   -- the parts at a place
   abbrev pub level_parts : ℤ → List Part
-  level_parts place = picked (stands_at side place) (stream_part place place) 0 streams ++ picked (is_here side place) utility_part 0 utilities
+  level_parts place =
+      picked (stands_at side place) (stream_part place place) 0 streams
+      ++ picked (is_here side place) utility_part 0 utilities
 
   -- those on the interval from a place down to the next one
   abbrev pub interval_parts : ℤ → List ℤ → List Part

@@ -8,7 +8,8 @@ use Rattle.grid.specs.declared.part.Part.{Part}
 use Rattle.grid.specs.Grid.{IsGrid}
 use Rattle.grid.specs.Part.{IsInterval}
 
--- a part of a source of this side, at a place or on the interval between two neighbours; its range and its price are free
+-- a part of a source of this side, at a place or on the interval between two neighbours; its range and its price are
+-- free
 pub record IsOnPlaces (c : Case) (places : List ℤ) (side : Side) (p : Part) : Type 0 where
   pub source : side_of c p.source ≡ Some side
   pub ends : ((p.high ≡ p.low) × Contains places p.high) ⊎ IsInterval places p.high p.low

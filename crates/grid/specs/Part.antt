@@ -29,14 +29,31 @@ piece_heat high low s = heat_between high low s +ℤ s.load
 
 -- the part of stream number i from high down to low
 abbrev pub stream_part : ℤ → ℤ → ℕ → Stream → Part
-stream_part high low i s = record { source = of_stream i; side = s.side; high = high; low = low; least = piece_heat high low s; most = piece_heat high low s; price = pos 0 }
+stream_part high low i s = record {
+  source = of_stream i;
+  side = s.side;
+  high = high;
+  low = low;
+  least = piece_heat high low s;
+  most = piece_heat high low s;
+  price = pos 0;
+}
 
 -- the part of utility number i, at its level
 abbrev pub utility_part : ℕ → Utility → Part
-utility_part i u = record { source = of_utility i; side = u.side; high = shifted_level u; low = shifted_level u; least = u.least; most = u.most; price = u.price }
+utility_part i u = record {
+  source = of_utility i;
+  side = u.side;
+  high = shifted_level u;
+  low = shifted_level u;
+  least = u.least;
+  most = u.most;
+  price = u.price;
+}
 
 -- p is the part of stream number i on a piece of its range
-pub record IsStreamPart (streams : List Stream) (places : List ℤ) (side : Side) (i : ℕ) (s : Stream) (p : Part) : Type 0 where
+pub record IsStreamPart (streams : List Stream) (places : List ℤ) (side : Side) (i : ℕ) (s : Stream)
+    (p : Part) : Type 0 where
   pub stream : slice_get streams i ≡ Some s
   pub side_is : s.side ≡ side
   pub piece : IsPiece places s p.high p.low
@@ -53,7 +70,8 @@ pub record IsUtilityPart (utilities : List Utility) (side : Side) (i : ℕ) (u :
 -- a stream on a piece of its range, or a utility at its level
 abbrev pub IsPartOf : List Stream → List Utility → List ℤ → Side → Part → Type 0
 IsPartOf streams utilities places side p =
-    ((i : ℕ) × (s : Stream) × IsStreamPart streams places side i s p) ⊎ ((i : ℕ) × (u : Utility) × IsUtilityPart utilities side i u p)
+    ((i : ℕ) × (s : Stream) × IsStreamPart streams places side i s p)
+    ⊎ ((i : ℕ) × (u : Utility) × IsUtilityPart utilities side i u p)
 
 -- a part stands above a place with its low where the place counts from itself, else with its high
 abbrev pub stands_above : Bool → ℤ → Part → Bool
@@ -69,7 +87,8 @@ comes_before_source (of_utility i) (of_utility j) = i < j
 -- by falling high, then by falling low, then by the source
 abbrev pub comes_before : Part → Part → Type 0
 comes_before p q =
-    (q.high <ℤ p.high) ⊎ ((q.high ≡ p.high) × (q.low <ℤ p.low)) ⊎ ((q.high ≡ p.high) × (q.low ≡ p.low) × comes_before_source p.source q.source)
+    (q.high <ℤ p.high) ⊎ ((q.high ≡ p.high) × (q.low <ℤ p.low))
+    ⊎ ((q.high ≡ p.high) × (q.low ≡ p.low) × comes_before_source p.source q.source)
 
 -- the parts of a side, in their order
 abbrev pub AreParts : List Stream → List Utility → List ℤ → Side → List Part → Type 0

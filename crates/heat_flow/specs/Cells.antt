@@ -14,4 +14,5 @@ source_index c (of_utility i) = length c.streams + i
 -- for each source of the case, whether it may take heat from this hot source
 pub record ArePermissions (c : Case) (forbids : List Forbid) (hot : Source) (allowed : List Bool) : Type 0 where
   pub count : length allowed ≡ length c.streams + length c.utilities
-  pub each : (cold : Source) → IsSourceOf c cold → slice_index_or allowed (source_index c cold) false ≡ not (is_forbidden forbids hot cold)
+  pub each : (cold : Source) → IsSourceOf c cold
+      → slice_index_or allowed (source_index c cold) false ≡ not (is_forbidden forbids hot cold)

@@ -49,4 +49,5 @@ pub record HasCost (hot cold : List Part) (transfers : List Transfer) : Type 0 w
 
 -- each part's sum, at its index in a list of sums, is within the part's range
 abbrev pub SumsWithin : List Part → List ℤ → Type 0
-SumsWithin parts sums = (a : ℕ) (p : Part) → slice_get parts a ≡ Some p → IsBetween p.least p.most (slice_index_or sums a (pos 0))
+SumsWithin parts sums =
+    (a : ℕ) (p : Part) → slice_get parts a ≡ Some p → IsBetween p.least p.most (slice_index_or sums a (pos 0))

@@ -29,7 +29,8 @@ ArePositive transfers = All (λ t. pos 0 <ℤ t.heat) transfers
 
 -- the sum of the transfers of each part is within the part's range
 abbrev pub KeepsRanges : Side → List Part → List Transfer → Type 0
-KeepsRanges side parts transfers = (a : ℕ) (p : Part) → slice_get parts a ≡ Some p → IsBetween p.least p.most (heat_at side transfers a)
+KeepsRanges side parts transfers =
+    (a : ℕ) (p : Part) → slice_get parts a ≡ Some p → IsBetween p.least p.most (heat_at side transfers a)
 
 -- a heat flow of these parts, where `reach a b` tells whether hot part a reaches cold part b
 pub record IsHeatFlow (reach : ℕ → ℕ → Bool) (hot cold : List Part) (transfers : List Transfer) : Type 0 where
@@ -57,4 +58,5 @@ pub record IsLeastCost (reach : ℕ → ℕ → Bool) (hot cold : List Part) (co
 
 -- there is at most one least cost
 abbrev pub OneLeastCost : (ℕ → ℕ → Bool) → List Part → List Part → Type 0
-OneLeastCost reach hot cold = (cost other : ℤ) → IsLeastCost reach hot cold cost → IsLeastCost reach hot cold other → cost ≡ other
+OneLeastCost reach hot cold =
+    (cost other : ℤ) → IsLeastCost reach hot cold cost → IsLeastCost reach hot cold other → cost ≡ other

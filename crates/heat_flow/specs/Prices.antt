@@ -35,7 +35,8 @@ excess_price Cold price z = price +ℤ z
 
 -- the sum over the parts of a side of the least that the part can cost at these prices
 abbrev pub side_value : Side → List Part → List ℤ → ℤ
-side_value side parts prices = int_sum_from (λ a p. least_product (excess_price side p.price (price_at prices a)) p.least p.most) 0 parts
+side_value side parts prices =
+    int_sum_from (λ a p. least_product (excess_price side p.price (price_at prices a)) p.least p.most) 0 parts
 
 -- the value of prices y of the hot parts and z of the cold parts
 abbrev pub value_of : List Part → List Part → List ℤ → List ℤ → ℤ
@@ -44,4 +45,5 @@ value_of hot cold y z = side_value Hot hot y +ℤ side_value Cold cold z
 -- no heat flow costs less than the value of prices that support it
 abbrev pub WeakDuality : (ℕ → ℕ → Bool) → List Part → List Part → List ℤ → List ℤ → Type 0
 WeakDuality reach hot cold y z =
-    IsSupporting reach y z → (transfers : List Transfer) → IsHeatFlow reach hot cold transfers → value_of hot cold y z ≤ℤ cost_of hot cold transfers
+    IsSupporting reach y z → (transfers : List Transfer) → IsHeatFlow reach hot cold transfers
+    → value_of hot cold y z ≤ℤ cost_of hot cold transfers

@@ -58,7 +58,7 @@ pub use Rattle.std.proofs.lemmas.Simd.{map-map}
 pub use Rattle.std.specs.List.{cons_option, enumerate_from, filter_map}
 pub use Rattle.std.specs.Option.{option_map_or}
 pub use Rattle.std.specs.Ordering.{int_eq}
-pub use Rattle.std.specs.Prelude.{Contains, IsTrue, Option, int_le, nat_lt, not, option_map, reverse, unwrap_or, ◌&&◌, ◌*ℤ◌, ◌+ℤ◌, ◌-ℤ◌, ◌||◌}
+pub use Rattle.std.specs.Prelude.{Contains, IsTrue, int_le, nat_lt, not, option_map, reverse, unwrap_or, ◌&&◌, ◌||◌}
 pub use Rattle.stream_case.proofs.CaseLemmas.{length-AreStreams}
 pub use Rattle.stream_case.proofs.CompleteLemmas.{AreStreams-IsComplete}
 pub use Rattle.stream_case.proofs.EndLemmas.{AreEnds-IsValidStream, level-latent}

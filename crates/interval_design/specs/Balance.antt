@@ -14,9 +14,11 @@ use Rattle.heat_flow.specs.declared.flow.Transfer.{Transfer}
 
 -- the heat of the utilities of a side, part by part
 abbrev pub utilities_heat : Side → List Part → List Transfer → ℤ
-utilities_heat of parts transfers = int_sum_from (λ a p. if is_stream p.source then pos 0 else heat_at of transfers a) 0 parts
+utilities_heat of parts transfers =
+    int_sum_from (λ a p. if is_stream p.source then pos 0 else heat_at of transfers a) 0 parts
 
--- what the hot utilities give, what the cold ones take, what the hot ones give beyond the hot target, and the cost of the flow
+-- what the hot utilities give, what the cold ones take, what the hot ones give beyond the hot target, and the cost of
+-- the flow
 abbrev pub flow_balance : Case → List Part → List Part → List Transfer → Balance
 flow_balance case hot cold transfers = record {
   hot = whole (utilities_heat side.Hot hot transfers);

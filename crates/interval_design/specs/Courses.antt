@@ -1,4 +1,5 @@
--- The network of a heat flow: its parts are the pieces of their sources, and each transfer is an exchange of heat between two of them.
+-- The network of a heat flow: its parts are the pieces of their sources, and each transfer is an exchange of heat
+-- between two of them.
 use Rattle.std.specs.Prelude.{ℕ, ◌-ℤ◌, max, unsigned_abs, List, map, slice_get}
 use Rattle.std.specs.Option.{option_map_or}
 use Rattle.stream_case.specs.declared.case.Case.{Case}
@@ -20,7 +21,8 @@ part_sources parts = map (λ p. p.source) parts
 abbrev pub width_of : Part → ℕ
 width_of p = max 1 (unsigned_abs (p.high -ℤ p.low))
 
--- the heat of a transfer over the width of the part at an index, which is the whole heat in the part of a latent stream; over 1 where there is none
+-- the heat of a transfer over the width of the part at an index, which is the whole heat in the part of a latent
+-- stream; over 1 where there is none
 abbrev pub width_at : List Part → ℕ → ℕ
 width_at parts index = option_map_or width_of (slice_get parts index) 1
 
@@ -44,4 +46,5 @@ exchanger_of hot cold (number, t) = record {
 
 -- the exchangers in the order of the transfers, and each stream led through its parts
 unfoldable pub network_of : Case → List Part → List Part → List Transfer → Network
-network_of case hot cold transfers = pieces_network case (part_sources hot) (part_sources cold) (map (exchange_of hot cold) transfers)
+network_of case hot cold transfers =
+    pieces_network case (part_sources hot) (part_sources cold) (map (exchange_of hot cold) transfers)

@@ -41,12 +41,11 @@ pub use Rattle.network_values.specs.Made.{LeavesRoom, front, heat_of_both, made_
 pub use Rattle.network_values.specs.Penalties.{hot_heat, utility_part}
 pub use Rattle.network_values.specs.Sides.{KeepsApproach, SideRun, fixed_level, level_or, pass_run, passed_run, run_between}
 unfoldable pub use Rattle.network_values.specs.Sides.{side_run}
-pub use Rattle.network_values.specs.Values.{AreEnded, IsFullEnd, IsMix, IsPartOfLoad, IsPass, IsSplit, IsValuation, IsWholeValuation, KeepLoads, PassKeepsLoad}
+pub use Rattle.network_values.specs.Values.{IsFullEnd, IsMix, IsPartOfLoad, IsPass, IsSplit, IsValuation, IsWholeValuation, PassKeepsLoad}
 pub use Rattle.network_values.specs.Values.{Solves, Valuation, change, duty_of, ends, first_part_of_load, first_state, first_value, full_size, last_state}
 pub use Rattle.network_values.specs.Values.{last_value, no_value, value_at}
 unfoldable pub use Rattle.network_values.specs.Values.{branch_side, duty_at, ended_by, ended_streams, is_latent_branch}
 pub use Rattle.network_values.specs.declared.values.BranchValue.{BranchValue}
-pub use Rattle.networks.proofs.LineLaws.{few_exchangers}
 pub use Rattle.networks.proofs.Lists.{all_at, slice_get-take}
 pub use Rattle.networks.proofs.OfShape.{IsLineOf, all_made, line_of, line_read, made_fewer, made_no_more, names-known, streams_first, the_pass_of}
 pub use Rattle.networks.specs.Lines.{Exchanger, exchanger_of, is_pass_of, uses}
@@ -60,7 +59,7 @@ pub use Rattle.problem_table.specs.Deficit.{hot_target}
 pub use Rattle.std.proofs.Math.Bool.{not-not}
 pub use Rattle.std.proofs.Math.Nat.{le_of_mul-le-mul_right, mul-le-mul, mul-pos}
 pub use Rattle.std.proofs.Math.Seq.{take-length}
-pub use Rattle.std.proofs.lemmas.Bool.{cases_eq, cases_lt, false≢true}
+pub use Rattle.std.proofs.lemmas.Bool.{cases_lt, false≢true}
 pub use Rattle.std.proofs.lemmas.Bool.Decides.{nat_tests}
 pub use Rattle.std.proofs.lemmas.Int.{ints, unsigned_abs-mul}
 pub use Rattle.std.proofs.lemmas.List.{append-nil, get_or_default, get_or_past, length-map, map-append, take-append-drop, take_all, take_more, take_more_set}
@@ -70,7 +69,7 @@ pub use Rattle.std.proofs.lemmas.List.Folds.{find-append}
 pub use Rattle.std.proofs.lemmas.List.FromFn.{get_or-enumerate_from, length-enumerate_from}
 pub use Rattle.std.proofs.lemmas.Option.{get_or_from_slice_get, none-some, same_Some, slice_get-get_or, slice_get_within}
 pub use Rattle.std.proofs.lemmas.Result.{err_from_is_err_and}
-pub use Rattle.std.specs.List.{cons_option, enumerate_from, filter_map, flat_map, list_any, range_with_len}
+pub use Rattle.std.specs.List.{cons_option, enumerate_from, filter_map, list_any, range_with_len}
 pub use Rattle.std.specs.Option.{option_map_or, option_or}
 pub use Rattle.stream_case.proofs.CaseLemmas.{IsSourceOf-side, length-AreStreams}
 pub use Rattle.stream_case.proofs.CompleteLemmas.{AreStreams-IsComplete, HasValidStreams-IsComplete, IsPlaced-IsComplete, IsUtility, StaysValid-IsComplete}

@@ -20,7 +20,8 @@ use Rattle.network_audit.specs.declared.findings.Reason.TheVariants as reason
 -- numbers are added to a total, one after the other; the steps are the sums, and so many steps stand before them
 abbrev pub sum_steps : Place → ℕ → Rational → List Rational → List Item
 sum_steps at before total [] = []
-sum_steps at before total (a ∷ numbers) = Step at (before + 1) (plus total a) ∷ sum_steps at (before + 1) (plus total a) numbers
+sum_steps at before total (a ∷ numbers) =
+    Step at (before + 1) (plus total a) ∷ sum_steps at (before + 1) (plus total a) numbers
 
 -- the heat of a utility lies in its range
 abbrev pub range_items : Place → Utility → Rational → List Item
@@ -31,7 +32,8 @@ range_items at u heat =
 
 abbrev pub utility_items_at : Network → ℕ × Utility → List Item
 utility_items_at network (index, u) =
-    sum_steps (place.Utility index) 0 rational_zero (duties_with network index) ++ range_items (place.Utility index) u (heat_with network index)
+    sum_steps (place.Utility index) 0 rational_zero (duties_with network index)
+    ++ range_items (place.Utility index) u (heat_with network index)
 
 unfoldable pub utility_items : Case → Network → List Item
 utility_items case network = flat_map (utility_items_at network) (enumerate_from 0 case.utilities)
@@ -67,8 +69,12 @@ balance_items case network =
 -- what follows the statements: streams, exchangers, utilities, and the balance
 unfoldable pub items_behind : Case → Network → Valuation → List Item
 items_behind case network values =
-    stream_items case network ++ (exchanger_items case network values ++ (utility_items case network ++ balance_items case network))
+    stream_items case network
+    ++ (exchanger_items case network values ++ (utility_items case network ++ balance_items case network))
 
--- the items that a valuation of the first n statements defines: those of these statements and the next one, and behind the last statement all
+-- the items that a valuation of the first n statements defines: those of these statements and the next one, and
+-- behind the last statement all
 unfoldable pub items : Case → Network → Valuation → ℕ → List Item
-items case network values n = items_before case network values (n + 1) ++ (if n == length network.lines then items_behind case network values else [])
+items case network values n =
+    items_before case network values (n + 1)
+    ++ (if n == length network.lines then items_behind case network values else [])

@@ -75,7 +75,8 @@ pub record Accepts (case : Case) (network : Network) (values : Valuation) (balan
 
 -- its case and network, and the room that it has: the exchangers with their passes, a value for each branch and a heat
 -- for each utility
-pub record IsReady (case : Case) (network : Network) (joints : List Joint) (values : Valuation) (heats : List Rational) : Type 0 where
+pub record IsReady (case : Case) (network : Network) (joints : List Joint) (values : Valuation)
+    (heats : List Rational) : Type 0 where
   pub complete : IsComplete case
   pub shape : HasShape case network
   pub table : joints ≡ joints_of network

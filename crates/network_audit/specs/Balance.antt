@@ -16,7 +16,8 @@ use Rattle.network_audit.specs.declared.verdict.Balance.{Balance}
 
 -- the duty of an exchanger that has the utility
 abbrev pub duty_with : ℕ → Exchanger → Option Rational
-duty_with index e = if same_source e.hot (source.Utility index) || same_source e.cold (source.Utility index) then Some e.duty else None
+duty_with index e =
+    if same_source e.hot (source.Utility index) || same_source e.cold (source.Utility index) then Some e.duty else None
 
 -- the duties of a utility's exchangers in order, and its heat, their sum
 unfoldable pub duties_with : Network → ℕ → List Rational
@@ -43,4 +44,9 @@ unfoldable pub cost_of : Case → Network → Rational
 cost_of case network = rational_sum_by (heat_price network) (enumerate_from 0 case.utilities)
 
 abbrev pub balance_of : Case → Network → Balance
-balance_of case network = record { hot = hot_heat network; cold = cold_heat network; excess = excess_of case network; cost = cost_of case network }
+balance_of case network = record {
+  hot = hot_heat network;
+  cold = cold_heat network;
+  excess = excess_of case network;
+  cost = cost_of case network;
+}

@@ -106,8 +106,10 @@ line_items case network values at (line.Exchanger name hot cold duty) = []
 line_items case network values at (line.Split from first cp second) = split_items at (value_at values from) cp
 line_items case network values at (line.Pass from exchanger to) =
     pass_items at (branch_side case network from) (is_latent_branch case network from) (value_at values from) (duty_at network exchanger)
-line_items case network values at (line.Mix first second to) = mix_items at (value_at values first) (value_at values second)
-line_items case network values at (line.End branch) = end_items at (value_at values branch) (slice_get case.streams (stream_at network.branches branch))
+line_items case network values at (line.Mix first second to) =
+    mix_items at (value_at values first) (value_at values second)
+line_items case network values at (line.End branch) =
+    end_items at (value_at values branch) (slice_get case.streams (stream_at network.branches branch))
 
 -- statements are counted from 1
 abbrev pub statement_items : Case → Network → Valuation → ℕ × Line → List Item
@@ -115,7 +117,8 @@ statement_items case network values (index, l) = line_items case network values 
 
 -- those of the first n statements
 unfoldable pub items_before : Case → Network → Valuation → ℕ → List Item
-items_before case network values n = flat_map (statement_items case network values) (enumerate_from 0 (take n network.lines))
+items_before case network values n =
+    flat_map (statement_items case network values) (enumerate_from 0 (take n network.lines))
 
 -- ---- streams
 
@@ -133,7 +136,8 @@ is_ended network stream = list_any (ends_stream network.branches stream) network
 
 -- each stream has to end
 abbrev pub stream_items_at : Network → ℕ × Stream → List Item
-stream_items_at network (index, s) = Test (place.Stream index) (is_ended network index) (reason.Unfinished rational_zero (full_size s)) ∷ []
+stream_items_at network (index, s) =
+    Test (place.Stream index) (is_ended network index) (reason.Unfinished rational_zero (full_size s)) ∷ []
 
 unfoldable pub stream_items : Case → Network → List Item
 stream_items case network = flat_map (stream_items_at network) (enumerate_from 0 case.streams)
@@ -166,4 +170,5 @@ exchanger_items_at case network values (number, e) =
     (ends_of side.Cold (side_run case network values number e.cold))
 
 unfoldable pub exchanger_items : Case → Network → Valuation → List Item
-exchanger_items case network values = flat_map (exchanger_items_at case network values) (enumerate_from 0 (exchangers_of network.lines))
+exchanger_items case network values =
+    flat_map (exchanger_items_at case network values) (enumerate_from 0 (exchangers_of network.lines))

@@ -23,7 +23,8 @@ crossing_by (Some (line.End branch)) = None
 
 -- those of the first pass among some lines on the side of a source; a utility is not passed
 abbrev pub crossing_among : List Branch → List Line → ℕ → Source → Option Crossing
-crossing_among branches lines number (source.Stream stream) = crossing_by (find (is_pass_of branches number stream) lines)
+crossing_among branches lines number (source.Stream stream) =
+    crossing_by (find (is_pass_of branches number stream) lines)
 crossing_among branches lines number (source.Utility index) = None
 
 abbrev pub joint_among : List Branch → List Line → ℕ × Exchanger → Joint

@@ -1,4 +1,5 @@
--- Numbers over a denominator, of a size up to some bound, so that all steps of an audit are within the limits of a fraction.
+-- Numbers over a denominator, of a size up to some bound, so that all steps of an audit are within the limits of a
+-- fraction.
 use Rattle.std.specs.Prelude.{◌≡◌, ◌+◌, ◌*◌, ◌^◌, ◌<◌, ◌≤◌, ◌+ℤ◌, ℕ, ℤ, All, List, [], ◌∷◌, flat_map, length, unsigned_abs}
 use Rattle.stream_case.specs.declared.limits.TheConstants.{MOST_CONTRIBUTION}
 use Rattle.fractions.specs.Rationals.{Rational, ratio, rational_sum, whole}

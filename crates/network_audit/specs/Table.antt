@@ -25,7 +25,10 @@ use Rattle.network_audit.specs.declared.verdict.Balance.{Balance}
 -- where a side enters an exchanger and leaves it, by its pass; 0, of which no rule speaks, where it has none
 abbrev pub passed_ends : Valuation → Option Crossing → Ends
 passed_ends values None = record { enters = rational_zero; leaves = rational_zero }
-passed_ends values (Some crossing) = record { enters = (value_at values crossing.from).t; leaves = (value_at values crossing.to).t }
+passed_ends values (Some crossing) = record {
+  enters = (value_at values crossing.from).t;
+  leaves = (value_at values crossing.to).t;
+}
 
 abbrev pub level_ends : Ends → Option ℤ → Ends
 level_ends ends None = ends
@@ -56,7 +59,8 @@ duties_in joints index = filter_map (joint_duty index) joints
 
 abbrev pub heat_items : List Joint → ℕ × Utility → List Item
 heat_items joints (index, u) =
-    sum_steps (place.Utility index) 0 rational_zero (duties_in joints index) ++ range_items (place.Utility index) u (rational_sum (duties_in joints index))
+    sum_steps (place.Utility index) 0 rational_zero (duties_in joints index)
+    ++ range_items (place.Utility index) u (rational_sum (duties_in joints index))
 
 unfoldable pub all_heat_items : List Joint → List Utility → List Item
 all_heat_items joints utilities = flat_map (heat_items joints) (enumerate_from 0 utilities)

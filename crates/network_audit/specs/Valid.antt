@@ -19,7 +19,8 @@ pub record IsInRange (u : Utility) (heat : Rational) : Type 0 where
   pub least : IsAtMost (whole u.least) heat
   pub most : IsAtMost heat (whole u.most)
 
--- the whole network has a valuation, over which each stream ends once in full, each latent branch has a part of its load
+-- the whole network has a valuation, over which each stream ends once in full, each latent branch has a part of its
+-- load
 -- as state, both ends of each exchanger keep the approach, no match is forbidden and each utility is in its range
 pub record IsValidNetwork (case : Case) (network : Network) : Type 0 where
   pub values : Valuation
@@ -28,4 +29,5 @@ pub record IsValidNetwork (case : Case) (network : Network) : Type 0 where
   pub loads : KeepLoads case network values
   pub approaches : KeepApproaches case network values
   pub permitted : All (IsPermitted case) (exchangers_of network.lines)
-  pub ranges : (index : ℕ) (u : Utility) → slice_get case.utilities index ≡ Some u → IsInRange u (heat_with network index)
+  pub ranges : (index : ℕ) (u : Utility) → slice_get case.utilities index ≡ Some u
+      → IsInRange u (heat_with network index)

@@ -9,5 +9,7 @@ use Rattle.network_audit.specs.declared.findings.Finding.{Finding}
 
 -- the branches carry a valuation and all statements are passed, or the network has this finding
 abbrev pub WalkedAll : {X : Type 0} → Case → Network → Valuation → Result X Finding → Type 0
-WalkedAll case network values (Ok x) = IsWholeValuation case network values × (first_finding (items_before case network values (length network.lines)) ≡ None)
+WalkedAll case network values (Ok x) =
+    IsWholeValuation case network values
+    × (first_finding (items_before case network values (length network.lines)) ≡ None)
 WalkedAll case network values (Err found) = IsFinding case network found

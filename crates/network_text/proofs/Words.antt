@@ -6,9 +6,7 @@ pub use Rattle.first_fault.proofs.Steps.{Follows, Give, all_give_at, given_has, 
 pub use Rattle.first_fault.specs.Checks.{first_failing}
 pub use Rattle.fractions.proofs.Comparisons.{Decides-is_below, positive-is, positive_num}
 pub use Rattle.fractions.proofs.Limits.{bounded_back, bounded_within}
-pub use Rattle.fractions.specs.LowestForms.{ratio-self}
-pub use Rattle.fractions.specs.Rationals.{Gives, IsWithinLimits, Rational, fraction_text, is_below, is_within_limits, rational_zero}
-unfoldable pub use Rattle.fractions.specs.Rationals.{ratio}
+pub use Rattle.fractions.specs.Rationals.{IsWithinLimits, Rational, fraction_text, is_below, rational_zero}
 pub use Rattle.indexmap.proofs.CallerLemmas.{insert_entry-new}
 pub use Rattle.indexmap.specs.IndexMap.{IndexMap, insert_entry}
 pub use Rattle.network_text.specs.Building.{IsFresh, IsTracked, named_branch, named_sides, own_entry}
@@ -53,7 +51,7 @@ pub use Rattle.std.proofs.Math.Bool.{or-true}
 pub use Rattle.std.proofs.lemmas.Bool.{and_from, and_parts, eqb-false, false_from_ne_true, false≢true, not-false, not-true, or_cases, or_parts, or_right}
 pub use Rattle.std.proofs.lemmas.Bool.Decides.{nat_tests}
 pub use Rattle.std.proofs.lemmas.Fmt.{length-decimal-le_wide}
-pub use Rattle.std.proofs.lemmas.Int.{ints, to_z-of_z}
+pub use Rattle.std.proofs.lemmas.Int.{ints}
 pub use Rattle.std.proofs.lemmas.List.{append-nil, append_assoc, get_or-append-add, get_or-map, get_or_append_left, get_or_at, get_or_default, length-map}
 pub use Rattle.std.proofs.lemmas.List.{map-append, map-id, take-append-le, take-map, take_all, take_more, take_rest}
 pub use Rattle.std.proofs.lemmas.List.Elements.{All-append, All-cons, All-from_recursion, All-head, All-map, All-nil, All-push, All-tail, All-weaker}
@@ -62,11 +60,10 @@ pub use Rattle.std.proofs.lemmas.List.FromFn.{get_or-enumerate_from, get_or-rang
 pub use Rattle.std.proofs.lemmas.List.Quantifiers.{all_pairs_push}
 pub use Rattle.std.proofs.lemmas.List.Sums.{position_or_len_is, sum_by-append, sum_by-cons}
 pub use Rattle.std.proofs.lemmas.Map.Made.{is_some-lookup}
-pub use Rattle.std.proofs.lemmas.Option.{cond_some, get_or_from_slice_get, same_Some, slice_get-map, slice_get_within}
+pub use Rattle.std.proofs.lemmas.Option.{get_or_from_slice_get, same_Some, slice_get-map, slice_get_within}
 pub use Rattle.std.proofs.lemmas.Simd.{map-map}
 pub use Rattle.std.specs.Cmp.Lexicographic.{bytes_decides}
 pub use Rattle.std.specs.Fmt.{signed_decimal}
-pub use Rattle.std.specs.Int.{w128}
 pub use Rattle.std.specs.List.{after_first, before_first, cons_option, enumerate_from, list_any, position_or_len, range_with_len}
 pub use Rattle.std.specs.Map.{keys_of}
 pub use Rattle.std.specs.Option.{ForSome, option_to_list}

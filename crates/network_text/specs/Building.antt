@@ -17,7 +17,8 @@ use Rattle.networks.specs.declared.network.Line.{Line}
 use Rattle.networks.specs.declared.network.Network.{Network}
 use Rattle.networks.specs.declared.network.Passage.{Passage}
 
--- the branches that an entry uses are there and free, the names that it makes are new, and so is that of its exchanger; the side that it passes is free
+-- the branches that an entry uses are there and free, the names that it makes are new, and so is that of its
+-- exchanger; the side that it passes is free
 pub record IsFresh (given : Network) (entry : Entry) : Type 0 where
   pub known : All (λ b. b < length given.branches) (uses entry.line)
   pub unused : AllPairs (λ a b. a ≢ b) (used_by given.lines ++ uses entry.line)
@@ -45,7 +46,8 @@ abbrev pub named_sides : Exchanger → List ℕ × Sides
 named_sides exchanger = (exchanger.name, record { hot = exchanger.hot; cold = exchanger.cold })
 
 -- the tables tell what the lines use, declare and pass
-pub record IsTracked (branches : List (List ℕ × ℕ)) (used : List ℕ) (exchangers : List (List ℕ × Sides)) (passed : List Passage)
+pub record IsTracked (branches : List (List ℕ × ℕ)) (used : List ℕ) (exchangers : List (List ℕ × Sides))
+    (passed : List Passage)
     (lines : List Line) : Type 0 where
   pub used_are : used ≡ used_by lines
   pub exchangers_are : exchangers ≡ map named_sides (exchangers_of lines)

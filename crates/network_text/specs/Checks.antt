@@ -1,4 +1,5 @@
--- The checks of a statement, in their order. A check is a sentence on the statement and on what the statements before it gave.
+-- The checks of a statement, in their order. A check is a sentence on the statement and on what the statements before
+-- it gave.
 use Rattle.std.specs.Prelude.{ℕ, Bool, false, not, ◌==◌, ◌&&◌, ◌||◌, List, [], ◌∷◌, length, find, Option, Some, None, is_some, option_and_then, nat_lt, slice_get, take}
 use Rattle.std.specs.List.{list_any, range_with_len}
 use Rattle.std.specs.Str.{bytes_eq}
@@ -70,7 +71,8 @@ source_checks case hot cold =
 
 abbrev pub has_stream : ℕ → Option Exchanger → Bool
 has_stream stream None = false
-has_stream stream (Some exchanger) = same_source exchanger.hot (source.Stream stream) || same_source exchanger.cold (source.Stream stream)
+has_stream stream (Some exchanger) =
+    same_source exchanger.hot (source.Stream stream) || same_source exchanger.cold (source.Stream stream)
 
 -- the exchanger with this number has a side of the stream
 unfoldable pub joins_stream : Network → ℕ → ℕ → Bool
@@ -78,7 +80,8 @@ joins_stream given exchanger stream = has_stream stream (slice_get (exchangers_o
 
 -- an earlier statement passed that side
 unfoldable pub is_passed : Network → ℕ → ℕ → Bool
-is_passed given exchanger stream = list_any (same_passage (record { exchanger = exchanger; stream = stream })) (passages_of given.branches given.lines)
+is_passed given exchanger stream =
+    list_any (same_passage (record { exchanger = exchanger; stream = stream })) (passages_of given.branches given.lines)
 
 abbrev pub is_free_side : Network → ℕ → ℕ → Bool
 is_free_side given exchanger stream = joins_stream given exchanger stream && not (is_passed given exchanger stream)
@@ -156,7 +159,8 @@ is_missed given exchanger (source.Utility i) = false
 
 abbrev pub misses_side : Network → ℕ → Option Exchanger → Bool
 misses_side given number None = false
-misses_side given number (Some exchanger) = is_missed given number exchanger.hot || is_missed given number exchanger.cold
+misses_side given number (Some exchanger) =
+    is_missed given number exchanger.hot || is_missed given number exchanger.cold
 
 -- the exchanger that the line at an index declares; none where it is another line
 abbrev pub exchanger_declared : List Line → ℕ → Option Exchanger
@@ -164,7 +168,8 @@ exchanger_declared lines index = option_and_then exchanger_of (slice_get lines i
 
 -- the line at an index declares an exchanger with a side that is not passed
 unfoldable pub misses_pass : Network → ℕ → Bool
-misses_pass all index = misses_side all (length (exchangers_of (take index all.lines))) (exchanger_declared all.lines index)
+misses_pass all index =
+    misses_side all (length (exchangers_of (take index all.lines))) (exchanger_declared all.lines index)
 
 -- the index of the first such line
 unfoldable pub first_missing : Network → Option ℕ

@@ -59,7 +59,8 @@ exchanger_entry case s = record {
 
 abbrev pub split_entry : Network → Statement → Entry
 split_entry given s = record {
-  line = line.Split (branch_at given (field s 1)) (length given.branches) (fraction (field s 3)) (length given.branches + 1);
+  line =
+      line.Split (branch_at given (field s 1)) (length given.branches) (fraction (field s 3)) (length given.branches + 1);
   names = few.Two (field s 2) (field s 4);
 }
 
@@ -105,7 +106,10 @@ branches_in given entry = map (branch_of (first_stream given.branches (uses entr
 
 -- an entry adds its line, and the branches that it makes
 unfoldable pub with_entry : Network → Entry → Network
-with_entry given entry = record { branches = given.branches ++ branches_in given entry; lines = given.lines ++ entry.line ∷ [] }
+with_entry given entry = record {
+  branches = given.branches ++ branches_in given entry;
+  lines = given.lines ++ entry.line ∷ [];
+}
 
 abbrev pub with_any : Network → Option Entry → Network
 with_any given None = given

@@ -11,7 +11,8 @@ use Rattle.network_text.specs.declared.fault.NetWhy.{NetWhy}
 use Rattle.network_text.specs.declared.fault.NetWhy.TheVariants as why
 use Rattle.networks.specs.declared.network.Network.{Network}
 
--- how statements are read for a case. Behind the last of them it is a fault that a pass is missing, of the statement that declares the exchanger
+-- how statements are read for a case. Behind the last of them it is a fault that a pass is missing, of the statement
+-- that declares the exchanger
 abbrev pub grammar : Case → Grammar Statement Network Network NetWhy
 grammar case = record {
   start = start case;

@@ -40,7 +40,8 @@ split_statement network from first cp second =
 
 -- by the name of the exchanger
 abbrev pub pass_statement : Network → ℕ → List ℕ → ℕ → Statement
-pass_statement network from exchanger to = codes "pass" ∷ branch_name network from ∷ exchanger ∷ branch_name network to ∷ []
+pass_statement network from exchanger to =
+    codes "pass" ∷ branch_name network from ∷ exchanger ∷ branch_name network to ∷ []
 
 abbrev pub mix_statement : Network → ℕ → ℕ → ℕ → Statement
 mix_statement network first second to =
@@ -53,7 +54,8 @@ end_statement network branch = codes "end" ∷ branch_name network branch ∷ []
 abbrev pub statement_of : Case → Network → Line → Statement
 statement_of case network (line.Exchanger name hot cold duty) = exchanger_statement case name hot cold duty
 statement_of case network (line.Split from first cp second) = split_statement network from first cp second
-statement_of case network (line.Pass from exchanger to) = pass_statement network from (exchanger_name network exchanger) to
+statement_of case network (line.Pass from exchanger to) =
+    pass_statement network from (exchanger_name network exchanger) to
 statement_of case network (line.Mix first second to) = mix_statement network first second to
 statement_of case network (line.End branch) = end_statement network branch
 

@@ -13,10 +13,12 @@ pub data Course : Type 0 where
   Sensible : Rational → Course
   Latent : Rational → Course
 
--- the height of a branch; of a latent one, whose state is the part that it still has to give or has taken, all or nothing
+-- the height of a branch; of a latent one, whose state is the part that it still has to give or has taken, all or
+-- nothing
 abbrev pub height_on : Bool → Course → BranchValue → Rational
 height_on from_itself (Sensible base) value = height_above base value
-height_on from_itself (Latent distance) value = if is_above from_itself distance then times value.cp value.t else rational_zero
+height_on from_itself (Latent distance) value =
+    if is_above from_itself distance then times value.cp value.t else rational_zero
 
 -- the side of an exchanger that a branch passes between a lower and a higher state, as distances
 abbrev pub side_on : Course → BranchValue → BranchValue → SideRun
@@ -30,12 +32,16 @@ pub record IsBetweenValues (duty : Rational) (low high : BranchValue) : Type 0 w
   pub gives : times high.cp (minus high.t low.t) ≡ duty
 
 pub record PassesTakeShares : Type 0 where
-  pub has_duty : (course : Course) (duty : Rational) (low high : BranchValue) → IsBetweenValues duty low high → HasDuty duty (side_on course low high)
+  pub has_duty : (course : Course) (duty : Rational) (low high : BranchValue) → IsBetweenValues duty low high
+      → HasDuty duty (side_on course low high)
   -- the height that a pass takes is its share of the duty
-  pub takes : (from_itself : Bool) (course : Course) (duty : Rational) (low high : BranchValue) → IsBetweenValues duty low high
-      → minus (height_on from_itself course high) (height_on from_itself course low) ≡ share from_itself duty (side_on course low high)
+  pub takes : (from_itself : Bool) (course : Course) (duty : Rational) (low high : BranchValue)
+      → IsBetweenValues duty low high
+      → minus (height_on from_itself course high) (height_on from_itself course low)
+      ≡ share from_itself duty (side_on course low high)
   -- a mix raises no height, and a height is additive in the size
-  pub mixes : (from_itself : Bool) (course : Course) (first second to : BranchValue) → IsBelow rational_zero first.cp → IsBelow rational_zero second.cp
+  pub mixes : (from_itself : Bool) (course : Course) (first second to : BranchValue)
+      → IsBelow rational_zero first.cp → IsBelow rational_zero second.cp
       → IsMix first second to
       → IsAtMost (height_on from_itself course to) (plus (height_on from_itself course first) (height_on from_itself course second))
   pub additive : (from_itself : Bool) (course : Course) (f g t : Rational)
@@ -44,6 +50,8 @@ pub record PassesTakeShares : Type 0 where
 
 -- a share is no less from a lower place, and from the place itself no less than above it
 pub record SharesRise : Type 0 where
-  pub lower : (from_itself : Bool) (place other duty : Rational) (side : SideRun) → IsBelow rational_zero duty → HasDuty duty side → IsAtMost other place
+  pub lower : (from_itself : Bool) (place other duty : Rational) (side : SideRun) → IsBelow rational_zero duty
+      → HasDuty duty side → IsAtMost other place
       → IsAtMost (share from_itself duty (seen_from place side)) (share from_itself duty (seen_from other side))
-  pub itself : (duty : Rational) (side : SideRun) → IsBelow rational_zero duty → IsAtMost (share false duty side) (share true duty side)
+  pub itself : (duty : Rational) (side : SideRun) → IsBelow rational_zero duty
+      → IsAtMost (share false duty side) (share true duty side)

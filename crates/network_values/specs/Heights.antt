@@ -1,4 +1,5 @@
--- Heights of flows above a place, and the shares of a duty that lie above it. Distances are temperatures less the place.
+-- Heights of flows above a place, and the shares of a duty that lie above it. Distances are temperatures less the
+-- place.
 use Rattle.std.specs.Prelude.{◌≡◌, ℤ, Bool, true, false, if◌then◌else◌, List, All}
 use Rattle.std.specs.Ordering.{is_le}
 use Rattle.fractions.specs.Rationals.{IsAtMost, IsBelow, Rational, is_below, minus, over, rational_cmp, rational_sum_by, rational_zero, times, whole}
@@ -51,7 +52,8 @@ pub record IsBelowAtNoEnd (hot cold : SideRun) : Type 0 where
 -- the hot side has at least the share of the cold one
 abbrev pub HotSharesAreAtLeastColdShares : Type 0
 HotSharesAreAtLeastColdShares =
-    (from_itself : Bool) (place duty : Rational) (hot cold : SideRun) → IsBelow rational_zero duty → HasDuty duty hot → HasDuty duty cold
+    (from_itself : Bool) (place duty : Rational) (hot cold : SideRun) → IsBelow rational_zero duty
+    → HasDuty duty hot → HasDuty duty cold
     → IsBelowAtNoEnd hot cold
     → IsAtMost (share from_itself duty (seen_from place cold)) (share from_itself duty (seen_from place hot))
 
@@ -63,11 +65,13 @@ pub record PriceRise : Type 0 where
 
 -- what the shares of a side above these places are worth
 abbrev pub share_worth : Rational → SideRun → List PriceRise → Rational
-share_worth duty side rises = rational_sum_by (λ r. times r.rise (share r.from_itself duty (seen_from r.place side))) rises
+share_worth duty side rises =
+    rational_sum_by (λ r. times r.rise (share r.from_itself duty (seen_from r.place side))) rises
 
 abbrev pub PricedSharesAreOrdered : Type 0
 PricedSharesAreOrdered =
-    (duty : Rational) (hot cold : SideRun) (rises : List PriceRise) → IsBelow rational_zero duty → HasDuty duty hot → HasDuty duty cold
+    (duty : Rational) (hot cold : SideRun) (rises : List PriceRise) → IsBelow rational_zero duty
+    → HasDuty duty hot → HasDuty duty cold
     → IsBelowAtNoEnd hot cold → All (λ r. IsAtMost rational_zero r.rise) rises
     → IsAtMost (share_worth duty cold rises) (share_worth duty hot rises)
 
@@ -76,11 +80,14 @@ PricedSharesAreOrdered =
 -- the share is all of the duty, nothing of it, or by the part of the side that is above the place; of a level at the
 -- place itself it is all where the place counts from itself, else nothing
 pub record IsPart (from_itself : Bool) (duty : Rational) (side : SideRun) : Type 0 where
-  pub above : IsAtMost rational_zero (low_of side) → IsBelow rational_zero (high_of side) → share from_itself duty side ≡ duty
-  pub below : IsAtMost (high_of side) rational_zero → IsBelow (low_of side) rational_zero → share from_itself duty side ≡ rational_zero
+  pub above : IsAtMost rational_zero (low_of side) → IsBelow rational_zero (high_of side)
+      → share from_itself duty side ≡ duty
+  pub below : IsAtMost (high_of side) rational_zero → IsBelow (low_of side) rational_zero
+      → share from_itself duty side ≡ rational_zero
   pub across : IsAtMost (low_of side) rational_zero → IsBelow rational_zero (high_of side)
       → share from_itself duty side ≡ over (times duty (high_of side)) (minus (high_of side) (low_of side))
-  pub itself : low_of side ≡ rational_zero → high_of side ≡ rational_zero → share from_itself duty side ≡ (if from_itself then duty else rational_zero)
+  pub itself : low_of side ≡ rational_zero → high_of side ≡ rational_zero
+      → share from_itself duty side ≡ (if from_itself then duty else rational_zero)
   pub least : IsAtMost rational_zero (share from_itself duty side)
   pub most : IsAtMost (share from_itself duty side) duty
 

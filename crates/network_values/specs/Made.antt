@@ -32,15 +32,20 @@ abbrev pub heat_of_both : BranchValue → BranchValue → Rational
 heat_of_both first second = plus (times first.cp first.t) (times second.cp second.t)
 
 abbrev pub mixed_value : BranchValue → BranchValue → BranchValue
-mixed_value first second = record { cp = plus first.cp second.cp; t = over (heat_of_both first second) (plus first.cp second.cp) }
+mixed_value first second = record {
+  cp = plus first.cp second.cp;
+  t = over (heat_of_both first second) (plus first.cp second.cp);
+}
 
 -- what a line makes, by the values before it
 abbrev pub made_values : Case → Network → Valuation → Line → List BranchValue
 made_values case network values (line.Exchanger name hot cold duty) = []
-made_values case network values (line.Split from first cp second) = first_part (value_at values from) cp ∷ second_part (value_at values from) cp ∷ []
+made_values case network values (line.Split from first cp second) =
+    first_part (value_at values from) cp ∷ second_part (value_at values from) cp ∷ []
 made_values case network values (line.Pass from exchanger to) =
     passed_value (branch_side case network from) (value_at values from) (duty_at network exchanger) ∷ []
-made_values case network values (line.Mix first second to) = mixed_value (value_at values first) (value_at values second) ∷ []
+made_values case network values (line.Mix first second to) =
+    mixed_value (value_at values first) (value_at values second) ∷ []
 made_values case network values (line.End branch) = []
 
 -- a split leaves something of its branch
@@ -57,5 +62,6 @@ front case network n values = take (made_before case network n) values
 
 -- no split of the first n lines takes as much as its branch carries, or more
 abbrev pub LeaveRoom : Case → Network → ℕ → Type 0
-LeaveRoom case network n = (index : ℕ) (l : Line) (values : Valuation) → index < n → slice_get network.lines index ≡ Some l
+LeaveRoom case network n =
+    (index : ℕ) (l : Line) (values : Valuation) → index < n → slice_get network.lines index ≡ Some l
     → IsValuation case network index values → LeavesRoom values l

@@ -13,5 +13,6 @@ height_above base value = height value.cp (minus value.t base)
 pub record MixesLoseHeight : Type 0 where
   pub parts : (f g u v : Rational) → IsAtMost rational_zero f → IsAtMost rational_zero g
       → IsAtMost (positive_part (plus (times f u) (times g v))) (plus (height f u) (height g v))
-  pub mixes : (base : Rational) (first second to : BranchValue) → IsBelow rational_zero first.cp → IsBelow rational_zero second.cp → IsMix first second to
+  pub mixes : (base : Rational) (first second to : BranchValue) → IsBelow rational_zero first.cp
+      → IsBelow rational_zero second.cp → IsMix first second to
       → IsAtMost (height_above base to) (plus (height_above base first) (height_above base second))

@@ -34,7 +34,8 @@ abbrev pub base_of : ℤ → Stream → Rational
 base_of place s = whole (unshifted s.side place s.contribution)
 
 abbrev pub course_of : ℤ → Stream → Course
-course_of place s = if is_latent s then Latent (minus (whole s.supply) (base_of place s)) else Sensible (base_of place s)
+course_of place s =
+    if is_latent s then Latent (minus (whole s.supply) (base_of place s)) else Sensible (base_of place s)
 
 -- the height of what a branch of a stream carries
 abbrev pub height_in : View → Stream → BranchValue → Rational
@@ -54,7 +55,8 @@ height_at case view network values = weight_at (heights case view) network value
 
 -- ---- penalties, by the heights of the branches
 
--- the height of the branch that enters an exchanger by a pass, and of that which leaves it; 0, of which no rule speaks, where the line is no pass
+-- the height of the branch that enters an exchanger by a pass, and of that which leaves it; 0, of which no rule
+-- speaks, where the line is no pass
 abbrev pub inlet_height : (ℕ → Rational) → Option Line → Rational
 inlet_height height None = rational_zero
 inlet_height height (Some (line.Exchanger name hot cold duty)) = rational_zero
@@ -71,7 +73,8 @@ outlet_height height (Some (line.Pass from exchanger to)) = height to
 outlet_height height (Some (line.Mix first second to)) = rational_zero
 outlet_height height (Some (line.End branch)) = rational_zero
 
--- what the hot side of an exchanger releases above the place: a stream the height that it loses, a utility the whole duty
+-- what the hot side of an exchanger releases above the place: a stream the height that it loses, a utility the whole
+-- duty
 abbrev pub released_heat : (ℕ → Rational) → Network → ℕ → Rational → Source → Rational
 released_heat height network number duty (source.Stream i) =
     minus (inlet_height height (pass_of network number i)) (outlet_height height (pass_of network number i))
@@ -85,7 +88,8 @@ absorbed_heat height network number (source.Utility i) = rational_zero
 
 -- the penalty of the exchanger with a number; that of a mix is the height that its branches lose, `mix_loss`
 abbrev pub penalty : (ℕ → Rational) → Network → ℕ × Exchanger → Rational
-penalty height network (number, e) = minus (released_heat height network number e.duty e.hot) (absorbed_heat height network number e.cold)
+penalty height network (number, e) =
+    minus (released_heat height network number e.duty e.hot) (absorbed_heat height network number e.cold)
 
 abbrev pub exchanger_penalties : Case → View → Network → Valuation → Rational
 exchanger_penalties case view network values =
@@ -126,7 +130,8 @@ StreamsGiveTheirHeat =
 abbrev pub PenaltiesAddUp : Type 0
 PenaltiesAddUp =
     (case : Case) (network : Network) (values : Valuation) (view : View)
-    → AreStreams case.streams → HasShape case network → IsWholeValuation case network values → AreEnded case network values
+    → AreStreams case.streams → HasShape case network → IsWholeValuation case network values
+    → AreEnded case network values
     → plus (exchanger_penalties case view network values) (mix_penalties case view network values)
     ≡ minus (hot_heat network) (whole (deficit_over view.from_itself case.streams view.place))
 
@@ -139,7 +144,8 @@ pub record IsReferenceView (streams : List Stream) (view : View) : Type 0 where
 abbrev pub PenaltiesAreTheExcess : Type 0
 PenaltiesAreTheExcess =
     (case : Case) (network : Network) (values : Valuation) (view : View)
-    → AreStreams case.streams → HasShape case network → IsWholeValuation case network values → AreEnded case network values
+    → AreStreams case.streams → HasShape case network → IsWholeValuation case network values
+    → AreEnded case network values
     → IsReferenceView case.streams view
     → plus (exchanger_penalties case view network values) (mix_penalties case view network values)
     ≡ minus (hot_heat network) (whole (hot_target case.streams))

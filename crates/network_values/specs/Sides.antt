@@ -53,7 +53,8 @@ run_between side.Cold from to = Between from.cp from.t to.t
 abbrev pub pass_run : Case → Network → Valuation → Option Line → SideRun
 pass_run case network values (Some (line.Exchanger name hot cold duty)) = Level rational_zero
 pass_run case network values (Some (line.Split from first cp second)) = Level rational_zero
-pass_run case network values (Some (line.Pass from exchanger to)) = run_between (branch_side case network from) (value_at values from) (value_at values to)
+pass_run case network values (Some (line.Pass from exchanger to)) =
+    run_between (branch_side case network from) (value_at values from) (value_at values to)
 pass_run case network values (Some (line.Mix first second to)) = Level rational_zero
 pass_run case network values (Some (line.End branch)) = Level rational_zero
 pass_run case network values None = Level rational_zero
@@ -70,7 +71,8 @@ fixed_level case (source.Utility number) = Some (option_map_or (λ u. u.level) (
 
 -- the run of the branches of a source that pass an exchanger; a utility has none, and no rule speaks of this one
 abbrev pub passed_run : Case → Network → Valuation → ℕ → Source → SideRun
-passed_run case network values exchanger (source.Stream number) = pass_run case network values (pass_of network exchanger number)
+passed_run case network values exchanger (source.Stream number) =
+    pass_run case network values (pass_of network exchanger number)
 passed_run case network values exchanger (source.Utility number) = Level rational_zero
 
 abbrev pub level_or : SideRun → Option ℤ → SideRun
@@ -85,15 +87,18 @@ side_run case network values exchanger s = level_or (passed_run case network val
 
 -- the contribution of a source; 0, of which no rule speaks, where there is none
 abbrev pub contribution_of : Case → Source → ℤ
-contribution_of case (source.Stream number) = option_map_or (λ s. s.contribution) (slice_get case.streams number) (pos 0)
-contribution_of case (source.Utility number) = option_map_or (λ u. u.contribution) (slice_get case.utilities number) (pos 0)
+contribution_of case (source.Stream number) =
+    option_map_or (λ s. s.contribution) (slice_get case.streams number) (pos 0)
+contribution_of case (source.Utility number) =
+    option_map_or (λ u. u.contribution) (slice_get case.utilities number) (pos 0)
 
 -- the least temperature difference of two sources
 abbrev pub approach_of : Case → Source → Source → ℤ
 approach_of case hot cold = contribution_of case hot +ℤ contribution_of case cold
 
 -- at both ends the hot side is above the cold one by the approach
-pub record KeepsApproach (case : Case) (network : Network) (values : Valuation) (number : ℕ) (e : Exchanger) : Type 0 where
+pub record KeepsApproach (case : Case) (network : Network) (values : Valuation) (number : ℕ)
+    (e : Exchanger) : Type 0 where
   pub hot_end : IsAtMost
       (plus (leaves side.Cold (side_run case network values number e.cold)) (whole (approach_of case e.hot e.cold)))
       (enters side.Hot (side_run case network values number e.hot))

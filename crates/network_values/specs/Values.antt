@@ -65,7 +65,8 @@ branch_side case network number = unwrap_or (side_of case (source.Stream (stream
 
 -- whether the stream of a branch is latent; not, of which no rule speaks, where there is none
 unfoldable pub is_latent_branch : Case → Network → ℕ → Bool
-is_latent_branch case network number = option_map_or is_latent (slice_get case.streams (stream_at network.branches number)) false
+is_latent_branch case network number =
+    option_map_or is_latent (slice_get case.streams (stream_at network.branches number)) false
 
 -- the duty of the exchanger with a number; 0, of which no rule speaks, where there is none
 abbrev pub duty_of : Option Exchanger → Rational
@@ -99,10 +100,12 @@ pub record IsMix (first second to : BranchValue) : Type 0 where
 
 abbrev pub Solves : Case → Network → Valuation → Line → Type 0
 Solves case network values (line.Exchanger name hot cold duty) = Unit {0}
-Solves case network values (line.Split from first cp second) = IsSplit (value_at values from) (value_at values first) (value_at values second) cp
+Solves case network values (line.Split from first cp second) =
+    IsSplit (value_at values from) (value_at values first) (value_at values second) cp
 Solves case network values (line.Pass from exchanger to) =
     IsPass (branch_side case network from) (duty_at network exchanger) (value_at values from) (value_at values to)
-Solves case network values (line.Mix first second to) = IsMix (value_at values first) (value_at values second) (value_at values to)
+Solves case network values (line.Mix first second to) =
+    IsMix (value_at values first) (value_at values second) (value_at values to)
 Solves case network values (line.End branch) = Unit {0}
 
 -- each branch that the first n lines have made has a size above 0 and a state that solve their equations
@@ -125,7 +128,8 @@ pub record IsPartOfLoad (state : Rational) : Type 0 where
   pub most : IsAtMost state (whole (pos 1))
 
 abbrev pub KeepsLoad : Case → Network → Valuation → ℕ → Type 0
-KeepsLoad case network values branch = IsTrue (is_latent_branch case network branch) → IsPartOfLoad (value_at values branch).t
+KeepsLoad case network values branch =
+    IsTrue (is_latent_branch case network branch) → IsPartOfLoad (value_at values branch).t
 
 -- each latent branch has such a state
 abbrev pub KeepLoads : Case → Network → Valuation → Type 0
@@ -142,7 +146,8 @@ PassKeepsLoad case network values (line.End branch) = Unit {0}
 -- where each pass does, each branch does: streams begin so, splits keep the state, and that of a mix is a mean
 abbrev pub LoadsAreKept : Type 0
 LoadsAreKept =
-    (case : Case) (network : Network) (n : ℕ) (values : Valuation) → HasShape case network → IsValuation case network n values
+    (case : Case) (network : Network) (n : ℕ) (values : Valuation) → HasShape case network
+    → IsValuation case network n values
     → All (PassKeepsLoad case network values) (take n network.lines) → KeepLoads case network values
 
 -- ---- ends
@@ -165,7 +170,8 @@ ended_streams network = map (stream_at network.branches) (ended_by network.lines
 -- a branch carries the whole stream in its last state
 abbrev pub IsFullEnd : Case → Network → Valuation → ℕ → Type 0
 IsFullEnd case network values branch =
-    (s : Stream) → slice_get case.streams (stream_at network.branches branch) ≡ Some s → value_at values branch ≡ last_value s
+    (s : Stream) → slice_get case.streams (stream_at network.branches branch) ≡ Some s
+    → value_at values branch ≡ last_value s
 
 -- each end is a full one, and each stream has one
 pub record AreEnded (case : Case) (network : Network) (values : Valuation) : Type 0 where

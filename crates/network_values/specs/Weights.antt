@@ -21,7 +21,9 @@ pub record EndOnce (network : Network) : Type 0 where
 
 -- where each end is a full one and each stream has one, each has just one, and no branch is left over
 abbrev pub StreamsEndOnce : Type 0
-StreamsEndOnce = (case : Case) (network : Network) (values : Valuation) → HasShape case network → IsWholeValuation case network values
+StreamsEndOnce =
+    (case : Case) (network : Network) (values : Valuation) → HasShape case network
+    → IsWholeValuation case network values
     → AreEnded case network values → EndOnce network
 
 -- ---- weights
@@ -33,7 +35,8 @@ Weight = ℕ → BranchValue → Rational
 -- two branches of one state weigh what both together weigh
 abbrev pub IsAdditive : Weight → Type 0
 IsAdditive weight = (stream : ℕ) (f g t : Rational)
-    → weight stream (record { cp = plus f g; t = t }) ≡ plus (weight stream (record { cp = f; t = t })) (weight stream (record { cp = g; t = t }))
+    → weight stream (record { cp = plus f g; t = t })
+    ≡ plus (weight stream (record { cp = f; t = t })) (weight stream (record { cp = g; t = t }))
 
 -- the weight of the branch with a number
 abbrev pub weight_at : Weight → Network → Valuation → ℕ → Rational
@@ -61,7 +64,8 @@ stream_loss weight (i, s) = minus (weight i (first_value s)) (weight i (last_val
 -- whatever branches weigh: what the streams lose, they lose at the passes and at the mixes
 abbrev pub WeightsBalance : Type 0
 WeightsBalance =
-    (case : Case) (network : Network) (values : Valuation) (weight : Weight) → HasShape case network → IsWholeValuation case network values
+    (case : Case) (network : Network) (values : Valuation) (weight : Weight) → HasShape case network
+    → IsWholeValuation case network values
     → AreEnded case network values → IsAdditive weight
     → rational_sum_by (stream_loss weight) (enumerate_from 0 case.streams)
     ≡ plus (rational_sum_by (pass_loss (weight_at weight network values)) network.lines)

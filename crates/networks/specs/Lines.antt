@@ -85,7 +85,8 @@ own_branches case = map own_branch (enumerate_from 0 case.streams)
 abbrev pub passage_of : List Branch → Line → Option Passage
 passage_of branches (line.Exchanger name hot cold duty) = None
 passage_of branches (line.Split from first cp second) = None
-passage_of branches (line.Pass from exchanger to) = Some (record { exchanger = exchanger; stream = stream_at branches from })
+passage_of branches (line.Pass from exchanger to) =
+    Some (record { exchanger = exchanger; stream = stream_at branches from })
 passage_of branches (line.Mix first second to) = None
 passage_of branches (line.End branch) = None
 
@@ -99,7 +100,8 @@ same_passage a b = (a.exchanger == b.exchanger) && (a.stream == b.stream)
 abbrev pub is_pass_of : List Branch → ℕ → ℕ → Line → Bool
 is_pass_of branches exchanger stream (line.Exchanger name hot cold duty) = false
 is_pass_of branches exchanger stream (line.Split from first cp second) = false
-is_pass_of branches exchanger stream (line.Pass from through to) = (exchanger == through) && (stream == stream_at branches from)
+is_pass_of branches exchanger stream (line.Pass from through to) =
+    (exchanger == through) && (stream == stream_at branches from)
 is_pass_of branches exchanger stream (line.Mix first second to) = false
 is_pass_of branches exchanger stream (line.End branch) = false
 

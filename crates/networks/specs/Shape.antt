@@ -19,7 +19,8 @@ use Rattle.networks.specs.declared.network.Network.{Network}
 -- the streams' own branches come first, and each further branch is made by one line, in the order of the numbers
 pub record AreMadeInOrder (case : Case) (network : Network) : Type 0 where
   pub own : take (length case.streams) network.branches ≡ own_branches case
-  pub made : made_by network.lines ≡ range_with_len (length case.streams) (length network.branches - length case.streams)
+  pub made : made_by network.lines
+      ≡ range_with_len (length case.streams) (length network.branches - length case.streams)
 
 -- how many branches there are before the line at an index
 abbrev pub made_before : Case → Network → ℕ → ℕ
@@ -27,7 +28,9 @@ made_before case network index = length case.streams + length (made_by (take ind
 
 -- a line uses branches that were made before it
 abbrev pub AreMadeBeforeUse : Case → Network → Type 0
-AreMadeBeforeUse case network = (index : ℕ) (l : Line) → slice_get network.lines index ≡ Some l → All (λ b. b < made_before case network index) (uses l)
+AreMadeBeforeUse case network =
+    (index : ℕ) (l : Line) → slice_get network.lines index ≡ Some l
+    → All (λ b. b < made_before case network index) (uses l)
 
 -- each branch is used at most once
 abbrev pub AreUsedOnce : Network → Type 0
@@ -44,7 +47,8 @@ IsOfOneStream branches (line.Exchanger name hot cold duty) = Unit {0}
 IsOfOneStream branches (line.Split from first size second) = (stream_at branches first ≡ stream_at branches from)
     × (stream_at branches second ≡ stream_at branches from)
 IsOfOneStream branches (line.Pass from exchanger to) = stream_at branches to ≡ stream_at branches from
-IsOfOneStream branches (line.Mix first second to) = (stream_at branches second ≡ stream_at branches first) × (stream_at branches to ≡ stream_at branches first)
+IsOfOneStream branches (line.Mix first second to) =
+    (stream_at branches second ≡ stream_at branches first) × (stream_at branches to ≡ stream_at branches first)
 IsOfOneStream branches (line.End branch) = Unit {0}
 
 -- ---- exchangers
@@ -82,7 +86,8 @@ Joins exchanger stream = (exchanger.hot ≡ source.Stream stream) ⊎ (exchanger
 abbrev pub PassesDeclared : List Branch → List Exchanger → Line → Type 0
 PassesDeclared branches declared (line.Exchanger name hot cold duty) = Unit {0}
 PassesDeclared branches declared (line.Split from first size second) = Unit {0}
-PassesDeclared branches declared (line.Pass from exchanger to) = (e : Exchanger) × (slice_get declared exchanger ≡ Some e) × Joins e (stream_at branches from)
+PassesDeclared branches declared (line.Pass from exchanger to) =
+    (e : Exchanger) × (slice_get declared exchanger ≡ Some e) × Joins e (stream_at branches from)
 PassesDeclared branches declared (line.Mix first second to) = Unit {0}
 PassesDeclared branches declared (line.End branch) = Unit {0}
 
@@ -92,11 +97,13 @@ ArePassedWhenDeclared network = (index : ℕ) (l : Line) → slice_get network.l
 
 -- how many lines lead a branch of the stream through the exchanger with this number
 abbrev pub passes : Network → ℕ → ℕ → ℕ
-passes network exchanger stream = count_by (same_passage (record { exchanger = exchanger; stream = stream })) (passages_of network.branches network.lines)
+passes network exchanger stream =
+    count_by (same_passage (record { exchanger = exchanger; stream = stream })) (passages_of network.branches network.lines)
 
 -- each side of an exchanger that is a stream is passed exactly once
 abbrev pub ArePassedOnce : Network → Type 0
-ArePassedOnce network = (number stream : ℕ) (e : Exchanger) → slice_get (exchangers_of network.lines) number ≡ Some e → Joins e stream
+ArePassedOnce network =
+    (number stream : ℕ) (e : Exchanger) → slice_get (exchangers_of network.lines) number ≡ Some e → Joins e stream
     → passes network number stream ≡ 1
 
 -- ---- what lines name
@@ -104,11 +111,14 @@ ArePassedOnce network = (number stream : ℕ) (e : Exchanger) → slice_get (exc
 -- the sources, branches and exchangers of a line are there
 abbrev pub NamesKnown : Case → Network → Line → Type 0
 NamesKnown case network (line.Exchanger name hot cold duty) = IsSourceOf case hot × IsSourceOf case cold
-NamesKnown case network (line.Split from first size second) = (from < length network.branches) × (first < length network.branches)
+NamesKnown case network (line.Split from first size second) =
+    (from < length network.branches) × (first < length network.branches)
     × (second < length network.branches)
-NamesKnown case network (line.Pass from exchanger to) = (from < length network.branches) × (exchanger < length (exchangers_of network.lines))
+NamesKnown case network (line.Pass from exchanger to) =
+    (from < length network.branches) × (exchanger < length (exchangers_of network.lines))
     × (to < length network.branches)
-NamesKnown case network (line.Mix first second to) = (first < length network.branches) × (second < length network.branches) × (to < length network.branches)
+NamesKnown case network (line.Mix first second to) =
+    (first < length network.branches) × (second < length network.branches) × (to < length network.branches)
 NamesKnown case network (line.End branch) = branch < length network.branches
 
 -- ---- the shape

@@ -1,9 +1,9 @@
 -- The words and lemmas from elsewhere that the proofs of this crate speak in, passed on from one place. Declares nothing.
-pub use Rattle.fractions.proofs.Limits.{value_formed, within_formed, within_not_formed}
+pub use Rattle.fractions.proofs.Limits.{value_formed}
 pub use Rattle.fractions.proofs.Products.{times-zero}
 pub use Rattle.fractions.proofs.RationalSums.{rational_sum_by-append, rational_sum_by-map}
 pub use Rattle.fractions.proofs.Sums.{minus-self, zero-plus}
-pub use Rattle.fractions.specs.Rationals.{Gives, IsAtMost, Rational, is_below, is_within_limits, rational_sum_by, rational_zero, whole}
+pub use Rattle.fractions.specs.Rationals.{Gives, IsAtMost, Rational, is_below, rational_sum_by, rational_zero, whole}
 unfoldable pub use Rattle.fractions.specs.Rationals.{minus, plus, times}
 pub use Rattle.network_audit.proofs.JointLemmas.{length-joints}
 pub use Rattle.network_audit.specs.Audit.{Audit, HasAccepted, KnowsItsNetwork}
@@ -51,7 +51,6 @@ pub use Rattle.std.proofs.lemmas.List.{map-append}
 pub use Rattle.std.proofs.lemmas.List.Elements.{All-append, All-cons, All-head, All-map, All-nil, All-same, All-tail, All-weaker, filter_map-append}
 pub use Rattle.std.specs.Bool.{IsTrue}
 pub use Rattle.std.specs.List.{enumerate_from, filter_map, flat_map}
-pub use Rattle.std.specs.Option.{option_or}
 pub use Rattle.stream_case.proofs.CompleteLemmas.{AreStreams-IsComplete, HasValidStreams-IsComplete}
 pub use Rattle.stream_case.specs.Limits.{IsShifted}
 pub use Rattle.stream_case.specs.Shift.{shifted}
@@ -61,4 +60,4 @@ pub use Rattle.stream_case.specs.declared.source.Side.{Side}
 pub use Rattle.stream_case.specs.declared.source.Source.{Source}
 pub use Rattle.stream_case.specs.declared.stream.Stream.{Stream}
 pub use Rattle.sums.proofs.EnumerationLemmas.{All-enumerated}
-pub use Rattle.sums.proofs.FirstLemmas.{enumerated-more, first-append, first-behind, first-front, first-here, first-more, first-none, items_of}
+pub use Rattle.sums.proofs.FirstLemmas.{enumerated-more, first-here, first-more, first-none, items_of}

@@ -15,7 +15,10 @@ use Rattle.network_audit.specs.declared.findings.Place.TheVariants as place
 use Rattle.penalties.specs.declared.list.Penalty.{Penalty}
 
 abbrev pub exchanger_row : (ℕ → Rational) → Network → ℕ × Exchanger → Penalty
-exchanger_row height network (number, e) = record { place = place.Exchanger number; value = penalty height network (number, e) }
+exchanger_row height network (number, e) = record {
+  place = place.Exchanger number;
+  value = penalty height network (number, e);
+}
 
 -- statements are counted from 1
 abbrev pub mix_row : (ℕ → Rational) → ℕ × Line → Option Penalty
@@ -35,4 +38,5 @@ mix_rows height lines = filter_map (mix_row height) (enumerate_from 0 lines)
 -- the exchangers in their order, then the mixes in theirs
 abbrev pub penalties_of : Case → View → Network → Valuation → List Penalty
 penalties_of case view network values =
-    exchanger_rows (height_at case view network values) network ++ mix_rows (height_at case view network values) network.lines
+    exchanger_rows (height_at case view network values) network
+    ++ mix_rows (height_at case view network values) network.lines

@@ -25,7 +25,8 @@ use Rattle.network_audit.specs.declared.joints.Crossing.{Crossing}
 
 -- of a sensible stream: its distance from the place, and its height, which is formed only where the distance is above 0
 abbrev pub sensible_steps : Place → ℕ → Rational → Rational → List Item
-sensible_steps at k size distance = Step at k distance ∷ (if is_below rational_zero distance then Step at (k + 1) (times size distance) ∷ [] else [])
+sensible_steps at k size distance =
+    Step at k distance ∷ (if is_below rational_zero distance then Step at (k + 1) (times size distance) ∷ [] else [])
 
 -- of a latent one no distance is formed, and its height only where its level counts as above the place
 abbrev pub latent_steps : Place → ℕ → Bool → BranchValue → List Item
@@ -48,17 +49,20 @@ branch_steps case view network values at k branch =
 
 -- the heights of two branches, and the first less the second
 abbrev pub loss_steps : (ℕ → Rational) → (Place → ℕ → ℕ → List Item) → Place → ℕ → ℕ → ℕ → List Item
-loss_steps height steps at k first second = steps at k first ++ (steps at (k + 2) second ++ Step at (k + 4) (minus (height first) (height second)) ∷ [])
+loss_steps height steps at k first second =
+    steps at k first ++ (steps at (k + 2) second ++ Step at (k + 4) (minus (height first) (height second)) ∷ [])
 
 -- a stream releases by the branches before and behind its pass, a utility forms no number
 abbrev pub released_steps : (ℕ → Rational) → (Place → ℕ → ℕ → List Item) → Place → Source → Option Crossing → List Item
-released_steps height steps at (source.Stream i) (Some crossing) = loss_steps height steps at 1 crossing.from crossing.to
+released_steps height steps at (source.Stream i) (Some crossing) =
+    loss_steps height steps at 1 crossing.from crossing.to
 released_steps height steps at (source.Stream i) None = []
 released_steps height steps at (source.Utility i) pass = []
 
 -- and absorbs by those behind and before it
 abbrev pub absorbed_steps : (ℕ → Rational) → (Place → ℕ → ℕ → List Item) → Place → Source → Option Crossing → List Item
-absorbed_steps height steps at (source.Stream i) (Some crossing) = loss_steps height steps at 6 crossing.to crossing.from
+absorbed_steps height steps at (source.Stream i) (Some crossing) =
+    loss_steps height steps at 6 crossing.to crossing.from
 absorbed_steps height steps at (source.Stream i) None = []
 absorbed_steps height steps at (source.Utility i) pass = []
 
@@ -85,13 +89,15 @@ abbrev pub line_steps : (ℕ → Rational) → (Place → ℕ → ℕ → List I
 line_steps height steps (index, line.Exchanger name hot cold duty) = []
 line_steps height steps (index, line.Split from first cp second) = []
 line_steps height steps (index, line.Pass from exchanger to) = []
-line_steps height steps (index, line.Mix first second to) = taken_steps height steps (place.Line (index + 1)) first second to
+line_steps height steps (index, line.Mix first second to) =
+    taken_steps height steps (place.Line (index + 1)) first second to
 line_steps height steps (index, line.End branch) = []
 
 -- ---- all steps
 
 unfoldable pub all_exchanger_steps : (ℕ → Rational) → (Place → ℕ → ℕ → List Item) → Network → List Item
-all_exchanger_steps height steps network = flat_map (exchanger_steps height steps network) (enumerate_from 0 (exchangers_of network.lines))
+all_exchanger_steps height steps network =
+    flat_map (exchanger_steps height steps network) (enumerate_from 0 (exchangers_of network.lines))
 
 unfoldable pub all_mix_steps : (ℕ → Rational) → (Place → ℕ → ℕ → List Item) → List Line → List Item
 all_mix_steps height steps lines = flat_map (line_steps height steps) (enumerate_from 0 lines)

@@ -23,7 +23,8 @@ absorbed_by height (source.Stream i) None = rational_zero
 absorbed_by height (source.Utility i) pass = rational_zero
 
 abbrev pub joint_penalty : (ℕ → Rational) → Joint → Rational
-joint_penalty height joint = minus (released_by height joint.duty joint.hot joint.given) (absorbed_by height joint.cold joint.taken)
+joint_penalty height joint =
+    minus (released_by height joint.duty joint.hot joint.given) (absorbed_by height joint.cold joint.taken)
 
 abbrev pub joint_steps : (ℕ → Rational) → (Place → ℕ → ℕ → List Item) → ℕ × Joint → List Item
 joint_steps height steps (number, joint) =

@@ -46,7 +46,8 @@ pub use Rattle.networks.specs.Shape.{HasShape, IsExchanger, IsOfOneStream, IsPos
 pub use Rattle.networks.specs.declared.limits.TheConstants.{MOST_LINES}
 pub use Rattle.networks.specs.declared.network.Line.{Line}
 pub use Rattle.networks.specs.declared.network.Network.{Network}
-pub use Rattle.pieces.specs.Led.{AreLedPieces, HasSize, HasUtilityHeat, IsLedNetwork, IsStreamPiece, JoinsPieces, RunsThrough, exchange_balance, heats_with, level_in}
+pub use Rattle.pieces.specs.Led.{AreLedPieces, HasSize, HasUtilityHeat, IsLedNetwork, IsStreamPiece, JoinsPieces, RunsThrough, exchange_balance, heats_with}
+pub use Rattle.pieces.specs.Led.{level_in}
 pub use Rattle.pieces.specs.Led.{temperature}
 pub use Rattle.pieces.specs.Pieces.{Piece, course_of, courses_of, exchanger_of, exchangers_for, is_of_stream, is_stage, led_course, led_piece}
 pub use Rattle.pieces.specs.Pieces.{led_stage, on_side, own_share, piece_on, share_at, share_for, share_of, size_on, source_at, sources_of, stage_of}
@@ -55,7 +56,7 @@ unfoldable pub use Rattle.pieces.specs.Pieces.{network_of, own_shares, shares_of
 pub use Rattle.pieces.specs.declared.exchange.Exchange.{Exchange}
 pub use Rattle.problem_table.specs.Deficit.{hot_target}
 pub use Rattle.std.proofs.lemmas.Bool.{and_parts, cond-false, cond-true, eq-eqb, eqb-true, false≢true, lt-ltb, ltb-true, ne_eqb}
-pub use Rattle.std.proofs.lemmas.List.{append-nil, get_or-reverse, get_or_default, length-map, length-reverse, map-append, reverse-append, take_all, take_more}
+pub use Rattle.std.proofs.lemmas.List.{append-nil, get_or_default, length-map, map-append, reverse-append, take_all, take_more}
 pub use Rattle.std.proofs.lemmas.List.Elements.{All-append, All-cons, All-head, All-map, All-nil, All-tail, All-weaker, filter_map-append}
 pub use Rattle.std.proofs.lemmas.List.FromFn.{length-enumerate_from}
 pub use Rattle.std.proofs.lemmas.List.Sums.{sum_by-cons, sum_by-le, sum_by-le-sum_by}

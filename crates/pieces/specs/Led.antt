@@ -28,7 +28,8 @@ use Rattle.pieces.specs.declared.exchange.Exchange.{Exchange}
 
 -- ---- an exchange
 
--- the temperature of a source in a state: a source with one level has that one, the states of any other are its temperatures
+-- the temperature of a source in a state: a source with one level has that one, the states of any other are its
+-- temperatures
 abbrev pub level_in : Rational → Option ℤ → Rational
 level_in state None = state
 level_in state (Some level) = whole level
@@ -130,30 +131,38 @@ abbrev pub exchange_balance : Case → List Source → List Source → List Exch
 exchange_balance case hot cold exchanges = record {
   hot = rational_sum_by (λ x. utility_part x.duty x.hot) (exchangers_for hot cold exchanges);
   cold = rational_sum_by (λ x. utility_part x.duty x.cold) (exchangers_for hot cold exchanges);
-  excess = minus (rational_sum_by (λ x. utility_part x.duty x.hot) (exchangers_for hot cold exchanges)) (whole (hot_target case.streams));
-  cost = rational_sum_by (λ e. times (whole e.1.price) (rational_sum (heats_with hot cold exchanges e.0))) (enumerate_from 0 case.utilities);
+  excess =
+      minus (rational_sum_by (λ x. utility_part x.duty x.hot) (exchangers_for hot cold exchanges)) (whole (hot_target case.streams));
+  cost =
+      rational_sum_by (λ e. times (whole e.1.price) (rational_sum (heats_with hot cold exchanges e.0))) (enumerate_from 0 case.utilities);
 }
 
 -- ---- the network
 
 -- a source passes an exchanger between the temperatures of its piece
-pub record RunsThrough (case : Case) (network : Network) (values : Valuation) (number : ℕ) (of : Side) (p : Piece) : Type 0 where
+pub record RunsThrough (case : Case) (network : Network) (values : Valuation) (number : ℕ) (of : Side)
+    (p : Piece) : Type 0 where
   pub enters : enters of (side_run case network values number p.source) ≡ temperature case p.source p.before
   pub leaves : leaves of (side_run case network values number p.source) ≡ temperature case p.source p.after
 
--- the network is valid and its audit has no finding, and over its valuation the sources of each exchange run through their pieces
-pub record IsLedNetwork (case : Case) (hot cold : List Piece) (exchanges : List Exchange) (network : Network) : Type 0 where
+-- the network is valid and its audit has no finding, and over its valuation the sources of each exchange run through
+-- their pieces
+pub record IsLedNetwork (case : Case) (hot cold : List Piece) (exchanges : List Exchange)
+    (network : Network) : Type 0 where
   pub shape : HasShape case network
   pub values : Valuation
   pub valuation : IsWholeValuation case network values
-  pub hot_runs : (number : ℕ) (e : Exchange) (p : Piece) → slice_get exchanges number ≡ Some e → slice_get hot e.hot ≡ Some p
+  pub hot_runs : (number : ℕ) (e : Exchange) (p : Piece) → slice_get exchanges number ≡ Some e
+      → slice_get hot e.hot ≡ Some p
       → RunsThrough case network values number side.Hot p
-  pub cold_runs : (number : ℕ) (e : Exchange) (p : Piece) → slice_get exchanges number ≡ Some e → slice_get cold e.cold ≡ Some p
+  pub cold_runs : (number : ℕ) (e : Exchange) (p : Piece) → slice_get exchanges number ≡ Some e
+      → slice_get cold e.cold ≡ Some p
       → RunsThrough case network values number side.Cold p
   pub valid : IsValidNetwork case network
   pub accepted : HasNoFinding case network
 
 -- the law: pieces that are led draw such a network
 abbrev pub LedPiecesDrawLedNetworks : Case → List Source → List Source → List Exchange → Network → Type 0
-LedPiecesDrawLedNetworks case hot cold exchanges network = (hots colds : List Piece) → sources_of hots ≡ hot → sources_of colds ≡ cold
+LedPiecesDrawLedNetworks case hot cold exchanges network =
+    (hots colds : List Piece) → sources_of hots ≡ hot → sources_of colds ≡ cold
     → AreLedPieces case hots colds exchanges → IsLedNetwork case hots colds exchanges network

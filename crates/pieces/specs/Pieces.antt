@@ -1,4 +1,5 @@
--- A network of pieces: each source goes through pieces, and each exchange of heat between a hot and a cold piece is an exchanger.
+-- A network of pieces: each source goes through pieces, and each exchange of heat between a hot and a cold piece is
+-- an exchanger.
 use Rattle.std.specs.Prelude.{ℕ, ◌==◌, ◌&&◌, Bool, List, length, map, false, nat_lt, Option, Some, None, slice_get, unwrap_or, if◌then◌else◌}
 use Rattle.std.specs.List.{enumerate_from, filter_map}
 use Rattle.std.specs.Option.{option_map_or}
@@ -49,7 +50,12 @@ abbrev pub source_at : List Source → ℕ → Source
 source_at sources index = unwrap_or (slice_get sources index) (source.Stream 0)
 
 abbrev pub exchanger_of : List Source → List Source → ℕ × Exchange → Exchanger
-exchanger_of hot cold (number, e) = record { name = exchanger_name number; hot = source_at hot e.hot; cold = source_at cold e.cold; duty = e.heat }
+exchanger_of hot cold (number, e) = record {
+  name = exchanger_name number;
+  hot = source_at hot e.hot;
+  cold = source_at cold e.cold;
+  duty = e.heat;
+}
 
 abbrev pub exchangers_for : List Source → List Source → List Exchange → List Exchanger
 exchangers_for hot cold exchanges = map (exchanger_of hot cold) (enumerate_from 0 exchanges)
@@ -69,11 +75,13 @@ shares_of of index exchanges = filter_map (share_of of index) (enumerate_from 0 
 
 -- whether the piece at an index is one of the stream
 abbrev pub is_of_stream : List Source → ℕ → ℕ → Bool
-is_of_stream sources stream index = option_map_or (λ a. same_source a (source.Stream stream)) (slice_get sources index) false
+is_of_stream sources stream index =
+    option_map_or (λ a. same_source a (source.Stream stream)) (slice_get sources index) false
 
 -- the shares of a stream, each with the index of its piece: one for each exchange of its pieces, in their order
 abbrev pub own_share : Side → List Source → ℕ → ℕ × Exchange → Option (ℕ × Share)
-own_share of sources stream (number, e) = if is_of_stream sources stream (piece_on of e) then Some (piece_on of e, share_for of (number, e)) else None
+own_share of sources stream (number, e) =
+    if is_of_stream sources stream (piece_on of e) then Some (piece_on of e, share_for of (number, e)) else None
 
 unfoldable pub own_shares : Side → List Source → List Exchange → ℕ → List (ℕ × Share)
 own_shares of sources exchanges stream = filter_map (own_share of sources stream) (enumerate_from 0 exchanges)
@@ -84,15 +92,18 @@ share_at index (piece, share) = if piece == index then Some share else None
 
 -- whether a piece is one of the stream, and exchanges heat
 abbrev pub is_stage : Side → List Exchange → ℕ → ℕ → Source → Bool
-is_stage of exchanges stream index a = same_source a (source.Stream stream) && nat_lt 0 (length (shares_of of index exchanges))
+is_stage of exchanges stream index a =
+    same_source a (source.Stream stream) && nat_lt 0 (length (shares_of of index exchanges))
 
 -- such a piece is a stage of the stream's course
 abbrev pub stage_of : Side → List Exchange → ℕ → ℕ × Source → Option (List Share)
-stage_of of exchanges stream (index, a) = if is_stage of exchanges stream index a then Some (shares_of of index exchanges) else None
+stage_of of exchanges stream (index, a) =
+    if is_stage of exchanges stream index a then Some (shares_of of index exchanges) else None
 
 -- the pieces of a side are listed from the hottest down: hot streams go down through theirs, and cold ones up
 abbrev pub course_of : Side → List Source → List Exchange → ℕ → Course
-course_of of sources exchanges stream = filter_map (stage_of of exchanges stream) (on_the_way of (enumerate_from 0 sources))
+course_of of sources exchanges stream =
+    filter_map (stage_of of exchanges stream) (on_the_way of (enumerate_from 0 sources))
 
 abbrev pub stream_course : List Source → List Source → List Exchange → ℕ × Stream → Course
 stream_course hot cold exchanges (number, s) = course_of s.side (on_side s.side hot cold) exchanges number
@@ -111,8 +122,10 @@ abbrev pub led_piece : Side → List Exchange → ℕ × Piece → LedStage
 led_piece of exchanges (index, p) = record { before = p.before; after = p.after; shares = shares_of of index exchanges }
 
 abbrev pub led_stage : Side → List Exchange → ℕ → ℕ × Piece → Option LedStage
-led_stage of exchanges stream (index, p) = if is_stage of exchanges stream index p.source then Some (led_piece of exchanges (index, p)) else None
+led_stage of exchanges stream (index, p) =
+    if is_stage of exchanges stream index p.source then Some (led_piece of exchanges (index, p)) else None
 
 -- a stream on its way through its pieces
 abbrev pub led_course : List Piece → List Piece → List Exchange → ℕ × Stream → List LedStage
-led_course hot cold exchanges (number, s) = filter_map (led_stage s.side exchanges number) (on_the_way s.side (enumerate_from 0 (on_side s.side hot cold)))
+led_course hot cold exchanges (number, s) =
+    filter_map (led_stage s.side exchanges number) (on_the_way s.side (enumerate_from 0 (on_side s.side hot cold)))

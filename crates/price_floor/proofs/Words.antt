@@ -18,9 +18,7 @@ pub use Rattle.grid.specs.Making.{covers, interval_parts, is_here, made_parts, p
 pub use Rattle.grid.specs.OnGrid.{IsOnPlaces}
 pub use Rattle.grid.specs.Part.{AreCaseParts, AreParts, IsInterval, IsPartOf, comes_before, comes_before_source, stands_above, stream_part, utility_part}
 pub use Rattle.grid.specs.declared.part.Part.{Part}
-pub use Rattle.heat_flow.proofs.PartLemmas.{HoldsOfParts-some}
 pub use Rattle.heat_flow.specs.Certificate.{IsCutOf, IsLeastCostOf}
-pub use Rattle.heat_flow.specs.Flow.{IsLeastCost}
 pub use Rattle.heat_flow.specs.Prices.{IsSupporting, excess_price, least_product, price_at, side_value, value_of}
 pub use Rattle.heat_flow.specs.Reach.{both_reach, part_reaches, passes_heat, reach_between}
 pub use Rattle.heat_flow.specs.Table.{reaches}

@@ -49,7 +49,8 @@ pub record IsOrderedTariff (case : Case) (tariff : Tariff) : Type 0 where
 -- each rise of the price times the heat that lies above its view
 abbrev pub rise_worth : ℤ → (View → ℤ) → (View → Rational) → List View → Rational
 rise_worth above below heat [] = rational_zero
-rise_worth above below heat (v ∷ views) = plus (times (whole (above -ℤ below v)) (heat v)) (rise_worth (below v) below heat views)
+rise_worth above below heat (v ∷ views) =
+    plus (times (whole (above -ℤ below v)) (heat v)) (rise_worth (below v) below heat views)
 
 -- all of some heat at the least price, and the rises for what of it lies above their views
 abbrev pub step_worth : ℤ → List View → StepPrices → Rational → (View → Rational) → Rational

@@ -22,7 +22,8 @@ use Rattle.network_audit.specs.Valid.{IsPermitted}
 use Rattle.price_floor.specs.Steps.{IsOrderedTariff, Tariff, step_worth}
 use Rattle.price_floor.specs.Views.{comes_below}
 
--- a branch by its size times its state, and its height in each view; 0, of which no rule speaks, where there is no stream
+-- a branch by its size times its state, and its height in each view; 0, of which no rule speaks, where there is no
+-- stream
 abbrev pub value_worth : Tariff → ℕ → Option Stream → BranchValue → Rational
 value_worth tariff i None value = rational_zero
 value_worth tariff i (Some s) value =
@@ -46,7 +47,8 @@ abbrev pub cold_worth : Case → Network → Valuation → Tariff → ℕ × Exc
 cold_worth case network values tariff (number, e) =
     utility_worth (shifted_run side.Cold case network values number) tariff side.Cold e.duty e.cold
 
--- what the streams lose of their worth from their first state to their last, and what the hot utilities give, is worth at
+-- what the streams lose of their worth from their first state to their last, and what the hot utilities give, is
+-- worth at
 -- least what the cold utilities take
 abbrev pub WorthsAreOrdered : Type 0
 WorthsAreOrdered =

@@ -29,7 +29,8 @@ IsDeficit deficit = IsBetween (neg_ℤ ALL_STREAMS_HEAT) ALL_STREAMS_HEAT defici
 
 -- both deficits at each stream end
 abbrev pub end_deficits : List Stream → List ℤ
-end_deficits streams = map (deficit_above streams) (stream_ends streams) ++ map (deficit_from streams) (stream_ends streams)
+end_deficits streams =
+    map (deficit_above streams) (stream_ends streams) ++ map (deficit_from streams) (stream_ends streams)
 
 -- the greatest of these, and at least 0
 abbrev pub hot_target : List Stream → ℤ
@@ -59,7 +60,8 @@ pub record IsReferencePlace (streams : List Stream) (p : ℤ) : Type 0 where
   pub at : IsTight streams p
   pub highest : (t : ℤ) → IsTight streams t → t ≤ℤ p
 
--- it counts from itself where the deficit above it is not the hot target: then the latent streams at it count as above it
+-- it counts from itself where the deficit above it is not the hot target: then the latent streams at it count as
+-- above it
 abbrev pub CountsFromItself : List Stream → ℤ → Type 0
 CountsFromItself streams p = deficit_above streams p ≢ hot_target streams
 

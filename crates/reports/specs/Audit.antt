@@ -28,7 +28,8 @@ place_text c network place.Balance = codes "balance"
 
 -- REASON found FOUND wanted WANTED
 abbrev pub measured_text : List ℕ → Rational → Rational → List ℕ
-measured_text name found wanted = name ++ (codes " found " ++ (fraction_text found ++ (codes " wanted " ++ fraction_text wanted)))
+measured_text name found wanted =
+    name ++ (codes " found " ++ (fraction_text found ++ (codes " wanted " ++ fraction_text wanted)))
 
 -- the same, or the name alone where nothing is measured
 abbrev pub reason_text : Reason → List ℕ
@@ -52,11 +53,13 @@ balance_lines balance =
 
 -- rejected PLACE REASON
 abbrev pub rejected_text : Case → Network → Place → Reason → List ℕ
-rejected_text c network place reason = codes "rejected " ++ (place_text c network place ++ 32 ∷ (reason_text reason ++ 10 ∷ []))
+rejected_text c network place reason =
+    codes "rejected " ++ (place_text c network place ++ 32 ∷ (reason_text reason ++ 10 ∷ []))
 
 -- too fine PLACE step STEP
 abbrev pub too_fine_text : Case → Network → Place → ℕ → List ℕ
-too_fine_text c network place step = codes "too fine " ++ (place_text c network place ++ (codes " step " ++ (decimal step ++ 10 ∷ [])))
+too_fine_text c network place step =
+    codes "too fine " ++ (place_text c network place ++ (codes " step " ++ (decimal step ++ 10 ∷ [])))
 
 -- exchanger NAME, by the names of the exchangers, or mix LINE; nothing else has a penalty
 abbrev pub loss_text : List (List ℕ) → Place → List ℕ

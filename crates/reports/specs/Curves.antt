@@ -14,4 +14,5 @@ curve_text word curve = flat_map (point_line word) curve
 
 -- the hot and the cold composite curve, then the grand composite curve
 abbrev pub curves_text : List Point → List Point → List Point → List ℕ
-curves_text hot cold net = curve_text (codes "hot") hot ++ curve_text (codes "cold") cold ++ curve_text (codes "net") net
+curves_text hot cold net =
+    curve_text (codes "hot") hot ++ curve_text (codes "cold") cold ++ curve_text (codes "net") net

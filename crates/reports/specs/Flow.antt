@@ -32,11 +32,13 @@ side_prices Cold prices = prices.cold
 
 -- use NAME HEAT
 abbrev pub use_line : Parts → List Transfer → ℕ → Utility → List ℕ
-use_line parts transfers i u = line (codes "use " ++ u.name) (utility_heat i u.side (parts_of u.side parts.hot parts.cold) transfers)
+use_line parts transfers i u =
+    line (codes "use " ++ u.name) (utility_heat i u.side (parts_of u.side parts.hot parts.cold) transfers)
 
 -- move NAME HIGH LOW NAME HIGH LOW HEAT
 abbrev pub move_line : SourceNames → Parts → Transfer → List ℕ
-move_line names parts t = line (codes "move " ++ (part_at names parts.hot t.hot ++ 32 ∷ part_at names parts.cold t.cold)) t.heat
+move_line names parts t =
+    line (codes "move " ++ (part_at names parts.hot t.hot ++ 32 ∷ part_at names parts.cold t.cold)) t.heat
 
 -- what a part of this side does with its heat
 abbrev pub price_word : Side → List ℕ
@@ -48,13 +50,17 @@ abbrev pub price_line : SourceNames → Side → ℤ → Part → List ℕ
 price_line names side price p = line (price_word side ++ 32 ∷ part_text names p) price
 
 abbrev pub price_lines : SourceNames → Side → Parts → Prices → List ℕ
-price_lines names side parts prices = texts_from (λ i p. price_line names side (price_at (side_prices side prices) i) p) 0 (parts_of side parts.hot parts.cold)
+price_lines names side parts prices =
+    texts_from (λ i p. price_line names side (price_at (side_prices side prices) i) p) 0 (parts_of side parts.hot parts.cold)
 
 -- the transfers and the prices
 abbrev pub certificate_lines : SourceNames → Parts → List Transfer → Prices → List ℕ
-certificate_lines names parts transfers prices = flat_map (move_line names parts) transfers ++ price_lines names Hot parts prices ++ price_lines names Cold parts prices
+certificate_lines names parts transfers prices =
+    flat_map (move_line names parts) transfers ++ price_lines names Hot parts prices
+    ++ price_lines names Cold parts prices
 
 -- the cost, the use of each utility, the transfers and the prices
 abbrev pub flow_text : Case → Parts → List Transfer → Prices → ℤ → List ℕ
 flow_text c parts transfers prices cost =
-    line (codes "cost") cost ++ texts_from (use_line parts transfers) 0 c.utilities ++ certificate_lines (case_names c) parts transfers prices
+    line (codes "cost") cost ++ texts_from (use_line parts transfers) 0 c.utilities
+    ++ certificate_lines (case_names c) parts transfers prices

@@ -22,4 +22,7 @@ case_names c = record { streams = stream_names c.streams; utilities = map (λ u.
 
 -- the streams of a site, through the plants in their order; utility 0 is the boiler and utility 1 the cooling
 abbrev pub site_names : Site → SourceNames
-site_names site = record { streams = flat_map (λ plant. stream_names plant.streams) site.plants; utilities = codes "BOILER" ∷ codes "COOLING" ∷ [] }
+site_names site = record {
+  streams = flat_map (λ plant. stream_names plant.streams) site.plants;
+  utilities = codes "BOILER" ∷ codes "COOLING" ∷ [];
+}

@@ -21,7 +21,8 @@ item_words names (Span utility from to) = codes "span " ++ source_name names (of
 
 -- span UTILITY FROM TO BASE SLOPE
 abbrev pub segment_line : List ℕ → Segment → List ℕ
-segment_line words s = line (words ++ 32 ∷ (signed_decimal s.from ++ 32 ∷ (signed_decimal s.to ++ 32 ∷ signed_decimal s.base))) s.slope
+segment_line words s =
+    line (words ++ 32 ∷ (signed_decimal s.from ++ 32 ∷ (signed_decimal s.to ++ 32 ∷ signed_decimal s.base))) s.slope
 
 -- a line for each segment; there is none exactly where there is no heat flow
 abbrev pub segment_lines : List ℕ → List Segment → List ℕ
@@ -37,7 +38,8 @@ answer_lines words (Segments segments) = segment_lines words segments
 abbrev pub item_lines : SourceNames → List StudyItem → List StudyAnswer → List ℕ
 item_lines names [] answers = []
 item_lines names (item ∷ items) [] = []
-item_lines names (item ∷ items) (answer ∷ answers) = answer_lines (item_words names item) answer ++ item_lines names items answers
+item_lines names (item ∷ items) (answer ∷ answers) =
+    answer_lines (item_words names item) answer ++ item_lines names items answers
 
 -- the utilities of spans have their names in the case
 abbrev pub prices_text : Case → Study → List StudyAnswer → List ℕ

@@ -18,7 +18,9 @@ abbrev pub IsProofOf : Case → Shown → Type 0
 IsProofOf c (Flow case parts flow prices cost) =
     (case ≡ c) × AreCaseParts c parts.hot parts.cold
     × IsCertified (reach_between c parts.hot parts.cold) parts.hot parts.cold flow.transfers prices.hot prices.cold cost
-IsProofOf c (Stuck case parts cut) = (case ≡ c) × AreCaseParts c parts.hot parts.cold × IsCutOf (reach_between c parts.hot parts.cold) parts.hot parts.cold cut
+IsProofOf c (Stuck case parts cut) =
+    (case ≡ c) × AreCaseParts c parts.hot parts.cold
+    × IsCutOf (reach_between c parts.hot parts.cold) parts.hot parts.cold cut
 IsProofOf c other = ⊥
 
 -- these bytes are a report, and no check of it fails

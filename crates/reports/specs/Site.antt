@@ -22,7 +22,8 @@ profile_line place sink source = line (codes "profile " ++ (signed_decimal place
 
 -- the profiles at each place
 abbrev pub profile_lines : List ℤ → List ℤ → List ℤ → List ℕ
-profile_lines places sinks sources = texts_from (λ i place. profile_line place (slice_index_or sinks i (pos 0)) (slice_index_or sources i (pos 0))) 0 places
+profile_lines places sinks sources =
+    texts_from (λ i place. profile_line place (slice_index_or sinks i (pos 0)) (slice_index_or sources i (pos 0))) 0 places
 
 -- what the boiler gives in all, which is utility 0 of a site
 abbrev pub boiler_heat : Parts → List Transfer → ℤ
@@ -35,7 +36,8 @@ cooling_heat parts transfers = utility_heat 1 Cold parts.cold transfers
 -- boiler HEAT, cooling HEAT, the transfers and the prices
 abbrev pub least_lines : SourceNames → Parts → List Transfer → Prices → List ℕ
 least_lines names parts transfers prices =
-    line (codes "boiler") (boiler_heat parts transfers) ++ line (codes "cooling") (cooling_heat parts transfers) ++ certificate_lines names parts transfers prices
+    line (codes "boiler") (boiler_heat parts transfers)
+    ++ line (codes "cooling") (cooling_heat parts transfers) ++ certificate_lines names parts transfers prices
 
 -- or the cut, where there is no heat flow
 abbrev pub answer_lines : SourceNames → Parts → Answer → List ℕ
@@ -44,4 +46,5 @@ answer_lines names parts (Stuck cut) = stuck_text names parts cut
 
 -- the profiles of a site at its places, and its target
 abbrev pub total_site_text : Site → SiteTable → List ℤ → List ℤ → Answer → List ℕ
-total_site_text site table sinks sources answer = profile_lines table.places sinks sources ++ answer_lines (site_names site) table.parts answer
+total_site_text site table sinks sources answer =
+    profile_lines table.places sinks sources ++ answer_lines (site_names site) table.parts answer

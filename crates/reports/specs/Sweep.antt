@@ -7,7 +7,8 @@ use Rattle.reports.specs.Lines.{cost_line}
 
 -- row CONTRIBUTION HOT COLD COST, or row CONTRIBUTION HOT COLD infeasible
 abbrev pub row_line : SweepRow → List ℕ
-row_line row = cost_line (codes "row " ++ (signed_decimal row.contribution ++ 32 ∷ (signed_decimal row.hot ++ 32 ∷ signed_decimal row.cold))) row.cost
+row_line row =
+    cost_line (codes "row " ++ (signed_decimal row.contribution ++ 32 ∷ (signed_decimal row.hot ++ 32 ∷ signed_decimal row.cold))) row.cost
 
 -- the rows in their order
 abbrev pub sweep_text : List SweepRow → List ℕ

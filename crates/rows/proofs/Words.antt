@@ -42,7 +42,7 @@ unfoldable pub use Rattle.stream_case.specs.Digits.{integer_in, natural_in}
 pub use Rattle.stream_case.specs.Limits.{IsBetween, IsContribution, IsFlowRate, IsHeat, IsLoad, IsPrice, IsTemperature}
 pub use Rattle.stream_case.specs.Name.{IsName, is_name_byte}
 unfoldable pub use Rattle.stream_case.specs.Name.{is_name}
-pub use Rattle.stream_case.specs.Source.{is_right_way, same_side}
+pub use Rattle.stream_case.specs.Source.{is_right_way}
 pub use Rattle.stream_case.specs.Stream.{IsLatent, IsSensible, IsValidStream}
 pub use Rattle.stream_case.specs.declared.limits.TheConstants.{MOST_CONTRIBUTION}
 pub use Rattle.stream_case.specs.declared.source.Side.{Side}

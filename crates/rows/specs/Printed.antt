@@ -1,4 +1,5 @@
--- How the rows that every file may have are printed, the contribution and the streams, and numbers that may be left out.
+-- How the rows that every file may have are printed, the contribution and the streams, and numbers that may be left
+-- out.
 use Rattle.std.specs.Prelude.{ℕ, ℤ, List, [], ◌∷◌, Option, Some, None, codes}
 use Rattle.std.specs.Fmt.{signed_decimal}
 use Rattle.stream_case.specs.declared.source.Side.{Side}
@@ -20,4 +21,5 @@ contribution_row contribution = codes "contribution" ∷ [] ∷ signed_decimal c
 
 -- with these as its sixth and its seventh field
 abbrev pub stream_row : List ℕ → List ℕ → Stream → Row
-stream_row load last s = stream_kind s.side ∷ s.name ∷ signed_decimal s.supply ∷ signed_decimal s.target ∷ signed_decimal s.cp ∷ load ∷ last ∷ []
+stream_row load last s =
+    stream_kind s.side ∷ s.name ∷ signed_decimal s.supply ∷ signed_decimal s.target ∷ signed_decimal s.cp ∷ load ∷ last ∷ []

@@ -34,14 +34,17 @@ are_together (Some plant) (Some other) = plant == other
 
 -- ---- reach
 
--- the hot part gives all its heat at least where the main takes heat, and the cold one takes its heat at most where the main gives it
+-- the hot part gives all its heat at least where the main takes heat, and the cold one takes its heat at most where
+-- the main gives it
 abbrev pub passes_through : ℤ → Part → Part → Main → Bool
-passes_through contribution p q main = int_le (takes_at contribution main) p.low && int_le q.high (gives_at contribution main)
+passes_through contribution p q main =
+    int_le (takes_at contribution main) p.low && int_le q.high (gives_at contribution main)
 
 -- hot part p reaches cold part q, where the streams have these plants
 abbrev pub reaches_within : Site → List ℕ → Part → Part → Bool
 reaches_within site plants p q =
-    if are_together (plant_of plants p.source) (plant_of plants q.source) then passes_heat p q else list_any (passes_through site.contribution p q) site.mains
+    if are_together (plant_of plants p.source) (plant_of plants q.source) then passes_heat p q
+    else list_any (passes_through site.contribution p q) site.mains
 
 abbrev pub part_reaches : Site → Part → Part → Bool
 part_reaches site p q = reaches_within site (stream_plants site.plants) p q

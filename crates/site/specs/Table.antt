@@ -13,7 +13,8 @@ use Rattle.site_text.specs.declared.site.Site.{Site}
 
 -- ---- places
 
--- where a main takes heat on the shifted scale, and where it gives it: it stands there as a cold and as a hot source of its level do
+-- where a main takes heat on the shifted scale, and where it gives it: it stands there as a cold and as a hot source
+-- of its level do
 abbrev pub takes_at : ℤ → Main → ℤ
 takes_at contribution main = shifted Cold main.level contribution
 
@@ -22,7 +23,8 @@ gives_at contribution main = shifted Hot main.level contribution
 
 abbrev pub main_places : ℤ → List Main → List ℤ
 main_places contribution [] = []
-main_places contribution (main ∷ mains) = takes_at contribution main ∷ gives_at contribution main ∷ main_places contribution mains
+main_places contribution (main ∷ mains) =
+    takes_at contribution main ∷ gives_at contribution main ∷ main_places contribution mains
 
 -- the shifted stream ends, and the two places of each main
 abbrev pub site_places : Site → List ℤ

@@ -17,6 +17,7 @@ pub record AreSiteParts (site : Site) (hot cold : List Part) : Type 0 where
   pub hot_parts : AreParts (streams_of site.plants) (site_utilities site) grid Hot hot
   pub cold_parts : AreParts (streams_of site.plants) (site_utilities site) grid Cold cold
 
--- a heat flow between these parts of the site with prices that prove that none costs less, or a cut that proves that there is none
+-- a heat flow between these parts of the site with prices that prove that none costs less, or a cut that proves that
+-- there is none
 abbrev pub IsSiteTarget : Site → List Part → List Part → Answer → Type 0
 IsSiteTarget site hot cold answer = IsAnswer (reach_between site hot cold) hot cold answer

@@ -1,14 +1,13 @@
 -- The words and lemmas from elsewhere that the proofs of this crate speak in, passed on from one place. Declares nothing.
 pub use Rattle.first_fault.proofs.CheckLemmas.{Passes, none_fails}
 pub use Rattle.first_fault.proofs.OneOutcome.{fault_or_value, no_value, one_fault, one_value}
-pub use Rattle.first_fault.proofs.Reading.{Reads, fault_here, one_more}
 pub use Rattle.first_fault.proofs.Steps.{Follows, Give, IsKept, all_give, given_has, nothing_gives, one_more_gives}
 pub use Rattle.first_fault.specs.Outcome.{given_by}
-pub use Rattle.rows.proofs.PrintedNumbers.{contribution, flow_rate, number_read, temperature}
+pub use Rattle.rows.proofs.PrintedNumbers.{flow_rate, number_read, temperature}
 pub use Rattle.rows.proofs.Seams.{All-seam, AllPairs-seam, length-seam}
 pub use Rattle.rows.proofs.SharedRows.{contribution-passes, contribution-read, passed-contribution, stream_row-kind}
 pub use Rattle.rows.proofs.Tests.{Decides-neither, Decides-none, passed-room, passed-within, room-passes, within-passes}
-pub use Rattle.rows.specs.Printed.{contribution_row, stream_kind, stream_row}
+pub use Rattle.rows.specs.Printed.{contribution_row, stream_row}
 pub use Rattle.rows.specs.Rows.{Row}
 unfoldable pub use Rattle.rows.specs.Rows.{rows_of}
 pub use Rattle.rows.specs.Text.{rows_text}

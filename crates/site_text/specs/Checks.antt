@@ -105,7 +105,8 @@ kind_checks (Some (kind.Stream of)) earlier row = stream_checks of earlier row
 
 -- the checks of a row, behind rows that gave this
 unfoldable pub checks : Given → Row → List (Check SiteWhy)
-checks earlier row = (length row == 7, why.FieldCount) ∷ (is_some (kind_of row), why.UnknownKind) ∷ kind_checks (kind_of row) earlier row
+checks earlier row =
+    (length row == 7, why.FieldCount) ∷ (is_some (kind_of row), why.UnknownKind) ∷ kind_checks (kind_of row) earlier row
 
 -- the checks at the end of the file
 unfoldable pub end_checks : Given → List (Check SiteWhy)

@@ -15,7 +15,8 @@ use Rattle.site_text.specs.declared.entry.Entry.TheVariants as entry
 use Rattle.site_text.specs.declared.kind.Kind.{Kind}
 use Rattle.site_text.specs.declared.kind.Kind.TheVariants as kind
 
--- the contribution, the plants with their streams, and the mains, each in the order of their rows; the streams have the contribution 0
+-- the contribution, the plants with their streams, and the mains, each in the order of their rows; the streams have
+-- the contribution 0
 pub record Given : Type 0 where
   pub contribution : Option ℤ
   pub plants : List Plant
@@ -31,7 +32,11 @@ plant_with contribution plant = record { name = plant.name; streams = map (strea
 
 -- each stream has the contribution
 abbrev pub site_with : ℤ → Given → Site
-site_with contribution given = record { contribution = contribution; plants = map (plant_with contribution) given.plants; mains = given.mains }
+site_with contribution given = record {
+  contribution = contribution;
+  plants = map (plant_with contribution) given.plants;
+  mains = given.mains;
+}
 
 -- the site so far; its contribution is 0 where none was given yet
 abbrev pub site_of : Given → Site
@@ -80,7 +85,8 @@ with_stream s (plant ∷ next ∷ plants) = plant ∷ with_stream s (next ∷ pl
 abbrev pub with_entry : Given → Entry → Given
 with_entry given entry.Nothing = given
 with_entry given (entry.Contribution n) = record given { contribution = Some n }
-with_entry given (entry.Plant name) = record given { plants = given.plants ++ record { name = name; streams = [] } ∷ [] }
+with_entry given (entry.Plant name) =
+    record given { plants = given.plants ++ record { name = name; streams = [] } ∷ [] }
 with_entry given (entry.Main main) = record given { mains = given.mains ++ main ∷ [] }
 with_entry given (entry.Stream s) = record given { plants = with_stream s given.plants }
 

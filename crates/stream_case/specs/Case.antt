@@ -161,4 +161,5 @@ IsComplete c = (k : Case) × IsValid k × (c ≡ completed k)
 -- a completed case with no forbidden match, and with just the two standard utilities
 pub record IsStandard (c : Case) : Type 0 where
   pub free : c.forbids ≡ []
-  pub utilities : (c.utilities ≡ standard_utility Hot c ∷ standard_utility Cold c ∷ []) ⊎ (c.utilities ≡ standard_utility Cold c ∷ standard_utility Hot c ∷ [])
+  pub utilities : (c.utilities ≡ standard_utility Hot c ∷ standard_utility Cold c ∷ [])
+      ⊎ (c.utilities ≡ standard_utility Cold c ∷ standard_utility Hot c ∷ [])

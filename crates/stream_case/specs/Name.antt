@@ -39,6 +39,8 @@ pub record IsStored (bytes : List ℕ) (len : ℕ) : Type 0 where
 pub length-view : (bytes : List ℕ) (len : ℕ) → IsStored bytes len → length (take len bytes) ≡ len
 length-view bytes len h = length-take-le len bytes (omega (arith, h.capacity, h.fits))
 
-pub padded-view : (bytes : List ℕ) (len : ℕ) → IsStored bytes len → take len bytes ++ replicate (17 - length (take len bytes)) 0 ≡ bytes
+pub padded-view : (bytes : List ℕ) (len : ℕ) → IsStored bytes len
+    → take len bytes ++ replicate (17 - length (take len bytes)) 0 ≡ bytes
 padded-view bytes len h =
-    ap (λ n. take len bytes ++ replicate (17 - n) 0) (length-view bytes len h) ∙ ap (λ zs. take len bytes ++ zs) (sym h.zeros) ∙ take-append-drop len bytes
+    ap (λ n. take len bytes ++ replicate (17 - n) 0) (length-view bytes len h)
+    ∙ ap (λ zs. take len bytes ++ zs) (sym h.zeros) ∙ take-append-drop len bytes

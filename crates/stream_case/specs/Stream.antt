@@ -15,7 +15,15 @@ use Rattle.stream_case.specs.Source.{is_hot, same_side, IsRightWay}
 
 -- a stream of sensible heat: it has no load
 abbrev pub sensible_stream : List ℕ → Side → ℤ → ℤ → ℤ → ℤ → Stream
-sensible_stream name side supply target cp contribution = record { name = name; side = side; supply = supply; target = target; cp = cp; load = pos 0; contribution = contribution }
+sensible_stream name side supply target cp contribution = record {
+  name = name;
+  side = side;
+  supply = supply;
+  target = target;
+  cp = cp;
+  load = pos 0;
+  contribution = contribution;
+}
 
 -- the stream with this contribution
 abbrev pub stream_with : ℤ → Stream → Stream
@@ -65,7 +73,8 @@ abbrev pub counts_above : Bool → ℤ → ℤ → Bool
 counts_above false place level = int_lt place level
 counts_above true place level = int_le place level
 
--- the load of a stream whose level counts as above t, and 0 of any other; the level is the high end, as a latent stream has but one
+-- the load of a stream whose level counts as above t, and 0 of any other; the level is the high end, as a latent
+-- stream has but one
 abbrev pub load_over : Bool → ℤ → Stream → ℤ
 load_over from_itself t s = if counts_above from_itself t (high_end s) then s.load else pos 0
 

@@ -25,11 +25,13 @@ priced prices parts = map (priced_part prices) parts
 
 -- the least cost of the heat flows of the case at these prices
 abbrev pub IsLeastCostAt : Case → List ℤ → ℤ → Type 0
-IsLeastCostAt c prices cost = HoldsOfParts c (λ hot cold. IsLeastCost (reach_between c hot cold) (priced prices hot) (priced prices cold) cost)
+IsLeastCostAt c prices cost =
+    HoldsOfParts c (λ hot cold. IsLeastCost (reach_between c hot cold) (priced prices hot) (priced prices cold) cost)
 
 -- the case has no heat flow at these prices
 abbrev pub HasNoFlowAt : Case → List ℤ → Type 0
-HasNoFlowAt c prices = HoldsOfParts c (λ hot cold. HasNoFlow (reach_between c hot cold) (priced prices hot) (priced prices cold))
+HasNoFlowAt c prices =
+    HoldsOfParts c (λ hot cold. HasNoFlow (reach_between c hot cold) (priced prices hot) (priced prices cold))
 
 -- the least cost, or none where the case has no heat flow
 abbrev pub IsCostAt : Case → List ℤ → Option ℤ → Type 0

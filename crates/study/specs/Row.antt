@@ -14,7 +14,12 @@ utility_with contribution u = record u { contribution = contribution }
 
 -- the case with this contribution in all its sources
 abbrev pub with_contribution : ℤ → Case → Case
-with_contribution contribution c = record { contribution = contribution; streams = map (stream_with contribution) c.streams; utilities = map (utility_with contribution) c.utilities; forbids = c.forbids }
+with_contribution contribution c = record {
+  contribution = contribution;
+  streams = map (stream_with contribution) c.streams;
+  utilities = map (utility_with contribution) c.utilities;
+  forbids = c.forbids;
+}
 
 -- the same completed, with the standard utilities where they are wanted
 abbrev pub case_with : ℤ → Case → Case
@@ -29,4 +34,5 @@ pub record IsRow (c : Case) (contribution : ℤ) (row : SweepRow) : Type 0 where
 
 -- there is at most one
 abbrev pub OneRow : Case → Type 0
-OneRow c = (contribution : ℤ) (row other : SweepRow) → IsRow c contribution row → IsRow c contribution other → row ≡ other
+OneRow c =
+    (contribution : ℤ) (row other : SweepRow) → IsRow c contribution row → IsRow c contribution other → row ≡ other

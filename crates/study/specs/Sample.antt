@@ -38,8 +38,10 @@ drawn_flow_rate x = 1 + draw x 2 FLOW_RATES
 
 -- the stream of a side that these draws make
 abbrev pub drawn_stream : Side → ℕ → ℕ → Stream
-drawn_stream Hot x number = sensible_stream (stream_name Hot number) Hot (pos (drawn_high Hot x)) (pos (drawn_low Hot x)) (pos (drawn_flow_rate x)) SAMPLE_CONTRIBUTION
-drawn_stream Cold x number = sensible_stream (stream_name Cold number) Cold (pos (drawn_low Cold x)) (pos (drawn_high Cold x)) (pos (drawn_flow_rate x)) SAMPLE_CONTRIBUTION
+drawn_stream Hot x number =
+    sensible_stream (stream_name Hot number) Hot (pos (drawn_high Hot x)) (pos (drawn_low Hot x)) (pos (drawn_flow_rate x)) SAMPLE_CONTRIBUTION
+drawn_stream Cold x number =
+    sensible_stream (stream_name Cold number) Cold (pos (drawn_low Cold x)) (pos (drawn_high Cold x)) (pos (drawn_flow_rate x)) SAMPLE_CONTRIBUTION
 
 -- so many streams of a side, with three draws each, numbered from 1
 abbrev pub drawn_streams : Side → ℕ → ℕ → List Stream

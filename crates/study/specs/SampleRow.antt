@@ -19,4 +19,6 @@ pub record IsSampleRow (number count : ℕ) (row : SampleRow) : Type 0 where
 
 -- there is at most one
 abbrev pub OneSampleRow : Type 0
-OneSampleRow = (number count : ℕ) (row other : SampleRow) → IsSampleRow number count row → IsSampleRow number count other → row ≡ other
+OneSampleRow =
+    (number count : ℕ) (row other : SampleRow) → IsSampleRow number count row → IsSampleRow number count other
+    → row ≡ other

@@ -36,7 +36,9 @@ pub record AreAnswers (c : Case) (study : Study) (answers : List StudyAnswer) : 
 
 -- there is at most one list of them
 abbrev pub OneAnswer : Case → Type 0
-OneAnswer c = (study : Study) (answers others : List StudyAnswer) → IsStudy c study → AreAnswers c study answers → AreAnswers c study others → answers ≡ others
+OneAnswer c =
+    (study : Study) (answers others : List StudyAnswer) → IsStudy c study → AreAnswers c study answers
+    → AreAnswers c study others → answers ≡ others
 
 -- the least cost never rises more behind a price of a utility than before it
 abbrev pub RisesFall : Case → Type 0

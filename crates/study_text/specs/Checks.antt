@@ -1,4 +1,5 @@
--- The checks of a row of a study file, in their order. A check is a sentence on the row and on what the rows above it say.
+-- The checks of a row of a study file, in their order. A check is a sentence on the row and on what the rows above it
+-- say.
 use Rattle.std.specs.Prelude.{◌-ℤ◌, not, ◌==◌, List, [], ◌∷◌, length, Option, Some, None, is_some, nat_lt, int_le, int_lt}
 use Rattle.std.specs.List.{list_any}
 use Rattle.first_fault.specs.Checks.{Check}
@@ -67,7 +68,8 @@ kind_checks c (Some kind.Span) earlier row = span_checks c earlier row
 
 -- the checks of a row, behind rows that say this
 unfoldable pub checks : Case → List Entry → Row → List (Check StudyWhy)
-checks c earlier row = (length row == 4, why.FieldCount) ∷ (is_some (kind_of row), why.UnknownKind) ∷ kind_checks c (kind_of row) earlier row
+checks c earlier row =
+    (length row == 4, why.FieldCount) ∷ (is_some (kind_of row), why.UnknownKind) ∷ kind_checks c (kind_of row) earlier row
 
 -- the checks at the end of the file
 unfoldable pub end_checks : List Entry → List (Check StudyWhy)

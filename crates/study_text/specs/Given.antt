@@ -47,7 +47,8 @@ is_priced i (e ∷ entries) = (is_price_of i e && not (has_scenario entries)) ||
 
 -- ---- the study
 
--- the prices of a scenario, behind which these entries stand: the given ones but for the prices down to the next scenario, whether spans stand between or not
+-- the prices of a scenario, behind which these entries stand: the given ones but for the prices down to the next
+-- scenario, whether spans stand between or not
 abbrev pub prices_by : List ℤ → List Entry → List ℤ
 prices_by prices [] = prices
 prices_by prices (entry.Scenario name ∷ entries) = prices

@@ -42,4 +42,6 @@ HasOutcome c rows = (outcome : Result Study (ℕ × StudyWhy)) × IsOutcomeOf c 
 
 -- and no other: never two faults, two causes of one fault, two studies, or a fault and a study
 abbrev pub OneOutcome : Case → List Row → Type 0
-OneOutcome c rows = (outcome other : Result Study (ℕ × StudyWhy)) → IsOutcomeOf c rows outcome → IsOutcomeOf c rows other → outcome ≡ other
+OneOutcome c rows =
+    (outcome other : Result Study (ℕ × StudyWhy)) → IsOutcomeOf c rows outcome → IsOutcomeOf c rows other
+    → outcome ≡ other

@@ -21,4 +21,8 @@ pub record IsWithin (amounts : List ℤ) (p : Progress) : Type 0 where
 -- the next amount begins where one is given whole
 abbrev pub progress_after : List ℤ → Progress → ℤ → Progress
 progress_after amounts p more =
-    if int_eq (p.given +ℤ more) (slice_index_or amounts p.index (pos 0)) then record { index = p.index + 1; given = pos 0 } else record { index = p.index; given = p.given +ℤ more }
+    if int_eq (p.given +ℤ more) (slice_index_or amounts p.index (pos 0)) then record {
+      index = p.index + 1;
+      given = pos 0;
+    }
+    else record { index = p.index; given = p.given +ℤ more }

@@ -12,9 +12,11 @@ NotNegative = All (λ x. pos 0 ≤ℤ x)
 abbrev pub begin_of : List ℤ → ℕ → ℤ
 begin_of amounts i = int_sum_by (λ x. x) (take i amounts)
 
--- the length that the span at index i of the one list shares with the span at index j of the other; not above 0 where they share none
+-- the length that the span at index i of the one list shares with the span at index j of the other; not above 0 where
+-- they share none
 abbrev pub overlap : List ℤ → List ℤ → ℕ → ℕ → ℤ
-overlap firsts seconds i j = int_min (begin_of firsts (suc i)) (begin_of seconds (suc j)) -ℤ int_max (begin_of firsts i) (begin_of seconds j)
+overlap firsts seconds i j =
+    int_min (begin_of firsts (suc i)) (begin_of seconds (suc j)) -ℤ int_max (begin_of firsts i) (begin_of seconds j)
 
 -- two indices whose spans overlap, with the length that they share
 pub record IsOverlap (firsts seconds : List ℤ) (p : Pair) : Type 0 where

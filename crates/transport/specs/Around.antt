@@ -1,4 +1,5 @@
--- A net around an inner net, in which heat passes from hot parts to cold parts. The node of hot part a is a, that of cold part
+-- A net around an inner net, in which heat passes from hot parts to cold parts. The node of hot part a is a, that of
+-- cold part
 -- b is the number of hot parts plus b.
 use Rattle.std.specs.Prelude.{ℕ, suc, ◌+◌, ℤ, pos, neg_ℤ, ◌+ℤ◌, ◌-ℤ◌, List, [], ◌∷◌, ◌++◌, length, map, replicate, Bool}
 use Rattle.std.specs.List.{range_with_len}
@@ -31,7 +32,8 @@ spare_link Cold ends node p = record { from = ends.filler; to = node; room = p.m
 -- both links of each part, whose nodes begin with this one
 abbrev pub links_of_parts : Side → Ends → ℕ → List Part → List Link
 links_of_parts side ends node [] = []
-links_of_parts side ends node (p ∷ parts) = whole_link side ends node p ∷ spare_link side ends node p ∷ links_of_parts side ends (suc node) parts
+links_of_parts side ends node (p ∷ parts) =
+    whole_link side ends node p ∷ spare_link side ends node p ∷ links_of_parts side ends (suc node) parts
 
 -- the links between the further nodes, where so much can be given and taken at most
 abbrev pub links_between : Ends → ℤ → ℤ → List Link
@@ -60,7 +62,8 @@ start_of nodes = replicate nodes (pos 0) ++ (MOST_PRICE ∷ neg_ℤ MOST_PRICE �
 
 -- the most of all parts, routed with potentials that prove it to cost least
 pub record RoutesMost (hot cold : List Part) (inner : Net) (flow potentials : List ℤ) : Type 0 where
-  pub routing : IsRouting (net_around hot cold inner) (ends_behind inner.nodes).source (ends_behind inner.nodes).sink (most_of hot +ℤ most_of cold) flow
+  pub routing :
+      IsRouting (net_around hot cold inner) (ends_behind inner.nodes).source (ends_behind inner.nodes).sink (most_of hot +ℤ most_of cold) flow
   pub proof : AreProofOfLeast (net_around hot cold inner).links flow potentials
   pub bounded : AreBounded (net_around hot cold inner) (start_of inner.nodes) potentials
 
@@ -75,4 +78,5 @@ IsNodePotential z = IsPartPrice (z +ℤ z)
 
 -- how far the potential falls from so many nodes, of which this is the first, to another one
 abbrev pub prices_of : List ℤ → ℕ → ℕ → ℕ → List ℤ
-prices_of potentials first parts end = map (λ v. potential_at potentials v -ℤ potential_at potentials end) (range_with_len first parts)
+prices_of potentials first parts end =
+    map (λ v. potential_at potentials v -ℤ potential_at potentials end) (range_with_len first parts)

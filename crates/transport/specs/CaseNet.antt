@@ -8,7 +8,8 @@ use Rattle.chains.specs.Inner.{IsInner}
 use Rattle.chains.specs.Path.{PathsAreReaches}
 use Rattle.transport.specs.declared.case_net.CaseNet.{CaseNet}
 
--- an inner net for so many hot and cold parts, within the limits, whose paths are the pairs of these parts of the case that reach;
+-- an inner net for so many hot and cold parts, within the limits, whose paths are the pairs of these parts of the
+-- case that reach;
 -- the ranges and the prices of the parts do not matter
 pub record IsCaseNet (c : Case) (hot cold : List Part) (net : CaseNet) : Type 0 where
   pub inner : IsInner (length hot) (length cold) net.chains.net

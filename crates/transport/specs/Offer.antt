@@ -21,7 +21,8 @@ refuses Cold forbids source other = is_forbidden forbids other source
 
 -- both lists forbid the same matches of this source
 abbrev pub ForbidAlike : Side → Source → List Forbid → List Forbid → Type 0
-ForbidAlike side source forbids others = (other : Source) → refuses side forbids source other ≡ refuses side others source other
+ForbidAlike side source forbids others =
+    (other : Source) → refuses side forbids source other ≡ refuses side others source other
 
 -- hot part p reaches cold part q, where these matches are forbidden
 abbrev pub both_pass : List Forbid → Option Part → Option Part → Bool

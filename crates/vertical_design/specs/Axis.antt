@@ -26,7 +26,8 @@ abbrev pub begin_of : Side → List Stream → ℤ
 begin_of side.Hot streams = pos 0
 begin_of side.Cold streams = cold_target streams
 
--- the heat of the curve of a side at the shifted temperature t: that of all its streams below t, on from where the curve begins
+-- the heat of the curve of a side at the shifted temperature t: that of all its streams below t, on from where the
+-- curve begins
 abbrev pub heat_at : Side → List Stream → ℤ → ℤ
 heat_at of streams t = begin_of of streams +ℤ sum_side of (heat_below t) streams
 

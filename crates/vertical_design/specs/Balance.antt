@@ -4,7 +4,8 @@ use Rattle.fractions.specs.Rationals.{rational_zero, whole}
 use Rattle.problem_table.specs.Deficit.{cold_target, hot_target}
 use Rattle.network_audit.specs.declared.verdict.Balance.{Balance}
 
--- the hot utilities give the hot target, and the cold ones take the cold target; where a watt of hot utility costs 1 and one of cold utility nothing, the hot
+-- the hot utilities give the hot target, and the cold ones take the cold target; where a watt of hot utility costs 1
+-- and one of cold utility nothing, the hot
 -- target is also the cost
 abbrev pub target_balance : Case → Balance
 target_balance case = record {

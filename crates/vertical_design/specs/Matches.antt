@@ -39,13 +39,15 @@ pair_of firsts seconds i j =
 
 -- all such pairs, by the first index and then by the second
 unfoldable pub pairs_of : List ℤ → List ℤ → List Pair
-pairs_of firsts seconds = flat_map (λ i. filter_map (pair_of firsts seconds i) (range_with_len 0 (length seconds))) (range_with_len 0 (length firsts))
+pairs_of firsts seconds =
+    flat_map (λ i. filter_map (pair_of firsts seconds i) (range_with_len 0 (length seconds))) (range_with_len 0 (length firsts))
 
 -- a pair of sources of both sides that meet between two cuts
 abbrev pub IsMet : ℤ → ℤ → List Band → List Band → Pair → Type 0
 IsMet low high hot cold p = IsOverlap (amounts_in low high hot cold) (amounts_in low high cold hot) p
 
--- a share p of F times G, the flows of the two sides, makes an exchange: its branches have the flows p/G and p/F, and its heat is that part
+-- a share p of F times G, the flows of the two sides, makes an exchange: its branches have the flows p/G and p/F, and
+-- its heat is that part
 -- of the heat between the cuts. Each interval has a piece for each band of a side.
 abbrev pub match_of : ℕ → ℤ → ℤ → List Band → List Band → Pair → Exchange
 match_of number low high hot cold p = record {

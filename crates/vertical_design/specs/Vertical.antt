@@ -27,7 +27,8 @@ stream_heat t s = times (full_size s) (range_below t s)
 
 -- the heat of the curve of a side at t: that of all its streams below t, on from where the curve begins
 unfoldable pub curve_heat : Side → List Stream → Rational → Rational
-curve_heat of streams t = plus (whole (begin_of of streams)) (rational_sum_by (λ s. if same_side s.side of then stream_heat t s else rational_zero) streams)
+curve_heat of streams t =
+    plus (whole (begin_of of streams)) (rational_sum_by (λ s. if same_side s.side of then stream_heat t s else rational_zero) streams)
 
 -- ---- vertical networks
 
@@ -41,26 +42,36 @@ pub record IsAtUtility (of : Side) (streams : List Stream) (heat : Rational) : T
   pub from : IsAtMost (whole (utility_from of streams)) heat
   pub upto : IsAtMost heat (whole (utility_to of streams))
 
--- two sources face each other at these shifted temperatures: two streams at one heat of both curves; and at a utility the heat of the other side lies where
+-- two sources face each other at these shifted temperatures: two streams at one heat of both curves; and at a utility
+-- the heat of the other side lies where
 -- that utility does, be it that of a stream or of the other side's utility at its level
 abbrev pub AreFacing : List Stream → Source → Source → Rational → Rational → Type 0
-AreFacing streams (source.Stream i) (source.Stream j) hot cold = curve_heat side.Hot streams hot ≡ curve_heat side.Cold streams cold
-AreFacing streams (source.Stream i) (source.Utility j) hot cold = IsAtUtility side.Cold streams (curve_heat side.Hot streams hot)
-AreFacing streams (source.Utility i) (source.Stream j) hot cold = IsAtUtility side.Hot streams (curve_heat side.Cold streams cold)
+AreFacing streams (source.Stream i) (source.Stream j) hot cold =
+    curve_heat side.Hot streams hot ≡ curve_heat side.Cold streams cold
+AreFacing streams (source.Stream i) (source.Utility j) hot cold =
+    IsAtUtility side.Cold streams (curve_heat side.Hot streams hot)
+AreFacing streams (source.Utility i) (source.Stream j) hot cold =
+    IsAtUtility side.Hot streams (curve_heat side.Cold streams cold)
 AreFacing streams (source.Utility i) (source.Utility j) hot cold =
-    IsAtUtility side.Hot streams (curve_heat side.Cold streams cold) × IsAtUtility side.Cold streams (curve_heat side.Hot streams hot)
+    IsAtUtility side.Hot streams (curve_heat side.Cold streams cold)
+    × IsAtUtility side.Cold streams (curve_heat side.Hot streams hot)
 
 -- the shifted temperatures at which the source of an exchanger on a side enters it and leaves it
 abbrev pub entry : Case → Network → Valuation → ℕ → Side → Source → Rational
-entry case network values number of a = on_scale of (enters of (side_run case network values number a)) (contribution_of case a)
+entry case network values number of a =
+    on_scale of (enters of (side_run case network values number a)) (contribution_of case a)
 
 abbrev pub exit : Case → Network → Valuation → ℕ → Side → Source → Rational
-exit case network values number of a = on_scale of (leaves of (side_run case network values number a)) (contribution_of case a)
+exit case network values number of a =
+    on_scale of (leaves of (side_run case network values number a)) (contribution_of case a)
 
 -- its sources face each other at both of its ends
-pub record IsVerticalAt (case : Case) (network : Network) (values : Valuation) (number : ℕ) (e : Exchanger) : Type 0 where
-  pub hot_end : AreFacing case.streams e.hot e.cold (entry case network values number side.Hot e.hot) (exit case network values number side.Cold e.cold)
-  pub cold_end : AreFacing case.streams e.hot e.cold (exit case network values number side.Hot e.hot) (entry case network values number side.Cold e.cold)
+pub record IsVerticalAt (case : Case) (network : Network) (values : Valuation) (number : ℕ)
+    (e : Exchanger) : Type 0 where
+  pub hot_end :
+      AreFacing case.streams e.hot e.cold (entry case network values number side.Hot e.hot) (exit case network values number side.Cold e.cold)
+  pub cold_end :
+      AreFacing case.streams e.hot e.cold (exit case network values number side.Hot e.hot) (entry case network values number side.Cold e.cold)
 
 abbrev pub AreVertical : Case → Network → Valuation → Type 0
 AreVertical case network values = (number : ℕ) (e : Exchanger) → slice_get (exchangers_of network.lines) number ≡ Some e

@@ -12,13 +12,16 @@ pub record AreItems {X : Type 0} (IsItem : ℕ → X → Type 0) (many : ℕ) (i
   pub count : length items ≡ many
 
 -- those of one of so many workers, one of each round
-pub record AreItemsOfWorker {X : Type 0} (IsItem : ℕ → X → Type 0) (many workers worker : ℕ) (items : List X) : Type 0 where
+pub record AreItemsOfWorker {X : Type 0} (IsItem : ℕ → X → Type 0) (many workers worker : ℕ)
+    (items : List X) : Type 0 where
   pub each : EachIsItem (λ j x. IsItem (item_of workers worker j) x) items
   pub all : (j : ℕ) → (j < length items) ↔ (item_of workers worker j < many)
 
 -- those of each worker, or want of memory
 abbrev pub AreItemsOfWorkers : {X E : Type 0} → (ℕ → X → Type 0) → ℕ → List (Result (List X) E) → Type 0
-AreItemsOfWorkers {X} {E} IsItem many lists = (worker : ℕ) (answer : Result (List X) E) → slice_get lists worker ≡ Some answer → IfOk answer (AreItemsOfWorker IsItem many (length lists) worker)
+AreItemsOfWorkers {X} {E} IsItem many lists =
+    (worker : ℕ) (answer : Result (List X) E) → slice_get lists worker ≡ Some answer
+    → IfOk answer (AreItemsOfWorker IsItem many (length lists) worker)
 
 -- x is the last of the items before, and the items after are those without it
 pub record IsLastOf {X E : Type 0} (before after : Result (List X) E) (x : X) : Type 0 where
