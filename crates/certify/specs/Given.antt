@@ -91,9 +91,8 @@ entry_in s = entry_by (kind_of s) s
 abbrev pub is_empty : {X : Type 0} → List X → Bool
 is_empty xs = length xs == 0
 
--- a statement of this kind may come next: first a cost or the word that there is no heat flow; behind a cost uses,
--- then moves, then gives, then
--- takes; behind the word a cut, and then parts
+-- a statement of this kind may come next: first a cost or the word that there is no heat flow; behind a cost uses, then
+-- moves, then gives, then takes; behind the word a cut, and then parts
 abbrev pub admits : Given → Kind → Bool
 admits gave.Nothing kind.Cost = true
 admits gave.Nothing kind.Infeasible = true

@@ -20,8 +20,7 @@ abbrev pub StandsIn : List Group → ℕ → Source → Type 0
 StandsIn groups i source = (g : Group) × (slice_get groups i ≡ Some g) × Contains g.sources source
 
 -- each hot source stands in one group, once, and two stand in the same group exactly where the same cold sources are
--- permitted
--- to them; no group is empty
+-- permitted to them; no group is empty
 pub record AreGroups (c : Case) (groups : List Group) : Type 0 where
   pub hot : (i : ℕ) (source : Source) → StandsIn groups i source → side_of c source ≡ Some Hot
   pub some : (source : Source) → side_of c source ≡ Some Hot → (i : ℕ) × StandsIn groups i source

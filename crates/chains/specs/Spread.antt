@@ -7,9 +7,8 @@ use Rattle.flow_net.specs.declared.net.Link.{Link}
 use Rattle.flow_net.specs.Net.{inflow, outflow}
 use Rattle.chains.specs.Path.{LeadsTo}
 
--- positive transfers in order, between parts that a path joins: those of a hot part add up to what leaves its node,
--- and those
--- of a cold part to what enters its node
+-- positive transfers in order, between parts that a path joins: those of a hot part add up to what leaves its node, and
+-- those of a cold part to what enters its node
 pub record IsSpread (hots colds : ℕ) (links : List Link) (flow : List ℤ) (transfers : List Transfer) : Type 0 where
   pub positive : ArePositive transfers
   pub ordered : AllPairs precedes transfers

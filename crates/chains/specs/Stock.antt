@@ -59,9 +59,8 @@ pub record HasPassed (s : Share) (shares after : List Share) (ways ways_after : 
   pub carried : IsCarried ways ways_after s.node s.heat part
   pub is : after ≡ shares ++ moved s part
 
--- a part of a flow under way: no heat of a hot part is lost, and at each node behind the hot parts the heat there
--- with what
--- still comes and what the flow takes off is what the flow brings with what still goes
+-- a part of a flow under way: no heat of a hot part is lost, and at each node behind the hot parts the heat there with
+-- what still comes and what the flow takes off is what the flow brings with what still goes
 pub record IsUnderWay (hots colds : ℕ) (net : Net) (flow : List ℤ) (moving there : List Share)
     (ways : List Way) : Type 0 where
   pub moving_shares : All (IsShare hots net) moving

@@ -34,8 +34,7 @@ abbrev pub as_transfer : Pair → Transfer
 as_transfer p = record { hot = p.first; cold = p.second; heat = p.amount }
 
 -- the heats of each side are laid end to end in the order of the parts: the transfers are exactly the pairs of parts
--- whose spans overlap,
--- each with the length that they share
+-- whose spans overlap, each with the length that they share
 abbrev pub IsCornerFlow : Case → List Part → List Part → List Transfer → Type 0
 IsCornerFlow c hot cold transfers =
     ListsOverlaps (heats_of (hot_target c.streams) hot) (heats_of (cold_target c.streams) cold) (map as_pair transfers)

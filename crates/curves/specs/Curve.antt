@@ -22,16 +22,14 @@ abbrev pub one_or_two : Bool → ℤ → ℤ → ℤ → List Point
 one_or_two two first second t =
     record { heat = first; temperature = t } ∷ cons_if two (record { heat = second; temperature = t }) []
 
--- the points of a side at an actual temperature: the heat of the side below it and, where one of its streams is
--- latent there,
--- the heat up to it
+-- the points of a side at an actual temperature: the heat of the side below it and, where one of its streams is latent
+-- there, the heat up to it
 abbrev pub side_points : Side → List Stream → ℤ → List Point
 side_points side streams t =
     one_or_two (list_any (is_latent_at side t) streams) (sum_side side (heat_below t) streams) (sum_side side (heat_upto t) streams) t
 
--- the points of the grand curve at a shifted temperature: the hot target less the deficit above it and, where a
--- stream is
--- latent there, the hot target less the deficit from it
+-- the points of the grand curve at a shifted temperature: the hot target less the deficit above it and, where a stream
+-- is latent there, the hot target less the deficit from it
 abbrev pub grand_points : List Stream → ℤ → List Point
 grand_points streams t =
     one_or_two (has_level_at t streams) (hot_target streams -ℤ deficit_above streams t) (hot_target streams -ℤ deficit_from streams t) t

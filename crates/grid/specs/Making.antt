@@ -1,6 +1,5 @@
 -- The parts of a side in the order in which they are made: place by place downward, at each place the latent streams
--- and
--- then the utilities at that level, then the streams on the interval below it.
+-- and then the utilities at that level, then the streams on the interval below it.
 use Rattle.std.specs.Prelude.{ℕ, suc, ℤ, pos, int_le, Bool, ◌&&◌, List, [], ◌∷◌, ◌++◌}
 use Rattle.std.specs.Ordering.{int_eq}
 use Rattle.stream_case.specs.declared.limits.TheConstants.{MOST_LOAD}

@@ -21,9 +21,8 @@ pub record ArePartPrices (parts : List Part) (prices : List ℤ) : Type 0 where
   pub one_each : length prices ≡ length parts
   pub within : All IsPartPrice prices
 
--- a heat flow, where `reach a b` tells whether hot part a reaches cold part b, and prices that support every heat
--- flow: both have
--- this cost, the one as its cost and the other as their value
+-- a heat flow, where `reach a b` tells whether hot part a reaches cold part b, and prices that support every heat flow:
+-- both have this cost, the one as its cost and the other as their value
 pub record IsCertified (reach : ℕ → ℕ → Bool) (hot cold : List Part) (transfers : List Transfer) (y z : List ℤ)
     (cost : ℤ) : Type 0 where
   pub flow : IsHeatFlow reach hot cold transfers

@@ -20,8 +20,7 @@ pub record IsInRange (u : Utility) (heat : Rational) : Type 0 where
   pub most : IsAtMost heat (whole u.most)
 
 -- the whole network has a valuation, over which each stream ends once in full, each latent branch has a part of its
--- load
--- as state, both ends of each exchanger keep the approach, no match is forbidden and each utility is in its range
+-- load as state, both ends of each exchanger keep the approach, no match is forbidden and each utility is in its range
 pub record IsValidNetwork (case : Case) (network : Network) : Type 0 where
   pub values : Valuation
   pub valuation : IsWholeValuation case network values

@@ -20,8 +20,7 @@ shifted_run on case network values number s =
     seen_from (whole (unshifted on (pos 0) (contribution_of case s))) (side_run case network values number s)
 
 -- both sides have the duty; where the approach is kept, the hot one is at neither end below the cold one; and in each
--- view the
--- height that a stream loses or gains is its side's share of the duty
+-- view the height that a stream loses or gains is its side's share of the duty
 pub record RunsOnOneScale (case : Case) (network : Network) (values : Valuation) (number : ℕ)
     (e : Exchanger) : Type 0 where
   pub positive : IsBelow rational_zero e.duty

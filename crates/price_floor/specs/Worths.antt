@@ -47,9 +47,8 @@ abbrev pub cold_worth : Case → Network → Valuation → Tariff → ℕ × Exc
 cold_worth case network values tariff (number, e) =
     utility_worth (shifted_run side.Cold case network values number) tariff side.Cold e.duty e.cold
 
--- what the streams lose of their worth from their first state to their last, and what the hot utilities give, is
--- worth at
--- least what the cold utilities take
+-- what the streams lose of their worth from their first state to their last, and what the hot utilities give, is worth
+-- at least what the cold utilities take
 abbrev pub WorthsAreOrdered : Type 0
 WorthsAreOrdered =
     (case : Case) (network : Network) (values : Valuation) (tariff : Tariff)

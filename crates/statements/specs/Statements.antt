@@ -31,8 +31,7 @@ unfoldable pub is_statement : Statement → Bool
 is_statement fields = not (length fields == 0) && not (slice_index (field fields 0) 0 == 35)
 
 -- the other lines are the statements. As for Rust's `lines`, a line ends with `\n`, one `\r` directly before it is
--- dropped,
--- and the last line may lack its end
+-- dropped, and the last line may lack its end
 unfoldable pub statements_of : List ℕ → List Statement
 statements_of bytes = filter is_statement (map fields_of (lines bytes))
 

@@ -20,8 +20,7 @@ IfStuck (Least flow prices cost) p = Unit {0}
 IfStuck (Stuck cut) p = p cut
 
 -- where `reach a b` tells whether hot part a reaches cold part b: a heat flow of least cost with prices that certify
--- it, or a cut, and
--- that only where there is no heat flow
+-- it, or a cut, and that only where there is no heat flow
 pub record IsAnswer (reach : ℕ → ℕ → Bool) (hot cold : List Part) (answer : Answer) : Type 0 where
   pub certified : IfLeast answer (λ flow prices cost. IsCertified reach hot cold flow.transfers prices.hot prices.cold cost)
   pub least : IfLeast answer (λ flow prices cost. IsLeastCost reach hot cold cost)

@@ -1,6 +1,5 @@
 -- A net around an inner net, in which heat passes from hot parts to cold parts. The node of hot part a is a, that of
--- cold part
--- b is the number of hot parts plus b.
+-- cold part b is the number of hot parts plus b.
 use Rattle.std.specs.Prelude.{ℕ, suc, ◌+◌, ℤ, pos, neg_ℤ, ◌+ℤ◌, ◌-ℤ◌, List, [], ◌∷◌, ◌++◌, length, map, replicate, Bool}
 use Rattle.std.specs.List.{range_with_len}
 use Rattle.stream_case.specs.declared.limits.TheConstants.{MOST_PRICE}

@@ -11,8 +11,7 @@ use Rattle.transport.specs.declared.answer.Answer.{Answer}
 use Rattle.transport.specs.declared.answer.Answer.TheVariants.{Least}
 
 -- the corner flow with its prices. It has fewer transfers than parts, and its cost is the hot target; `HOT` gives the
--- hot target and `COLD` takes the
--- cold target, and no heat flow does with less of either
+-- hot target and `COLD` takes the cold target, and no heat flow does with less of either
 pub record IsCornerAnswer (c : Case) (hot cold : List Part) (answer : Answer) : Type 0 where
   pub flow : Flow
   pub prices : Prices

@@ -8,8 +8,7 @@ use Rattle.transport.specs.declared.answer.Answer.TheVariants.{Least}
 use Rattle.transport.specs.Around.{ends_behind, prices_of}
 
 -- the answer with this heat flow: the prices are how far the potentials fall from the nodes of the parts, of a net
--- around an inner
--- net of so many nodes
+-- around an inner net of so many nodes
 abbrev pub priced : List Part → List Part → ℕ → List ℤ → Flow → Answer
 priced hot cold nodes potentials flow =
     Least flow

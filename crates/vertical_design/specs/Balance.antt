@@ -5,8 +5,7 @@ use Rattle.problem_table.specs.Deficit.{cold_target, hot_target}
 use Rattle.network_audit.specs.declared.verdict.Balance.{Balance}
 
 -- the hot utilities give the hot target, and the cold ones take the cold target; where a watt of hot utility costs 1
--- and one of cold utility nothing, the hot
--- target is also the cost
+-- and one of cold utility nothing, the hot target is also the cost
 abbrev pub target_balance : Case → Balance
 target_balance case = record {
   hot = whole (hot_target case.streams);

@@ -47,8 +47,7 @@ abbrev pub IsMet : ℤ → ℤ → List Band → List Band → Pair → Type 0
 IsMet low high hot cold p = IsOverlap (amounts_in low high hot cold) (amounts_in low high cold hot) p
 
 -- a share p of F times G, the flows of the two sides, makes an exchange: its branches have the flows p/G and p/F, and
--- its heat is that part
--- of the heat between the cuts. Each interval has a piece for each band of a side.
+-- its heat is that part of the heat between the cuts. Each interval has a piece for each band of a side.
 abbrev pub match_of : ℕ → ℤ → ℤ → List Band → List Band → Pair → Exchange
 match_of number low high hot cold p = record {
   hot = number * length hot + p.first;

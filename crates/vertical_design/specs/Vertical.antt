@@ -43,8 +43,8 @@ pub record IsAtUtility (of : Side) (streams : List Stream) (heat : Rational) : T
   pub upto : IsAtMost heat (whole (utility_to of streams))
 
 -- two sources face each other at these shifted temperatures: two streams at one heat of both curves; and at a utility
--- the heat of the other side lies where
--- that utility does, be it that of a stream or of the other side's utility at its level
+-- the heat of the other side lies where that utility does, be it that of a stream or of the other side's utility at its
+-- level
 abbrev pub AreFacing : List Stream → Source → Source → Rational → Rational → Type 0
 AreFacing streams (source.Stream i) (source.Stream j) hot cold =
     curve_heat side.Hot streams hot ≡ curve_heat side.Cold streams cold
