@@ -23,15 +23,15 @@ pub fn accepted_text(
     reference: i32,
     floor: i128,
     penalties: &PenaltyList,
-) -> Result<String, AllocError>
-    ensures { IfOk result (λ text. string_bytes text
+) -> Result<Vec<u8>, AllocError>
+    ensures { IfOk result (λ text. text.items
         ≡ accepted_text case.now network.now balance.now reference floor penalties.now) }
 {
     let mut text = String::from_str(alloc, "accepted\n")?;
     text.push_str(&balance_lines(alloc, balance)?)?;
     text.push_str(&floor_lines(alloc, floor, reference)?)?;
     text.push_str(&penalty_lines(alloc, case, network, penalties)?)?;
-    Ok(text)
+    Ok(text.into_bytes())
 }
 
 /// A network that is rejected: where, and for what reason.
@@ -41,13 +41,13 @@ pub fn rejected_text(
     network: &Network,
     place: Place,
     reason: Reason,
-) -> Result<String, AllocError>
+) -> Result<Vec<u8>, AllocError>
     ensures { IfOk result
-        (λ text. string_bytes text ≡ rejected_text case.now network.now place reason) }
+        (λ text. text.items ≡ rejected_text case.now network.now place reason) }
 {
     let place = place_text(alloc, case, network, place)?;
     let reason = reason_text(alloc, reason)?;
-    format!(in alloc; "rejected {place} {reason}\n")
+    Ok(format!(in alloc; "rejected {place} {reason}\n")?.into_bytes())
 }
 
 /// A network whose numbers become too fine: where, and at which step.

@@ -19,15 +19,15 @@ pub fn flow_text(
     transfers: &[Transfer],
     prices: &Prices,
     cost: i128,
-) -> Result<String, AllocError>
-    ensures { IfOk result (λ text. string_bytes text
+) -> Result<Vec<u8>, AllocError>
+    ensures { IfOk result (λ text. text.items
         ≡ flow_text case.now parts.now transfers.now prices.now cost) }
 {
     let names = case_names(alloc, case)?;
     let mut text = line(alloc, "cost", cost)?;
     text.push_str(&use_lines(alloc, case, parts, transfers)?)?;
     text.push_str(&certificate_lines(alloc, &names, parts, transfers, prices)?)?;
-    Ok(text)
+    Ok(text.into_bytes())
 }
 
 fn use_lines(

@@ -12,13 +12,13 @@ pub fn curves_text(
     hot: &[Point],
     cold: &[Point],
     net: &[Point],
-) -> Result<String, AllocError>
-    ensures { IfOk result (λ text. string_bytes text ≡ curves_text hot.now cold.now net.now) }
+) -> Result<Vec<u8>, AllocError>
+    ensures { IfOk result (λ text. text.items ≡ curves_text hot.now cold.now net.now) }
 {
     let mut text = curve_text(alloc, "hot", hot)?;
     text.push_str(&curve_text(alloc, "cold", cold)?)?;
     text.push_str(&curve_text(alloc, "net", net)?)?;
-    Ok(text)
+    Ok(text.into_bytes())
 }
 
 fn curve_text(alloc: Global, word: &str, curve: &[Point]) -> Result<String, AllocError>

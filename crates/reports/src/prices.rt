@@ -14,11 +14,11 @@ pub fn prices_text(
     case: &Case,
     study: &Study,
     answers: &[StudyAnswer],
-) -> Result<String, AllocError>
-    ensures { IfOk result (λ text. string_bytes text ≡ prices_text case.now study.now answers.now) }
+) -> Result<Vec<u8>, AllocError>
+    ensures { IfOk result (λ text. text.items ≡ prices_text case.now study.now answers.now) }
 {
     let names = case_names(alloc, case)?;
-    item_lines(alloc, &names, study.items.as_slice(), answers)
+    Ok(item_lines(alloc, &names, study.items.as_slice(), answers)?.into_bytes())
 }
 
 fn item_lines(

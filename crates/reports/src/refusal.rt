@@ -1,5 +1,5 @@
 //! The texts of what is no result of a command: words, files and rows that are refused.
-ghost use Rattle.std.specs.Prelude.{◌≡◌, IfOk, string_bytes};
+ghost use Rattle.std.specs.Prelude.{◌≡◌, IfOk};
 ghost use Rattle.reports.specs.Refusals.{bad_case_text, bad_network_text, bad_report_text, bad_site_text, bad_study_text, case_why_name, file_text, net_why_name, report_why_name, role_name, site_why_name, study_why_name};
 
 use crate::shown::FileRole;
@@ -21,46 +21,53 @@ pub const NOT_STANDARD: &str = "case not standard\n";
 /// latent ones.
 pub const LATENT: &str = "case has latent streams\n";
 
-/// A line that names the row of a case file, counted from 1, and its cause.
-pub fn bad_case_text(alloc: Global, row: u32, why: CaseWhy) -> Result<String, AllocError>
-    ensures { IfOk result (λ text. string_bytes text ≡ bad_case_text row why) }
+/// A text as it stands.
+pub fn fixed_text(alloc: Global, text: &str) -> Result<Vec<u8>, AllocError>
+    ensures { IfOk result (λ copy. copy.items ≡ text.now) }
 {
-    format!(in alloc; "case row {row} {}\n", case_why_name(why))
+    Ok(String::from_str(alloc, text)?.into_bytes())
+}
+
+/// A line that names the row of a case file, counted from 1, and its cause.
+pub fn bad_case_text(alloc: Global, row: u32, why: CaseWhy) -> Result<Vec<u8>, AllocError>
+    ensures { IfOk result (λ text. text.items ≡ bad_case_text row why) }
+{
+    Ok(format!(in alloc; "case row {row} {}\n", case_why_name(why))?.into_bytes())
 }
 
 /// A line that names the row of a site file, counted from 1, and its cause.
-pub fn bad_site_text(alloc: Global, row: u32, why: SiteWhy) -> Result<String, AllocError>
-    ensures { IfOk result (λ text. string_bytes text ≡ bad_site_text row why) }
+pub fn bad_site_text(alloc: Global, row: u32, why: SiteWhy) -> Result<Vec<u8>, AllocError>
+    ensures { IfOk result (λ text. text.items ≡ bad_site_text row why) }
 {
-    format!(in alloc; "site row {row} {}\n", site_why_name(why))
+    Ok(format!(in alloc; "site row {row} {}\n", site_why_name(why))?.into_bytes())
 }
 
 /// A line that names the statement of a network file, counted from 1, and its cause.
-pub fn bad_network_text(alloc: Global, line: u32, why: NetWhy) -> Result<String, AllocError>
-    ensures { IfOk result (λ text. string_bytes text ≡ bad_network_text line why) }
+pub fn bad_network_text(alloc: Global, line: u32, why: NetWhy) -> Result<Vec<u8>, AllocError>
+    ensures { IfOk result (λ text. text.items ≡ bad_network_text line why) }
 {
-    format!(in alloc; "network line {line} {}\n", net_why_name(why))
+    Ok(format!(in alloc; "network line {line} {}\n", net_why_name(why))?.into_bytes())
 }
 
 /// A line that names the statement of a report, counted from 1, and its cause.
-pub fn bad_report_text(alloc: Global, line: u32, why: ReportWhy) -> Result<String, AllocError>
-    ensures { IfOk result (λ text. string_bytes text ≡ bad_report_text line why) }
+pub fn bad_report_text(alloc: Global, line: u32, why: ReportWhy) -> Result<Vec<u8>, AllocError>
+    ensures { IfOk result (λ text. text.items ≡ bad_report_text line why) }
 {
-    format!(in alloc; "report line {line} {}\n", report_why_name(why))
+    Ok(format!(in alloc; "report line {line} {}\n", report_why_name(why))?.into_bytes())
 }
 
 /// A line that names the row of a study file, counted from 1, and its cause.
-pub fn bad_study_text(alloc: Global, row: u32, why: StudyWhy) -> Result<String, AllocError>
-    ensures { IfOk result (λ text. string_bytes text ≡ bad_study_text row why) }
+pub fn bad_study_text(alloc: Global, row: u32, why: StudyWhy) -> Result<Vec<u8>, AllocError>
+    ensures { IfOk result (λ text. text.items ≡ bad_study_text row why) }
 {
-    format!(in alloc; "study row {row} {}\n", study_why_name(why))
+    Ok(format!(in alloc; "study row {row} {}\n", study_why_name(why))?.into_bytes())
 }
 
 /// A line of what is wrong and of the file where it is.
-pub fn file_text(alloc: Global, fault: &str, file: FileRole) -> Result<String, AllocError>
-    ensures { IfOk result (λ text. string_bytes text ≡ file_text fault.now file) }
+pub fn file_text(alloc: Global, fault: &str, file: FileRole) -> Result<Vec<u8>, AllocError>
+    ensures { IfOk result (λ text. text.items ≡ file_text fault.now file) }
 {
-    format!(in alloc; "{fault} {}\n", role_name(file))
+    Ok(format!(in alloc; "{fault} {}\n", role_name(file))?.into_bytes())
 }
 
 fn role_name(file: FileRole) -> &'static str

@@ -7,14 +7,14 @@ use std::alloc::{AllocError, Global};
 use study::SweepRow;
 
 /// A line for each row of a sweep.
-pub fn sweep_text(alloc: Global, rows: &[SweepRow]) -> Result<String, AllocError>
-    ensures { IfOk result (λ text. string_bytes text ≡ sweep_text rows.now) }
+pub fn sweep_text(alloc: Global, rows: &[SweepRow]) -> Result<Vec<u8>, AllocError>
+    ensures { IfOk result (λ text. text.items ≡ sweep_text rows.now) }
 {
     let mut text = String::new(alloc);
     for row in rows {
         text.push_str(&row_line(alloc, row)?)?;
     }
-    Ok(text)
+    Ok(text.into_bytes())
 }
 
 /// The contribution, the targets and the least cost.

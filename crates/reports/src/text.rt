@@ -12,7 +12,7 @@ use crate::points::curves_text;
 use crate::prices::prices_text;
 use crate::refusal::{
     LATENT, NOT_STANDARD, WORDS, bad_case_text, bad_network_text, bad_report_text, bad_site_text,
-    bad_study_text, file_text,
+    bad_study_text, file_text, fixed_text,
 };
 use crate::sample::sample_text;
 use crate::shown::Shown;
@@ -29,24 +29,19 @@ pub fn text_of(alloc: Global, shown: &Shown) -> Result<Vec<u8>, AllocError>
     ensures { IfOk result (λ printed. printed.items ≡ text shown.now) }
 {
     match shown {
-        Shown::Targets { targets, pinches } => {
-            Ok(targets_text(alloc, targets, pinches.as_slice())?.into_bytes())
-        }
+        Shown::Targets { targets, pinches } => targets_text(alloc, targets, pinches.as_slice()),
         Shown::Flow {
             case,
             parts,
             flow,
             prices,
             cost,
-        } => {
-            let transfers = flow.transfers.as_slice();
-            Ok(flow_text(alloc, case, parts, transfers, prices, *cost)?.into_bytes())
-        }
+        } => flow_text(alloc, case, parts, flow.transfers.as_slice(), prices, *cost),
         Shown::Stuck { case, parts, cut } => {
             Ok(stuck_text(alloc, &case_names(alloc, case)?, parts, cut)?.into_bytes())
         }
         Shown::Curves { hot, cold, net } => {
-            Ok(curves_text(alloc, hot.as_slice(), cold.as_slice(), net.as_slice())?.into_bytes())
+            curves_text(alloc, hot.as_slice(), cold.as_slice(), net.as_slice())
         }
         Shown::Design {
             case,
@@ -60,16 +55,13 @@ pub fn text_of(alloc: Global, shown: &Shown) -> Result<Vec<u8>, AllocError>
             place,
             floor,
             penalties,
-        } => {
-            let text = accepted_text(alloc, case, network, balance, *place, *floor, penalties)?;
-            Ok(text.into_bytes())
-        }
+        } => accepted_text(alloc, case, network, balance, *place, *floor, penalties),
         Shown::Rejected {
             case,
             network,
             place,
             reason,
-        } => Ok(rejected_text(alloc, case, network, *place, *reason)?.into_bytes()),
+        } => rejected_text(alloc, case, network, *place, *reason),
         Shown::TooFine {
             case,
             network,
@@ -82,27 +74,25 @@ pub fn text_of(alloc: Global, shown: &Shown) -> Result<Vec<u8>, AllocError>
             sinks,
             sources,
             answer,
-        } => Ok(total_site_text(alloc, site, parts, sinks, sources, answer)?.into_bytes()),
-        Shown::Sweep { rows } => Ok(sweep_text(alloc, rows.as_slice())?.into_bytes()),
-        Shown::Sample { hot, cold, cost } => {
-            Ok(sample_text(alloc, *hot, *cold, *cost)?.into_bytes())
-        }
-        Shown::Certified { cost } => Ok(certified_text(alloc, *cost)?.into_bytes()),
-        Shown::NotCertified { why } => Ok(not_certified_text(alloc, *why)?.into_bytes()),
+        } => total_site_text(alloc, site, parts, sinks, sources, answer),
+        Shown::Sweep { rows } => sweep_text(alloc, rows.as_slice()),
+        Shown::Sample { hot, cold, cost } => sample_text(alloc, *hot, *cold, *cost),
+        Shown::Certified { cost } => certified_text(alloc, *cost),
+        Shown::NotCertified { why } => not_certified_text(alloc, *why),
         Shown::Prices {
             case,
             study,
             answers,
-        } => Ok(prices_text(alloc, case, study, answers.as_slice())?.into_bytes()),
-        Shown::BadWords => Ok(String::from_str(alloc, WORDS)?.into_bytes()),
-        Shown::BadCase { row, why } => Ok(bad_case_text(alloc, *row, *why)?.into_bytes()),
-        Shown::NotStandard => Ok(String::from_str(alloc, NOT_STANDARD)?.into_bytes()),
-        Shown::Latent => Ok(String::from_str(alloc, LATENT)?.into_bytes()),
-        Shown::BadSite { row, why } => Ok(bad_site_text(alloc, *row, *why)?.into_bytes()),
-        Shown::BadNetwork { line, why } => Ok(bad_network_text(alloc, *line, *why)?.into_bytes()),
-        Shown::BadReport { line, why } => Ok(bad_report_text(alloc, *line, *why)?.into_bytes()),
-        Shown::BadStudy { row, why } => Ok(bad_study_text(alloc, *row, *why)?.into_bytes()),
-        Shown::TooLong { file } => Ok(file_text(alloc, "too long", *file)?.into_bytes()),
-        Shown::ReadFault { file } => Ok(file_text(alloc, "read fault", *file)?.into_bytes()),
+        } => prices_text(alloc, case, study, answers.as_slice()),
+        Shown::BadWords => fixed_text(alloc, WORDS),
+        Shown::BadCase { row, why } => bad_case_text(alloc, *row, *why),
+        Shown::NotStandard => fixed_text(alloc, NOT_STANDARD),
+        Shown::Latent => fixed_text(alloc, LATENT),
+        Shown::BadSite { row, why } => bad_site_text(alloc, *row, *why),
+        Shown::BadNetwork { line, why } => bad_network_text(alloc, *line, *why),
+        Shown::BadReport { line, why } => bad_report_text(alloc, *line, *why),
+        Shown::BadStudy { row, why } => bad_study_text(alloc, *row, *why),
+        Shown::TooLong { file } => file_text(alloc, "too long", *file),
+        Shown::ReadFault { file } => file_text(alloc, "read fault", *file),
     }
 }

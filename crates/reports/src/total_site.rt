@@ -22,15 +22,15 @@ pub fn total_site_text(
     sinks: &Items<i64>,
     sources: &Items<i64>,
     answer: &Answer,
-) -> Result<String, AllocError>
-    ensures { IfOk result (λ text. string_bytes text
+) -> Result<Vec<u8>, AllocError>
+    ensures { IfOk result (λ text. text.items
         ≡ total_site_text site.now table.now sinks.now sources.now answer.now) }
 {
     let names = site_names(alloc, site)?;
     let places = table.places.as_slice();
     let mut text = profile_lines(alloc, places, sinks.as_slice(), sources.as_slice())?;
     text.push_str(&answer_lines(alloc, &names, &table.parts, answer)?)?;
-    Ok(text)
+    Ok(text.into_bytes())
 }
 
 fn profile_lines(
