@@ -47,27 +47,36 @@ pub fn read(alloc: Global, text: &str) -> Result<Problem> {
         amount: 0,
     };
     for line in text.lines() {
-        let mut words = line.split_whitespace();
-        match words.next() {
-            Some("p") => {
-                words.next();
-                problem.net.nodes = u32::try_from(number(&mut words)?)?;
-            }
-            Some("n") => {
-                let node = node(&mut words)?;
-                let supply = number(&mut words)?;
-                if supply > 0 {
-                    problem.source = node;
-                    problem.amount = supply;
-                } else {
-                    problem.sink = node;
-                }
-            }
-            Some("a") => problem.net.links.push(link(&mut words)?)?,
-            _ => {}
-        }
+        add_line(&mut problem, line)?;
     }
     Ok(problem)
+}
+
+fn add_line(problem: &mut Problem, line: &str) -> Result<()> {
+    let mut words = line.split_whitespace();
+    match words.next() {
+        Some("p") => {
+            words.next();
+            problem.net.nodes = u32::try_from(number(&mut words)?)?;
+        }
+        Some("n") => {
+            let node = node(&mut words)?;
+            set_supply(problem, node, number(&mut words)?);
+        }
+        Some("a") => problem.net.links.push(link(&mut words)?)?,
+        _ => {}
+    }
+    Ok(())
+}
+
+/// A node that supplies something is the source, any other one the sink.
+fn set_supply(problem: &mut Problem, node: u32, supply: i64) {
+    if supply > 0 {
+        problem.source = node;
+        problem.amount = supply;
+    } else {
+        problem.sink = node;
+    }
 }
 
 fn link(words: &mut SplitWhitespace) -> Result<Link> {

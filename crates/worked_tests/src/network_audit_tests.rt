@@ -17,14 +17,14 @@ type Carried = (u32, Option<(i64, i64)>);
 
 /// Of the six exchangers: a stream's own branch, one between two exchangers, the last one, and one
 /// beyond.
-const CARRIED: [Carried; 4] = [
+const CARRIED: &[Carried] = &[
     (1, Some((300, 1700))),
     (6, Some((150, 900))),
     (13, Some((400, 1400))),
     (14, None),
 ];
 
-const NOTHING: [Carried; 2] = [(1, None), (14, None)];
+const NOTHING: &[Carried] = &[(1, None), (14, None)];
 
 /// A network whose cooler takes 4,000 W, which is more than its most.
 const TOO_MUCH_COOLING: &[u8] = b"exchanger E1 H C 1000\nexchanger Q1 H CW 4000\npass H E1 a\n\
@@ -57,24 +57,49 @@ fn unfinished(stream: u32, cp: i64) -> Verdict {
     }
 }
 
-#[test]
-fn an_accepted_network_tells_what_its_branches_carry(rt: HostRuntime) -> Result<(), Fail> {
-    let case = completed_case(rt.alloc(), &FOUR_STREAMS)?;
-    let mut six = auditor_of(rt.alloc(), &case, SIX_EXCHANGERS)?;
-    let mut none = auditor_of(rt.alloc(), &case, b"")?;
-    check_values(&rt, &six, &NOTHING);
-    let accepted = Verdict::Accepted(Balance {
+/// What an audit of the six exchangers says.
+fn accepted() -> Verdict {
+    Verdict::Accepted(Balance {
         hot: Frac::whole(20_000),
         cold: Frac::whole(60_000),
         excess: Frac::whole(0),
         cost: Frac::whole(20_000),
-    });
-    assert_same(&rt, "six exchangers", &six.audit(), &accepted);
-    check_values(&rt, &six, &CARRIED);
-    assert_same(&rt, "no exchangers", &none.audit(), &unfinished(0, 200));
-    check_values(&rt, &none, &NOTHING);
-    assert_same(&rt, "the six again", &six.audit(), &accepted);
-    check_values(&rt, &six, &CARRIED);
+    })
+}
+
+/// Compares what an audit says, and what branches carry after it.
+fn check_audit(
+    rt: &impl Abort,
+    at: &str,
+    auditor: &mut Auditor,
+    wanted: &Verdict,
+    carried: &[Carried],
+) {
+    assert_same(rt, at, &auditor.audit(), wanted);
+    check_values(rt, auditor, carried);
+}
+
+#[test]
+fn an_accepted_network_tells_what_its_branches_carry(rt: HostRuntime) -> Result<(), Fail> {
+    let case = completed_case(rt.alloc(), &FOUR_STREAMS)?;
+    let mut auditor = auditor_of(rt.alloc(), &case, SIX_EXCHANGERS)?;
+    check_values(&rt, &auditor, NOTHING);
+    check_audit(&rt, "six exchangers", &mut auditor, &accepted(), CARRIED);
+    check_audit(&rt, "the six again", &mut auditor, &accepted(), CARRIED);
+    Ok(())
+}
+
+#[test]
+fn a_rejected_network_tells_nothing_of_its_branches(rt: HostRuntime) -> Result<(), Fail> {
+    let case = completed_case(rt.alloc(), &FOUR_STREAMS)?;
+    let mut auditor = auditor_of(rt.alloc(), &case, b"")?;
+    check_audit(
+        &rt,
+        "no exchangers",
+        &mut auditor,
+        &unfinished(0, 200),
+        NOTHING,
+    );
     Ok(())
 }
 
