@@ -2,6 +2,8 @@
 //! names, checks the answer, and prints what it costs. The time goes to the standard error.
 #![tactic(auto)]
 
+ghost use Rattle.flow_net.specs.Net.{AreEnds, IsWithinLimits};
+
 mod answer;
 mod limits;
 mod problem;
@@ -44,7 +46,10 @@ fn main(rt: HostRuntime) -> Result<()> {
 }
 
 /// What the flow costs, once its certificate is checked; none where the net is blocked.
-fn checked_cost(alloc: Global, problem: &Problem, solved: &Solved) -> Result<Option<i128>> {
+fn checked_cost(alloc: Global, problem: &Problem, solved: &Solved) -> Result<Option<i128>>
+    requires net { IsWithinLimits problem.now.net }
+    requires ends { AreEnds problem.now.net problem.now.source problem.now.sink }
+{
     match solved {
         Solved::Blocked { reached: _set } => Ok(None),
         Solved::Routed { flow, potentials } => {
