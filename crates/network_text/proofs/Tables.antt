@@ -108,6 +108,9 @@ module _ {es : List (List ℕ × ℕ)} {used : List ℕ} {xs : List (List ℕ ×
       subst (AllPairs (λ (a b : List ℕ). a ≢ b))
       (map-append (λ (x : Exchanger). x.name) (exchangers_of ls) own ∙ ap (λ ns. ns ++ map (λ (x : Exchanger). x.name) own) (sym keys)) all
 
+  pub unused-now : AllPairs (λ a b. a ≢ b) (used ++ uses e.line)
+  unused-now = subst (λ us. AllPairs (λ (a b : ℕ). a ≢ b) (us ++ uses e.line)) (sym is.used_are) fresh.unused
+
   pub new_names : AllPairs (λ a b. a ≢ b) (keys_of es ++ members e.names)
   new_names = subst (λ ns. AllPairs (λ (a b : List ℕ). a ≢ b) (ns ++ members e.names)) (names-keys es) fresh.new_names
 

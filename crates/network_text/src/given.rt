@@ -168,9 +168,9 @@ fn mark_any_passed(
     }
 }
 
-/// The network that the statements read so far give, and tables to look things up in it.
+/// Tables to look things up in what the statements read so far give.
 #[derive(Drop)]
-pub struct Given {
+struct Tables {
     /// The streams of the branches, by name, in the order of their numbers.
     branches: KeyedMap<Name, u32>,
     /// The branches that are used.
@@ -179,6 +179,45 @@ pub struct Given {
     exchangers: KeyedMap<Name, Sides>,
     /// The sides of exchangers that are passed.
     passed: KeyedSet<Passage>,
+}
+
+impl Tables {
+    /// Adds what an entry uses and declares, the side that it passes, and its branches of this
+    /// stream; a part of that where memory is wanted.
+    fn add(
+        &mut self,
+        entry: &Entry,
+        stream: u32,
+        passage: Option<Passage>,
+    ) -> Result<(), AllocError>
+        requires used { AllPairs (λ a b. a ≢ b) (self.old.used.keys ++ uses entry.now.line) }
+        requires exchangers { AllPairs (λ a b. a ≢ b) (keys_of self.old.exchangers.entries ++
+            map (λ e. e.name) (option_to_list (exchanger_of entry.now.line))) }
+        requires passed { ForSome passage (λ p.
+            list_any (same_passage p) self.old.passed.keys ≡ false) }
+        requires branches { AllPairs (λ a b. a ≢ b) (keys_of self.old.branches.entries ++
+            members entry.now.names) }
+        ensures used { OnOk result (self.new.used.keys ≡ self.old.used.keys ++
+            uses entry.now.line) }
+        ensures exchangers { OnOk result (self.new.exchangers.entries ≡
+            self.old.exchangers.entries ++
+            map named_sides (option_to_list (exchanger_of entry.now.line))) }
+        ensures passed { OnOk result (self.new.passed.keys ≡ self.old.passed.keys ++
+            option_to_list passage) }
+        ensures branches { OnOk result (self.new.branches.entries ≡ self.old.branches.entries ++
+            map (λ name. (name, stream)) (members entry.now.names)) }
+    {
+        mark_all_used(&mut self.used, entry.line.uses())?;
+        add_declared(&mut self.exchangers, &entry.line)?;
+        mark_any_passed(&mut self.passed, passage)?;
+        add_branches(&mut self.branches, entry.names, stream)
+    }
+}
+
+/// The network that the statements read so far give.
+#[derive(Drop)]
+pub struct Given {
+    tables: Tables,
     lines: Vec<Line>,
 }
 
@@ -190,12 +229,12 @@ impl Model for Given {
     ghost Value = { Network };
 
     ghost view = { λ b. record {
-      branches = map named_branch b.branches.entries;
+      branches = map named_branch b.tables.branches.entries;
       lines = b.lines.items;
     } };
 
-    ghost invariant = { λ b.
-        IsTracked b.branches.entries b.used.keys b.exchangers.entries b.passed.keys b.lines.items };
+    ghost invariant = { λ b. IsTracked b.tables.branches.entries b.tables.used.keys
+        b.tables.exchangers.entries b.tables.passed.keys b.lines.items };
 }
 
 impl Given {
@@ -204,11 +243,14 @@ impl Given {
         requires { IsComplete case.now }
         ensures { IfOk result (λ given. given ≡ start case.now) }
     {
-        Ok(Given {
+        let tables = Tables {
             branches: own_branches(alloc, key, case.streams.as_slice())?,
             used: IndexSet::with_hasher(alloc, key),
             exchangers: IndexMap::with_hasher(alloc, key),
             passed: IndexSet::with_hasher(alloc, key),
+        };
+        Ok(Given {
+            tables,
             lines: Vec::new(alloc),
         })
     }
@@ -225,21 +267,21 @@ impl Given {
         ensures count { result ≡ length self.now.branches }
         ensures small { result ≤ ALL_STREAMS + 2 * MOST_STATEMENTS }
     {
-        self.branches.len() as u32
+        self.tables.branches.len() as u32
     }
 
     /// How many exchangers are declared.
     pub fn count_exchangers(&self) -> usize
         ensures { result ≡ length (exchangers_of self.now.lines) }
     {
-        self.exchangers.len()
+        self.tables.exchangers.len()
     }
 
     /// The number of the branch with this name.
     pub fn branch_named(&self, name: &[u8]) -> Option<u32>
         ensures { result ≡ branch_named self.now name.now }
     {
-        let branches = &self.branches;
+        let branches = &self.tables.branches;
         let Some(name) = branch_name(name) else {
             return None;
         };
@@ -253,7 +295,7 @@ impl Given {
     pub fn exchanger_named(&self, name: &[u8]) -> Option<u32>
         ensures { result ≡ exchanger_named self.now name.now }
     {
-        let exchangers = &self.exchangers;
+        let exchangers = &self.tables.exchangers;
         let Some(name) = branch_name(name) else {
             return None;
         };
@@ -267,14 +309,14 @@ impl Given {
     pub fn is_used(&self, number: u32) -> bool
         ensures { result ≡ is_used self.now number }
     {
-        self.used.contains(&number)
+        self.tables.used.contains(&number)
     }
 
     /// The stream of the branch with this number.
     pub fn stream_of(&self, number: u32) -> u32
         ensures { result ≡ stream_at self.now.branches number }
     {
-        match self.branches.get_index(number as usize) {
+        match self.tables.branches.get_index(number as usize) {
             Some((_, stream)) => *stream,
             None => 0,
         }
@@ -314,7 +356,7 @@ impl Given {
     fn joins_stream(&self, exchanger: u32, stream: u32) -> bool
         ensures { result ≡ joins_stream self.now exchanger stream }
     {
-        match self.exchangers.get_index(exchanger as usize) {
+        match self.tables.exchangers.get_index(exchanger as usize) {
             Some((_, sides)) => sides.hot.is_stream(stream) || sides.cold.is_stream(stream),
             None => false,
         }
@@ -326,7 +368,7 @@ impl Given {
     fn is_passed(&self, exchanger: u32, stream: u32) -> bool
         ensures { result ≡ is_passed self.now exchanger stream }
     {
-        self.passed.contains(&Passage { exchanger, stream })
+        self.tables.passed.contains(&Passage { exchanger, stream })
     }
 
     /// Whether the exchanger with this number has a side of the stream, and no earlier statement
@@ -346,14 +388,10 @@ impl Given {
         requires fresh { IsFresh self entry }
         ensures { IfOk result (λ given. given ≡ with_entry self entry) }
     {
-        let used = entry.line.uses();
-        let stream = self.first_stream(used);
+        let stream = self.first_stream(entry.line.uses());
         let passage = self.passage_of(&entry.line);
         let mut given = self;
-        mark_all_used(&mut given.used, used)?;
-        add_declared(&mut given.exchangers, &entry.line)?;
-        mark_any_passed(&mut given.passed, passage)?;
-        add_branches(&mut given.branches, entry.names, stream)?;
+        given.tables.add(&entry, stream, passage)?;
         given.lines.push(entry.line)?;
         Ok(given)
     }
@@ -403,7 +441,7 @@ impl Given {
     pub fn into_network(self, alloc: Global) -> Result<Network, AllocError>
         ensures { IfOk result (λ network. network ≡ self) }
     {
-        let branches = listed(alloc, &self.branches)?;
+        let branches = listed(alloc, &self.tables.branches)?;
         Ok(Network {
             branches: Items::from_vec(branches),
             lines: Items::from_vec(self.lines),

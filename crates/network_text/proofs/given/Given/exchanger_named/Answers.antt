@@ -6,15 +6,15 @@ use Rattle.network_text.proofs.given.Given.exchanger_named.Goals as goal
 pub returns-in_default : goal.returns-in_default
 returns-in_default c =
     let none = unnamed _ c.args.name.now c.self.invariant.exchanger_names (sym c.in_default.ensures.some) in
-    rw (← c.self.view_is) (sym (exchanger_named-keys c.self.inside.exchangers.entries
-    (map named_branch c.self.inside.branches.entries) c.self.inside.lines.items c.args.name.now c.self.invariant.exchangers_are ∙ none))
+    rw (← c.self.view_is) (sym (exchanger_named-keys c.self.inside.tables.exchangers.entries
+    (map named_branch c.self.inside.tables.branches.entries) c.self.inside.lines.items c.args.name.now c.self.invariant.exchangers_are ∙ none))
 
 pub returns-in_default-get_index_of : goal.returns-in_default-get_index_of
 returns-in_default-get_index_of c =
     let found = rw c.in-Some.ensures.value at c.in_default-get_index_of.ensures.index in
     rw (← c.self.view_is) (found ∙ sym
-    (exchanger_named-keys c.self.inside.exchangers.entries
-    (map named_branch c.self.inside.branches.entries) c.self.inside.lines.items c.args.name.now c.self.invariant.exchangers_are))
+    (exchanger_named-keys c.self.inside.tables.exchangers.entries
+    (map named_branch c.self.inside.tables.branches.entries) c.self.inside.lines.items c.args.name.now c.self.invariant.exchangers_are))
 
 pub overflow_cast-result : goal.overflow_cast-result
 overflow_cast-result c =
@@ -26,5 +26,5 @@ pub returns : goal.returns
 returns c =
     let found = rw c.in-Some.ensures.value at c.in-Some-get_index_of.ensures.index in
     rw (← c.self.view_is) (found ∙ sym
-    (exchanger_named-keys c.self.inside.exchangers.entries
-    (map named_branch c.self.inside.branches.entries) c.self.inside.lines.items c.args.name.now c.self.invariant.exchangers_are))
+    (exchanger_named-keys c.self.inside.tables.exchangers.entries
+    (map named_branch c.self.inside.tables.branches.entries) c.self.inside.lines.items c.args.name.now c.self.invariant.exchangers_are))
