@@ -256,8 +256,17 @@ fn tables_give_their_cases_and_are_printed(rt: HostRuntime) -> Result<(), Fail> 
     for (table, wanted, given) in TABLES {
         check_table(&rt, table, wanted, &case_of(rt.alloc(), given)?)?;
     }
+    Ok(())
+}
+
+#[test]
+fn contributions_of_sources_are_read_and_printed(rt: HostRuntime) -> Result<(), Fail> {
     let case = own_contributions(rt.alloc())?;
-    check_table(&rt, OWN_CONTRIBUTIONS, PRINTED_OWN_CONTRIBUTIONS, &case)?;
+    check_table(&rt, OWN_CONTRIBUTIONS, PRINTED_OWN_CONTRIBUTIONS, &case)
+}
+
+#[test]
+fn latent_streams_are_read_and_printed(rt: HostRuntime) -> Result<(), Fail> {
     let case = latent_streams(rt.alloc())?;
     check_table(&rt, LATENT_STREAMS, PRINTED_LATENT_STREAMS, &case)
 }

@@ -6,8 +6,7 @@ use crate::tables::{
     FOUR_STREAMS, MOST_HEAT, RESTRICTED, StreamRow, TWO_STREAMS, Table, UtilityRow, completed_case,
 };
 use chains::{Chains, Group};
-use flow_net::Link;
-use std::alloc::{AllocError, Global};
+use std::alloc::Global;
 use std::process::Abort;
 use std::test::Fail;
 use stream_case::Side::{Cold, Hot};
@@ -197,23 +196,32 @@ const ONE_LEVEL: Table = Table {
     ..TWO_STREAMS
 };
 
-/// The ends of the links of a net, in rising order.
-const TWO_PLACES_LINKS: &[(u32, u32)] = &[(0, 3), (1, 4), (3, 4), (4, 5), (5, 2)];
-
-const ONE_LEVEL_LINKS: &[(u32, u32)] = &[
-    (0, 8),
-    (1, 9),
-    (2, 10),
-    (3, 11),
-    (8, 9),
-    (8, 11),
-    (9, 4),
-    (9, 10),
-    (10, 5),
-    (10, 11),
-    (11, 6),
-    (11, 12),
-    (12, 7),
+/// Tables, and the ends of the links of their nets, in rising order.
+const LINKS: &[(&str, Table, &[(u32, u32)])] = &[
+    (
+        "two places",
+        TWO_PLACES,
+        &[(0, 3), (1, 4), (3, 4), (4, 5), (5, 2)],
+    ),
+    (
+        "one level",
+        ONE_LEVEL,
+        &[
+            (0, 8),
+            (1, 9),
+            (2, 10),
+            (3, 11),
+            (8, 9),
+            (8, 11),
+            (9, 4),
+            (9, 10),
+            (10, 5),
+            (10, 11),
+            (11, 6),
+            (11, 12),
+            (12, 7),
+        ],
+    ),
 ];
 
 /// The net of chains of a table.
@@ -231,10 +239,11 @@ fn compare_groups(rt: &impl Abort, at: &str, groups: &[Group], wanted: &[GroupRo
     }
 }
 
-/// The ends of links, in rising order.
-fn ends_of(alloc: Global, links: &[Link]) -> Result<Vec<(u32, u32)>, AllocError> {
+/// The ends of the links of the net of a table, in rising order.
+fn ends_of(alloc: Global, table: &Table) -> Result<Vec<(u32, u32)>, Fail> {
+    let chains = chains_of_table(alloc, table)?;
     let mut ends = Vec::new(alloc);
-    for link in links {
+    for link in chains.net.links.as_slice() {
         ends.push((link.from, link.to))?;
     }
     ends.sort()?;
@@ -254,11 +263,9 @@ fn cases_have_these_groups_and_nets_of_this_size(rt: HostRuntime) -> Result<(), 
 
 #[test]
 fn links_lead_from_rank_to_rank(rt: HostRuntime) -> Result<(), Fail> {
-    let chains = chains_of_table(rt.alloc(), &TWO_PLACES)?;
-    let ends = ends_of(rt.alloc(), chains.net.links.as_slice())?;
-    assert_lists(&rt, "two places", &ends, TWO_PLACES_LINKS);
-    let chains = chains_of_table(rt.alloc(), &ONE_LEVEL)?;
-    let ends = ends_of(rt.alloc(), chains.net.links.as_slice())?;
-    assert_lists(&rt, "one level", &ends, ONE_LEVEL_LINKS);
+    for (at, table, wanted) in LINKS {
+        let ends = ends_of(rt.alloc(), table)?;
+        assert_lists(&rt, at, &ends, wanted);
+    }
     Ok(())
 }

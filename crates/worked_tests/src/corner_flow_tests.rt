@@ -4,8 +4,8 @@ ghost use Rattle.stream_case.specs.Case.{IsComplete, IsStandard};
 ghost use Rattle.grid.specs.Part.{AreCaseParts};
 
 use crate::compare::{assert_lists, assert_same};
-use crate::flows::{Parted, four_streams, with_standard_utilities};
-use crate::tables::{StreamRow, Table};
+use crate::flows::{Parted, with_standard_utilities};
+use crate::tables::{StreamRow, THE_FOUR, Table};
 use corner_flow::{corner, corner_prices, standard_cost};
 use grid::Parts;
 use heat_flow::{Flow, Prices, Reach, Transfer, cost_of, is_flow, is_supported, value_of};
@@ -15,26 +15,6 @@ use std::process::Abort;
 use std::test::Fail;
 use stream_case::Case;
 use stream_case::Side::{Cold, Hot};
-
-/// The indices of a hot and a cold part, and the heat.
-const TRANSFERS: &[(u32, u32, i64)] = &[
-    (0, 0, 20_000),
-    (1, 1, 60_000),
-    (2, 1, 15_000),
-    (3, 1, 7_500),
-    (4, 1, 27_500),
-    (4, 2, 137_500),
-    (5, 2, 82_500),
-    (6, 3, 60_000),
-    (6, 4, 30_000),
-    (7, 4, 30_000),
-    (7, 5, 15_000),
-    (8, 5, 45_000),
-];
-
-const HOT_PRICES: &[i64] = &[1, 1, 1, 1, 1, 1, 0, 0, 0];
-
-const COLD_PRICES: &[i64] = &[1, 1, 1, 0, 0, 0];
 
 fn rows_of(alloc: Global, transfers: &[Transfer]) -> Result<Vec<(u32, u32, i64)>, AllocError> {
     let mut rows = Vec::new(alloc);
@@ -65,36 +45,8 @@ fn certificate(alloc: Global, case: &Case, parts: &Parts) -> Result<(Prices, i12
     Ok((prices, value))
 }
 
-#[test]
-fn four_streams_have_this_corner_flow(rt: HostRuntime) -> Result<(), Fail> {
-    let four = four_streams(rt.alloc())?;
-    let flow = corner(rt.alloc(), &four.case, &four.parts, targets(&four.case))?;
-    let rows = rows_of(rt.alloc(), flow.transfers.as_slice())?;
-    assert_lists(&rt, "the transfers", &rows, TRANSFERS);
-    let cost = cost_if_flow(&four.parts, &four.reach, &flow);
-    assert_same(&rt, "the cost", &cost, &Some(20_000));
-    let least = standard_cost(&four.case, targets(&four.case));
-    assert_same(&rt, "the least cost", &least, &20_000);
-    Ok(())
-}
-
-#[test]
-fn these_prices_certify_it(rt: HostRuntime) -> Result<(), Fail> {
-    let four = four_streams(rt.alloc())?;
-    let (prices, value) = certificate(rt.alloc(), &four.case, &four.parts)?;
-    assert_lists(&rt, "hot prices", prices.hot.as_slice(), HOT_PRICES);
-    assert_lists(&rt, "cold prices", prices.cold.as_slice(), COLD_PRICES);
-    let supported = is_supported(&four.reach, &prices);
-    assert_same(
-        &rt,
-        "support and value",
-        &(supported, value),
-        &(true, 20_000),
-    );
-    Ok(())
-}
-
-/// A case with latent streams, the transfers of its corner flow, their prices, and its cost.
+/// Streams of a case with `HOT` and `COLD`; the transfers of its corner flow, as the indices of a hot
+/// and a cold part and the heat; their prices, and its cost.
 struct Worked {
     streams: &'static [StreamRow],
     transfers: &'static [(u32, u32, i64)],
@@ -102,6 +54,27 @@ struct Worked {
     cold_prices: &'static [i64],
     cost: i128,
 }
+
+const FOUR: Worked = Worked {
+    streams: THE_FOUR,
+    transfers: &[
+        (0, 0, 20_000),
+        (1, 1, 60_000),
+        (2, 1, 15_000),
+        (3, 1, 7_500),
+        (4, 1, 27_500),
+        (4, 2, 137_500),
+        (5, 2, 82_500),
+        (6, 3, 60_000),
+        (6, 4, 30_000),
+        (7, 4, 30_000),
+        (7, 5, 15_000),
+        (8, 5, 45_000),
+    ],
+    hot_prices: &[1, 1, 1, 1, 1, 1, 0, 0, 0],
+    cold_prices: &[1, 1, 1, 0, 0, 0],
+    cost: 20_000,
+};
 
 /// A level at the pinch, from each side and from both; levels at the highest and the lowest end,
 /// before the utilities there; one latent stream alone; and two at one level, that exchange all.
@@ -161,6 +134,7 @@ const LATENT: &[Worked] = &[
     },
 ];
 
+/// Compares the corner flow of a case.
 fn compare_flow(rt: &(impl Abort + AllocGlobal), made: &Parted, worked: &Worked) -> Result<(), Fail>
     requires complete { IsComplete made.now.case }
     requires standard { IsStandard made.now.case }
@@ -171,9 +145,12 @@ fn compare_flow(rt: &(impl Abort + AllocGlobal), made: &Parted, worked: &Worked)
     assert_lists(rt, "the transfers", &rows, worked.transfers);
     let cost = cost_if_flow(&made.parts, &made.reach, &flow);
     assert_same(rt, "the cost", &cost, &Some(worked.cost));
+    let least = standard_cost(&made.case, targets(&made.case));
+    assert_same(rt, "the least cost", &least, &worked.cost);
     Ok(())
 }
 
+/// Compares the prices that certify it.
 fn compare_prices(
     rt: &(impl Abort + AllocGlobal),
     made: &Parted,
@@ -196,18 +173,28 @@ fn compare_prices(
     Ok(())
 }
 
+/// Compares the corner flow of a case, and its prices.
+fn compare(rt: &(impl Abort + AllocGlobal), worked: &Worked) -> Result<(), Fail> {
+    let table = Table {
+        contribution: 50,
+        streams: worked.streams,
+        utilities: &[],
+        forbids: &[],
+    };
+    let made = with_standard_utilities(rt.alloc(), &table)?;
+    compare_flow(rt, &made, worked)?;
+    compare_prices(rt, &made, worked)
+}
+
+#[test]
+fn four_streams_have_this_corner_flow(rt: HostRuntime) -> Result<(), Fail> {
+    compare(&rt, &FOUR)
+}
+
 #[test]
 fn latent_streams_have_these_corner_flows(rt: HostRuntime) -> Result<(), Fail> {
     for worked in LATENT {
-        let table = Table {
-            contribution: 50,
-            streams: worked.streams,
-            utilities: &[],
-            forbids: &[],
-        };
-        let made = with_standard_utilities(rt.alloc(), &table)?;
-        compare_flow(&rt, &made, worked)?;
-        compare_prices(&rt, &made, worked)?;
+        compare(&rt, worked)?;
     }
     Ok(())
 }

@@ -19,6 +19,7 @@ use network_text::read_network;
 use networks::Network;
 use price_floor::{cut_stands, floor_of};
 use std::alloc::Global;
+use std::process::Abort;
 use std::test::Fail;
 use stream_case::Side::{Cold, Hot};
 use stream_case::{Case, Items};
@@ -81,22 +82,35 @@ fn no_cut(alloc: Global) -> Result<Cut, Fail> {
     })
 }
 
+/// Compares what an accepted network costs at least, and whether a cut stands beside it.
+fn check_floor(
+    rt: &(impl Abort + AllocGlobal),
+    case: &Case,
+    network: &Network,
+    auditor: &Auditor,
+) -> Result<(), Fail>
+    requires complete { IsComplete case.now }
+    requires accepted { HasAccepted auditor.now case.now network.now }
+{
+    let alloc = rt.alloc();
+    let parts = parts_of_case(alloc, case)?;
+    let reach = reach_of_case(alloc, case, &parts)?;
+    let floor = floor_in(alloc, case, &parts, &reach, network, auditor)?;
+    assert_same(rt, "the floor", &floor, &2000);
+    let cut = no_cut(alloc)?;
+    let stands = cut_stands(case, &parts, &reach, &cut, network, auditor);
+    assert_same(rt, "whether it is a cut", &stands, &false);
+    Ok(())
+}
+
 #[test]
 fn an_accepted_network_has_a_floor_and_no_cut(rt: HostRuntime) -> Result<(), Fail> {
-    let alloc = rt.alloc();
-    let case = completed_case(alloc, &HEATED_BY_STEAM)?;
-    let network = read_network(alloc, &case, MIXED)?;
-    let mut auditor = Auditor::new(alloc, &case, &network)?;
+    let case = completed_case(rt.alloc(), &HEATED_BY_STEAM)?;
+    let network = read_network(rt.alloc(), &case, MIXED)?;
+    let mut auditor = Auditor::new(rt.alloc(), &case, &network)?;
     let Verdict::Accepted(balance) = auditor.audit() else {
         return Err("the network is not accepted".into());
     };
     assert_same(&rt, "the cost", &balance.cost, &Frac::whole(3500));
-    let parts = parts_of_case(alloc, &case)?;
-    let reach = reach_of_case(alloc, &case, &parts)?;
-    let floor = floor_in(alloc, &case, &parts, &reach, &network, &auditor)?;
-    assert_same(&rt, "the floor", &floor, &2000);
-    let cut = no_cut(alloc)?;
-    let stands = cut_stands(&case, &parts, &reach, &cut, &network, &auditor);
-    assert_same(&rt, "whether it is a cut", &stands, &false);
-    Ok(())
+    check_floor(&rt, &case, &network, &auditor)
 }

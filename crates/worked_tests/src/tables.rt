@@ -31,15 +31,18 @@ pub struct Table {
     pub forbids: &'static [Forbid],
 }
 
-/// The four-stream example of the literature.
+/// The streams of the four-stream example of the literature.
+pub const THE_FOUR: &[StreamRow] = &[
+    ("C1", Cold, 200, 1350, 200),
+    ("H2", Hot, 1700, 600, 300),
+    ("C3", Cold, 800, 1400, 400),
+    ("H4", Hot, 1500, 300, 150),
+];
+
+/// The four-stream example.
 pub const FOUR_STREAMS: Table = Table {
     contribution: 50,
-    streams: &[
-        ("C1", Cold, 200, 1350, 200),
-        ("H2", Hot, 1700, 600, 300),
-        ("C3", Cold, 800, 1400, 400),
-        ("H4", Hot, 1500, 300, 150),
-    ],
+    streams: THE_FOUR,
     utilities: &[],
     forbids: &[],
 };
