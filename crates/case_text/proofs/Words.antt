@@ -21,7 +21,7 @@ pub use Rattle.indexmap.proofs.CallerLemmas.{insert_entry-new}
 pub use Rattle.rows.proofs.PrintedNumbers.{IsPrintable, contribution, heat, load, number_read, optional_read, price, stream_flow_rate, temperature}
 pub use Rattle.rows.proofs.Seams.{All-seam, AllPairs-seam, length-seam}
 pub use Rattle.rows.proofs.SharedRows.{contribution-passes, contribution-read, passed-contribution, stream_row-kind}
-pub use Rattle.rows.proofs.Streams.{passed-latent, passed-sensible, stream-is_valid}
+pub use Rattle.rows.proofs.AcceptedStreams.{passed-latent, passed-sensible, stream-is_valid}
 pub use Rattle.rows.proofs.Tests.{Decides-int_le, Decides-is_own_contribution, Decides-neither, Decides-none, passed-room, passed-within, room-passes}
 pub use Rattle.rows.proofs.Tests.{within-passes}
 pub use Rattle.rows.specs.Fields.{field}

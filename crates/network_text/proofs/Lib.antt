@@ -1,8 +1,8 @@
 pub mod NameTests
 pub mod Missing
-pub mod shape
+pub mod Shaped
 pub mod Reading
 pub mod Tables
-pub mod print
-pub mod back
+pub mod Printed
+pub mod ReadBack
 pub mod Words

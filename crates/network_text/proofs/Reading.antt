@@ -1,8 +1,8 @@
 -- The steps of reading the statements of a text.
 use Rattle.network_text.proofs.Words.{Case, Entry, IsComplete, IsFresh, IsOutcome, MOST_STATEMENTS, NetFault, Network, Reads, Statement, StaysValid-IsComplete}
 use Rattle.network_text.proofs.Words.{checks, each_passes, entry_in, first_failing, grammar, start, with_entry}
-use Rattle.network_text.proofs.shape.Law.{has_room}
-use Rattle.network_text.proofs.shape.Kept.{adds_next, shape_so_far}
+use Rattle.network_text.proofs.Shaped.Law.{has_room}
+use Rattle.network_text.proofs.Shaped.Kept.{adds_next, shape_so_far}
 use Rattle.std.proofs.Common.{◌∷◌, Err, IsErrAnd, List, None, Ok, Result, Some, [], length, length-append, refl, subst, sym, ℕ, ◌+◌, ◌<◌, ◌≡◌}
 use Rattle.network_text.specs.declared.fault.NetFault.TheVariants as fault
 

@@ -27,8 +27,8 @@ pub use Rattle.network_audit.specs.declared.findings.Place.{Place}
 pub use Rattle.network_audit.specs.declared.findings.Reason.{Reason}
 pub use Rattle.network_audit.specs.declared.verdict.Balance.{Balance}
 pub use Rattle.network_audit.specs.declared.verdict.Verdict.{Verdict}
-pub use Rattle.network_text.proofs.back.Law.{shape-is_network}
-pub use Rattle.network_text.proofs.print.Lengths.{text-short}
+pub use Rattle.network_text.proofs.ReadBack.Law.{shape-is_network}
+pub use Rattle.network_text.proofs.Printed.Lengths.{text-short}
 pub use Rattle.network_text.specs.Outcome.{IsNetwork}
 unfoldable pub use Rattle.network_text.specs.Printed.{text_of}
 pub use Rattle.networks.specs.Shape.{HasShape}

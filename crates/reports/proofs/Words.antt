@@ -21,7 +21,7 @@ pub use Rattle.heat_flow.specs.declared.flow.Transfer.{Transfer}
 pub use Rattle.heat_flow.specs.declared.prices.Prices.{Prices}
 pub use Rattle.network_audit.proofs.BalanceWithin.{HasFractions}
 pub use Rattle.network_audit.specs.declared.verdict.Balance.{Balance}
-pub use Rattle.network_text.proofs.print.Fields.{fraction_plain}
+pub use Rattle.network_text.proofs.Printed.Fields.{fraction_plain}
 unfoldable pub use Rattle.network_text.specs.Printed.{text_of}
 pub use Rattle.networks.specs.declared.network.Network.{Network}
 pub use Rattle.reports.specs.Audit.{penalty_line}

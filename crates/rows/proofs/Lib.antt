@@ -3,7 +3,7 @@ pub mod PrintedNumbers
 pub mod PlainRows
 pub mod PrintedRows
 pub mod Tests
-pub mod Streams
+pub mod AcceptedStreams
 pub mod SharedRows
 pub mod Seams
 pub mod Words

@@ -5,7 +5,7 @@ use Rattle.site_text.proofs.Words.{RowFault, Side, Site, SiteWhy, Stream, all_pa
 use Rattle.site_text.proofs.Words.{grammar, is_among, is_name, is_reserved, kind_of, length-map, main_in, map-append, nat_tests, nothing, passed-name, passed-room}
 use Rattle.site_text.proofs.Words.{passed-within, plant_with, site_of, stream_in, streams_of, stream_with, with_entry}
 use Rattle.site_text.proofs.Words.{Decides-neither, codes, passed-contribution}
-use Rattle.rows.proofs.Streams.{passed-sensible, stream-is_valid}
+use Rattle.rows.proofs.AcceptedStreams.{passed-sensible, stream-is_valid}
 use Rattle.stream_case.proofs.CaseLemmas.{no_contribution, range_of}
 use Rattle.rows.specs.Fields.{field}
 use Rattle.site_text.proofs.Plants.{count_on-with, few_with_stream, length-with_stream, named-with_stream, names-with_stream, plant_names-with, stream_names-with}

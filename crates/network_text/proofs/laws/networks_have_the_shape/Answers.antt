@@ -1,4 +1,4 @@
-use Rattle.network_text.proofs.shape.Law.{network-has_shape, network-keeps_counts}
+use Rattle.network_text.proofs.Shaped.Law.{network-has_shape, network-keeps_counts}
 use Rattle.network_text.proofs.laws.networks_have_the_shape.Goals as goal
 
 pub returns-clause-shape : goal.returns-clause-shape

@@ -1,4 +1,4 @@
-use Rattle.network_text.proofs.back.Law.{printed-again, printed-once}
+use Rattle.network_text.proofs.ReadBack.Law.{printed-again, printed-once}
 use Rattle.network_text.proofs.printed_laws.networks_are_printed_and_read_again.Goals as goal
 
 pub returns-clause-again : goal.returns-clause-again

@@ -1,4 +1,4 @@
-use Rattle.network_text.proofs.back.Law.{shape-is_network, shape-once}
+use Rattle.network_text.proofs.ReadBack.Law.{shape-is_network, shape-once}
 use Rattle.network_text.proofs.printed_laws.networks_are_what_their_texts_give.Goals as goal
 
 pub returns-clause-given : goal.returns-clause-given

@@ -1,4 +1,4 @@
-use Rattle.network_text.proofs.print.Lengths.{branch_name-at}
+use Rattle.network_text.proofs.Printed.Lengths.{branch_name-at}
 use Rattle.network_text.proofs.Words.{Branch}
 use Rattle.std.proofs.Common.{List, ap, get_or, sym, ◌∙◌, ◌≡◌}
 use Rattle.network_text.proofs.printer.branch_name.Goals as goal

@@ -1,4 +1,4 @@
-use Rattle.network_text.proofs.print.Lengths.{exchanger_names-declared}
+use Rattle.network_text.proofs.Printed.Lengths.{exchanger_names-declared}
 use Rattle.network_text.proofs.printer.exchanger_names.Goals as goal
 
 pub returns : goal.returns

@@ -1,5 +1,5 @@
-use Rattle.network_text.proofs.back.Law.{shape-is_network}
-use Rattle.network_text.proofs.print.Lengths.{text-short, text_all}
+use Rattle.network_text.proofs.ReadBack.Law.{shape-is_network}
+use Rattle.network_text.proofs.Printed.Lengths.{text-short, text_all}
 use Rattle.network_text.proofs.Words.{HasShortLines, IsNetworkOf, StaysValid-IsComplete, line_read}
 use Rattle.std.proofs.Common.{List, subst, sym, ℕ, ◌∙◌}
 use Rattle.network_text.proofs.printer.print_network.Goals as goal

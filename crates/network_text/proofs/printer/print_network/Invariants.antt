@@ -1,4 +1,4 @@
-use Rattle.network_text.proofs.print.Lengths.{text_before}
+use Rattle.network_text.proofs.Printed.Lengths.{text_before}
 use Rattle.std.proofs.Common.{◌≡◌}
 use Rattle.network_text.proofs.printer.print_network.Given as goal
 

@@ -1,4 +1,4 @@
-use Rattle.network_text.proofs.print.Lengths.{many_exchangers}
+use Rattle.network_text.proofs.Printed.Lengths.{many_exchangers}
 use Rattle.network_text.proofs.Words.{exchanger_name, get_or_default}
 use Rattle.std.proofs.Common.{List, [], ap, arith, get_or, length, ℕ, ◌<◌, ◌∙◌, ◌≡◌}
 use Rattle.network_text.proofs.printer.statement_line.Goals as goal

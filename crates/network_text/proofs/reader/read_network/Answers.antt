@@ -1,6 +1,6 @@
 use Rattle.network_text.proofs.Words.{MOST_STATEMENTS, Network, Reads, end_here, fault_here, grammar, none_read, one_more, statements_of, value_here, with_any}
 use Rattle.network_text.proofs.Reading.{fresh_next, lines-start, lines-with_entry, no_outcome, room_next}
-use Rattle.network_text.proofs.shape.Law.{network-has_shape, network-keeps_counts}
+use Rattle.network_text.proofs.Shaped.Law.{network-has_shape, network-keeps_counts}
 use Rattle.statements.proofs.NextLine.{nothing_left, passed_over, statement_next}
 use Rattle.std.proofs.Common.{ap, arith, length, option_map, subst, sym, ◌+◌, ◌<◌, ◌∙◌}
 use Rattle.network_text.proofs.reader.read_network.Goals as goal

@@ -1,4 +1,4 @@
--- Valid streams, by the checks of their rows.
+-- A stream whose fields pass the checks of its row is valid.
 use Rattle.rows.proofs.Tests.{passed-within}
 use Rattle.rows.proofs.Words.{Decides-is_right_way, IsContribution, IsLatent, IsSensible, IsValidStream, Stream, is_flow_rate, is_load, is_name}
 use Rattle.rows.proofs.Words.{is_right_way, is_temperature, passed-name}

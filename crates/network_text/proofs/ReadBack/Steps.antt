@@ -6,10 +6,10 @@ use Rattle.network_text.proofs.Words.{fraction_text, grammar, is_below, is_free_
 use Rattle.network_text.proofs.Words.{mixed_checks, name-passes, names_of, nat_tests, new_branch_checks, new_exchanger_checks, none_fails, other_name, own_side}
 use Rattle.network_text.proofs.Words.{pass_checks, passed_checks, positive-is, rational_zero, side_of, source_at, source_checks, source_name, source_named}
 use Rattle.network_text.proofs.Words.{source_named-source_name, split_checks, statement_of, stream_at, stream_at-take, used_branch_checks, with_any}
-use Rattle.network_text.proofs.back.Exchangers.{IsReadable, IsUsable, entry_of, free_side, front, front-next, made_known, made_number, new, new_exchanger}
-use Rattle.network_text.proofs.back.Exchangers.{passed_exchanger, room, two_used, used}
-use Rattle.network_text.proofs.print.Fields.{fraction-back}
-use Rattle.network_text.proofs.print.Lengths.{many_names}
+use Rattle.network_text.proofs.ReadBack.Exchangers.{IsReadable, IsUsable, entry_of, free_side, front, front-next, made_known, made_number, new, new_exchanger}
+use Rattle.network_text.proofs.ReadBack.Exchangers.{passed_exchanger, room, two_used, used}
+use Rattle.network_text.proofs.Printed.Fields.{fraction-back}
+use Rattle.network_text.proofs.Printed.Lengths.{many_names}
 use Rattle.std.proofs.Common.{List, None, Some, [], ap, arith, false, is_some, length, nat_lt, not, refl, suc, sym, true, unwrap_or, ℕ, ◌<◌, ◌==◌, ◌∙◌, ◌≡◌}
 use Rattle.network_text.specs.declared.kind.Kind.TheVariants as kind
 use Rattle.networks.specs.declared.few.AtMostTwo.TheVariants as few

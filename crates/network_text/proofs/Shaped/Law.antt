@@ -8,7 +8,7 @@ use Rattle.network_text.proofs.Words.{range_with_len, same_passage, slice_get_wi
 use Rattle.std.proofs.Common.{List, None, Option, Some, [], ap, arith, false, get_or, inl, inr, length, length-append, option_map, option_to_list, refl, subst}
 use Rattle.std.proofs.Common.{sym, ℕ, ◌+◌, ◌<◌, ◌∙◌, ◌∷◌, ◌≡◌, ◌≤◌}
 use Rattle.network_text.proofs.Missing.{missing-at}
-use Rattle.network_text.proofs.shape.Kept.{shape_so_far}
+use Rattle.network_text.proofs.Shaped.Kept.{shape_so_far}
 use Rattle.network_text.specs.declared.kind.Kind.TheVariants as kind
 use Rattle.stream_case.specs.declared.source.Source.TheVariants as source
 

@@ -11,7 +11,7 @@ use Rattle.network_text.proofs.Words.{stream_at-front, stream_at-get_or, streams
 use Rattle.network_text.proofs.Words.{used_there, used_within, uses, with_entry}
 use Rattle.std.proofs.Common.{All, AllPairs, Bool, List, None, Option, Some, [], ap, arith, cond, count_by, false, get_or, inl, inr, length, length-append, map}
 use Rattle.std.proofs.Common.{option_to_list, refl, slice_get, subst, sym, take, take_at, true, ℕ, ◌++◌, ◌+◌, ◌-◌, ◌<◌, ◌==◌, ◌∙◌, ◌∷◌, ◌≡◌, ◌≢◌, ◌≤◌, ◌⊎◌}
-use Rattle.network_text.proofs.shape.Entries.{Adds, HasShapeSoFar}
+use Rattle.network_text.proofs.Shaped.Entries.{Adds, HasShapeSoFar}
 use Rattle.networks.specs.declared.network.Line.TheVariants as line
 
 -- ---- the branches of an entry

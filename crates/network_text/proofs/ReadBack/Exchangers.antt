@@ -14,7 +14,7 @@ use Rattle.std.proofs.Common.{length-take-le, map, not, position, refl, slice_ge
 use Rattle.std.proofs.Common.{◌+◌, ◌<◌, ◌==◌, ◌∙◌, ◌∷◌, ◌≡◌, ◌≢◌, ◌≤◌}
 use Rattle.std.proofs.Math.Seq.{take-suc}
 use Rattle.network_text.proofs.NameTests.{branch_name-passes}
-use Rattle.network_text.proofs.print.Lengths.{found_in_front, many_exchangers, many_names, none_in_front}
+use Rattle.network_text.proofs.Printed.Lengths.{found_in_front, many_exchangers, many_names, none_in_front}
 use Rattle.networks.proofs.OfShape.{exchanger_at as declared_at}
 use Rattle.networks.specs.declared.few.AtMostTwo.TheVariants as few
 use Rattle.networks.specs.declared.network.Line.TheVariants as line

@@ -3,9 +3,9 @@ use Rattle.network_text.proofs.Words.{All-append, All-cons, All-nil, All-push, A
 use Rattle.network_text.proofs.Words.{HasPositiveSize, IsExchanger, IsOfOneStream, Network, Passes, Statement, StaysValid, checks, entry_in, exchanger_of}
 use Rattle.network_text.proofs.Words.{exchangers_of, exchangers_of-push, given_has, grammar, next, option_to_list, own_branches, passages_of, same_Some, start}
 use Rattle.network_text.proofs.Words.{used_by, with_any, with_entry}
-use Rattle.network_text.proofs.shape.Entries.{Adds, HasShapeSoFar, added}
+use Rattle.network_text.proofs.Shaped.Entries.{Adds, HasShapeSoFar, added}
 use Rattle.std.proofs.Common.{All, AllPairs, List, None, Option, Some, [], arith, refl, subst, sym, ℕ, ◌∙◌, ◌≡◌, ◌≢◌}
-use Rattle.network_text.proofs.shape.Branches as branches
+use Rattle.network_text.proofs.Shaped.Branches as branches
 
 each_of : (case : Case) (o : Option Exchanger) → ForSome o (IsExchanger case)
     → All (IsExchanger case) (option_to_list o)

@@ -7,11 +7,11 @@ use Rattle.network_text.proofs.Words.{passages_of, plain_statement, range_with_l
 use Rattle.network_text.proofs.Words.{statements-back, statements_of, text_of, word_plain}
 use Rattle.std.proofs.Common.{All, Err, List, None, Ok, Some, [], ap, arith, codes, false, get_or, inl, inr, length, map, not, option_map, refl, slice_get}
 use Rattle.std.proofs.Common.{subst, sym, take, ℕ, ◌+◌, ◌<◌, ◌∙◌, ◌≡◌}
-use Rattle.network_text.proofs.back.Exchangers.{IsReadable, front, front-first, front-last}
-use Rattle.network_text.proofs.back.Steps.{line_follows}
-use Rattle.network_text.proofs.print.Fields.{any_name_plain, fraction_plain}
-use Rattle.network_text.proofs.print.Lengths.{branch_named, exchanger_named}
-use Rattle.network_text.proofs.shape.Law.{network-has_shape, network-keeps_counts}
+use Rattle.network_text.proofs.ReadBack.Exchangers.{IsReadable, front, front-first, front-last}
+use Rattle.network_text.proofs.ReadBack.Steps.{line_follows}
+use Rattle.network_text.proofs.Printed.Fields.{any_name_plain, fraction_plain}
+use Rattle.network_text.proofs.Printed.Lengths.{branch_named, exchanger_named}
+use Rattle.network_text.proofs.Shaped.Law.{network-has_shape, network-keeps_counts}
 use Rattle.network_text.specs.Laws.{GivenNetworksAreReadAgain, GivenNetworksAreTheOneOutcome, IsOneOutcomeOf, TextsGiveNoOther, TextsGiveTheirNetworks}
 use Rattle.networks.proofs.OfShape.{exchanger_at}
 use Rattle.networks.specs.declared.network.Line.TheVariants as line
