@@ -4,7 +4,7 @@ use Rattle.study.proofs.Words.{*ℤ-+ℤ, *ℤ--ℤ, *ℤ-zero, *ℤ-≤ℤ_righ
 use Rattle.study.proofs.Words.{Hot, IsHeatFlow, IsLeastCost, Part, Side, Source, Transfer, by_lt_z, cases_eq, cost_of}
 use Rattle.study.proofs.Words.{heat_at, int_sum_from, ints, neg_ℤ, pos, price_at, price_of, priced, priced_part, set}
 use Rattle.study.proofs.Words.{side_cost, ℤ, ≤ℤ_from_*ℤ, ◌*ℤ◌, ◌+ℤ◌, ◌-ℤ◌, ◌<ℤ◌, ◌≤ℤ◌}
-use Rattle.std.proofs.Common.{Bool, List, ap, arith, get_or, length, map, refl, subst, suc, sym, ℕ, [], ⊎_elim, ◌*◌, ◌<◌}
+use Rattle.std.proofs.Common.{Bool, List, ap, arith, get_or, length, map, refl, subst, suc, sym, ℕ, [], ⊎_elim, ◌<◌}
 use Rattle.std.proofs.Common.{◌∙◌, ◌∷◌, ◌≡◌, ◌≢◌}
 use Rattle.std.proofs.lemmas.List.{get_or-set_other, get_or-set_same}
 use Rattle.stream_case.specs.declared.source.Source.TheVariants.{Stream as of_stream, Utility as of_utility}

@@ -2,8 +2,8 @@
 use Rattle.study.proofs.Words.{*ℤ_comm, Case, CostsWith, HasFlowWith, HasNoFlow, HasNoFlowAt, HoldsOfParts}
 use Rattle.study.proofs.Words.{Chord, HoldsOfParts-some, IsBetween, IsChord, IsChordEnd, IsLeastCost, MatchOption, Part}
 use Rattle.study.proofs.Words.{RisesFall, case_prices, chord_at, ints, length-map, pos, priced, prices_with}
-use Rattle.study.proofs.Words.{reach_between, ℤ, ◌*ℤ◌, ◌+ℤ◌, ◌-ℤ◌, ◌≤ℤ◌}
-use Rattle.std.proofs.Common.{List, None, Option, Some, ap, arith, length, refl, subst, sym, ℕ, ◌*◌, ◌<◌, ◌≡◌}
+use Rattle.study.proofs.Words.{reach_between, ℤ, ◌+ℤ◌, ◌-ℤ◌, ◌≤ℤ◌}
+use Rattle.std.proofs.Common.{List, None, Option, Some, ap, arith, length, refl, subst, sym, ℕ, ◌<◌, ◌≡◌}
 use Rattle.study.proofs.CostLines.{between, none-moves, rises-fall}
 
 module _ (c : Case) (as_priced : List Part → List Part) where

@@ -1,3 +1,4 @@
+pub mod CostCurves
 pub mod CostLines
 pub mod LeastCosts
 pub mod ChordBounds

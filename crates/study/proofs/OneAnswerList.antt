@@ -3,7 +3,7 @@ use Rattle.study.proofs.Words.{All-slice_get, AreSegments, AreSpanSegments, Case
 use Rattle.study.proofs.Words.{IsBetween, IsItem, IsItemAnswer, IsSegment, OneAnswer, Scenario, Segment, Segments, Span}
 use Rattle.study.proofs.Words.{StudyAnswer, StudyItem, by_lt_z, ints, on_line, pos, priced, prices_with, same_lists}
 use Rattle.study.proofs.Words.{slice_get-get_or, ℤ, ◌*ℤ◌, ◌+ℤ◌, ◌≤ℤ◌}
-use Rattle.std.proofs.Common.{List, ap, ap₂, arith, get_or, inl, inr, refl, subst, sym, ℕ, [], ◌*◌, ◌∙◌, ◌∷◌, ◌≡◌}
+use Rattle.std.proofs.Common.{List, ap, ap₂, arith, get_or, inl, inr, refl, subst, sym, ℕ, [], ◌∙◌, ◌∷◌, ◌≡◌}
 use Rattle.study.proofs.LeastCosts.{never_both, one_cost, one_option}
 use Rattle.study.proofs.SegmentLemmas.{next_on_line}
 

@@ -1,7 +1,7 @@
 -- The segments that chords make.
 use Rattle.study.proofs.Words.{*ℤ-+ℤ, *ℤ--ℤ, *ℤ_comm, AreSegments, Case, CostsWith, IsBetween, IsChord, IsChordEnd}
 use Rattle.study.proofs.Words.{Chord, IsSegment, Segment, chord_at, ints, on_line, pos, ℤ, ◌*ℤ◌, ◌+ℤ◌, ◌-ℤ◌, ◌<ℤ◌}
-use Rattle.std.proofs.Common.{List, ap, arith, length, refl, subst, sym, ℕ, [], ◌*◌, ◌++◌, ◌<◌, ◌∙◌, ◌∷◌, ◌≡◌}
+use Rattle.std.proofs.Common.{List, ap, arith, length, refl, subst, sym, ℕ, [], ◌++◌, ◌<◌, ◌∙◌, ◌∷◌, ◌≡◌}
 use Rattle.study.proofs.LeastCosts.{on_chord-between}
 
 pub chord-moved : (chord : Chord) (s : Segment) (p : ℤ) → s.base ≡ chord_at chord (pos 0) → s.slope ≡ chord.slope

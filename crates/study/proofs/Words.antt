@@ -62,7 +62,7 @@ pub use Rattle.stream_case.specs.declared.stream.Stream.{Stream}
 pub use Rattle.stream_case.specs.declared.utility.Utility.{Utility}
 pub use Rattle.study.specs.Chords.{IsChord, IsChordEnd, IsGap, IsSmallChord, chord_at}
 pub use Rattle.study.specs.Cost.{IsCostOf}
-pub use Rattle.study.specs.CostCurve.{HasFlowWith, IsPoint, IsPointOf, IsSmallPoint}
+pub use Rattle.study.specs.CostCurve.{HasFlowWith, IsCostCurve, IsPoint, IsPointOf, IsSmallPoint}
 pub use Rattle.study.specs.CostRange.{IsCost}
 pub use Rattle.study.specs.Draws.{draw, next_state, state_after}
 pub use Rattle.study.specs.Plan.{IsSweepPlan, contribution_at, has_row}
@@ -77,6 +77,7 @@ pub use Rattle.study.specs.declared.chords.Chord.{Chord}
 pub use Rattle.study.specs.declared.cost_curve.Point.{Point}
 pub use Rattle.study.specs.declared.limits.TheConstants.{FORBID_CHANCE, MOST_ROWS, MOST_SAMPLE_STREAMS, SAMPLE_CONTRIBUTION}
 pub use Rattle.study.specs.declared.plan.SweepPlan.{SweepPlan}
+pub use Rattle.study.specs.declared.priced.PricedCase.{PricedCase}
 pub use Rattle.study.specs.declared.row.SweepRow.{SweepRow}
 pub use Rattle.study.specs.declared.sample_targets.SampleRow.{SampleRow}
 pub use Rattle.study.specs.declared.study_answer.Segment.{Segment}

@@ -1,17 +1,10 @@
 //! The least cost of a case over the price of one of its utilities.
-ghost use Rattle.std.specs.Prelude.{◌≡◌, IfOk};
+ghost use Rattle.std.specs.Prelude.{◌≡◌, ◌<◌, length, All, IfOk};
 ghost use Rattle.stream_case.specs.Limits.{IsPrice};
 
 use crate::priced::PricedCase;
 use std::alloc::{AllocError, Global};
-
-/// The least cost of a completed case that has a heat flow, over the price of one utility.
-#[derive(Clone, Copy)]
-pub(crate) struct CostCurve<'a> {
-    pub priced: PricedCase<'a>,
-    /// The utility, by its index.
-    pub utility: u32,
-}
+use std::marker::Model;
 
 /// A price, and what the case costs at least there.
 #[derive(Clone, Copy)]
@@ -20,19 +13,96 @@ pub(crate) struct Point {
     pub cost: i128,
 }
 
-impl CostCurve<'_> {
-    ghost use Rattle.study.specs.CostCurve.{IsCostCurve, IsPointOf};
+/// The least cost of a completed case that has a heat flow, over the price of one utility, and
+/// points of it that were found ahead of where they are wanted.
+#[derive(Drop)]
+pub(crate) struct CostCurve<'a> {
+    priced: PricedCase<'a>,
+    /// The utility, by its index.
+    utility: u32,
+    /// The nearest one is the last.
+    ahead: Vec<Point>,
+}
 
-    /// The point of the curve at a price.
-    pub fn point(&self, alloc: Global, price: i64) -> Result<Point, AllocError>
-        requires curve { IsCostCurve self.now }
-        requires price { IsPrice price }
+impl<'a> Model for CostCurve<'a> {
+    ghost use Rattle.study.specs.CostCurve.{Curve, IsCostCurve};
+
+    ghost Value = { Curve };
+
+    ghost view = { λ c. record {
+      case = c.priced.case.now;
+      utility = c.utility;
+    } };
+
+    ghost invariant = { λ c. IsCostCurve c.priced c.utility c.ahead.items };
+}
+
+impl<'a> CostCurve<'a> {
+    ghost use Rattle.study.specs.CostCurve.{IsPoint, IsPointOf};
+    ghost use Rattle.study.specs.PricedCase.{IsPricedCase};
+
+    /// The curve of a case with a point of it ahead.
+    pub fn new(
+        alloc: Global,
+        priced: &PricedCase<'a>,
+        utility: u32,
+        first: Point,
+    ) -> Result<CostCurve<'a>, AllocError>
+        requires priced { IsPricedCase priced.now }
+        requires utility { utility < length priced.now.case.now.utilities }
+        requires first { IsPoint priced.now.case.now utility first }
+        ensures { IfOk result (λ curve.
+            curve ≡ record { case = priced.now.case.now; utility = utility }) }
+    {
+        Ok(CostCurve {
+            priced: *priced,
+            utility,
+            ahead: vec![in alloc; first]?,
+        })
+    }
+
+    /// The points ahead.
+    pub fn ahead(&self) -> &[Point]
+        ensures { All (IsPointOf self.now) result.now }
+    {
+        self.ahead.as_slice()
+    }
+
+    /// Puts a point before those ahead.
+    pub fn keep(&mut self, point: Point) -> Result<(), AllocError>
+        requires { IsPointOf self.old point }
+        ensures { self.new ≡ self.old }
+    {
+        self.ahead.push(point)?;
+        Ok(())
+    }
+
+    /// A point at a price that is not among those ahead.
+    fn new_point(&self, alloc: Global, price: i64) -> Result<Point, AllocError>
+        requires { IsPrice price }
         ensures price { IfOk result (λ point. point.price ≡ price) }
         ensures point { IfOk result (IsPointOf self.now) }
     {
         match self.priced.cost_with(alloc, self.utility, price)? {
             Some(cost) => Ok(Point { price, cost }),
             None => unreachable!(),
+        }
+    }
+
+    /// The point at a price: the nearest of those ahead, which is then no longer ahead, or a new
+    /// one.
+    pub fn take_point(&mut self, alloc: Global, price: i64) -> Result<Point, AllocError>
+        requires { IsPrice price }
+        ensures price { IfOk result (λ point. point.price ≡ price) }
+        ensures point { IfOk result (IsPointOf self.old) }
+        ensures same { self.new ≡ self.old }
+    {
+        match self.ahead.last().copied() {
+            Some(point) if point.price == price => {
+                self.ahead.pop();
+                Ok(point)
+            }
+            _ => self.new_point(alloc, price),
         }
     }
 }

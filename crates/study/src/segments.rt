@@ -1,7 +1,7 @@
 //! The segments of the least cost over a span of prices of one utility.
-ghost use Rattle.std.specs.Prelude.{◌≡◌, ◌<◌, pos, ◌+ℤ◌, ◌≤ℤ◌, ◌<ℤ◌, All, IfOk};
+ghost use Rattle.std.specs.Prelude.{◌≡◌, ◌<◌, pos, ◌+ℤ◌, ◌≤ℤ◌, ◌<ℤ◌, length, IfOk};
 ghost use Rattle.stream_case.specs.Limits.{IsPrice};
-ghost use Rattle.study.specs.CostCurve.{IsCostCurve, IsPointOf};
+ghost use Rattle.study.specs.CostCurve.{IsPointOf};
 ghost use Rattle.study.specs.PricedCase.{IsPricedCase};
 ghost use Rattle.study.specs.Chords.{IsChord, IsChordEnd};
 ghost use Rattle.study.specs.Segments.{IsSegment};
@@ -15,45 +15,15 @@ use crate::study_answer::Segment;
 use std::alloc::{AllocError, Global};
 use stream_case::Items;
 
-/// The point at a price: the nearest of those ahead, which is then no longer ahead, or a new one.
-fn take_point(
-    alloc: Global,
-    curve: &CostCurve,
-    ahead: &mut Vec<Point>,
-    price: i64,
-) -> Result<Point, AllocError>
-    requires curve { IsCostCurve curve.now }
-    requires ahead { All (IsPointOf curve.now) ahead.old.items }
-    requires price { IsPrice price }
-    ensures price { IfOk result (λ point. point.price ≡ price) }
-    ensures point { IfOk result (IsPointOf curve.now) }
-    ensures ahead { All (IsPointOf curve.now) ahead.new.items }
-{
-    match ahead.last().copied() {
-        Some(point) if point.price == price => {
-            ahead.pop();
-            Ok(point)
-        }
-        _ => curve.point(alloc, price),
-    }
-}
-
 /// The chord through a point and that at the next price.
-fn chord_from(
-    alloc: Global,
-    curve: &CostCurve,
-    ahead: &mut Vec<Point>,
-    first: Point,
-) -> Result<Chord, AllocError>
-    requires curve { IsCostCurve curve.now }
-    requires ahead { All (IsPointOf curve.now) ahead.old.items }
-    requires first { IsPointOf curve.now first }
+fn chord_from(alloc: Global, curve: &mut CostCurve, first: Point) -> Result<Chord, AllocError>
+    requires first { IsPointOf curve.old first }
     requires next { IsPrice (first.price +ℤ pos 1) }
     ensures from { IfOk result (λ chord. chord.from ≡ first.price) }
-    ensures chord { IfOk result (IsChord curve.now.priced.case.now curve.now.utility) }
-    ensures ahead { All (IsPointOf curve.now) ahead.new.items }
+    ensures chord { IfOk result (IsChord curve.old.case curve.old.utility) }
+    ensures same { curve.new ≡ curve.old }
 {
-    let next = take_point(alloc, curve, ahead, first.price + 1)?;
+    let next = curve.take_point(alloc, first.price + 1)?;
     Ok(Chord {
         from: first.price,
         cost: first.cost,
@@ -64,31 +34,23 @@ fn chord_from(
 /// The last price up to `to` at which the least cost is on a chord. Once it has left the chord it
 /// never returns, so the end lies between a price that is on it and one that is not; each price
 /// between the two that is looked at brings them nearer to each other.
-fn chord_end(
-    alloc: Global,
-    curve: &CostCurve,
-    ahead: &mut Vec<Point>,
-    chord: Chord,
-    to: i64,
-) -> Result<i64, AllocError>
-    requires curve { IsCostCurve curve.now }
-    requires known { All (IsPointOf curve.now) ahead.old.items }
-    requires chord { IsChord curve.now.priced.case.now curve.now.utility chord }
+fn chord_end(alloc: Global, curve: &mut CostCurve, chord: Chord, to: i64) -> Result<i64, AllocError>
+    requires chord { IsChord curve.old.case curve.old.utility chord }
     requires order { chord.from <ℤ to }
     requires last { IsPrice to }
-    ensures end { IfOk result (IsChordEnd curve.now.priced.case.now curve.now.utility chord to) }
-    ensures ahead { All (IsPointOf curve.now) ahead.new.items }
+    ensures end { IfOk result (IsChordEnd curve.old.case curve.old.utility chord to) }
+    ensures same { curve.new ≡ curve.old }
 {
     let mut on = chord.from + 1;
     let mut off = to + 1;
     while off - on > 1 {
-        let price = next_price(chord, ahead.as_slice(), on, off);
-        let point = take_point(alloc, curve, ahead, price)?;
+        let price = next_price(chord, curve.ahead(), on, off);
+        let point = curve.take_point(alloc, price)?;
         if point.cost == chord_at(chord, price) {
             on = price;
         } else {
             off = price;
-            ahead.push(point)?;
+            curve.keep(point)?;
         }
     }
     Ok(on)
@@ -97,19 +59,17 @@ fn chord_end(
 /// The segment that begins at a point, in a span up to `to`.
 fn segment_from(
     alloc: Global,
-    curve: &CostCurve,
-    ahead: &mut Vec<Point>,
+    curve: &mut CostCurve,
     first: Point,
     to: i64,
 ) -> Result<Segment, AllocError>
-    requires curve { IsCostCurve curve.now }
-    requires known { All (IsPointOf curve.now) ahead.old.items }
-    requires first { IsPointOf curve.now first }
+    requires utility { curve.old.utility < length curve.old.case.utilities }
+    requires first { IsPointOf curve.old first }
     requires order { first.price ≤ℤ to }
     requires last { IsPrice to }
     ensures from { IfOk result (λ segment. segment.from ≡ first.price) }
-    ensures segment { IfOk result (IsSegment curve.now.priced.case.now curve.now.utility to) }
-    ensures ahead { All (IsPointOf curve.now) ahead.new.items }
+    ensures segment { IfOk result (IsSegment curve.old.case curve.old.utility to) }
+    ensures same { curve.new ≡ curve.old }
 {
     if first.price == to {
         return Ok(Segment {
@@ -119,8 +79,8 @@ fn segment_from(
             slope: 0,
         });
     }
-    let chord = chord_from(alloc, curve, ahead, first)?;
-    let end = chord_end(alloc, curve, ahead, chord, to)?;
+    let chord = chord_from(alloc, curve, first)?;
+    let end = chord_end(alloc, curve, chord, to)?;
     Ok(Segment {
         from: chord.from,
         to: end,
@@ -129,25 +89,21 @@ fn segment_from(
     })
 }
 
-/// The segments of a span of a case that has a heat flow. Points that are known ahead go on from
-/// one segment to the next.
-fn known_segments(
+/// The segments of a span of the prices of a curve.
+fn curve_segments(
     alloc: Global,
-    curve: &CostCurve,
-    mut ahead: Vec<Point>,
+    curve: &mut CostCurve,
     from: i64,
     to: i64,
 ) -> Result<Items<Segment>, AllocError>
-    requires curve { IsCostCurve curve.now }
-    requires ahead { All (IsPointOf curve.now) ahead.items }
-    requires span { IsSpan curve.now.priced.case.now curve.now.utility from to }
-    ensures { IfOk result (AreSpanSegments curve.now.priced.case.now curve.now.utility from to) }
+    requires span { IsSpan curve.old.case curve.old.utility from to }
+    ensures { IfOk result (AreSpanSegments curve.old.case curve.old.utility from to) }
 {
     let mut segments = Items::new(alloc);
     let mut next = from;
     while next <= to {
-        let begin = take_point(alloc, curve, &mut ahead, next)?;
-        let segment = segment_from(alloc, curve, &mut ahead, begin, to)?;
+        let begin = curve.take_point(alloc, next)?;
+        let segment = segment_from(alloc, curve, begin, to)?;
         segments.push(segment)?;
         next = segment.to + 1;
     }
@@ -167,15 +123,11 @@ pub(crate) fn span_segments(
     requires span { IsSpan priced.now.case.now utility from to }
     ensures { IfOk result (AreSpanSegments priced.now.case.now utility from to) }
 {
-    let curve = CostCurve {
-        priced: *priced,
-        utility,
-    };
     match priced.cost_with(alloc, utility, from)? {
         Some(cost) => {
-            let mut ahead = Vec::new(alloc);
-            ahead.push(Point { price: from, cost })?;
-            known_segments(alloc, &curve, ahead, from, to)
+            let first = Point { price: from, cost };
+            let mut curve = CostCurve::new(alloc, priced, utility, first)?;
+            curve_segments(alloc, &mut curve, from, to)
         }
         None => Ok(Items::new(alloc)),
     }

@@ -1,5 +1,5 @@
-use Rattle.std.proofs.Common.{FitsSigned, arith, of_z, rules, subst, subst₂, sym, to_z, w64, ◌∙◌, ◌≡◌}
-use Rattle.study.proofs.Words.{All, All-push, All-weaker, CostsWith, IsPointOf, IsSmallPoint, chord_at, ints, pos}
+use Rattle.std.proofs.Common.{FitsSigned, arith, of_z, refl, rules, subst, subst₂, sym, to_z, w64, ◌∙◌, ◌≡◌}
+use Rattle.study.proofs.Words.{All-weaker, CostsWith, IsPointOf, IsSmallPoint, chord_at, ints, pos}
 use Rattle.study.proofs.Words.{priced, prices_with, w128, ◌+ℤ◌, ◌-ℤ◌, ◌≤ℤ◌}
 use Rattle.study.proofs.ChordBounds.{chord-second}
 use Rattle.study.proofs.LeastCosts.{one_cost}
@@ -7,7 +7,7 @@ use Rattle.study.proofs.segments.chord_end.Goals as goal
 
 pub loop-off-init : goal.loop-off-init
 loop-off-init c =
-    let case = c.args.curve.now.priced.case.now in
+    let case = c.args.curve.now.case in
     let i = c.args.curve.now.utility in
     let chord = c.args.chord in
     let a = c.requires.chord.small.from.from in
@@ -24,17 +24,16 @@ loop-off-init c =
       inside = subst (λ p. CostsWith case i p (chord_at chord p)) (sym second)
           (subst (CostsWith case i (chord.from +ℤ pos 1)) (sym (chord-second chord)) c.requires.chord.next);
       outside = λ h. absurd (omega (arith, ints));
-      points = c.requires.known;
+      same = refl;
     }
 
 pub next_price-price-requires-clause-ahead : goal.next_price-price-requires-clause-ahead
 next_price-price-requires-clause-ahead c =
-    rw c.as_slice.ensures.value
-    (All-weaker (IsPointOf c.args.curve.now) IsSmallPoint (λ point is. is.small) c.loop-off.ahead.items c.loop-off.invariant.points)
+    All-weaker (IsPointOf c.loop-off.curve) IsSmallPoint (λ point is. is.small) _ c.ahead.ensures
 
 pub loop-off-preserved-then-point-chord_at : goal.loop-off-preserved-then-point-chord_at
 loop-off-preserved-then-point-chord_at c =
-    let case = c.args.curve.now.priced.case.now in
+    let case = c.args.curve.now.case in
     let i = c.args.curve.now.utility in
     let chord = c.args.chord in
     let point = c.in_ok-point.point in
@@ -49,18 +48,19 @@ loop-off-preserved-then-point-chord_at c =
     let is : point.cost ≡ c.chord_at.result = omega (arith, ints, same) in
     let named = c.in_ok-point.ensures.price in
     let at : point.price ≡ price = omega (arith, ints, named) in
+    let least = rw c.loop-off.invariant.same at c.in_ok-point.ensures.point.least in
     record {
       ahead = omega (arith, ints, ahead, behind);
       order = omega (arith, ints, before);
       last = c.loop-off.invariant.last;
-      inside = subst₂ (CostsWith case i) at (is ∙ c.chord_at.ensures) c.in_ok-point.ensures.point.least;
+      inside = subst₂ (CostsWith case i) at (is ∙ c.chord_at.ensures) least;
       outside = c.loop-off.invariant.outside;
-      points = c.in_ok-point.ensures.ahead;
+      same = c.in_ok-point.ensures.same ∙ c.loop-off.invariant.same;
     }
 
 pub loop-off-preserved : goal.loop-off-preserved
 loop-off-preserved c =
-    let case = c.args.curve.now.priced.case.now in
+    let case = c.args.curve.now.case in
     let i = c.args.curve.now.utility in
     let chord = c.args.chord in
     let point = c.in_ok-point.point in
@@ -73,7 +73,8 @@ loop-off-preserved c =
     let other = c.if-point-chord_at.false in
     let named = c.in_ok-point.ensures.price in
     let at : point.price ≡ price = omega (arith, ints, named) in
-    let least = subst (λ p. CostsWith case i p point.cost) at c.in_ok-point.ensures.point.least in
+    let found = rw c.loop-off.invariant.same at c.in_ok-point.ensures.point.least in
+    let least = subst (λ p. CostsWith case i p point.cost) at found in
     let apart : point.cost ≡ c.chord_at.result → ⊥ = λ h. absurd (omega (arith, ints, h, other)) in
     record {
       ahead = c.loop-off.invariant.ahead;
@@ -83,13 +84,12 @@ loop-off-preserved c =
       outside = λ h costs.
           apart (one_cost case (priced (prices_with case i price)) point.cost (chord_at chord price) least costs
           ∙ sym c.chord_at.ensures);
-      points = subst (All (IsPointOf c.args.curve.now)) (sym c.in_ok-push.ensures.items)
-          (All-push (IsPointOf c.args.curve.now) _ point c.in_ok-point.ensures.ahead c.in_ok-point.ensures.point);
+      same = c.in_ok-keep.ensures ∙ (c.in_ok-point.ensures.same ∙ c.loop-off.invariant.same);
     }
 
 pub returns-clause-end : goal.returns-clause-end
 returns-clause-end c =
-    let case = c.args.curve.now.priced.case.now in
+    let case = c.args.curve.now.case in
     let i = c.args.curve.now.utility in
     let chord = c.args.chord in
     let on = to_z w64 c.loop-off.on-bits in

@@ -5,7 +5,7 @@ use Rattle.study.proofs.segments.chord_from.Goals as goal
 
 pub returns-clause-chord : goal.returns-clause-chord
 returns-clause-chord c =
-    let case = c.args.curve.now.priced.case.now in
+    let case = c.args.curve.now.case in
     let i = c.args.curve.now.utility in
     let first = c.args.first in
     let next = c.in_ok-next.next in

@@ -1,7 +1,7 @@
-use Rattle.std.proofs.Common.{arith, inl, of_z, subst, subst₂, sym, to_z, w64, ◌≡◌}
+use Rattle.std.proofs.Common.{arith, inl, of_z, subst, subst₂, sym, to_z, w64, ◌∙◌, ◌≡◌}
 use Rattle.study.proofs.Words.{AreSegments, ints, pos, to_z-of_z, ◌+ℤ◌}
 use Rattle.study.proofs.SegmentLemmas.{one_more_segment}
-use Rattle.study.proofs.segments.known_segments.Goals as goal
+use Rattle.study.proofs.segments.curve_segments.Goals as goal
 
 pub loop-next-smaller : goal.loop-next-smaller
 loop-next-smaller c =
@@ -18,10 +18,10 @@ loop-next-smaller c =
 
 pub loop-next-preserved : goal.loop-next-preserved
 loop-next-preserved c =
-    let case = c.args.curve.now.priced.case.now in
+    let case = c.args.curve.now.case in
     let i = c.args.curve.now.utility in
     let segment = c.in_ok-segment.segment in
-    let is = c.in_ok-segment.ensures.segment in
+    let is = rw (c.in_ok-begin.ensures.same, c.loop-next.invariant.same) at c.in_ok-segment.ensures.segment in
     let from_is = c.in_ok-segment.ensures.from in
     let begin = c.in_ok-begin.ensures.price in
     let at : segment.from ≡ to_z w64 c.loop-next.next-bits = omega (arith, ints, from_is, begin) in
@@ -39,12 +39,12 @@ loop-next-preserved c =
       upto = omega (arith, ints);
       segments = subst₂ (AreSegments case i to from) next (sym c.in_ok-push.ensures.ok)
           (one_more_segment case i to from (to_z w64 c.loop-next.next-bits) c.loop-next.segments segment c.loop-next.invariant.segments at is);
-      ahead = c.in_ok-segment.ensures.ahead;
+      same = c.in_ok-segment.ensures.same ∙ (c.in_ok-begin.ensures.same ∙ c.loop-next.invariant.same);
     }
 
 pub returns : goal.returns
 returns c =
-    let case = c.args.curve.now.priced.case.now in
+    let case = c.args.curve.now.case in
     let i = c.args.curve.now.utility in
     let upto = c.loop-next.invariant.upto in
     let d = c.requires.span.last.from in
