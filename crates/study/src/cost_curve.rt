@@ -38,27 +38,21 @@ impl<'a> Model for CostCurve<'a> {
 }
 
 impl<'a> CostCurve<'a> {
-    ghost use Rattle.study.specs.CostCurve.{IsPoint, IsPointOf};
+    ghost use Rattle.study.specs.CostCurve.{HasFlowWith, IsPointOf};
     ghost use Rattle.study.specs.PricedCase.{IsPricedCase};
 
-    /// The curve of a case with a point of it ahead.
-    pub fn new(
-        alloc: Global,
-        priced: &PricedCase<'a>,
-        utility: u32,
-        first: Point,
-    ) -> Result<CostCurve<'a>, AllocError>
+    /// The curve of a case, without a point ahead.
+    pub fn new(alloc: Global, priced: &PricedCase<'a>, utility: u32) -> CostCurve<'a>
         requires priced { IsPricedCase priced.now }
         requires utility { utility < length priced.now.case.now.utilities }
-        requires first { IsPoint priced.now.case.now utility first }
-        ensures { IfOk result (λ curve.
-            curve ≡ record { case = priced.now.case.now; utility = utility }) }
+        requires flow { HasFlowWith priced.now.case.now utility }
+        ensures { result ≡ record { case = priced.now.case.now; utility = utility } }
     {
-        Ok(CostCurve {
+        CostCurve {
             priced: *priced,
             utility,
-            ahead: vec![in alloc; first]?,
-        })
+            ahead: Vec::new(alloc),
+        }
     }
 
     /// The points ahead.

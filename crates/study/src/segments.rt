@@ -125,8 +125,8 @@ pub(crate) fn span_segments(
 {
     match priced.cost_with(alloc, utility, from)? {
         Some(cost) => {
-            let first = Point { price: from, cost };
-            let mut curve = CostCurve::new(alloc, priced, utility, first)?;
+            let mut curve = CostCurve::new(alloc, priced, utility);
+            curve.keep(Point { price: from, cost })?;
             curve_segments(alloc, &mut curve, from, to)
         }
         None => Ok(Items::new(alloc)),
