@@ -57,7 +57,10 @@ fn link(from: u32, to: u32) -> Link
 /// Links between two hot parts (nodes 0 and 1), two cold parts (nodes 2 and 3) and a chain node:
 /// two pairs are parallel, and two links lead straight from part to part.
 fn made_links(alloc: Global) -> Result<Vec<Link>, AllocError>
-    ensures { IfOk result (λ links. links.items ≡ open_link 4 2 ∷ open_link 0 4 ∷ open_link 4 3 ∷ open_link 0 2 ∷ open_link 1 4 ∷ open_link 1 3 ∷ open_link 0 4 ∷ open_link 4 2 ∷ []) }
+    ensures { IfOk result
+        (λ links. links.items ≡ open_link 4 2 ∷ open_link 0 4 ∷ open_link 4 3
+        ∷ open_link 0 2 ∷ open_link 1 4 ∷ open_link 1 3
+        ∷ open_link 0 4 ∷ open_link 4 2 ∷ []) }
 {
     let links = vec![in alloc;
         link(4, 2),
@@ -74,7 +77,9 @@ fn made_links(alloc: Global) -> Result<Vec<Link>, AllocError>
 
 /// The flow on each link.
 fn made_flow(alloc: Global) -> Result<Vec<i64>, AllocError>
-    ensures { IfOk result (λ flow. flow.items ≡ pos 25 ∷ pos 50 ∷ pos 30 ∷ pos 7 ∷ pos 0 ∷ pos 35 ∷ pos 10 ∷ pos 5 ∷ []) }
+    ensures { IfOk result
+        (λ flow. flow.items ≡ pos 25 ∷ pos 50 ∷ pos 30 ∷ pos 7
+        ∷ pos 0 ∷ pos 35 ∷ pos 10 ∷ pos 5 ∷ []) }
 {
     let flow = vec![in alloc; 25, 50, 30, 7, 0, 35, 10, 5]?;
     Ok(flow)
@@ -105,8 +110,10 @@ fn two_parts(alloc: Global, side: Side) -> Result<Vec<Part>, AllocError>
 }
 
 fn made_by_hand(alloc: Global) -> Result<Made, AllocError>
-    ensures inner { IfOk result (λ made. IsInner (length made.parts.hot) (length made.parts.cold) made.chains.net) }
-    ensures heat { IfOk result (λ made. IsHeatOf made.parts.hot made.parts.cold made.chains.net made.flow) }
+    ensures inner { IfOk result
+        (λ made. IsInner (length made.parts.hot) (length made.parts.cold) made.chains.net) }
+    ensures heat { IfOk result
+        (λ made. IsHeatOf made.parts.hot made.parts.cold made.chains.net made.flow) }
 {
     let links = made_links(alloc)?;
     let flow = made_flow(alloc)?;
