@@ -18,7 +18,8 @@ pub struct TextKey {
 impl TextKey {
     /// The key of the bytes that a digest has taken.
     pub fn of_digest(digest: Sha256) -> TextKey
-        ensures { (bytes : List ℕ) → Holds256 digest bytes → begun_by result ≡ keyed_by bytes }
+        ensures { (bytes : List ℕ) → Holds256 digest bytes
+            → begun_by result ≡ keyed_by bytes }
     {
         let mut begun = DefaultHasher::new();
         begun.write(&digest.finalize());
