@@ -15,10 +15,11 @@ use crate::fault::CaseWhy;
 pub fn rows_have_one_outcome()
     ensures some { (rows : List Row) → ((row : ℕ) × (why : CaseWhy) × IsFault rows row why)
         ⊎ ((case : Case) × IsCase rows case) }
-    ensures fault { (rows : List Row) (row other : ℕ) (why because : CaseWhy) → IsFault rows row why
+    ensures fault { (rows : List Row) (row other : ℕ) (why because : CaseWhy)
+        → IsFault rows row why
         → IsFault rows other because → (row ≡ other) × (why ≡ because) }
-    ensures apart { (rows : List Row) (row : ℕ) (why : CaseWhy) (case : Case) → IsFault rows row why
-        → IsCase rows case → ⊥ }
+    ensures apart { (rows : List Row) (row : ℕ) (why : CaseWhy) (case : Case)
+        → IsFault rows row why → IsCase rows case → ⊥ }
     ensures case { (rows : List Row) (case other : Case) → IsCase rows case → IsCase rows other
         → case ≡ other }
 {}

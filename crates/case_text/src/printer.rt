@@ -58,7 +58,8 @@ fn stream_end(alloc: Global, case: &Case, stream: &Stream) -> Result<String, All
 /// The line of a stream.
 #[tactic(auto, unfolding(rows::specs::Text::fields_text))]
 fn stream_line(alloc: Global, case: &Case, stream: &Stream) -> Result<String, AllocError>
-    ensures { IfOk result (λ line. string_bytes line ≡ row_text (stream_row case.now stream.now)) }
+    ensures { IfOk result
+        (λ line. string_bytes line ≡ row_text (stream_row case.now stream.now)) }
 {
     let kind = match stream.side {
         Side::Hot => "hot",
@@ -102,7 +103,8 @@ fn utility_line(alloc: Global, case: &Case, utility: &Utility) -> Result<String,
 #[tactic(auto, unfolding(rows::specs::Text::fields_text))]
 fn forbid_line(alloc: Global, case: &Case, forbid: &Forbid) -> Result<String, AllocError>
     requires { IsValidForbid case.now forbid.now }
-    ensures { IfOk result (λ line. string_bytes line ≡ row_text (forbid_row case.now forbid.now)) }
+    ensures { IfOk result
+        (λ line. string_bytes line ≡ row_text (forbid_row case.now forbid.now)) }
 {
     let hot = case.name_of(forbid.hot);
     let cold = case.name_of(forbid.cold);
