@@ -32,8 +32,8 @@ pub(crate) fn set_out(
     flow: &[i64],
 ) -> Result<Departure, AllocError>
     requires { IsWithinRooms links.now flow.now }
-    ensures { IfOk result (λ d. HaveSetOut hots links.now flow.now (length links.now) d.shares.items
-        d.ways.items) }
+    ensures { IfOk result
+        (λ d. HaveSetOut hots links.now flow.now (length links.now) d.shares.items d.ways.items) }
 {
     let mut shares = Vec::new(alloc);
     let mut ways = Vec::new(alloc);

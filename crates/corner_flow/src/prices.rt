@@ -48,7 +48,8 @@ fn side_prices(
     low: bool,
     place: i32,
 ) -> Result<Vec<i64>, AllocError>
-    ensures { IfOk result (λ prices. prices.items ≡ map (corner_price target low place) parts.now) }
+    ensures { IfOk result
+        (λ prices. prices.items ≡ map (corner_price target low place) parts.now) }
 {
     parts
         .iter()
@@ -80,7 +81,8 @@ pub fn corner_prices(
     ensures hot { let low = counts_low case.now.streams from_itself place in
         IfOk result (λ made. made.hot ≡ map (corner_price targets.hot low place) parts.now.hot) }
     ensures cold { let low = counts_low case.now.streams from_itself place in
-        IfOk result (λ made. made.cold ≡ map (corner_price targets.hot low place) parts.now.cold) }
+        IfOk result
+        (λ made. made.cold ≡ map (corner_price targets.hot low place) parts.now.cold) }
     ensures hot_range { IfOk result (λ prices. All IsPartPrice prices.hot) }
     ensures cold_range { IfOk result (λ prices. All IsPartPrice prices.cold) }
     ensures supporting { IfOk result (λ prices.

@@ -33,7 +33,8 @@ pub(crate) fn push_branches(
     count: u32,
 ) -> Result<(), AllocError>
     requires { first + count < 2 ^ 32 }
-    ensures { OnOk result (branches.new.items ≡ branches.old.items ++ numbered first stream count) }
+    ensures { OnOk result (branches.new.items
+        ≡ branches.old.items ++ numbered first stream count) }
 {
     for number in first..first + count {
         let name = branch_name(alloc, number)?;

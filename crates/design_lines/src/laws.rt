@@ -12,6 +12,7 @@ ghost use Rattle.design_lines.specs.Led.{AreLed};
 /// before its one use, and has a name and a stream, and each side of an exchanger that is a stream
 /// is passed once.
 pub fn drawn_networks_have_the_shape()
-    ensures { (case : Case) (exchangers : List Exchanger) (courses : List Course) → IsComplete case
+    ensures { (case : Case) (exchangers : List Exchanger) (courses : List Course)
+        → IsComplete case
         → AreLed case exchangers courses → HasShape case (drawn case exchangers courses) }
 {}

@@ -25,7 +25,8 @@ fn push_splits(
 ) -> Result<u32, AllocError>
     requires some { 0 < length shares.now }
     requires fits { next + 4 * length shares.now < 2 ^ 32 }
-    ensures lines { OnOk result (lines.new.items ≡ lines.old.items ++ splits next from shares.now) }
+    ensures lines { OnOk result (lines.new.items
+        ≡ lines.old.items ++ splits next from shares.now) }
     ensures rest { IfOk result (λ rest. rest ≡ rest_branch next from shares.now) }
 {
     let mut rest = from;

@@ -69,7 +69,8 @@ fn add_flow(net: &Net, flow: &[i64], surpluses: &mut [i128])
 fn add(surpluses: &mut [i128], node: u32, amount: i128)
     requires node { node < length surpluses.old }
     requires fits { FitsSigned w128 (surplus_at surpluses.old node +ℤ amount) }
-    ensures { surpluses.new ≡ slice_set surpluses.old node (surplus_at surpluses.old node +ℤ amount) }
+    ensures { surpluses.new
+        ≡ slice_set surpluses.old node (surplus_at surpluses.old node +ℤ amount) }
 {
     surpluses[node as usize] += amount;
 }

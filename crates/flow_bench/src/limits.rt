@@ -56,7 +56,8 @@ fn are_initial(net: &Net, start: &[i64]) -> bool
 
 /// Whether each number is within the limit of an initial potential.
 fn are_small(numbers: &[i64]) -> bool
-    ensures { IsTrue result ↔ ((v : ℕ) → v < length numbers.now → IsInitialPotential (potential_at numbers.now v)) }
+    ensures { IsTrue result ↔ ((v : ℕ)
+        → v < length numbers.now → IsInitialPotential (potential_at numbers.now v)) }
 {
     numbers
         .iter()

@@ -90,7 +90,8 @@ impl LevelGraph {
         requires node { node < problem.now.net.now.nodes }
         requires level { level < problem.now.net.now.nodes }
         ensures graph { OnOk result (IsLevelGraph problem.now self.new) }
-        ensures one_more { OnOk result (length self.old.entered.items ≤ length self.new.entered.items) }
+        ensures one_more { OnOk result
+            (length self.old.entered.items ≤ length self.new.entered.items) }
     {
         self.levels[node as usize] = Some(level);
         self.cursors[node as usize] = 0;
@@ -113,7 +114,8 @@ impl LevelGraph {
         requires end { end ≤ length self.old.entered.items }
         requires level { level < problem.now.net.now.nodes }
         ensures graph { OnOk result (IsLevelGraph problem.now self.new) }
-        ensures no_fewer { OnOk result (length self.old.entered.items ≤ length self.new.entered.items) }
+        ensures no_fewer { OnOk result
+            (length self.old.entered.items ≤ length self.new.entered.items) }
     {
         for index in first..end {
             let node = self.entered[index];
@@ -137,7 +139,8 @@ impl LevelGraph {
         requires node { node < problem.now.net.now.nodes }
         requires level { level < problem.now.net.now.nodes }
         ensures graph { OnOk result (IsLevelGraph problem.now self.new) }
-        ensures no_fewer { OnOk result (length self.old.entered.items ≤ length self.new.entered.items) }
+        ensures no_fewer { OnOk result
+            (length self.old.entered.items ≤ length self.new.entered.items) }
     {
         for residual in routing.residuals_from(problem, node) {
             if residual.is_open

@@ -187,7 +187,8 @@ impl Search {
         requires arrived { HasArrived problem.now routing.old self.now }
         ensures standing { IsStanding problem.now routing.new }
         ensures routed { routing.new.routed ≡ routing.old.routed }
-        ensures free { (a : Arc) → IsTreeArc problem.now self.now a → IsFreeArc problem.now routing.new a }
+        ensures free { (a : Arc) → IsTreeArc problem.now self.now a
+            → IsFreeArc problem.now routing.new a }
     {
         if self.queue.level == 0 {
             return;

@@ -11,8 +11,8 @@ pub fn ratios_are_ranked_by_cross_products()
         ↔ (n *ℤ pos e ≡ m *ℤ pos d) }
     ensures below { (n m : ℤ) (d e : ℕ) → 0 < d → 0 < e → IsBelow (ratio n d) (ratio m e)
         ↔ ((n *ℤ pos e) <ℤ (m *ℤ pos d)) }
-    ensures at_most { (n m : ℤ) (d e : ℕ) → 0 < d → 0 < e → IsAtMost (ratio n d) (ratio m e)
-        ↔ ((n *ℤ pos e) ≤ℤ (m *ℤ pos d)) }
-    ensures order { (n m : ℤ) (d e : ℕ) → 0 < d → 0 < e → rational_cmp (ratio n d) (ratio m e)
-        ≡ int_cmp (n *ℤ pos e) (m *ℤ pos d) }
+    ensures at_most { (n m : ℤ) (d e : ℕ) → 0 < d → 0 < e
+        → IsAtMost (ratio n d) (ratio m e) ↔ ((n *ℤ pos e) ≤ℤ (m *ℤ pos d)) }
+    ensures order { (n m : ℤ) (d e : ℕ) → 0 < d → 0 < e
+        → rational_cmp (ratio n d) (ratio m e) ≡ int_cmp (n *ℤ pos e) (m *ℤ pos d) }
 {}

@@ -18,7 +18,8 @@ pub struct Grid {
 /// Appends the shifted utility levels.
 fn push_levels(places: &mut Vec<i32>, utilities: &[Utility]) -> Result<(), AllocError>
     requires { All IsPlaced utilities.now }
-    ensures { OnOk result (places.new.items ≡ places.old.items ++ map shifted_level utilities.now) }
+    ensures { OnOk result (places.new.items
+        ≡ places.old.items ++ map shifted_level utilities.now) }
 {
     for utility in utilities {
         places.push(utility.shifted_level())?;

@@ -118,7 +118,8 @@ pub fn is_heat_flow<R: Reaches>(parts: &Parts, reach: &R, transfers: &[Transfer]
 /// Whether a list of transfers is a heat flow over these parts, as `is_heat_flow` says it. A table
 /// of other sizes than the parts' lists gives false.
 pub fn is_flow(parts: &Parts, reach: &Reach, flow: &Flow) -> bool
-    ensures { IsTrue result ↔ IsFlowOver parts.now.hot parts.now.cold reach.now flow.now.transfers }
+    ensures { IsTrue result
+        ↔ IsFlowOver parts.now.hot parts.now.cold reach.now flow.now.transfers }
 {
     has_sizes(reach, parts) && is_heat_flow(parts, reach, flow.transfers.as_slice())
 }

@@ -42,5 +42,6 @@ pub fn cost_of(parts: &Parts, flow: &Flow) -> i128
 
 /// Two least costs of the heat flows between the same parts are one number.
 pub fn least_cost_is_one()
-    ensures { (reach : ℕ → ℕ → Bool) (hot cold : List Part) → OneLeastCost reach hot cold }
+    ensures { (reach : ℕ → ℕ → Bool) (hot cold : List Part)
+        → OneLeastCost reach hot cold }
 {}

@@ -134,7 +134,8 @@ pub fn offer_of<R: Reaches>(side: Side, reach: &R, others: &[Part], members: &[u
 
 /// Whether a cut has this need and this offer, and its need is the greater one.
 fn is_short(cut: &Cut, need: i128, offer: i128) -> bool
-    ensures { IsTrue result ↔ (cut.now.need ≡ need) × (cut.now.offer ≡ offer) × (offer <ℤ need) }
+    ensures { IsTrue result
+        ↔ (cut.now.need ≡ need) × (cut.now.offer ≡ offer) × (offer <ℤ need) }
 {
     i128::from(cut.need) == need && i128::from(cut.offer) == offer && offer < need
 }

@@ -61,7 +61,8 @@ fn part_value(part: &Part, part_price: i64, side: Side) -> i128
     requires part { IsBounded part.now }
     requires part_price { IsPartPrice part_price }
     ensures value { result
-        ≡ least_product (excess_price side part.now.price part_price) part.now.least part.now.most }
+        ≡ least_product (excess_price side part.now.price part_price)
+        part.now.least part.now.most }
     ensures range { IsWithin most_part_value result }
 {
     least_product(
@@ -96,7 +97,8 @@ pub fn value_of(parts: &Parts, prices: &Prices) -> i128
     requires cold_count { length prices.now.cold ≡ length parts.now.cold }
     requires hot_range { All IsPartPrice prices.now.hot }
     requires cold_range { All IsPartPrice prices.now.cold }
-    ensures value { result ≡ value_of parts.now.hot parts.now.cold prices.now.hot prices.now.cold }
+    ensures value { result
+        ≡ value_of parts.now.hot parts.now.cold prices.now.hot prices.now.cold }
     ensures weak_duality { (reach : ℕ → ℕ → Bool)
         → WeakDuality reach parts.now.hot parts.now.cold prices.now.hot prices.now.cold }
 {

@@ -40,8 +40,8 @@ pub fn design(alloc: Global, case: &Case, parts: &Parts, flow: &Flow) -> Result<
     requires flow { IsHeatFlow
         (reach_between case.now parts.now.hot parts.now.cold) parts.now.hot parts.now.cold
         flow.now.transfers }
-    ensures drawn { IfOk result
-        (λ network. network ≡ network_of case.now parts.now.hot parts.now.cold flow.now.transfers) }
+    ensures drawn { IfOk result (λ network. network
+        ≡ network_of case.now parts.now.hot parts.now.cold flow.now.transfers) }
     ensures exchangers { IfOk result
         (λ network. exchangers_of network.lines
         ≡ map (exchanger_of parts.now.hot parts.now.cold) (enumerate_from 0 flow.now.transfers)) }

@@ -70,7 +70,8 @@ fn declared(alloc: Global, lines: &[Line]) -> Result<Vec<Joint>, AllocError>
 /// Notes for each exchanger the first pass on each of its sides.
 fn note_passes(branches: &[Branch], lines: &[Line], joints: &mut [Joint])
     requires { All (PassesBelow (length joints.old)) lines.now }
-    ensures { (exchangers : List Exchanger) → joints.old ≡ joints_among branches.now [] exchangers
+    ensures { (exchangers : List Exchanger)
+        → joints.old ≡ joints_among branches.now [] exchangers
         → joints.new ≡ joints_among branches.now lines.now exchangers }
 {
     for line in lines {

@@ -18,7 +18,8 @@ ghost use Rattle.network_audit.specs.declared.verdict.Verdict.{Verdict};
 /// A network that has the shape of one has at most one finding, and at most one verdict; one with a
 /// finding is not one without.
 pub fn networks_have_one_verdict()
-    ensures one { (case : Case) (network : Network) (found other : Finding) → HasShape case network
+    ensures one { (case : Case) (network : Network) (found other : Finding)
+        → HasShape case network
         → IsFinding case network found → IsFinding case network other → found ≡ other }
     ensures apart { (case : Case) (network : Network) (found : Finding) → HasShape case network
         → IsFinding case network found → HasNoFinding case network → ⊥ }
@@ -35,7 +36,8 @@ pub fn findings_tell_what_is_valid()
     ensures invalid { (case : Case) (network : Network) (place : Place) (reason : Reason)
         → HasShape case network → IsFinding case network (finding.Failed place reason)
         → IsValidNetwork case network → ⊥ }
-    ensures formed { (case : Case) (network : Network) (values : Valuation) → HasShape case network
+    ensures formed { (case : Case) (network : Network) (values : Valuation)
+        → HasShape case network
         → IsWholeValuation case network values → IsValidNetwork case network
         → All IsFormed (items case network values (length network.lines))
         → HasNoFinding case network }

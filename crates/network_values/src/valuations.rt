@@ -38,7 +38,8 @@ pub fn valuations_go_line_by_line()
 pub fn valuations_exist_where_splits_leave_room()
     ensures { (case : Case) (network : Network) (n : ℕ) → IsComplete case
         → HasShape case network → n ≤ length network.lines
-        → ((values : Valuation) × IsValuation case network n values) ↔ LeaveRoom case network n }
+        → ((values : Valuation) × IsValuation case network n values)
+        ↔ LeaveRoom case network n }
 {}
 
 /// Where no pass brings the state of a latent branch below 0 or above 1, no branch has such a state.

@@ -53,7 +53,8 @@ pub fn take_case<S: Shelf>(alloc: Global, shelf: &mut S, name: &Word) -> Result<
         (ReadsText case_file name.now (S.state shelf.old) (S.state shelf.new)) }
     ensures valid { IfOk result IsValid }
     ensures stop { IfErr result
-        (λ stop. IfEarly stop (NoText case_file name.now (S.state shelf.old) (S.state shelf.new))) }
+        (λ stop. IfEarly stop
+        (NoText case_file name.now (S.state shelf.old) (S.state shelf.new))) }
 {
     let bytes = take_file(alloc, shelf, FileRole::Case, name)?;
     match read_case(alloc, &bytes) {
@@ -69,7 +70,8 @@ pub fn take_site<S: Shelf>(alloc: Global, shelf: &mut S, name: &Word) -> Result<
         (ReadsText site_file name.now (S.state shelf.old) (S.state shelf.new)) }
     ensures valid { IfOk result IsValidSite }
     ensures stop { IfErr result
-        (λ stop. IfEarly stop (NoText site_file name.now (S.state shelf.old) (S.state shelf.new))) }
+        (λ stop. IfEarly stop
+        (NoText site_file name.now (S.state shelf.old) (S.state shelf.new))) }
 {
     let bytes = take_file(alloc, shelf, FileRole::Site, name)?;
     match read_site(alloc, &bytes) {

@@ -234,7 +234,8 @@ fn take_completed<S: Shelf>(alloc: Global, shelf: &mut S, name: &Word) -> Result
     ensures case { IfOk result (ReadsCompleted name.now (S.state shelf.old) (S.state shelf.new)) }
     ensures complete { IfOk result IsComplete }
     ensures stop { IfErr result
-        (λ stop. IfEarly stop (NoText case_file name.now (S.state shelf.old) (S.state shelf.new))) }
+        (λ stop. IfEarly stop
+        (NoText case_file name.now (S.state shelf.old) (S.state shelf.new))) }
 {
     let given = take_case(alloc, shelf, name)?;
     Ok(complete(alloc, &given)?)

@@ -80,7 +80,8 @@ impl<R: Files> Shelf for FileShelf<'_, R> {
 
     fn take(&mut self, buf: &mut [u8]) -> Result<usize, ShelfFault>
         requires begun { (⟦<Self as Shelf>⟧.state self.old).begun ≡ true }
-        requires room { (⟦<Self as Shelf>⟧.state self.old).taken + length buf.old ≤ 2 ^ 63 - 1 }
+        requires room { (⟦<Self as Shelf>⟧.state self.old).taken + length buf.old
+            ≤ 2 ^ 63 - 1 }
         ensures told { let state = ⟦<Self as Shelf>⟧.state in
             Takes (state self.old) (state self.new) buf.new result }
         ensures counted { let state = ⟦<Self as Shelf>⟧.state in

@@ -58,7 +58,8 @@ impl From<ShelfFault> for TakeFault {
 pub fn take_all<S: Shelf>(alloc: Global, shelf: &mut S, name: &str) -> Result<Vec<u8>, TakeFault>
     ensures whole { IfOk result
         (λ bytes. IsWhole name.now (S.state shelf.old) (S.state shelf.new) bytes.items) }
-    ensures long { (result ≡ Err TakeFault.Long) ↔ ((S.state shelf.new).taken ≡ MAX_FILE + 1) }
+    ensures long { (result ≡ Err TakeFault.Long)
+        ↔ ((S.state shelf.new).taken ≡ MAX_FILE + 1) }
     ensures long_file { IsErrOf result TakeFault.Long
         → IsTooLong name.now (S.state shelf.old) (S.state shelf.new) }
     ensures failed { (result ≡ Err TakeFault.Fault) ↔ ((S.state shelf.new).failed ≡ true) }

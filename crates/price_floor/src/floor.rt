@@ -40,7 +40,8 @@ pub fn floor_of(
     requires hot_prices { ArePartPrices parts.now.hot prices.now.hot }
     requires cold_prices { ArePartPrices parts.now.cold prices.now.cold }
     requires accepted { HasAccepted auditor.now case.now network.now }
-    ensures value { result ≡ value_of parts.now.hot parts.now.cold prices.now.hot prices.now.cold }
+    ensures value { result
+        ≡ value_of parts.now.hot parts.now.cold prices.now.hot prices.now.cold }
     ensures floor { IsAtMost (whole result) (cost_of case.now network.now) }
 {
     // The network that the auditor has accepted is valid.

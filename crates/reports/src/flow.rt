@@ -101,7 +101,8 @@ fn move_line(
     parts: &Parts,
     transfer: &Transfer,
 ) -> Result<String, AllocError>
-    ensures { IfOk result (λ text. string_bytes text ≡ move_line names.now parts.now transfer.now) }
+    ensures { IfOk result
+        (λ text. string_bytes text ≡ move_line names.now parts.now transfer.now) }
 {
     let hot = part_at(alloc, names, parts.hot.as_slice(), transfer.hot)?;
     let cold = part_at(alloc, names, parts.cold.as_slice(), transfer.cold)?;
@@ -143,7 +144,8 @@ fn price_line(
     price: i64,
     part: &Part,
 ) -> Result<String, AllocError>
-    ensures { IfOk result (λ text. string_bytes text ≡ price_line names.now side price part.now) }
+    ensures { IfOk result
+        (λ text. string_bytes text ≡ price_line names.now side price part.now) }
 {
     let word = format!(in alloc; "{} {}", price_word(side), part_text(alloc, names, part)?)?;
     line(alloc, &word, i128::from(price))

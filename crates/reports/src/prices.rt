@@ -27,7 +27,8 @@ fn item_lines(
     items: &[StudyItem],
     answers: &[StudyAnswer],
 ) -> Result<String, AllocError>
-    ensures { IfOk result (λ text. string_bytes text ≡ item_lines names.now items.now answers.now) }
+    ensures { IfOk result
+        (λ text. string_bytes text ≡ item_lines names.now items.now answers.now) }
 {
     let mut text = String::new(alloc);
     for (item, answer) in items.iter().zip(answers) {

@@ -69,7 +69,8 @@ fn raised_by_ends(
     requires streams { ArePlantStreams streams.now }
     requires so_far { IsPlantHeat so_far }
     requires others { All IsValidStream others.now }
-    ensures value { result ≡ fold (raised direction t streams.now) so_far (stream_ends others.now) }
+    ensures value { result
+        ≡ fold (raised direction t streams.now) so_far (stream_ends others.now) }
     ensures range { IsPlantHeat result }
 {
     let mut greatest = so_far;

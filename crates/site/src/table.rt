@@ -43,7 +43,8 @@ pub fn site_parts(alloc: Global, site: &Site) -> Result<SiteTable, AllocError>
     ensures sizes { IfOk result
         (λ table. HasSizes table.reach (length table.parts.hot) (length table.parts.cold)) }
     ensures reach { IfOk result (λ table. (a b : ℕ)
-        → reaches table.reach a b ≡ reach_between site.now table.parts.hot table.parts.cold a b) }
+        → reaches table.reach a b
+        ≡ reach_between site.now table.parts.hot table.parts.cold a b) }
 {
     let streams = streams_of(alloc, site.plants.as_slice())?;
     let places = site_places(alloc, site, streams.as_slice())?;

@@ -38,7 +38,8 @@ pub fn site_target(alloc: Global, site: &Site) -> Result<Answer, AllocError>
         (λ flow prices cost. IsLeastCost (reach_between site.now hot cold) hot cold cost)) }
     ensures cut { IfOk result (λ a. (hot cold : List Part) → AreSiteParts site.now hot cold
         → IfStuck a (λ cut. IsCutOf (reach_between site.now hot cold) hot cold cut)) }
-    ensures stuck_only { IfOk result (λ a. (hot cold : List Part) → AreSiteParts site.now hot cold
+    ensures stuck_only { IfOk result (λ a. (hot cold : List Part)
+        → AreSiteParts site.now hot cold
         → IfStuck a (λ cut. HasNoFlow (reach_between site.now hot cold) hot cold)) }
 {
     let table = site_parts(alloc, site)?;

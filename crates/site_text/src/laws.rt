@@ -15,10 +15,11 @@ use crate::fault::SiteWhy;
 pub fn rows_have_one_outcome()
     ensures some { (rows : List Row) → ((row : ℕ) × (why : SiteWhy) × IsFault rows row why)
         ⊎ ((site : Site) × IsSite rows site) }
-    ensures fault { (rows : List Row) (row other : ℕ) (why because : SiteWhy) → IsFault rows row why
+    ensures fault { (rows : List Row) (row other : ℕ) (why because : SiteWhy)
+        → IsFault rows row why
         → IsFault rows other because → (row ≡ other) × (why ≡ because) }
-    ensures apart { (rows : List Row) (row : ℕ) (why : SiteWhy) (site : Site) → IsFault rows row why
-        → IsSite rows site → ⊥ }
+    ensures apart { (rows : List Row) (row : ℕ) (why : SiteWhy) (site : Site)
+        → IsFault rows row why → IsSite rows site → ⊥ }
     ensures site { (rows : List Row) (site other : Site) → IsSite rows site → IsSite rows other
         → site ≡ other }
 {}

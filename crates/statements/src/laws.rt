@@ -14,7 +14,8 @@ pub fn plain_statements_are_read_again()
 
 /// A whole number of few enough digits is printed as a plain field, and read from it as itself.
 pub fn printed_numbers_are_read_again()
-    ensures plain { (most : ℕ) (z : ℤ) → IsOfDigits most z → IsPlainField (signed_decimal z) }
+    ensures plain { (most : ℕ) (z : ℤ) → IsOfDigits most z
+        → IsPlainField (signed_decimal z) }
     ensures again { (most : ℕ) (z : ℤ) → IsOfDigits most z →
         integer_in most (signed_decimal z) ≡ Some z }
 {}

@@ -46,7 +46,8 @@ fn is_blank(byte: u8) -> bool
 
 /// The fields of a line: what stands between spaces and tabs.
 fn fields_in<'a>(alloc: Global, line: &'a [u8]) -> Result<Vec<&'a [u8]>, AllocError>
-    ensures { IfOk result (λ fields. map (λ field. field.now) fields.items ≡ fields_of line.now) }
+    ensures { IfOk result
+        (λ fields. map (λ field. field.now) fields.items ≡ fields_of line.now) }
 {
     line.split(|byte| is_blank(*byte))
         .filter(|part| !part.is_empty())

@@ -179,7 +179,8 @@ fn are_valid_utilities(utilities: &[Utility]) -> bool
 /// The name at an index of the list of names, in which the streams come first.
 fn name_at(case: &Case, utilities: &[Utility], index: usize) -> Name
     requires { index < length (names_of (with_utilities case.now utilities.now)) }
-    ensures { result ≡ slice_index_or (names_of (with_utilities case.now utilities.now)) index [] }
+    ensures { result
+        ≡ slice_index_or (names_of (with_utilities case.now utilities.now)) index [] }
 {
     let streams = case.streams.as_slice();
     if index < streams.len() {
@@ -194,7 +195,8 @@ fn is_new_name(case: &Case, utilities: &[Utility], index: usize) -> bool
     requires { index < length (names_of (with_utilities case.now utilities.now)) }
     ensures { let names = names_of (with_utilities case.now utilities.now) in
         IsTrue result
-        ↔ ((i : ℕ) → i < index → slice_index_or names i [] ≢ slice_index_or names index []) }
+        ↔ ((i : ℕ) → i < index
+        → slice_index_or names i [] ≢ slice_index_or names index []) }
 {
     let name = name_at(case, utilities, index);
     for earlier in 0..index {

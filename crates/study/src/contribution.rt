@@ -11,7 +11,8 @@ fn streams_with(
     streams: &[Stream],
     contribution: i32,
 ) -> Result<Vec<Stream>, AllocError>
-    ensures { IfOk result (λ changed. changed.items ≡ map (stream_with contribution) streams.now) }
+    ensures { IfOk result
+        (λ changed. changed.items ≡ map (stream_with contribution) streams.now) }
 {
     streams
         .iter()

@@ -49,7 +49,8 @@ fn draw_stream(
     number: u32,
 ) -> Result<Stream, AllocError>
     requires { number ≤ MOST_SAMPLE_STREAMS }
-    ensures stream { IfOk result (λ stream. stream ≡ drawn_stream side generator.old.state number) }
+    ensures stream { IfOk result
+        (λ stream. stream ≡ drawn_stream side generator.old.state number) }
     ensures state { generator.new.state ≡ state_after generator.old.state 3 }
 {
     let low = least_temperature(side) + generator.draw(TEMPERATURES);

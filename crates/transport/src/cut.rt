@@ -72,7 +72,8 @@ pub(crate) fn blocked_members(
     requires blocked { BlocksMost parts.now.hot parts.now.cold inner.now reached.now }
     ensures { IfOk result (λ members. (reach : ℕ → ℕ → Bool)
         → PathsAreReaches (length parts.now.hot) (length parts.now.cold) inner.now.links reach
-        → IsCutWithin (cut_side members.kind) reach parts.now.hot parts.now.cold members.indexes) }
+        → IsCutWithin (cut_side members.kind) reach parts.now.hot parts.now.cold
+        members.indexes) }
 {
     let hot = parts.hot.as_slice();
     let cold = parts.cold.as_slice();
@@ -97,7 +98,8 @@ pub(crate) fn cut_of(parts: &Parts, members: Members, offer: i128) -> Cut
     ensures kind { result.kind ≡ members.kind }
     ensures parts { result.parts ≡ members.indexes }
     ensures need { result.need
-        ≡ need_of (parts_of (cut_side members.kind) parts.now.hot parts.now.cold) members.indexes }
+        ≡ need_of (parts_of (cut_side members.kind) parts.now.hot parts.now.cold)
+        members.indexes }
     ensures offer { result.offer ≡ offer }
 {
     let own = parts_of(members.kind.side(), parts);

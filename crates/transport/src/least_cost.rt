@@ -64,8 +64,8 @@ pub(crate) fn routed(
     requires routes { RoutesMost parts.now.hot parts.now.cold chains.now.net flow.now
         potentials.now }
     ensures { IfOk result (λ answer. (reach : ℕ → ℕ → Bool)
-        → PathsAreReaches (length parts.now.hot) (length parts.now.cold) chains.now.net.links reach
-        → IsAnswer reach parts.now.hot parts.now.cold answer) }
+        → PathsAreReaches (length parts.now.hot) (length parts.now.cold)
+        chains.now.net.links reach → IsAnswer reach parts.now.hot parts.now.cold answer) }
 {
     let front = front_of(alloc, flow, chains.net.links.len())?;
     let heat = spread(alloc, chains, parts, &front)?;

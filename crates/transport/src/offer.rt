@@ -75,7 +75,8 @@ pub(crate) fn case_offer(
     members: &Members,
 ) -> Result<i128, AllocError>
     ensures { IfOk result (λ offer. offer
-        ≡ offer_of (cut_side members.now.kind) (reach_between case.now parts.now.hot parts.now.cold)
+        ≡ offer_of (cut_side members.now.kind)
+        (reach_between case.now parts.now.hot parts.now.cold)
         (parts_of (opposite (cut_side members.now.kind)) parts.now.hot parts.now.cold)
         members.now.indexes) }
 {

@@ -44,7 +44,8 @@ pub(crate) fn part_prices(
     ensures hot { IfOk result
         (λ prices. prices.hot ≡ prices_of potentials.now 0 hots (ends_behind nodes).spill) }
     ensures cold { IfOk result
-        (λ prices. prices.cold ≡ prices_of potentials.now hots colds (ends_behind nodes).filler) }
+        (λ prices. prices.cold
+        ≡ prices_of potentials.now hots colds (ends_behind nodes).filler) }
 {
     let ends = ends_behind(nodes);
     Ok(Prices {

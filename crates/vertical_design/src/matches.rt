@@ -62,7 +62,8 @@ fn duty_of(gap: Gap, share: i64) -> Frac
     requires hot { IsBetween (pos 1) MOST_FLOW gap.hot }
     requires cold { IsBetween (pos 1) MOST_FLOW gap.cold }
     requires share { IsBetween (pos 1) (MOST_CP *ℤ MOST_FLOW) share }
-    ensures { result ≡ ratio ((gap.high -ℤ gap.low) *ℤ share) (unsigned_abs (gap.hot *ℤ gap.cold)) }
+    ensures { result
+        ≡ ratio ((gap.high -ℤ gap.low) *ℤ share) (unsigned_abs (gap.hot *ℤ gap.cold)) }
 {
     let width = i128::from(gap.high - gap.low);
     let part = i128::from(share);
