@@ -15,7 +15,8 @@ pub struct Reference {
     pub from_itself: bool,
 }
 
-/// The reference place of the streams of a case: `reference_place_of` of these.
+/// The reference place of the streams of a case: the highest shifted stream end at which one of the
+/// deficits is the hot target, in tenths of °C (this project's rule). There always is one.
 pub fn reference_place(case: &Case) -> i32
     requires { HasValidStreams case.now.streams }
     ensures { IsReferencePlace case.now.streams result }
@@ -23,8 +24,8 @@ pub fn reference_place(case: &Case) -> i32
     reference_place_of(case.streams.as_slice())
 }
 
-/// Whether the reference place of the streams of a case counts from itself: `reference_from_of` of
-/// these.
+/// Whether the reference place of the streams of a case counts from itself: whether the deficit
+/// above it isn't the hot target, so that a latent stream at the place itself counts as above it.
 pub fn reference_from(case: &Case) -> bool
     requires { HasValidStreams case.now.streams }
     ensures { (place : ℤ) → IsReferencePlace case.now.streams place
@@ -33,7 +34,7 @@ pub fn reference_from(case: &Case) -> bool
     reference_from_of(case.streams.as_slice())
 }
 
-/// The same of streams.
+// The same of streams.
 pub(crate) fn reference_from_of(streams: &[Stream]) -> bool
     requires { HasValidStreams streams.now }
     ensures { (place : ℤ) → IsReferencePlace streams.now place
@@ -56,8 +57,7 @@ pub fn reference_of(case: &Case) -> Reference
     Reference { place, from_itself }
 }
 
-/// Whether the deficit above the reference place isn't the hot target, so that a latent stream at
-/// the place itself counts as above it.
+// Whether this reference place of the streams counts from itself.
 fn counts_from_itself(streams: &[Stream], place: i32) -> bool
     requires streams { HasValidStreams streams.now }
     requires place { IsReferencePlace streams.now place }
@@ -67,8 +67,7 @@ fn counts_from_itself(streams: &[Stream], place: i32) -> bool
     !is_tight_over(streams, hot_target(streams), false, place)
 }
 
-/// The highest shifted stream end at which one of the deficits is the hot target, in tenths of °C
-/// (this project's rule). There always is one.
+// The reference place of streams.
 pub(crate) fn reference_place_of(streams: &[Stream]) -> i32
     requires { HasValidStreams streams.now }
     ensures { IsReferencePlace streams.now result }

@@ -15,7 +15,9 @@ pub struct Target {
     pub cold: i64,
 }
 
-/// The targets of the streams of a case: `targets_of` of these.
+/// The targets of the streams of a case. The hot target is the greatest of both deficits over the
+/// shifted stream ends, and at least 0. The cold target is the hot target plus all hot heat less all
+/// cold heat (Linnhoff and Flower 1978).
 pub fn targets(case: &Case) -> Target
     requires { AreStreams case.now.streams }
     ensures hot { result.hot ≡ hot_target case.now.streams }
@@ -26,9 +28,7 @@ pub fn targets(case: &Case) -> Target
     targets_of(case.streams.as_slice())
 }
 
-/// The targets of streams. The hot target is the greatest of both deficits over the shifted stream
-/// ends, and at least 0. The cold target is the hot target plus all hot heat less all cold heat
-/// (Linnhoff and Flower 1978).
+// The targets of streams.
 pub(crate) fn targets_of(streams: &[Stream]) -> Target
     requires { AreStreams streams.now }
     ensures hot { result.hot ≡ hot_target streams.now }

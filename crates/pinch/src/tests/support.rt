@@ -10,7 +10,7 @@ use std::thread::Threads;
 use stream_case::Items;
 use study::Gate;
 
-/// The four-stream table of Linnhoff and Flower (1978).
+/// The four-stream table (Kemp 2007).
 pub const FOUR_STREAM: &str = "contribution,,50,,,,
 cold,C1,200,1350,200,,
 hot,H2,1700,600,300,,
