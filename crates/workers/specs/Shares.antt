@@ -1,6 +1,5 @@
 -- Numbered items, those that each worker makes, and where an item stands among them.
-use Rattle.std.specs.Prelude.{◌≡◌, ◌↔◌, ℕ, ◌<◌, List, [], ◌∷◌, ◌++◌, length, Result, Ok, IfOk, Some, slice_get}
-use Rattle.workers.specs.Dealing.{item_of}
+use Rattle.std.specs.Prelude.{◌≡◌, ◌↔◌, ℕ, ◌+◌, ◌*◌, ◌<◌, List, [], ◌∷◌, ◌++◌, length, Result, Ok, IfOk, Some, slice_get}
 
 -- items of which each is what it is at its index
 abbrev pub EachIsItem : {X : Type 0} → (ℕ → X → Type 0) → List X → Type 0
@@ -11,11 +10,11 @@ pub record AreItems {X : Type 0} (IsItem : ℕ → X → Type 0) (many : ℕ) (i
   pub each : EachIsItem IsItem items
   pub count : length items ≡ many
 
--- those of one of so many workers, one of each round
+-- those of one of so many workers: its first item has its own number, and each further one is so many on
 pub record AreItemsOfWorker {X : Type 0} (IsItem : ℕ → X → Type 0) (many workers worker : ℕ)
     (items : List X) : Type 0 where
-  pub each : EachIsItem (λ j x. IsItem (item_of workers worker j) x) items
-  pub all : (j : ℕ) → (j < length items) ↔ (item_of workers worker j < many)
+  pub each : EachIsItem (λ j x. IsItem (worker + j * workers) x) items
+  pub all : (j : ℕ) → (j < length items) ↔ (worker + j * workers < many)
 
 -- those of each worker, or want of memory
 abbrev pub AreItemsOfWorkers : {X E : Type 0} → (ℕ → X → Type 0) → ℕ → List (Result (List X) E) → Type 0

@@ -1,10 +1,9 @@
 //! Numbered items, made by several workers.
 //!
-//! The items go round by round, of which each has as many items as there are workers: each worker
-//! makes one of them, in each round at another place. The items come back in their order.
+//! Worker w makes items w, w + workers, w + 2 * workers and so on. The items come back in their
+//! order.
 #![tactic(auto)]
 
-mod dealing;
 mod gate;
 mod sharing;
 

@@ -2,7 +2,6 @@
 ghost use Rattle.std.specs.Prelude.{◌≡◌, ℕ, ◌+◌, ◌^◌, ◌<◌, ◌≤◌, List, length, IfOk, is_ok};
 ghost use Rattle.workers.specs.Shares.{AreItems, AreItemsOfWorker, AreItemsOfWorkers, IsLastOf};
 
-use crate::dealing::{item_of, worker_of};
 use crate::gate::Gate;
 use std::alloc::{AllocError, Global};
 use std::marker::Model;
@@ -22,8 +21,8 @@ impl<X> Model for Share<X> {
     ghost view = { λ s. s.items.items };
 }
 
-/// The items that one of so many workers makes, one of each round. The last round may have none for
-/// it.
+/// The items that one of so many workers makes: that of its own number, from 0, and then each that
+/// is so many further on.
 fn share_of<X: Drop, G: Gate, F: Fn(u32) -> Result<X, AllocError>>(
     alloc: Global,
     gate: &G,
@@ -40,14 +39,11 @@ fn share_of<X: Drop, G: Gate, F: Fn(u32) -> Result<X, AllocError>>(
         (λ items. AreItemsOfWorker (λ k x. F.post item.now k (Ok x)) count workers worker items) }
 {
     let mut items = Vec::new(alloc);
-    for round in 0..count.div_ceil(workers) {
-        let number = item_of(workers, worker, round);
-        if number < count {
-            gate.enter(number);
-            let made = item(number);
-            gate.leave(number);
-            items.push(made?)?;
-        }
+    for number in (worker..count).step_by(workers as usize) {
+        gate.enter(number);
+        let made = item(number);
+        gate.leave(number);
+        items.push(made?)?;
     }
     Ok(Share { items })
 }
@@ -121,7 +117,7 @@ pub fn items_by_workers<
     // Each item moves out of the end of its worker's share, so the last one comes first.
     while left > 0 {
         left -= 1;
-        items.push(take_last(&mut shares[worker_of(workers, left) as usize])?)?;
+        items.push(take_last(&mut shares[(left % workers) as usize])?)?;
     }
     items.reverse();
     Ok(Items::from_vec(items))
