@@ -2,9 +2,6 @@
 
 use crate::compare::{assert_lists, assert_same};
 use crate::flows::{chains_of_case, parts_of_case};
-use crate::tables::{
-    FOUR_STREAMS, MOST_HEAT, RESTRICTED, StreamRow, TWO_STREAMS, Table, UtilityRow, completed_case,
-};
 use chains::{Chains, Group};
 use std::alloc::Global;
 use std::process::Abort;
@@ -12,6 +9,9 @@ use std::test::Fail;
 use stream_case::Side::{Cold, Hot};
 use stream_case::Source::{Stream, Utility};
 use stream_case::{Forbid, Source};
+use worked_tables::{
+    FOUR_STREAMS, MOST_HEAT, RESTRICTED, StreamRow, TWO_STREAMS, Table, UtilityRow, completed_case,
+};
 
 /// The sources of a group and the first node of its chain.
 type GroupRow = (&'static [Source], u32);

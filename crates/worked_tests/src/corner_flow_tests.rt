@@ -5,7 +5,6 @@ ghost use Rattle.grid.specs.Part.{AreCaseParts};
 
 use crate::compare::{assert_lists, assert_same};
 use crate::flows::{Parted, with_standard_utilities};
-use crate::tables::{StreamRow, THE_FOUR, Table};
 use corner_flow::{corner, corner_prices, standard_cost};
 use grid::Parts;
 use heat_flow::{Flow, Prices, Reach, Transfer, cost_of, is_flow, is_supported, value_of};
@@ -15,6 +14,7 @@ use std::process::Abort;
 use std::test::Fail;
 use stream_case::Case;
 use stream_case::Side::{Cold, Hot};
+use worked_tables::{StreamRow, THE_FOUR, Table};
 
 fn rows_of(alloc: Global, transfers: &[Transfer]) -> Result<Vec<(u32, u32, i64)>, AllocError> {
     let mut rows = Vec::new(alloc);

@@ -1,12 +1,12 @@
 //! The curves of cases that were worked by hand.
 use crate::compare::assert_lists;
-use crate::tables::{FOUR_STREAMS, Table, case_of, check_sensible};
 use curves::{Point, cold_curve, grand_curve, hot_curve};
 use std::alloc::{AllocError, Global};
 use std::process::Abort;
 use std::test::Fail;
 use stream_case::Items;
 use stream_case::Side::Hot;
+use worked_tables::{FOUR_STREAMS, Table, case_of, check_sensible};
 
 /// A heat and a temperature.
 type Corner = (i64, i32);

@@ -4,13 +4,13 @@ ghost use Rattle.stream_case.specs.Case.{IsComplete, IsStandard};
 ghost use Rattle.grid.specs.Part.{AreCaseParts};
 ghost use Rattle.price_floor.specs.Floor.{IsReachOf};
 
-use crate::tables::{FOUR_STREAMS, Table, completed_case};
 use chains::{Chains, chains_of};
 use grid::{Parts, grid_of, parts_of};
 use heat_flow::{Reach, reach_of};
 use std::alloc::{AllocError, Global};
 use std::test::Fail;
 use stream_case::{Case, is_standard};
+use worked_tables::{FOUR_STREAMS, Table, completed_case};
 
 pub fn parts_of_case(alloc: Global, case: &Case) -> Result<Parts, AllocError>
     requires { IsComplete case.now }

@@ -2,7 +2,6 @@
 ghost use Rattle.stream_case.specs.Case.{IsComplete};
 
 use crate::compare::assert_lists;
-use crate::tables::{FOUR_STREAMS, MOST_HEAT, ONE_LATENT, RESTRICTED, Table, completed_case};
 use grid::{Part, grid_of, parts_of};
 use std::alloc::{AllocError, Global};
 use std::process::Abort;
@@ -10,6 +9,7 @@ use std::test::Fail;
 use stream_case::Case;
 use stream_case::Side::{self, Cold, Hot};
 use stream_case::Source::{self, Stream, Utility};
+use worked_tables::{FOUR_STREAMS, MOST_HEAT, ONE_LATENT, RESTRICTED, Table, completed_case};
 
 /// The source, its side, the upper and the lower end, the least and the most heat, and the price.
 pub type PartRow = (Source, Side, i32, i32, i64, i64, i64);

@@ -3,14 +3,14 @@ ghost use Rattle.stream_case.specs.Case.{IsComplete};
 
 use crate::compare::{assert_lists, assert_same};
 use crate::flows::{four_streams, parts_of_case, reach_of_case};
-use crate::tables::{
-    FOUR_STREAMS, RESTRICTED, TOO_COLD_A_HEATER, TOO_LITTLE_COOLING, TWO_STEAM_LEVELS, Table,
-    completed_case,
-};
 use heat_flow::{Cut, CutKind, Flow, Prices, is_cut, is_flow, is_supported, reaches};
 use std::alloc::{AllocError, Global};
 use std::test::Fail;
 use stream_case::{Case, Items};
+use worked_tables::{
+    FOUR_STREAMS, RESTRICTED, TOO_COLD_A_HEATER, TOO_LITTLE_COOLING, TWO_STEAM_LEVELS, Table,
+    completed_case,
+};
 
 /// Row by row over the hot parts: all reach what lies in their interval or below it, unless the
 /// match is forbidden.

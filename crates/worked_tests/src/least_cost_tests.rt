@@ -5,7 +5,6 @@ ghost use Rattle.grid.specs.Part.{AreCaseParts};
 
 use crate::compare::assert_same;
 use crate::flows::{parts_of_case, reach_of_case};
-use crate::tables::completed;
 use crate::transport_tests::answer_of;
 use grid::Parts;
 use std::alloc::Global;
@@ -14,6 +13,7 @@ use std::test::Fail;
 use stream_case::Case;
 use study::sample_case;
 use transport::{Answer, MOST_PAIRS, least};
+use worked_tables::completed;
 
 /// The least cost, if there is a heat flow.
 pub fn cost_in(answer: &Answer) -> Option<i128> {

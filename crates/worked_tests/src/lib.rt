@@ -3,39 +3,23 @@
 #![tactic(auto)]
 
 #[cfg(test)]
-mod case_text_tests;
-#[cfg(test)]
 mod chains_tests;
 #[cfg(test)]
 mod compare;
 #[cfg(test)]
 mod corner_flow_tests;
 #[cfg(test)]
-mod csv_rows_tests;
-#[cfg(test)]
 mod curves_tests;
 #[cfg(test)]
 mod flows;
-#[cfg(test)]
-mod fractions_tests;
 #[cfg(test)]
 mod grid_tests;
 #[cfg(test)]
 mod heat_flow_tests;
 #[cfg(test)]
-mod largest_case_tests;
-#[cfg(test)]
 mod least_cost_tests;
 #[cfg(test)]
-mod limits_tests;
-#[cfg(test)]
 mod network_audit_tests;
-#[cfg(test)]
-mod network_printer_tests;
-#[cfg(test)]
-mod network_text_tests;
-#[cfg(test)]
-mod pinch_outside_tests;
 #[cfg(test)]
 mod price_floor_tests;
 #[cfg(test)]
@@ -47,19 +31,9 @@ mod reports_tests;
 #[cfg(test)]
 mod site_tests;
 #[cfg(test)]
-mod site_text_tests;
-#[cfg(test)]
 mod spread_tests;
 #[cfg(test)]
-mod stream_case_tests;
-#[cfg(test)]
 mod study_tests;
-#[cfg(test)]
-mod study_text_tests;
-#[cfg(test)]
-mod sums_tests;
-#[cfg(test)]
-mod tables;
 #[cfg(test)]
 mod transport_tests;
 #[cfg(test)]

@@ -2,8 +2,6 @@
 ghost use Rattle.stream_case.specs.Case.{IsComplete};
 
 use crate::compare::assert_same;
-use crate::network_text_tests::SIX_EXCHANGERS;
-use crate::tables::{FOUR_STREAMS, TOO_LITTLE_COOLING, check_sensible, completed_case};
 use fractions::Frac;
 use network_audit::{Auditor, Balance, Place, Reason, Verdict};
 use network_text::read_network;
@@ -11,6 +9,9 @@ use std::alloc::Global;
 use std::process::Abort;
 use std::test::Fail;
 use stream_case::Case;
+use worked_tables::{
+    FOUR_STREAMS, SIX_EXCHANGERS, TOO_LITTLE_COOLING, check_sensible, completed_case,
+};
 
 /// A branch, and the flow and the temperature that it carries, if any.
 type Carried = (u32, Option<(i64, i64)>);

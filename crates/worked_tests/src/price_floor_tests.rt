@@ -9,7 +9,6 @@ ghost use Rattle.price_floor.specs.Floor.{IsReachOf};
 
 use crate::compare::assert_same;
 use crate::flows::{parts_of_case, reach_of_case};
-use crate::tables::{MOST_HEAT, Table, completed_case};
 use crate::transport_tests::answer_of;
 use fractions::Frac;
 use grid::Parts;
@@ -24,6 +23,7 @@ use std::test::Fail;
 use stream_case::Side::{Cold, Hot};
 use stream_case::{Case, Items};
 use transport::Answer;
+use worked_tables::{MOST_HEAT, Table, completed_case};
 
 /// A hot and a cold stream of 4,000 W each, of which 2,000 W may pass, and steam.
 const HEATED_BY_STEAM: Table = Table {

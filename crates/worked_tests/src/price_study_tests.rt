@@ -1,16 +1,17 @@
 //! Price studies by two workers, whose items meet.
 
 use crate::compare::{assert_lists, assert_same};
-use crate::study_text_tests::read;
-use crate::tables::{TWO_STEAM_LEVELS, completed_case};
 use meeting_gate::{MOST_TURNS, MeetingGate};
 use std::test::Fail;
-use study::{StudyAnswer, price_study};
+use study::{StudyAnswer, price_study, read_study};
+use worked_tables::{TWO_STEAM_LEVELS, completed_case};
+
+const TEXT: &[u8] = b"scenario,S1,,\nscenario,S2,,\n";
 
 #[test]
 fn two_items_meet(rt: HostRuntime) -> Result<(), Fail> {
     let case = completed_case(rt.alloc(), &TWO_STEAM_LEVELS)?;
-    let Ok(study) = read(&rt, &case, "scenario,S1,,\nscenario,S2,,\n") else {
+    let Ok(study) = read_study(rt.alloc(), &case, TEXT) else {
         return Err("the text is refused".into());
     };
     let gate = MeetingGate::new(MOST_TURNS);

@@ -3,7 +3,6 @@ ghost use Rattle.std.specs.Prelude.{IfOk};
 ghost use Rattle.stream_case.specs.Case.{IsValid};
 
 use crate::compare::{assert_lists, assert_same};
-use crate::tables::{FOUR_STREAMS, StreamRow, Table, case_of};
 use problem_table::{
     Target, deficit_above, deficit_from, pinches, pinches_at, reference_from, reference_of,
     reference_place, targets,
@@ -13,6 +12,7 @@ use std::process::Abort;
 use std::test::Fail;
 use stream_case::Side::{Cold, Hot};
 use stream_case::{Case, stream_ends};
+use worked_tables::{FOUR_STREAMS, StreamRow, Table, case_of};
 
 struct Worked {
     contribution: i32,

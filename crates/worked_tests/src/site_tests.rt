@@ -3,7 +3,6 @@ ghost use Rattle.site_text.specs.Site.{IsValidSite};
 
 use crate::compare::{assert_lists, assert_same};
 use crate::grid_tests::{PartRow, rows_of};
-use crate::tables::MOST_HEAT;
 use heat_flow::{Cut, CutKind};
 use site::{Site, read_site, sink_profile, site_parts, site_target, source_profile};
 use std::alloc::{AllocError, Global};
@@ -13,6 +12,7 @@ use stream_case::Items;
 use stream_case::Side::{Cold, Hot};
 use stream_case::Source::{Stream, Utility};
 use transport::Answer;
+use worked_tables::MOST_HEAT;
 
 /// A plant with heat to give, one that wants heat, and a main between them.
 const TWO_PLANTS: &[u8] =

@@ -4,7 +4,6 @@ ghost use Rattle.stream_case.specs.Case.{IsComplete};
 ghost use Rattle.study.specs.Plan.{IsSweepPlan};
 
 use crate::compare::{assert_lists, assert_same};
-use crate::tables::{FOUR_STREAMS, TOO_LITTLE_COOLING, Table, case_of, completed};
 use meeting_gate::{MOST_TURNS, MeetingGate};
 use problem_table::{Target, targets};
 use std::alloc::{AllocError, Global};
@@ -15,6 +14,7 @@ use stream_case::Side::{Cold, Hot};
 use stream_case::{Case, Forbid, Side, Source, Stream};
 use study::{OpenGate, SweepPlan, SweepRow, sample_case, sweep};
 use transport::case_cost;
+use worked_tables::{FOUR_STREAMS, TOO_LITTLE_COOLING, Table, case_of, completed};
 
 /// A row: contribution, hot and cold target, and least cost.
 type Row = (i32, i64, i64, Option<i128>);

@@ -8,10 +8,6 @@ ghost use Rattle.transport.specs.Answer.{IsAnswer};
 use crate::compare::{assert_lists, assert_same};
 use crate::flows::parts_of_case;
 use crate::least_cost_tests::answer_by_pairs;
-use crate::tables::{
-    MOST_HEAT, StreamRow, TOO_COLD_A_HEATER, TOO_LITTLE_COOLING, TWO_STEAM_LEVELS, TWO_STREAMS,
-    Table, completed_case,
-};
 use grid::{Part, Parts};
 use heat_flow::{Cut, CutKind, Flow};
 use std::alloc::{AllocError, Global};
@@ -20,6 +16,10 @@ use std::test::Fail;
 use stream_case::Side::{Cold, Hot};
 use stream_case::{Case, Forbid, Side, Source};
 use transport::{Answer, least_case};
+use worked_tables::{
+    MOST_HEAT, StreamRow, TOO_COLD_A_HEATER, TOO_LITTLE_COOLING, TWO_STEAM_LEVELS, TWO_STREAMS,
+    Table, completed_case,
+};
 
 /// What a case answers: the cost and what each utility gives or takes, in the order of the
 /// utilities, or a cut.

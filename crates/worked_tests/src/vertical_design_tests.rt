@@ -1,13 +1,13 @@
 //! The vertical designs of small tables, worked by hand.
 
 use crate::compare::assert_lists;
-use crate::tables::{Table, check_sensible, completed_case};
 use network_text::print_network;
 use std::alloc::Global;
 use std::test::Fail;
 use stream_case::Side::{Cold, Hot};
 use stream_case::is_standard;
 use vertical_design::vertical;
+use worked_tables::{Table, check_sensible, completed_case};
 
 /// One hot stream and two cold ones, which need no hot utility.
 const ONE_AND_TWO: Table = Table {

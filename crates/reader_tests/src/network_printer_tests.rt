@@ -2,12 +2,11 @@
 ghost use Rattle.stream_case.specs.Case.{IsComplete};
 
 use crate::compare::assert_lists;
-use crate::network_text_tests::SIX_EXCHANGERS;
-use crate::tables::{FOUR_STREAMS, completed_case, name};
 use network_text::{exchanger_names, print_network, read_network};
 use std::alloc::Global;
 use std::test::Fail;
 use stream_case::{Case, Name};
+use worked_tables::{FOUR_STREAMS, SIX_EXCHANGERS, completed_case, name};
 
 /// Networks for the four streams, and how they are printed: duties in lowest terms.
 const NETWORKS: [(&[u8], &[u8]); 7] = [

@@ -2,17 +2,13 @@
 ghost use Rattle.stream_case.specs.Case.{IsComplete};
 
 use crate::compare::{assert_lists, assert_same};
-use crate::tables::{FOUR_STREAMS, TWO_STREAMS, completed_case, name, repeated};
 use fractions::Frac;
 use network_text::{Branch, Line, NetFault, NetWhy, read_network};
 use std::alloc::{AllocError, Global};
 use std::process::Abort;
 use std::test::Fail;
 use stream_case::{Case, Source};
-
-/// Six exchangers for two hot and two cold streams.
-pub const SIX_EXCHANGERS: &[u8] =
-    b"exchanger E1 H2 C3 240000\nexchanger E2 H4 C1 90000\nexchanger E3 H2 C1 90000\nexchanger E4 H4 C1 30000\nexchanger Q1 HOT C1 20000\nexchanger Q2 H4 COLD 60000\npass H2 E1 h2a\npass h2a E3 h2b\nend h2b\npass H4 E2 h4a\npass h4a E4 h4b\npass h4b Q2 h4c\nend h4c\npass C1 E4 c1a\npass c1a E3 c1b\npass c1b E2 c1c\npass c1c Q1 c1d\nend c1d\npass C3 E1 c3a\nend c3a\n";
+use worked_tables::{FOUR_STREAMS, SIX_EXCHANGERS, TWO_STREAMS, completed_case, name, repeated};
 
 /// The same network with tabs, runs of blanks, comments, empty lines, `\r\n` and no last end.
 const ODD_LAYOUT: &[u8] =

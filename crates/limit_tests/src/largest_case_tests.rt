@@ -4,15 +4,13 @@ ghost use Rattle.std.specs.Prelude.{◌<◌, IfOk};
 ghost use Rattle.stream_case.specs.Case.{IsComplete};
 
 use crate::compare::assert_same;
-use crate::flows::{chains_of_case, parts_of_case, reach_of_case};
-use crate::least_cost_tests::cost_in;
-use crate::tables::{MOST_HEAT, completed, stream, utility};
-use crate::transport_tests::answer_of;
+use crate::flows::{answer_of, chains_of_case, cost_in, parts_of_case, reach_of_case};
 use grid::{grid_of, parts_of};
 use std::alloc::Global;
 use std::test::Fail;
 use stream_case::Side::{Cold, Hot};
 use stream_case::{Case, Forbid, Items, MOST_STREAMS, MOST_UTILITIES, Source, Stream, Utility};
+use worked_tables::{MOST_HEAT, completed, stream, utility};
 
 /// The intervals that each stream spans.
 const SPANNED: usize = 2 * MOST_STREAMS + MOST_UTILITIES;

@@ -1,8 +1,5 @@
 //! Names, streams, utilities and cases: what is valid, complete and standard.
 use crate::compare::{assert_lists, assert_same};
-use crate::tables::{
-    FOUR_STREAMS, MOST_HEAT, Table, UtilityRow, any_case, case_of, completed, name, utilities_of,
-};
 use std::alloc::Global;
 use std::test::Fail;
 use std::thread;
@@ -10,6 +7,9 @@ use stream_case::Side::{Cold, Hot};
 use stream_case::{
     Case, Forbid, Items, Name, Source, complete, is_complete, is_standard, is_valid, natural_of,
     shifted,
+};
+use worked_tables::{
+    FOUR_STREAMS, MOST_HEAT, Table, UtilityRow, any_case, case_of, completed, name, utilities_of,
 };
 
 /// A text, and whether it begins with a dot, if it is a name.

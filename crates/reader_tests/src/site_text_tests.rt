@@ -1,6 +1,6 @@
 //! Site files that are read and refused.
 use crate::compare::assert_same;
-use site::{Site, SiteFault, SiteWhy, read_site};
+use site_text::{Site, SiteFault, SiteWhy, read_site};
 use std::process::Abort;
 use std::test::Fail;
 

@@ -4,12 +4,12 @@ ghost use Rattle.stream_case.specs.Case.{IsComplete};
 ghost use Rattle.study_text.specs.Study.{IsStudy};
 
 use crate::compare::{assert_lists, assert_same};
-use crate::tables::{RESTRICTED, completed_case, name};
 use std::alloc::Global;
 use std::process::Abort;
 use std::test::Fail;
 use stream_case::{Case, Items};
-use study::{Study, StudyFault, StudyItem, StudyWhy, read_study};
+use study_text::{Study, StudyFault, StudyItem, StudyWhy, read_study};
+use worked_tables::{RESTRICTED, completed_case, name};
 
 /// The most bytes of the tests' files.
 const LONGEST: usize = 20_000;
@@ -96,7 +96,7 @@ const FAULTY_FILES: &[(&str, u32, StudyWhy)] = &[
 ];
 
 /// The study that a text asks of a case, or its fault.
-pub fn read(rt: &(impl Abort + AllocGlobal), case: &Case, text: &str) -> Result<Study, StudyFault>
+fn read(rt: &(impl Abort + AllocGlobal), case: &Case, text: &str) -> Result<Study, StudyFault>
     requires { IsComplete case.now }
     ensures { IfOk result (IsStudy case.now) }
 {

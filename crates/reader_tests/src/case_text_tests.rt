@@ -3,13 +3,13 @@ ghost use Rattle.std.specs.Prelude.{IfOk};
 ghost use Rattle.stream_case.specs.Case.{IsValid};
 
 use crate::compare::{assert_lists, assert_same};
-use crate::tables::{FOUR_STREAMS, TWO_STREAMS, Table, case_of, repeated, stream, utility, valid};
 use case_text::{CaseFault, CaseWhy, number_of, print_case, read_case};
 use std::alloc::{AllocError, Global};
 use std::process::Abort;
 use std::test::Fail;
 use stream_case::Side::{Cold, Hot};
 use stream_case::{Case, Forbid, Items, Source};
+use worked_tables::{FOUR_STREAMS, TWO_STREAMS, Table, case_of, repeated, stream, utility, valid};
 
 /// The most bytes of the tests' files.
 const LONGEST: usize = 2_000_000;
