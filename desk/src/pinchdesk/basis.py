@@ -6,6 +6,8 @@ from collections.abc import Iterator, Sequence
 from dataclasses import dataclass, replace
 from fractions import Fraction
 
+from .harmless import plain, read_again
+
 
 @dataclass(frozen=True)
 class Basis:
@@ -25,7 +27,7 @@ class Basis:
 
 def noted(basis: Basis, row: Sequence[str]) -> Basis:
     """The basis with what a comment row of the desk says; any other comment says nothing."""
-    word, first, second = row[0], row[1].removeprefix("'"), row[2].removeprefix("'")
+    word, first, second = row[0], read_again(row[1]), row[2]
     try:
         if word == '#scale':
             return replace(basis, scale=positive(first))
@@ -43,11 +45,6 @@ def positive(text: str) -> Fraction:
     if held <= 0:
         raise ValueError(text)
     return held
-
-
-def plain(text: str) -> str:
-    """A text that no spreadsheet takes for a formula."""
-    return "'" + text if text.startswith(tuple("=+-@'\t")) else text
 
 
 def basis_rows(basis: Basis) -> Iterator[list[str]]:

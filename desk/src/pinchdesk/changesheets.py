@@ -43,13 +43,19 @@ def scenario_row(outcome: Outcome, base: Outcome, shown: Shown) -> tuple[Cell, .
         return (name, None, None, None, None, REFUSED, None, None, outcome.fault)
     is_base = outcome is base
     hot, cold = outcome.targets.hot, outcome.targets.cold
-    pinches = ' '.join(shown.celsius(each) for each in outcome.targets.pinches) or 'none'
+    pinches = pinches_of(outcome.targets.pinches, shown)
     cost: Cell = INFEASIBLE if outcome.cost is None else Decimal(shown.cost(outcome.cost))
     more = None if is_base or outcome.cost is None or base.cost is None \
         else Decimal(shown.cost(outcome.cost - base.cost))
     return (name, kilowatts(hot, shown), None if is_base else kilowatts(hot - base.targets.hot, shown),
             kilowatts(cold, shown), None if is_base else kilowatts(cold - base.targets.cold, shown), pinches, cost,
             more, '')
+
+
+def pinches_of(pinches: tuple[int, ...], shown: Shown) -> Cell:
+    """One pinch as a number, several as a text."""
+    held = [shown.celsius(each) for each in pinches]
+    return Decimal(held[0]) if len(held) == 1 else ' '.join(held) or 'none'
 
 
 def kilowatts(watts: int, shown: Shown) -> Decimal:

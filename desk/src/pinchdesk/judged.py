@@ -12,6 +12,7 @@ from .changesheets import rounding_notes as scenario_notes
 from .changesheets import what_if_sheets
 from .errors import OutputError, Refused, WordsError, about
 from .exchangers import verdict_sheet
+from .harmless import printable
 from .network import read_network
 from .output import check_place, read_bytes, write_whole
 from .program import Pinch
@@ -74,8 +75,7 @@ def rest_text(made: Rest, network: str) -> str:
     if case is None:
         raise OutputError('there is no case of the rest: nothing is left, or the network is rejected')
     branches = ', '.join(f'{each.name} {each.branch.name}' for each in made.left if each.name != each.branch.name)
-    name = ''.join(each if each.isprintable() else '?' for each in network)
-    told = f'What is left of {name}' + (f', by its branches: {branches}' if branches else '')
+    told = f'What is left of {printable(network)}' + (f', by its branches: {branches}' if branches else '')
     return print_comments([told]) + print_case(case)
 
 

@@ -8,6 +8,7 @@ from pathlib import Path
 from .asked import CASE_HELP
 from .browser import as_pdf
 from .errors import WordsError
+from .harmless import printable
 from .output import read_bytes
 from .page import Given, page_of
 from .word import Answer, Word
@@ -23,12 +24,8 @@ def takes_page(parser: ArgumentParser) -> None:
 def given_of(paths: list[str]) -> list[Given]:
     """The files; of two with one name the paths tell them apart."""
     names = Counter(Path(each).name for each in paths)
-    return [Given(clean(each if names[Path(each).name] > 1 else Path(each).name), each, read_bytes(each))
+    return [Given(printable(each if names[Path(each).name] > 1 else Path(each).name), each, read_bytes(each))
             for each in paths]
-
-
-def clean(name: str) -> str:
-    return ''.join(each if each.isprintable() else '?' for each in name)
 
 
 def page(options: Namespace) -> Answer:

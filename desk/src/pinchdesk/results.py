@@ -8,7 +8,7 @@ from typing import Any
 
 from .facts import SAID
 from .jobs import Outcome
-from .sheets import Cell, Sheet
+from .sheets import Sheet
 from .word import Facts
 
 ANSWER = 'answer'
@@ -70,15 +70,9 @@ class Results:
         if any(row[SAID] for row, _ in held):
             headings.append(SAID)
         rows = tuple(tuple(row.get(heading) for heading in headings) for row, _ in held)
-        return Sheet(self.word, tuple(headings), tuple(map(printable, rows)),
+        return Sheet(self.word, tuple(headings), rows,
                      frozenset(at for at, (_, bad) in enumerate(held) if bad))
 
     def frame(self) -> Any:
         """The table as a `pandas.DataFrame`; `WordsError` where pandas is not installed."""
         return self.sheet().frame()
-
-
-def printable(row: tuple[Cell, ...]) -> tuple[Cell, ...]:
-    """Cells without what would steer a terminal, or break a line: names of files are anybody's."""
-    return tuple(''.join(sign if sign.isprintable() else '?' for sign in cell) if isinstance(cell, str) else cell
-                 for cell in row)

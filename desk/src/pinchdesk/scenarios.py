@@ -13,10 +13,11 @@ from collections.abc import Iterator
 from dataclasses import dataclass, replace
 from fractions import Fraction
 
-from .basis import Basis, plain
+from .basis import Basis
 from .cells import CellReader, Told, decimal_mark
 from .changelayout import FIELDS, KINDS, ChangeLayout, Column, Field, headings, layout_of
 from .errors import Refused
+from .harmless import printable
 from .layout import EMPTY, squeezed
 from .numerals import NoNumber, numeral_of
 from .pricing import price_unit_of
@@ -84,13 +85,8 @@ def read_changes(content: bytes, name: str, basis: Basis, sheet: str | None = No
     told.settle()
     if not held:
         raise Refused(3, '', 'no scenario', 'the table has no scenario')
-    return Variants(tuple(Variant(fit_name(each), tuple(changes)) for each, changes in held.items()),
+    return Variants(tuple(Variant(printable(each), tuple(changes)) for each, changes in held.items()),
                     tuple(told.notes))
-
-
-def fit_name(name: str) -> str:
-    """A name that steers no terminal, and that no spreadsheet takes for a formula."""
-    return plain(''.join(each if each.isprintable() else '?' for each in name))
 
 
 def is_note(row: TableRow) -> bool:

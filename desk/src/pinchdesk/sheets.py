@@ -9,6 +9,7 @@ from decimal import Decimal
 from typing import Any
 
 from .errors import WordsError
+from .harmless import plain, printable
 
 Cell = str | Decimal | None
 FORMS = ('text', 'csv', 'xlsx')
@@ -55,7 +56,7 @@ def rendered(sheets: Sequence[Sheet], form: str) -> str | bytes:
 
 
 def text_of(cell: Cell) -> str:
-    return '' if cell is None else f'{cell:f}' if isinstance(cell, Decimal) else cell
+    return '' if cell is None else f'{cell:f}' if isinstance(cell, Decimal) else printable(cell)
 
 
 def as_text(sheet: Sheet) -> str:
@@ -77,12 +78,11 @@ def as_text(sheet: Sheet) -> str:
 
 
 def as_csv(sheet: Sheet) -> str:
-    """Comma-separated, with a decimal point; lines end as spreadsheets write them."""
+    """Comma-separated, with a decimal point; lines end as spreadsheets write them. No text is a formula."""
     held = io.StringIO(newline='')
-    writer = csv.writer(held)
-    if any(sheet.headings):
-        writer.writerow(sheet.headings)
-    writer.writerows([text_of(cell) for cell in row] for row in sheet.rows)
+    head = [sheet.headings] if any(sheet.headings) else []
+    csv.writer(held).writerows([text_of(cell) if isinstance(cell, Decimal) else plain(text_of(cell)) for cell in row]
+                               for row in (*head, *sheet.rows))
     return held.getvalue()
 
 
@@ -97,7 +97,7 @@ def as_workbook(sheets: Sequence[Sheet]) -> bytes:
         for at, row in enumerate([sheet.headings, *sheet.rows], 1):
             for column, cell in enumerate(row, 1):
                 place = page.cell(at, column)
-                place.value = cell
+                place.value = printable(cell) if isinstance(cell, str) else cell
                 place.data_type = 'n' if isinstance(cell, Decimal) else 's'
                 if at == 1:
                     place.font = Font(bold=True)

@@ -16,6 +16,7 @@ from decimal import Decimal
 from typing import Any
 
 from .errors import Refused
+from .harmless import read_again
 
 SEPARATORS = {';': '`;`', '\t': 'a tab', ',': '`,`', '|': '`|`'}
 # What a table of streams never has: it keeps a hostile workbook from filling the memory.
@@ -146,7 +147,7 @@ def text_table(text: str, separator: str) -> Table:
     at = 0
     try:
         for at, fields in enumerate(reader, 1):
-            cells = tuple(Cell(clean(field)) for field in fields)
+            cells = tuple(Cell(clean(read_again(field))) for field in fields)
             if len(rows) >= MOST_ROWS or len(cells) > MOST_COLUMNS:
                 raise too_large()
             if any(not cell.empty for cell in cells):
