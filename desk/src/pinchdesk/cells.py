@@ -142,9 +142,14 @@ class CellReader:
             where = f'the column `{title}`' if title else f'numbers of {kind.name.lower()}'
             self.told.once(f'no unit stands with {where}: {kind.default} is taken')
             self.taken.setdefault(kind, where)
-        elif not same_unit(own or headed, kind.default, kind):
-            self.others.setdefault(kind, (row.number, column, own or headed))
+        else:
+            self.seen(row.number, kind, column, own or headed)
         return own or headed or kind.default
+
+    def seen(self, row: int, kind: Kind, column: int, unit: str) -> None:
+        """Keeps in mind that a number has a unit, and another one than is taken where there is none."""
+        if not same_unit(unit, kind.default, kind):
+            self.others.setdefault(kind, (row, column, unit))
 
     def settle_units(self) -> None:
         """Tells a fault for each kind of numbers of which some have a unit and others none, where that matters."""

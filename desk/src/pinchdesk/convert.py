@@ -10,16 +10,18 @@ from .basis import Basis, basis_rows
 from .case import Case, Forbid, Stream, Utility, print_case, read_case
 from .causes import CAUSES
 from .cells import CellReader, Told, decimal_mark
-from .doubts import as_case, doubts_of, units_in_words
-from .entries import Entries, Line, joined, lines_of
+from .doubts import as_case, below_titles, doubts_of, units_in_words
+from .entries import Entries
 from .errors import Refused, WordsError
 from .layout import Heading, Layout, known, layout_of
+from .lines import Body, Line, body_of, headed_line
 from .naming import fit_names
 from .numerals import NoNumber, Says, numeral_of, readings
 from .pricing import PriceFault, PriceUnit, priced, price_unit_of
 from .program import Pinch
 from .quantities import Kind, UnknownUnit, rounded, unit_of
-from .tables import Cell, Table, read_table
+from .tables import Cell, Table, TableRow, read_table
+from .unheaded import check_order, plain_line
 
 
 @dataclass(frozen=True)
@@ -94,11 +96,14 @@ def converted(table: Table, wanted: Wanted) -> Converted:
     if not table.rows:
         raise Refused(3, '', 'empty', 'the table is empty')
     layout = layout_of(table)
-    lines = list(lines_of(layout, told))
+    body = lines_of(layout, told)
+    lines = body.lines
     doubts_of(layout, lines, told, wanted.decimal is not None)
     told.settle()
     mark = decimal_mark(table, numbers_of(lines), wanted.decimal)
     reader = CellReader(told, mark, dict(layout.units), dict(layout.titles))
+    if not layout.headed:
+        check_order(lines, mark, told)
     names = fit_names(line.name() for line in lines if line.kind not in ('contribution', 'forbid') and line.name())
     for old, new in names.items():
         if old != new:
@@ -106,9 +111,14 @@ def converted(table: Table, wanted: Wanted) -> Converted:
     if table.others:
         others = ', '.join(table.others)
         told.notes.append(f'of the sheets the first one, {table.sheet}, is read, not {others} (--sheet)')
-    if layout.passed:
-        told.notes.append(f'passed over, above the headings: rows {", ".join(map(str, layout.passed))}')
-    return Maker(told, reader, Entries(reader, told, names, wanted.scale), layout, wanted).made(lines, names)
+    return Maker(told, reader, Entries(reader, told, names, wanted.scale), layout, wanted).made(body, names)
+
+
+def lines_of(layout: Layout, told: Told) -> Body:
+    """The rows of a table, sorted: with headings, or without."""
+    def line_of(row: TableRow) -> Line | None:
+        return headed_line(row, layout, told) if layout.headed else plain_line(row, told)
+    return body_of(layout, [line_of(row) if layout.is_body(row) else None for row in told.table.rows], told)
 
 
 def numbers_of(lines: Iterable[Line]) -> Iterable[tuple[int, int, Cell]]:
@@ -132,13 +142,11 @@ class Maker:
         self.priced: list[tuple[int, Line, Fraction | None, PriceUnit | None]] = []
         self.forbids: list[tuple[int, Forbid]] = []
 
-    def made(self, lines: Sequence[Line], names: dict[str, str]) -> Converted:
-        for line in lines:
+    def made(self, body: Body, names: dict[str, str]) -> Converted:
+        for line in body.lines:
             self.take(line)
         share, share_row = self.contribution()
-        self.reader.settle_units()
-        units_in_words(self.layout, lines, self.told, self.reader.taken)
-        self.told.settle()
+        self.settle(body)
         if not self.streams:
             raise Refused(3, '', 'no stream', 'the table has no stream: is its separator another one (--separator)?')
         utilities, basis = self.with_prices(share)
@@ -150,15 +158,21 @@ class Maker:
         rows = [share_row] * (len(list(basis_rows(basis))) + 1)
         rows += [row for row, _, _ in self.streams] + [row for row, _, _ in self.utilities]
         rows += [row for row, _ in self.forbids]
-        comments = tuple(joined(row) for row in self.told.table.rows if joined(row).startswith('#'))
-        return Converted(case, self.told.table, tuple(rows), tuple(self.told.notes), comments)
+        return Converted(case, self.told.table, tuple(rows), tuple(self.told.notes), body.comments)
+
+    def settle(self, body: Body) -> None:
+        """Tells a fault for what stands beside the numbers and contradicts what was taken of them."""
+        for seen in body.others:
+            self.reader.seen(*seen)
+        self.reader.settle_units()
+        units_in_words(self.layout, body.lines, body.passed, self.told, self.reader.taken)
+        below_titles(body.lines, body.passed, {row: each.side for row, each, _ in self.streams}, self.told)
+        self.told.settle()
 
     def take(self, line: Line) -> None:
         row = line.row.number
         if line.kind == 'contribution':
-            heading = Heading.CONTRIBUTION if self.entries.given(line, Heading.CONTRIBUTION) else Heading.SUPPLY
-            share = self.reader.whole(line.row, line.at(heading), Kind.DIFFERENCE)
-            self.contributions.append((row, share or 0))
+            self.take_contribution(line)
         elif line.kind == 'forbid':
             self.take_forbid(line)
         elif line.kind in ('heater', 'cooler'):
@@ -171,6 +185,17 @@ class Maker:
             stream = self.entries.stream(line)
             if stream:
                 self.streams.append((row, *stream))
+
+    def take_contribution(self, line: Line) -> None:
+        """The contribution of the case: the one number of its row."""
+        heading = Heading.CONTRIBUTION if self.entries.given(line, Heading.CONTRIBUTION) else Heading.SUPPLY
+        used = {line.at(each) for each in (heading, Heading.KIND, Heading.NUMBER)}
+        for column in sorted(set(line.columns.values()) - used):
+            if self.reader.given(line.row, column):
+                cause = f'`{line.row.cell(column).text}`: a contribution of the case has one number and no name'
+                self.told.fault(line.row.number, column, cause)
+        share = self.reader.whole(line.row, line.at(heading), Kind.DIFFERENCE)
+        self.contributions.append((line.row.number, share or 0))
 
     def take_forbid(self, line: Line) -> None:
         """A pair that may not exchange heat: the hot name in the column of names, the cold one in the next one that is

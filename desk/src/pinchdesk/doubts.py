@@ -7,23 +7,21 @@ from __future__ import annotations
 import csv
 import io
 import re
-from collections.abc import Iterable, Sequence
+from collections.abc import Iterable, Mapping, Sequence
 
+from .case import Side
 from .cells import Told
-from .entries import Line, joined
-from .layout import Layout, is_number
+from .layout import Layout, Words, is_note_column, is_number
+from .lines import Line, shortened
+from .mentions import names_other_unit
 from .quantities import Kind
 from .tables import Table, TableRow
 
-# No unit of a number that stands before it, as in `dTmin = 10 K`.
-ALONE = r'(?<![0-9])(?<![0-9]\s)'
-ENERGY = r'[kMGT]?(?:J|cal|Wh)|[kM]*Btu|[kM]*BTU|mmbtu|MBH'
-DEGREES = rf'{ALONE}(?:[°º˚]\s*[FKR]\b|\b[Ff]ahrenheit|\b[Kk]elvins?\b|\b[Rr]ankine|\bdeg\.?\s?[FKR]\b)|' \
-          r'(?:\bin\s+|[(\[,=:]\s*|[a-z]{3}\s*/\s*)[FK]\b(?![.\s]*\w)'
-SAID = {Kind.TEMPERATURE: re.compile(DEGREES),
-        Kind.DIFFERENCE: re.compile(rf'{ALONE}(?:[°º˚]\s*[FR]\b|\b[Ff]ahrenheit|\b[Rr]ankine|\bdeg\.?\s?[FR]\b)'),
-        Kind.FLOW: re.compile(rf'{ALONE}\b(?:[MG]?W\s*/|{ENERGY})'),
-        Kind.HEAT: re.compile(rf'{ALONE}\b(?:[MG]?W\b(?!\s*/)|{ENERGY})')}
+# A title below the headings that makes utilities of the rows below it, or streams of one side.
+UTILITIES = re.compile(r'(?:(?:hot|cold|heating|cooling|heiz|kühl|warme|kalte)?[\s-]*(?:utilit(?:y|ies)|media|medium|'
+                       r'heaters?|coolers?|heizmittel|kühlmittel|hilfsmittel)|heizmittel|kühlmittel)\b.*', re.I)
+SIDES = {'hot': re.compile(r'(?:hot|warme|heiße)(?:\s+(?:process\s+)?(?:streams?|ströme))?[\s:]*', re.I),
+         'cold': re.compile(r'(?:cold|kalte)(?:\s+(?:process\s+)?(?:streams?|ströme))?[\s:]*', re.I)}
 CASE_FIELDS = 7
 
 
@@ -58,19 +56,46 @@ def decimals_before(row: TableRow, column: int) -> bool:
     return row.cell(column - 1).text.isdigit()
 
 
-def units_in_words(layout: Layout, lines: Sequence[Line], told: Told, taken: Iterable[Kind]) -> None:
+def units_in_words(layout: Layout, lines: Sequence[Line], passed: Sequence[Words], told: Told,
+                   taken: Iterable[Kind]) -> None:
     """Tells a fault for each title, note or comment that names another unit than the one that is taken because none
     stands with the numbers."""
-    rows = {line.row.number for line in lines}
-    beside = [row for row in told.table.rows if row.number not in rows
-              and (row.number in layout.passed or row.number > layout.head or joined(row).startswith('#'))]
-    for kind in taken:
-        for row in beside:
-            found = SAID[kind].search(joined(row))
-            if found:
-                cause = f'`{joined(row)[:60]}` names a unit, and the numbers have none, so that {kind.default} would ' \
-                        'be taken: write the unit with the heading'
-                told.fault(row.number, None, cause)
+    noted = [Words(line.row.number, column, cell.text) for line in lines for column, cell in line.row.filled()
+             if layout.headed and line.kind != 'forbid' and is_note(layout, column)]
+    for words in (*passed, *noted):
+        kinds = [kind for kind in taken if names_other_unit(words.text, kind)]
+        if kinds:
+            units = ' and '.join(kind.default for kind in kinds)
+            cause = f'`{shortened(words.text)}` names a unit, and the numbers have none, so that {units} would be ' \
+                    'taken: write the unit with the heading'
+            told.fault(words.row, words.column, cause)
+
+
+def is_note(layout: Layout, column: int) -> bool:
+    """Whether a column of a row has words that nobody reads: those of notes, or under no heading."""
+    return column not in layout.columns.values() and is_note_column(layout.titles.get(column, 'note'))
+
+
+def below_titles(lines: Sequence[Line], passed: Sequence[Words], sides: Mapping[int, Side], told: Told) -> None:
+    """Tells a fault for each row without a kind below a title that says that it is a utility, or of the other side;
+    `sides` has the side of each stream by its row."""
+    titles = sorted(passed, key=lambda words: words.row)
+    for line in lines:
+        above = [words.text for words in titles if words.row < line.row.number]
+        title = next((text for text in reversed(above) if UTILITIES.fullmatch(text) or side_of(text)), '')
+        side = sides.get(line.row.number)
+        if line.kind or not title:
+            continue
+        if UTILITIES.fullmatch(title):
+            told.fault(line.row.number, None, f'it stands below `{shortened(title)}`: a column `kind` has to say '
+                       'heater or cooler, or hot or cold')
+        elif side and side.value != side_of(title):
+            way = 'cools down' if side is Side.HOT else 'warms up'
+            told.fault(line.row.number, None, f'below `{shortened(title)}` stands a stream that {way}')
+
+
+def side_of(text: str) -> str:
+    return next((side for side, pattern in SIDES.items() if pattern.fullmatch(text)), '')
 
 
 def as_case(table: Table) -> tuple[bytes, ...]:

@@ -1,101 +1,16 @@
-"""The rows of a table, one by one: which of them are sources, which are notes and sums, and what each says."""
+"""What a row of a table says: the stream or the utility that it is."""
 from __future__ import annotations
 
-import re
-from collections.abc import Iterator
-from dataclasses import dataclass
 from fractions import Fraction
 
 from .case import ANY_HEAT, Side, Stream, Utility
 from .cells import CellReader, Entered, Told
-from .layout import STREAM_COLUMNS, Heading, Layout, squeezed
+from .layout import Heading
+from .lines import Line
 from .quantities import Kind, rounded
-from .tables import TableRow
 
-KIND_WORDS = {'hot': 'hot', 'h': 'hot', 'hotstream': 'hot', 'cold': 'cold', 'c': 'cold', 'coldstream': 'cold',
-              'heater': 'heater', 'hotutility': 'heater', 'hu': 'heater', 'cooler': 'cooler', 'coldutility': 'cooler',
-              'cu': 'cooler', 'contribution': 'contribution', 'forbid': 'forbid', 'forbidden': 'forbid', 'hei': 'hot',
-              'heiss': 'hot', 'warm': 'hot', 'kalt': 'cold'}
-UTILITY_COLUMNS = (Heading.NAME, Heading.SUPPLY, Heading.LEAST, Heading.MOST, Heading.PRICE, Heading.CONTRIBUTION)
-SUM = re.compile(r'(sum|total|totals|subtotal|summe|gesamt|somme|average|mean)\b.*|[Σ∑].*', re.I)
 # A duty and a CP may differ by what their last digits leave open, but by no more than this part.
 MOST_APART = Fraction(1, 20)
-
-
-@dataclass(frozen=True)
-class Line:
-    """A row with what kind it is; `''` is a stream whose side its temperatures say."""
-
-    row: TableRow
-    kind: str
-    columns: dict[Heading, int]
-
-    def at(self, heading: Heading) -> int | None:
-        return self.columns.get(heading)
-
-    def name(self) -> str:
-        column = self.at(Heading.NAME)
-        return self.row.cell(column).text if column is not None else ''
-
-
-def kind_of(text: str) -> str | None:
-    return KIND_WORDS.get(squeezed(text))
-
-
-def lines_of(layout: Layout, told: Told) -> Iterator[Line]:
-    """The rows that say something; notes, sums and comments are passed over, and that is told."""
-    for row in told.table.rows:
-        if row.number <= layout.head:
-            continue
-        line = headed_line(row, layout, told) if layout.headed else plain_line(row, told)
-        if line is None:
-            continue
-        why = passed_over(line, told)
-        if why:
-            told.note(row.number, None, f'passed over, {why}: `{joined(row)[:60]}`')
-        elif not joined(row).startswith('#'):
-            yield line
-
-
-def joined(row: TableRow) -> str:
-    return ' '.join(cell.text for _, cell in row.filled())
-
-
-def headed_line(row: TableRow, layout: Layout, told: Told) -> Line | None:
-    column = layout.columns.get(Heading.KIND)
-    text = row.cell(column).text if column is not None else ''
-    kind = kind_of(text) if text else ''
-    if kind is None and len(list(row.filled())) > 1 and not SUM.fullmatch(text):
-        told.fault(row.number, column, f'`{text}` is no kind: hot, cold, heater, cooler, contribution, forbid')
-        return None
-    return Line(row, kind or '', dict(layout.columns))
-
-
-def plain_line(row: TableRow, told: Told) -> Line | None:
-    """A row of a table without headings: a kind and then the columns of a case, or the columns of a stream."""
-    kind = kind_of(row.cell(0).text) or '' if len(row.cell(0).text) > 2 else ''
-    utility = kind in ('heater', 'cooler')
-    order = UTILITY_COLUMNS if utility else STREAM_COLUMNS
-    shift = 1 if kind else 0
-    beyond = [column for column, _ in row.filled() if column >= len(order) + shift]
-    if beyond:
-        told.fault(row.number, beyond[0], f'there are {len(order) + shift} columns at most where there are no headings')
-        return None
-    return Line(row, kind, {heading: at + shift for at, heading in enumerate(order)})
-
-
-def passed_over(line: Line, told: Told) -> str:
-    """Why a row says nothing; empty where it says something."""
-    row = line.row
-    filled = [cell for _, cell in row.filled()]
-    if filled[0].text.startswith('#'):
-        return ''
-    if len(filled) == 1 and filled[0].number is None and not filled[0].fault and not re.match('[0-9]', filled[0].text):
-        return 'a note'
-    warm = [column for column in (line.at(Heading.SUPPLY), line.at(Heading.TARGET)) if column is not None]
-    if line.kind in ('contribution', 'forbid') or any(not row.cell(column).empty for column in warm):
-        return ''
-    return 'a sum' if not line.name() or SUM.fullmatch(line.name()) else ''
 
 
 class Entries:

@@ -1,18 +1,15 @@
-"""Where a table has what: its headings, the units that stand with them, and where its rows begin.
-
-A table without headings has the columns of a case file, or of a stream alone: name, supply, target, CP, load,
-contribution."""
+"""Where a table has what: its headings, the units that stand with them, and where its rows begin."""
 from __future__ import annotations
 
 import enum
 import re
 import unicodedata
-from collections.abc import Iterator, Mapping
+from collections.abc import Iterator, Mapping, Sequence
 from dataclasses import dataclass, field, replace
 
 from .errors import Refused
 from .numerals import NoNumber, numeral_of
-from .quantities import Kind, is_unit
+from .quantities import Kind, is_multiple, is_unit
 from .tables import Cell, Table, TableRow
 
 
@@ -44,29 +41,52 @@ KINDS = {Heading.SUPPLY: Kind.TEMPERATURE, Heading.TARGET: Kind.TEMPERATURE, Hea
          Heading.CONTRIBUTION: Kind.DIFFERENCE}
 NOTES = frozenset('note notes remark remarks comment comments description fluid medium service bemerkung kommentar '
                   'stoff'.split())
-STREAM_COLUMNS = (Heading.NAME, Heading.SUPPLY, Heading.TARGET, Heading.CP, Heading.LOAD, Heading.CONTRIBUTION)
 BRACKETED = re.compile(r'(.*?)[\s_]*[(\[](.*)[)\]]\s*')
-# A unit that has no letter: `CP (%)`.
-SIGN = re.compile(r'.*[(\[/,]\s*([^\w\s()\[\]/,.:;–—-]+)\s*[)\]]?\s*')
+# A unit that has no letter: `CP (%)`, `Price €`.
+SIGN = re.compile(r'.*[(\[/,]\s*([^\w\s()\[\]/,.:;–—-]+)\s*[)\]]?\s*|.*?([%‰°€$£¥]+)\s*')
 # A sign of money belongs to the unit behind it: `Price €/MWh`.
 MONEY = re.compile('[€$£¥]')
 EMPTY = frozenset(('', '-', '–', '—', 'n/a', 'N/A', 'na', '.'))
 
 
 @dataclass(frozen=True)
+class Words:
+    """Words that are passed over, with their place."""
+
+    row: int
+    column: int | None
+    text: str
+
+
+@dataclass(frozen=True)
 class Layout:
-    """The columns of a headed table with the units that the table gives them, and the number of the last row of its
-    head."""
+    """The columns of a headed table with the units that the table gives them, the numbers of the rows of its head, and
+    the words there that are neither headings nor units of a number."""
 
     columns: Mapping[Heading, int] = field(default_factory=dict)
     units: Mapping[int, str] = field(default_factory=dict)
     titles: Mapping[int, str] = field(default_factory=dict)
-    head: int = 0
-    passed: tuple[int, ...] = ()
+    heads: tuple[int, ...] = ()
+    beside: tuple[Words, ...] = ()
 
     @property
     def headed(self) -> bool:
         return bool(self.columns)
+
+    @property
+    def head(self) -> int:
+        """The row of the headings; 0 where there are none."""
+        return self.heads[0] if self.heads else 0
+
+    @property
+    def measured(self) -> frozenset[int]:
+        """The columns whose numbers have a unit."""
+        return frozenset(column for heading, column in self.columns.items()
+                         if heading in KINDS or heading is Heading.PRICE)
+
+    def is_body(self, row: TableRow) -> bool:
+        """Whether a row stands below the headings and is none of them."""
+        return row.number > self.head and row.number not in self.heads
 
 
 def squeezed(text: str) -> str:
@@ -83,7 +103,7 @@ def heading_of(text: str) -> tuple[Heading | None, str]:
     """What a heading means, and the unit that stands with it: `CP (MW/K)`, `Supply [°C]`, `Duty / kW`, `Duty in kW`."""
     if meaning(text):
         sign = SIGN.fullmatch(text)
-        return meaning(text), sign[1] if sign else ''
+        return meaning(text), (sign[1] or sign[2]) if sign else ''
     match = BRACKETED.fullmatch(text)
     if match:
         return meaning(match[1]), match[2].strip()
@@ -109,6 +129,10 @@ def is_number(cell: Cell) -> bool:
     return True
 
 
+def is_comment(row: TableRow) -> bool:
+    return next(row.filled())[1].text.startswith('#')
+
+
 def known(row: TableRow) -> int:
     """How many headings a row has; none where one of its cells is a number."""
     cells = [cell for _, cell in row.filled()]
@@ -123,13 +147,13 @@ def layout_of(table: Table) -> Layout:
         if known(row) > 1:
             layout = taken(table, row)
             for below in table.rows[at + 1:]:
-                if not is_second_head(layout, below):
+                if is_second_head(layout, below):
+                    layout = with_second(table, layout, below)
+                elif not is_comment(below):
                     break
-                layout = with_second(table, layout, below)
             if at:
-                layout = with_first(table, layout, table.rows[at - 1])
-            passed = tuple(each.number for each in table.rows[:at])
-            return complete(table, replace(layout, passed=passed), row)
+                layout = with_first(layout, table.rows[at - 1], table.merged)
+            return complete(table, layout, row)
     return Layout()
 
 
@@ -147,7 +171,7 @@ def taken(table: Table, row: TableRow) -> Layout:
             end = next((end for at, begin, end in table.merged if (at, begin) == (row.number, column)), column + 1)
             units.update(dict.fromkeys(range(column, end), unit))
     titles = {column: cell.text for column, cell in row.filled()}
-    return Layout(columns, units, titles, row.number)
+    return Layout(columns, units, titles, (row.number,))
 
 
 def stripped(text: str) -> str:
@@ -155,12 +179,18 @@ def stripped(text: str) -> str:
 
 
 def is_second_head(layout: Layout, row: TableRow) -> bool:
-    """Whether a row below the headings has units, or headings of columns that have none."""
-    if any(is_number(cell) for _, cell in row.filled()):
+    """Whether a row below the headings has units, or headings of columns that have none. A multiple of a unit, as
+    `1000 kcal/h`, is a number too: it is none where the row has a name and no other unit."""
+    cells = {column: cell for column, cell in row.filled() if cell.text not in EMPTY}
+    kinds = {column: KINDS[heading] for heading, column in layout.columns.items() if heading in KINDS}
+    multiples = {column for column, cell in cells.items() if cell.number is None and is_number(cell)
+                 and column in kinds and is_multiple(cell.text, kinds[column])}
+    if is_comment(row) or any(is_number(cell) for column, cell in cells.items() if column not in multiples):
         return False
-    measured = {column for heading, column in layout.columns.items() if heading in KINDS or heading is Heading.PRICE}
-    named = any(heading_of(cell.text)[0] for _, cell in row.filled())
-    return named or any(column in measured for column, cell in row.filled() if cell.text not in EMPTY)
+    units = [column for column in cells if column in layout.measured]
+    if multiples:
+        return len(units) > len(multiples) or len(cells) == len(multiples)
+    return bool(units) or any(heading_of(cell.text)[0] for cell in cells.values())
 
 
 def with_second(table: Table, layout: Layout, row: TableRow) -> Layout:
@@ -169,6 +199,7 @@ def with_second(table: Table, layout: Layout, row: TableRow) -> Layout:
     read = {column: heading_of(cell.text) for column, cell in row.filled()}
     columns = {heading: column for heading, column in layout.columns.items() if not read.get(column, (None, ''))[0]}
     units, titles = dict(layout.units), dict(layout.titles)
+    beside: list[Words] = []
     for column, cell in row.filled():
         heading, unit = read[column]
         if heading in columns:
@@ -176,48 +207,63 @@ def with_second(table: Table, layout: Layout, row: TableRow) -> Layout:
         if heading:
             columns[heading] = column
             titles[column] = cell.text
-        elif column in columns.values() and cell.text not in EMPTY:
+        elif column in layout.measured and cell.text not in EMPTY:
             unit = unit or stripped(cell.text)
+        else:
+            unit = ''
+            beside.append(Words(row.number, column, cell.text))
         if unit and units.setdefault(column, unit) != unit:
             raise table.refusal(row.number, column, f'two units, `{units[column]}` above and `{unit}` here')
-    return Layout(columns, units, titles, row.number)
+    return Layout(columns, units, titles, (*layout.heads, row.number), (*layout.beside, *beside))
 
 
-def with_first(table: Table, layout: Layout, row: TableRow) -> Layout:
+def with_first(layout: Layout, row: TableRow, merged: tuple[tuple[int, int, int], ...]) -> Layout:
     """The layout with the units of a row right above the headings: units alone, or as `Temperatures (°C)` over two
-    columns: each holds as far as its merged cell reaches, or to the next title."""
-    units, kinds = dict(layout.units), {layout.columns[each]: KINDS[each] for each in layout.columns if each in KINDS}
+    columns: each holds as far as its merged cell reaches, or to the next title. The row is one of the head where all
+    its cells are such."""
+    kinds = {layout.columns[each]: KINDS[each] for each in layout.columns if each in KINDS}
     filled = [column for column, _ in row.filled()]
     alone = {column: stripped(cell.text) for column, cell in row.filled() if cell.text not in EMPTY}
     if all(column in kinds and is_unit(text, kinds[column]) for column, text in alone.items()):
-        return replace(layout, units={**alone, **units})
+        return replace(layout, units={**alone, **layout.units}, heads=(*layout.heads, row.number))
+    made, used = dict(layout.units), 0
     for column, cell in row.filled():
         match = BRACKETED.fullmatch(cell.text)
-        end = next((end for at, begin, end in table.merged if (at, begin) == (row.number, column)), None)
+        end = next((end for at, begin, end in merged if (at, begin) == (row.number, column)), None)
         following = [each for each in filled if each > column]
         reach = range(column, end or (following[0] if following else max(layout.columns.values(), default=0) + 1))
-        for heading, each in layout.columns.items():
-            if match and each in reach and each not in units and heading in KINDS and is_unit(match[2], KINDS[heading]):
-                units[each] = match[2]
-    return replace(layout, units=units)
+        meant = [each for each in reach if match and each in kinds and is_unit(match[2], kinds[each])]
+        made.update({each: match[2] for each in meant if match and each not in layout.units})
+        used += bool(meant)
+    return replace(layout, units=made, heads=(*layout.heads, *[row.number] * (used == len(filled))))
 
 
 def complete(table: Table, layout: Layout, row: TableRow) -> Layout:
-    """The layout where all its columns are known; `Refused` else."""
-    for column, title in layout.titles.items():
-        if column not in layout.columns.values() and squeezed(BRACKETED.sub(r'\1', title)) not in NOTES:
-            raise unknown(table, row, column, title)
+    """The layout where all its columns are known; `Refused` else, for all that are not at once."""
+    titles = [(column, title) for column, title in layout.titles.items()
+              if column not in layout.columns.values() and not is_note_column(title)]
+    if titles:
+        raise unknown(table, row, titles)
     columns = dict(layout.columns)
     if Heading.NUMBER in columns:
         columns.setdefault(Heading.NAME, columns[Heading.NUMBER])
-    layout = replace(layout, columns=columns)
-    for heading in (Heading.NAME, Heading.SUPPLY):
-        if heading not in layout.columns:
-            raise table.refusal(row.number, None, f'no column has the heading {heading.name.lower()}')
-    return layout
+    missing = [heading for heading in (Heading.NAME, Heading.SUPPLY) if heading not in columns]
+    if missing:
+        names = ' and none '.join(each.name.lower() for each in missing)
+        raise table.refusal(row.number, None, f'no column has the heading {names}')
+    beside = [Words(row.number, column, unit) for column, unit in layout.units.items()
+              if column in layout.titles and column not in layout.measured]
+    return replace(layout, columns=columns, beside=(*beside, *layout.beside))
 
 
-def unknown(table: Table, row: TableRow, column: int, title: str) -> Refused:
+def is_note_column(title: str) -> bool:
+    return squeezed(BRACKETED.sub(r'\1', title)) in NOTES
+
+
+def unknown(table: Table, row: TableRow, titles: Sequence[tuple[int, str]]) -> Refused:
+    """The refusal of headings that are not known, each with its place."""
     names = ', '.join(each.name.lower() for each in Heading)
-    cause = f'the heading `{title}` is not known: {names}; take the column out, or head it `note`'
-    return table.refusal(row.number, column, cause)
+    causes = [f'the heading `{title}` is not known' for _, title in titles]
+    causes[-1] += f': {names}; take the column out, or head it `note`'
+    faults = [table.refusal(row.number, column, cause) for (column, _), cause in zip(titles, causes)]
+    return Refused(3, faults[0].place, faults[0].cause, '\n'.join(each.text for each in faults))

@@ -55,10 +55,14 @@ DEGREES = re.compile(r'(?:\b(?:deg(?:ree)?s?|grad)\b\.?|\bdeg(?=[CFKR]\b)|°|\bo
 LETTER = re.compile(r'(?<![A-Za-z_°])([CF])(?![A-Za-z_])')
 NAMED = re.compile(r'\b(celsius|fahrenheit)\b', re.I)
 KELVIN = re.compile(r'\bkelvins?\b', re.I)
-TIMES = re.compile(r'([1-9][0-9]{0,6})\s*([^0-9].*)')
+# `1000 kcal/h`, `x 10^6 Btu/h`, `1e6 W`; but `10e3` is 10,000 to some and 1,000 to others.
+TIMES = re.compile(r'(?:[x*]\s*)?(?:10\s*(?:\^|\*\*)\s*(?P<power>[0-9]{1,2})|'
+                   r'1[eE]\+?(?P<exponent>[0-9]{1,2})|(?P<number>[1-9][0-9]{0,6}))\s*(?:[x*]\s*)?'
+                   r'(?P<unit>[^0-9\s.,\'^*].*)')
+RAISED = re.compile('[⁰¹²³⁴-⁹]+')
 # `KW` can be nothing else; MBtu is a thousand of them to some and a million to others, and mW was meant to be MW.
 KILOWATT = re.compile(r'\b(?:KW|Kw|kw)(?![A-Za-z_])')
-OPEN = re.compile(r'\b(?:(?i:mbtu)|mW)')
+OPEN = re.compile(r'\b(?:(?i:mbtu)|m(?:W|J|cal))')
 YEAR = re.compile(r'(?<![A-Za-z_])(a|y|yr|years?|annum|anno)(?![A-Za-z_])', re.I)
 DIMENSIONS = {Kind.TEMPERATURE: 'kelvin', Kind.DIFFERENCE: 'kelvin', Kind.FLOW: 'watt / kelvin', Kind.HEAT: 'watt'}
 # How much of the program's unit is in the SI unit above.
@@ -73,7 +77,18 @@ def registry() -> Any:
     import pint
     made = pint.UnitRegistry(non_int_type=Fraction)
     made.define('MMBtu = 1000000 * Btu = MMBTU')
+    made.define('MMkcal = 1000000000 * calorie')
     return made
+
+
+def multiple_of(text: str) -> tuple[int, str]:
+    """How many of a unit a text names, and the unit: 1000 and `kcal/h` of `1000 kcal/h`, else 1."""
+    held = RAISED.sub(lambda match: '^' + ''.join(str('⁰¹²³⁴⁵⁶⁷⁸⁹'.index(each)) for each in match[0]), text.strip())
+    match = TIMES.fullmatch(held.replace('×', 'x').replace('·', '*').replace('⋅', '*'))
+    if not match:
+        return 1, text
+    tens = match['power'] or match['exponent']
+    return 10 ** int(tens) if tens else int(match['number']), match['unit']
 
 
 def normal(text: str) -> str:
@@ -94,8 +109,8 @@ def normal(text: str) -> str:
 @lru_cache(maxsize=None)
 def unit_of(text: str, kind: Kind) -> Unit:
     """The unit that a text names; `UnknownUnit` where it names none of this kind. A heat over a year is no power."""
-    times = TIMES.fullmatch(text.strip())
-    held = normal(times[2] if times else text)
+    times, single = multiple_of(text)
+    held = normal(single)
     if kind in (Kind.HEAT, Kind.FLOW) and YEAR.search(held):
         raise UnknownUnit(text)
     if kind is not Kind.TEMPERATURE:
@@ -103,8 +118,8 @@ def unit_of(text: str, kind: Kind) -> Unit:
     known = registry()
     try:
         if kind is Kind.TEMPERATURE:
-            return temperature_unit(text, '' if times else held)
-        one = known.Quantity(Fraction(times[1] if times else 1), parsed(held)).to(DIMENSIONS[kind])
+            return temperature_unit(text, '' if times > 1 else held)
+        one = known.Quantity(Fraction(times), parsed(held)).to(DIMENSIONS[kind])
         return Unit(text, Fraction(one.magnitude) * IN_PROGRAM[kind])
     except Exception as fault:
         # pint has no error of its own for each text that it cannot read.
@@ -134,6 +149,13 @@ def is_unit(text: str, kind: Kind) -> bool:
     except UnknownUnit:
         return False
     return True
+
+
+def is_multiple(text: str, kind: Kind) -> bool:
+    """Whether a text is a power of ten of a unit of heat, as `1000 kcal/h` and `10 W/K`."""
+    times, _ = multiple_of(text)
+    return kind in (Kind.HEAT, Kind.FLOW) and times > 1 and set(str(times)[1:]) <= {'0'} and str(times)[0] == '1' \
+        and is_unit(text, kind)
 
 
 def rounded(value: Fraction) -> int:
