@@ -23,7 +23,7 @@ from pinchdesk import Pinch, Refused, WordsError, read_case
 from pinchdesk.cli import main
 from pinchdesk.digests import digests
 from pinchdesk.facts import facts_of
-from pinchdesk.jobs import TRIES, File, Job, Outcome, done
+from pinchdesk.jobs import TRIES, File, Job, done
 from pinchdesk.sheets import Sheet
 from pinchdesk.taking import options_of
 from pinchdesk.word import Answer, Word
@@ -336,7 +336,8 @@ def test_an_error_of_the_desk_is_an_outcome(monkeypatch: pytest.MonkeyPatch) -> 
         raise ZeroDivisionError('here')
     monkeypatch.setattr('pinchdesk.asked.targets_sheets', broken)
     job = Job(0, ('targets',), {'form': None}, {'case': (File('tc3.csv', example('tc3.csv')),)})
-    assert done(job) == Outcome(0, 2, told='the desk failed: ZeroDivisionError: here')
+    outcome = done(job)
+    assert outcome.status == 70 and outcome.told.startswith('the desk failed, please report this line: ZeroDivisionErr')
 
 
 def test_processes_that_cannot_be_forked_are_started(folder: Path, tmp_path: Path) -> None:

@@ -39,8 +39,8 @@ def given(*names: str) -> list[Given]:
 def steam() -> str:
     case, network = given(*STEAM)
     less = Given('less.txt', 'less.txt', network.content.replace(b'CW 10000000', b'CW 9999000'))
-    page, good = page_of(case, [network, less])
-    assert not good
+    page, *ended = page_of(case, [network, less])
+    assert ended == [1, 'rejected']
     return page
 
 
@@ -93,7 +93,7 @@ def test_hostile_names_and_texts_are_only_shown() -> None:
     case, network = given('preheater.csv', 'preheater-network.txt')
     bad = '<script>alert(1)</script>{{ 7 * 7 }}\x1b[31m.csv'
     hostile = Given(bad, 'x', case.content.replace(b'\n', b'\n#</pre><script>alert(2)</script>,,,,,,\n', 1))
-    page, _ = page_of(hostile, [Given('"><img src=x onerror=alert(3)>', 'y', network.content)])
+    page, *_ = page_of(hostile, [Given('"><img src=x onerror=alert(3)>', 'y', network.content)])
     assert '<script' not in page and '<img src=x' not in page
     assert '&lt;script&gt;alert(1)&lt;/script&gt;{{ 7 * 7 }}' in page and '&lt;script&gt;alert(2)' in page
 

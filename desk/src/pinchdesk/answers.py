@@ -219,6 +219,11 @@ class Prices(Rows):
     answers: tuple[PriceAnswer, ...]
     text: str = printed()
 
+    @property
+    def feasible(self) -> bool:
+        """Whether there is a heat flow in each scenario and over each span."""
+        return all(each.segments if isinstance(each, SpanAnswer) else each.cost is not None for each in self.answers)
+
     def rows(self) -> Iterator[Row]:
         for each in self.answers:
             if isinstance(each, ScenarioAnswer):

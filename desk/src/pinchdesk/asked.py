@@ -4,6 +4,7 @@ from __future__ import annotations
 import os
 from argparse import ArgumentParser, Namespace
 from collections.abc import Sequence
+from dataclasses import replace
 from decimal import Decimal, InvalidOperation
 
 from .answers import Cut
@@ -16,7 +17,7 @@ from .program import Pinch
 from .reports import audit_sheets, flow_sheets, prices_sheets, site_sheets, sweep_sheets, targets_sheets
 from .sheets import FORMS, Sheet, form_of, rendered
 from .states import follow
-from .verdicts import Accepted
+from .verdicts import Verdict, ending
 from .word import Answer, Facts, Word
 
 CASE_HELP = 'a case file, as `pinchdesk case` writes it'
@@ -64,6 +65,12 @@ def answer_of(sheets: Sequence[Sheet], options: Namespace, good: bool = True, fa
     return Answer(content, good, sheets=tuple(sheets), facts=tuple(facts))
 
 
+def judged(sheets: Sequence[Sheet], options: Namespace, verdict: Verdict) -> Answer:
+    """An answer that is a verdict."""
+    status, no = ending([verdict])
+    return replace(answer_of(sheets, options), status=status, no=no)
+
+
 def held_case(content: bytes) -> Case:
     """A case that the program has read, completed."""
     return completed(read_case(content))
@@ -89,7 +96,7 @@ def audit(options: Namespace) -> Answer:
     with about(case=options.case, network=options.network):
         verdict = Pinch().audit(case, network)
         followed = follow(held_case(case), read_network(network))
-        return answer_of(audit_sheets(followed, verdict), options, isinstance(verdict, Accepted))
+        return judged(audit_sheets(followed, verdict), options, verdict)
 
 
 def contribution_of(text: str) -> int:
@@ -116,7 +123,7 @@ def prices(options: Namespace) -> Answer:
     content, study = read_bytes(options.case), read_bytes(options.study)
     with about(case=options.case, study=options.study):
         answer = Pinch().prices(content, study, options.workers)
-        good = 'infeasible' not in answer.text
+        good = answer.feasible
         return answer_of(prices_sheets(held_case(content), answer), options, good)
 
 

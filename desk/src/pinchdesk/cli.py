@@ -1,27 +1,32 @@
-"""The command `pinchdesk`: its words, its errors and its statuses (0 good, 1 infeasible or rejected, 2 words, 3
-refused)."""
+"""The command `pinchdesk`: its words, its errors and its statuses."""
 from __future__ import annotations
 
 import argparse
 import sys
 from collections.abc import Iterable, Sequence
+from contextlib import suppress
 from typing import Any, NoReturn
 
 from . import words
 from .causes import lines_of
-from .errors import DeskError
-from .output import check_place, put, write_whole
+from .errors import DeskError, OutputError, Status, WordsError
+from .failures import failure_of
+from .output import check_place, write_whole
 from .progress import progress
+from .standard import fill, put, say
 from .word import Word
 
 WORDS: tuple[Word, ...] = words.WORDS
 
 
 class Parser(argparse.ArgumentParser):
-    """A parser that ends with status 2 and one line, as any other error."""
+    """A parser whose errors and whose help are told as any other ones."""
 
     def error(self, message: str) -> NoReturn:
-        self.exit(2, f'pinchdesk: {message} (`{self.prog} --help` shows how it is used)\n')
+        raise WordsError(f'{message} (`{self.prog} --help` shows how it is used)')
+
+    def print_help(self, file: Any = None) -> None:
+        put(self.format_help())
 
 
 def parser() -> argparse.ArgumentParser:
@@ -53,42 +58,53 @@ def paths_of(word: Word, options: argparse.Namespace) -> Iterable[str]:
 
 
 def answer(word: Word, options: argparse.Namespace) -> int:
-    """Answers one word: its notes, then its content, whole."""
+    """Answers one word: its notes, then its content, whole. Where its notes cannot be told, the answer stands, and that
+    is the error."""
     inputs = list(paths_of(word, options))
     if options.output is not None:
         check_place(options.output, inputs)
     with progress(word.name):
         given = word.run(options)
-    for note in given.notes:
-        print(f'pinchdesk: {printable(note)}', file=sys.stderr)
+    untold = None
+    try:
+        for note in given.notes:
+            say(note)
+    except OutputError as fault:
+        untold = fault
     if options.output is None:
         put(given.content)
     else:
         write_whole(options.output, given.content, inputs)
-    return given.status if given.status is not None else 0 if given.good else 1
-
-
-def printable(text: str) -> str:
-    """A text on one line, without what would steer a terminal."""
-    return ''.join(each if each.isprintable() else '?' for each in text)
+    if untold:
+        raise untold
+    return given.ends
 
 
 def main(arguments: Sequence[str] | None = None) -> int:
-    """Runs the command; the status is what it gives back."""
+    """Runs the command; the status is what it gives back, whatever happens."""
+    fill()
     if hasattr(sys.stderr, 'reconfigure'):
         sys.stderr.reconfigure(errors='backslashreplace')
     try:
         options = parser().parse_args(arguments)
+        return answer(options.its, options)
     except SystemExit as ended:
         return int(ended.code or 0)
-    try:
-        return answer(options.its, options)
     except DeskError as fault:
-        for line in lines_of(fault):
-            print(f'pinchdesk: {printable(line)}', file=sys.stderr)
-        return fault.status
+        return told(lines_of(fault), fault.status)
     except KeyboardInterrupt:
-        return 130
+        return Status.STOPPED
+    except Exception as fault:  # Whatever it is, it has a status of its own.
+        status, line = failure_of(fault)
+        return told([line], status)
+
+
+def told(lines: Sequence[str], status: int) -> int:
+    """Says the lines of an error where they can be said, and gives its status."""
+    with suppress(OutputError):
+        for line in lines:
+            say(line)
+    return status
 
 
 def run() -> NoReturn:

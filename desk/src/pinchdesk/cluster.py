@@ -16,8 +16,8 @@ from contextlib import closing, contextmanager
 from typing import Any
 
 from .digests import Digests, digests
-from .errors import WordsError
-from .jobs import FAILED, Job, Outcome, done, following, lost
+from .errors import Status, WordsError
+from .jobs import Job, Outcome, done, following, lost
 
 # How long a scheduler may take to answer, and how long there may be no worker, in seconds.
 ANSWERS, PATIENCE = 10.0, 60.0
@@ -150,7 +150,7 @@ def failed(job: Job, fault: BaseException) -> Outcome:
     """The outcome of a job that no worker could do."""
     if type(fault).__name__ == 'KilledWorker':
         return lost(job, 'several workers')
-    return Outcome(job.number, FAILED, told=f'no worker could do it: {type(fault).__name__}: {fault}')
+    return Outcome(job.number, Status.FAILED, told=f'no worker could do it: {type(fault).__name__}: {fault}')
 
 
 def wait_for_one(futures: Collection[Any]) -> None:

@@ -2,6 +2,7 @@
 from __future__ import annotations
 
 from argparse import ArgumentParser, Namespace
+from dataclasses import replace
 from typing import TYPE_CHECKING, Any
 
 from .asked import CASE_HELP, contribution_of, held_case, takes_workers
@@ -12,7 +13,7 @@ from .program import Pinch
 from .site import read_site
 from .states import follow, pinches_of
 from .answers import Cut
-from .verdicts import Accepted
+from .verdicts import ending
 from .word import Answer, Word
 
 if TYPE_CHECKING:
@@ -85,7 +86,8 @@ def grid(options: Namespace) -> Answer:
         pinches = pinches_of(pinch.targets(content), pinch.curves(content))
     from .pictures import grid_figure
     figure = grid_figure(followed, pinches, verdict, options.most)
-    return picture(figure, form, isinstance(verdict, Accepted))
+    status, no = ending([verdict])
+    return replace(picture(figure, form), status=status, no=no)
 
 
 def site(options: Namespace) -> Answer:
@@ -111,8 +113,7 @@ def prices(options: Namespace) -> Answer:
     with about(case=options.case, study=options.study):
         answer = Pinch().prices(content, study, options.workers)
     from .pictures import prices_figure
-    good = 'infeasible' not in answer.text
-    return picture(prices_figure(held_case(content), answer, options.utility), form, good)
+    return picture(prices_figure(held_case(content), answer, options.utility), form, answer.feasible)
 
 
 def nothing(options: Namespace) -> Answer:

@@ -1,17 +1,32 @@
-"""What goes wrong: each error has the status with which a word ends.
-
-Statuses of the desk: 0 a good answer, 1 infeasible or rejected, 2 the words (or a file that cannot be written), 3 a
-file that is refused."""
+"""What goes wrong: each error has the status with which a word ends."""
 from __future__ import annotations
 
+import enum
 from collections.abc import Iterator
 from contextlib import contextmanager
 
 
-class DeskError(Exception):
-    """An error that a word shows on standard error; `status` is how the word ends."""
+class Status(enum.IntEnum):
+    """How a word ends (desk/README.md, *Words*). NO is no heat flow, or a rejected network, and nothing else."""
 
-    status = 2
+    GOOD = 0
+    NO = 1
+    FAILED = 2
+    REFUSED = 3
+    TOO_FINE = 9
+    BROKEN = 70
+    STOPPED = 130
+
+
+# What a status of 1 says, in a word.
+INFEASIBLE, REJECTED = 'infeasible', 'rejected'
+
+
+class DeskError(Exception):
+    """An error that a word shows on standard error; `status` is how the word ends, and `no` what a status of 1 says."""
+
+    status = Status.FAILED
+    no = INFEASIBLE
 
 
 class WordsError(DeskError):
@@ -33,7 +48,7 @@ class Refused(DeskError):
     `network line 2`, or of a table `sheet S row 4 column CP`), `cause` why, `text` is the whole answer, and `file` the
     path where it is known."""
 
-    status = 3
+    status = Status.REFUSED
 
     def __init__(self, answered: int, place: str, cause: str, text: str, file: str = '') -> None:
         super().__init__(text)

@@ -11,7 +11,7 @@ from dataclasses import replace
 from decimal import Decimal, localcontext
 from fractions import Fraction
 
-from .asked import answer_of, held_case, takes_network
+from .asked import held_case, judged, takes_network
 from .case import Side, Stream, Utility
 from .errors import about
 from .findings import Finding, finding_of, stream_at
@@ -185,7 +185,7 @@ def table(options: Namespace) -> Answer:
         pinches = pinches_of(pinch.targets(content), pinch.curves(content))
     sheets = [verdict_sheet(followed, verdict), exchangers_sheet(followed, pinches, verdict),
               *mixes_sheets(followed, verdict), streams_sheet(followed, verdict), sums_sheet(followed)]
-    return answer_of(sheets, options, isinstance(verdict, Accepted))
+    return judged(sheets, options, verdict)
 
 
 WORDS = (

@@ -12,13 +12,13 @@ from dataclasses import dataclass, field
 from pathlib import Path
 
 from .causes import lines_of
-from .errors import DeskError
+from .errors import INFEASIBLE, DeskError, Status
 from .facts import facts_of
+from .failures import failure_of
 from .word import Answer, Facts, Word
 
 # How often a job is tried whose process or worker dies.
 TRIES = 3
-FAILED = 2
 # matplotlib is not to draw two pictures at once; a worker of a cluster may have several threads.
 DRAWING = threading.Lock()
 
@@ -46,7 +46,7 @@ class Job:
 @dataclass(frozen=True)
 class Outcome:
     """What came of a job: the status with which the word would have ended (None where it was not done), its rows, what
-    is said, and the answer where it is kept."""
+    is said, the answer where it is kept, and what a status of 1 says."""
 
     number: int
     status: int | None
@@ -54,6 +54,7 @@ class Outcome:
     told: str = ''
     notes: tuple[str, ...] = ()
     content: str | bytes | None = field(default=None, repr=False)
+    no: str = INFEASIBLE
 
 
 def following(again: list[Job], jobs: Iterator[Job]) -> Job | None:
@@ -74,21 +75,21 @@ def word_of(words: tuple[str, ...]) -> Word:
 
 def done(job: Job) -> Outcome:
     """Does a job. Whatever goes wrong is said in the outcome, by the files' own names."""
-    with tempfile.TemporaryDirectory(prefix='pinchdesk-') as folder:
-        paths = {role: [placed(Path(folder, f'{role}{at}'), file) for at, file in enumerate(files)]
-                 for role, files in job.files.items()}
-        names = {path: file.path for role, files in job.files.items() for path, file in zip(paths[role], files)}
-        try:
-            word = word_of(job.words)
+    names: dict[str, str] = {}
+    try:
+        with tempfile.TemporaryDirectory(prefix='pinchdesk-', ignore_cleanup_errors=True) as folder:
             options = Namespace(**job.options, output=job.output)
-            for role, held in paths.items():
-                setattr(options, role, held if isinstance(getattr(options, role, None), list) else held[0])
-            return outcome_of(job, answer_of(word, options), names)
-        except DeskError as fault:
-            told = '; '.join(named(line, names) for line in lines_of(fault))
-            return Outcome(job.number, fault.status, told=told)
-        except Exception as fault:  # An error of the desk itself: the other rows have to go on.
-            return Outcome(job.number, FAILED, told=named(f'the desk failed: {type(fault).__name__}: {fault}', names))
+            for role, files in job.files.items():
+                paths = [placed(Path(folder, f'{role}{at}'), file) for at, file in enumerate(files)]
+                names.update(zip(paths, (file.path for file in files)))
+                setattr(options, role, paths if isinstance(getattr(options, role, None), list) else paths[0])
+            return outcome_of(job, answer_of(word_of(job.words), options), names)
+    except DeskError as fault:
+        told = '; '.join(named(line, names) for line in lines_of(fault))
+        return Outcome(job.number, fault.status, told=told, no=fault.no)
+    except Exception as fault:  # Whatever it is, the other rows have to go on.
+        status, told = failure_of(fault)
+        return Outcome(job.number, status, told=named(told, names))
 
 
 def answer_of(word: Word, options: Namespace) -> Answer:
@@ -113,12 +114,11 @@ def named(text: str, names: Mapping[str, str]) -> str:
 
 
 def outcome_of(job: Job, answer: Answer, names: Mapping[str, str]) -> Outcome:
-    status = answer.status if answer.status is not None else 0 if answer.good else 1
     notes = tuple(named(each, names) for each in answer.notes)
     content = answer.content if job.output is not None else None
-    return Outcome(job.number, status, facts_of(answer), notes=notes, content=content)
+    return Outcome(job.number, answer.ends, facts_of(answer), notes=notes, content=content, no=answer.no)
 
 
 def lost(job: Job, how: str) -> Outcome:
     """The outcome of a job that ended whoever did it."""
-    return Outcome(job.number, FAILED, told=f'whoever did it died, {TRIES} times: {how}')
+    return Outcome(job.number, Status.FAILED, told=f'whoever did it died, {TRIES} times: {how}')

@@ -10,7 +10,7 @@ from .case import print_case, print_comments, read_case
 from .changes import what_if
 from .changesheets import rounding_notes as scenario_notes
 from .changesheets import what_if_sheets
-from .errors import OutputError, Refused, WordsError, about
+from .errors import OutputError, Refused, Status, WordsError, about
 from .exchangers import verdict_sheet
 from .harmless import printable
 from .network import read_network
@@ -23,7 +23,7 @@ from .scenarios import Variants, read_changes
 from .states import Followed, follow
 from .units import least_units
 from .unitsheets import units_sheets
-from .verdicts import Accepted
+from .verdicts import Accepted, ending
 from .word import Answer, Word
 
 
@@ -42,12 +42,13 @@ def units(options: Namespace) -> Answer:
             return answer_of(flow_sheets(held_case(content), made), options, False)
         followed: Followed | None = None
         notes: tuple[str, ...] = ()
+        verdicts = [pinch.audit(content, text)] if text is not None else []
         if text is not None:
-            verdict = pinch.audit(content, text)
             followed = follow(made.case, read_network(text))
-            if not isinstance(verdict, Accepted):
-                notes = (f'{options.network}: {verdict_sheet(followed, verdict).rows[0][0]}',)
-    return replace(answer_of(units_sheets(made, followed), options, not notes), notes=notes)
+            notes = tuple(f'{options.network}: {verdict_sheet(followed, each).rows[0][0]}' for each in verdicts
+                          if not isinstance(each, Accepted))
+    status, no = ending(verdicts)
+    return replace(answer_of(units_sheets(made, followed), options), notes=notes, status=status, no=no)
 
 
 def takes_rest(parser: ArgumentParser) -> None:
@@ -66,7 +67,8 @@ def rest(options: Namespace) -> Answer:
     notes = tuple(f'{options.network}: {each}' for each in told)
     if options.rest_case is not None:
         write_whole(options.rest_case, rest_text(made, options.network), inputs)
-    return replace(answer_of(rest_sheets(made), options, made.good), notes=notes)
+    status, no = ending([made.verdict], [made.harder.flow] if made.harder else [])
+    return replace(answer_of(rest_sheets(made), options), notes=notes, status=status, no=no)
 
 
 def rest_text(made: Rest, network: str) -> str:
@@ -105,7 +107,7 @@ def whatif(options: Namespace) -> Answer:
             raise
     notes = tuple(f'{options.changes}: {each}' for each in (*held.notes, *scenario_notes(made)))
     answer = answer_of(what_if_sheets(made), options, not made.infeasible)
-    return replace(answer, notes=notes, status=3 if made.refused else None)
+    return replace(answer, notes=notes, status=Status.REFUSED if made.refused else None)
 
 
 WORDS = (

@@ -3,7 +3,6 @@ from __future__ import annotations
 
 import os
 import stat
-import sys
 import tempfile
 from collections.abc import Iterable
 from contextlib import suppress
@@ -81,16 +80,3 @@ def mode_of(place: Path) -> int:
 
 def reason(fault: Exception) -> str:
     return (fault.strerror if isinstance(fault, OSError) else None) or str(fault)
-
-
-def put(content: str | bytes) -> None:
-    """Writes to standard output; `OutputError` where that takes no more."""
-    held = content.encode() if isinstance(content, str) else content
-    try:
-        sys.stdout.buffer.write(held)
-        sys.stdout.buffer.flush()
-    except OSError as fault:
-        # What is left in the buffer would fail once more when Python ends.
-        with suppress(OSError):
-            os.dup2(os.open(os.devnull, os.O_WRONLY), sys.stdout.fileno())
-        raise OutputError(f'standard output: cannot be written: {reason(fault)}') from fault

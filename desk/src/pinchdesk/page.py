@@ -14,7 +14,7 @@ from typing import TYPE_CHECKING, Any
 
 from .answers import Curves, Cut, HeatFlow, Targets
 from .case import ANY_HEAT, Case, Side, completed, read_case
-from .errors import WordsError, about
+from .errors import Status, WordsError, about
 from .exchangers import exchangers_sheet, mixes_sheets, streams_sheet, sums_sheet, verdict_sheet
 from .network import read_network
 from .program import Pinch
@@ -22,7 +22,7 @@ from .reports import audit_sheets, flow_sheets, targets_sheets
 from .sheets import Cell, Sheet
 from .shown import Shown
 from .states import Followed, PinchPoint, follow, pinches_of
-from .verdicts import Accepted, Rejected, Verdict
+from .verdicts import Accepted, Rejected, Verdict, ending
 
 if TYPE_CHECKING:
     from matplotlib.figure import Figure
@@ -194,9 +194,9 @@ def compared(networks: Sequence[Reviewed], shown: Shown) -> Sheet:
     return Sheet('Networks side by side', ('', *(each.given.name for each in networks)), rows)
 
 
-def page_of(case: Given, networks: Sequence[Given], unfolded: bool = False) -> tuple[str, bool]:
-    """The page, and whether all that it shows is good: a heat flow, and no network that is not accepted. `unfolded`
-    where what is folded shall be seen, as on paper."""
+def page_of(case: Given, networks: Sequence[Given], unfolded: bool = False) -> tuple[str, Status, str]:
+    """The page, and how the word ends: by its heat flow and its networks. `unfolded` where what is folded shall be
+    seen, as on paper."""
     answered, verdicts = answers_of(Pinch(), case, networks)
     from .pictures import curves_figure
     held = [reviewed(answered, given, verdict) for given, verdict in zip(networks, verdicts)]
@@ -208,8 +208,7 @@ def page_of(case: Given, networks: Sequence[Given], unfolded: bool = False) -> t
         'curves': image(curves_figure(answered.case, answered.targets, answered.curves, answered.flow)),
         'compared': compared(held, shown) if held else None, 'bars': bars,
     }
-    good = not isinstance(answered.flow, Cut) and all(each.good for each in held)
-    return template().render(values), good
+    return template().render(values), *ending(verdicts, [answered.flow])
 
 
 def bars(network: Reviewed) -> list[tuple[str, str, str]]:

@@ -33,8 +33,8 @@ def page(options: Namespace) -> Answer:
     if form not in FORMS:
         raise WordsError(f'{options.output}: a page is a file .html or .pdf')
     case, *networks = given_of([options.case, *options.networks])
-    made, good = page_of(case, networks, unfolded=form == 'pdf')
-    return Answer(as_pdf(made) if form == 'pdf' else made, good)
+    made, status, no = page_of(case, networks, unfolded=form == 'pdf')
+    return Answer(as_pdf(made) if form == 'pdf' else made, status=status, no=no)
 
 
 WORDS = (

@@ -5,7 +5,7 @@ import sys
 import threading
 import time
 from collections.abc import Iterator
-from contextlib import contextmanager
+from contextlib import contextmanager, suppress
 
 PATIENCE = 2.0
 # How far the work is, where it says so.
@@ -15,7 +15,7 @@ FAR = ['']
 @contextmanager
 def progress(what: str) -> Iterator[None]:
     """Shows what is at work, and for how long, from the third second on."""
-    if not sys.stderr.isatty():
+    if sys.stderr is None or not sys.stderr.isatty():
         yield
         return
     tell('')
@@ -35,6 +35,12 @@ def tell(text: str) -> None:
 
 
 def show(what: str, ended: threading.Event) -> None:
+    # A terminal may go away.
+    with suppress(OSError):
+        show_on(what, ended)
+
+
+def show_on(what: str, ended: threading.Event) -> None:
     begun = time.monotonic()
     if ended.wait(PATIENCE):
         return

@@ -24,7 +24,6 @@ from .results import Done, Results
 from .study import Study, print_study
 from .taking import options_of
 from .varied import SCENARIO, varied, with_scenarios
-from .word import Word
 
 Held = Case | Network | Study | str | bytes
 # What an answer that is kept is a file of, where the word says nothing by its tables.
@@ -137,10 +136,10 @@ class Work:
         from .cluster import by_cluster
         return by_cluster(jobs, self.order.scheduler, self.notes)
 
-    def results(self, bad: str) -> Results:
+    def results(self) -> Results:
         """What came of all rows, in their order."""
         # The order of the input is that of the rows, whoever was quicker.
-        done = tuple(Done(row.names, self.outcomes.get(number) or Outcome(number, None), bad)
+        done = tuple(Done(row.names, self.outcomes.get(number) or Outcome(number, None))
                      for number, row in enumerate(self.rows))
         notes = [f'{each.name}: {note}' for each in done for note in each.outcome.notes]
         return Results(' '.join(self.order.words), done, (*self.notes, *notes), self.stopped)
@@ -154,17 +153,12 @@ def load(word: str) -> None:
         importlib.import_module('pinchdesk.pictures')
 
 
-def bad_of(word: Word) -> str:
-    """What the status 1 of a word says of a case."""
-    return 'rejected' if {'network', 'networks'} & set(word.inputs) else 'infeasible'
-
-
 def done_all(order: Order, rows: Sequence[Listed]) -> Results:
     """Does an order over cases whose files are read here."""
     work = Work(order, rows)
     work.check()
     work.run(work.jobs())
-    return work.results(bad_of(word_of(order.words)))
+    return work.results()
 
 
 def many(word: str, cases: str | os.PathLike[str] | Mapping[str, Held | Sequence[Held]], *words: str,
@@ -190,7 +184,7 @@ def many(word: str, cases: str | os.PathLike[str] | Mapping[str, Held | Sequence
     common = {option: tuple(File(each, read_bytes(each)) for each in paths) for option, paths in taken.common.items()}
     work.run(work.job(number, {**common, **files_of(name, given, taken.roles)})
              for number, (name, given) in enumerate(cases.items()))
-    return work.results(bad_of(held))
+    return work.results()
 
 
 def files_of(name: str, given: Held | Sequence[Held], roles: Sequence[Role]) -> Mapping[str, tuple[File, ...]]:

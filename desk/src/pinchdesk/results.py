@@ -6,15 +6,17 @@ from collections.abc import Iterator, Mapping
 from dataclasses import dataclass
 from typing import Any
 
+from .errors import Status
 from .facts import SAID
 from .jobs import Outcome
 from .sheets import Sheet
 from .word import Facts
 
 ANSWER = 'answer'
-# By the status with which the word would have ended.
-ANSWERS = {0: 'good', 2: 'failed', 3: 'refused', None: 'not done'}
-STOPPED = 130
+# By the status with which the word would have ended; of 1 the outcome says it.
+ANSWERS: dict[int | None, str] = {
+    Status.GOOD: 'good', Status.FAILED: 'failed', Status.REFUSED: 'refused', Status.TOO_FINE: 'too fine',
+    Status.BROKEN: 'failed', Status.STOPPED: 'not done', None: 'not done'}
 
 
 @dataclass(frozen=True)
@@ -23,7 +25,6 @@ class Done:
 
     names: Mapping[str, str]
     outcome: Outcome
-    bad: str = 'infeasible'
 
     @property
     def name(self) -> str:
@@ -31,8 +32,8 @@ class Done:
 
     @property
     def answer(self) -> str:
-        """What came of it in a word; `bad` is what a status of 1 means."""
-        return ANSWERS.get(self.outcome.status, self.bad)
+        """What came of it in a word."""
+        return self.outcome.no if self.outcome.status == Status.NO else ANSWERS.get(self.outcome.status, 'failed')
 
     def rows(self) -> Iterator[Facts]:
         for facts in self.outcome.facts:
@@ -42,8 +43,8 @@ class Done:
 
 @dataclass(frozen=True)
 class Results:
-    """All cases in their order. `status` is that of the whole: 0 where all are good, 1 where one is infeasible or
-    rejected, 2 where one failed or was not done, 3 where one is refused, 130 where it was stopped."""
+    """All cases in their order. `status` is that of the whole: that of the worst case, where one that was not done
+    failed, or STOPPED."""
 
     word: str
     done: tuple[Done, ...]
@@ -53,8 +54,9 @@ class Results:
     @property
     def status(self) -> int:
         if self.stopped:
-            return STOPPED
-        return max((2 if each.outcome.status is None else each.outcome.status for each in self.done), default=0)
+            return Status.STOPPED
+        held = (each.outcome.status for each in self.done)
+        return max((Status.FAILED if each is None else each for each in held), default=Status.GOOD)
 
     @property
     def told(self) -> str:

@@ -3,12 +3,13 @@ costs in price times W, temperatures in tenths of °C."""
 from __future__ import annotations
 
 import enum
-from collections.abc import Iterator, Mapping
+from collections.abc import Iterable, Iterator, Mapping
 from dataclasses import dataclass
 from fractions import Fraction
 from functools import cached_property
 
-from .answers import Row, Rows, printed
+from .answers import Cut, Row, Rows, printed
+from .errors import INFEASIBLE, REJECTED, Status
 
 
 class PlaceKind(enum.Enum):
@@ -91,3 +92,13 @@ class TooFine:
 
 
 Verdict = Accepted | Rejected | TooFine
+
+
+def ending(verdicts: Iterable[Verdict], flows: Iterable[object] = ()) -> tuple[Status, str]:
+    """How a word ends with such answers, and what a status of 1 says."""
+    if any(isinstance(each, Cut) for each in flows):
+        return Status.NO, INFEASIBLE
+    kinds = {type(each) for each in verdicts}
+    if Rejected in kinds:
+        return Status.NO, REJECTED
+    return Status.TOO_FINE if TooFine in kinds else Status.GOOD, REJECTED

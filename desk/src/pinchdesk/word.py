@@ -5,6 +5,7 @@ import argparse
 from collections.abc import Callable, Mapping
 from dataclasses import dataclass
 
+from .errors import INFEASIBLE, Status
 from .sheets import Cell, Sheet
 
 Facts = Mapping[str, Cell]
@@ -13,7 +14,7 @@ Facts = Mapping[str, Cell]
 @dataclass(frozen=True)
 class Answer:
     """What a word gives: its content, whether it is a good answer (status 0, else 1), and notes for standard error.
-    `status` is how the word ends, where that is neither 0 nor 1.
+    `status` is how the word ends, where that is neither 0 nor 1; `no` is what 1 says, infeasible or rejected.
 
     `sheets` are the tables that the content shows; `facts` are the rows that stand for the answer in a table of many
     answers, cells by their headings, where these are not to be taken from the sheets."""
@@ -24,6 +25,14 @@ class Answer:
     status: int | None = None
     sheets: tuple[Sheet, ...] = ()
     facts: tuple[Facts, ...] = ()
+    no: str = INFEASIBLE
+
+    @property
+    def ends(self) -> int:
+        """The status with which the word ends."""
+        if self.status is not None:
+            return self.status
+        return Status.GOOD if self.good else Status.NO
 
 
 @dataclass(frozen=True)

@@ -7,19 +7,21 @@ from fractions import Fraction
 
 from ..answers import Cut, Design
 from ..case import Case, completed, read_case
-from ..errors import DeskError
+from ..errors import INFEASIBLE, DeskError, Status
 from ..network import Network, print_network, read_network
 from ..program import CaseText, NetworkText, Pinch
-from ..verdicts import Accepted
+from ..verdicts import Accepted, ending
 from .effort import Effort, nobody
 
 SECONDS = 60.0
 
 
 class NoNetwork(DeskError):
-    """There is no network of the kind that is asked for."""
+    """There is no network of the kind that is asked for: no heat flow, unless another status is given."""
 
-    status = 1
+    def __init__(self, told: str, status: Status = Status.NO, no: str = INFEASIBLE) -> None:
+        super().__init__(told)
+        self.status, self.no = status, no
 
 
 @dataclass(frozen=True)
@@ -77,7 +79,7 @@ def find_network(case: CaseText, most_cost: Fraction | int | None = None, above:
         pass
     best = search.best
     if best is None:
-        raise NoNetwork('interrupted before there was a network')
+        raise NoNetwork('interrupted before there was a network', Status.STOPPED)
     staged = search.staged if search.staged is not None and search.staged[0] <= best.exchangers else None
     return FewExchangers(best.network, best.verdict, min(effort.bound, best.exchangers), staged, ended)
 
@@ -89,7 +91,7 @@ def limit_of(floor: int, most_cost: Fraction | int | None, above: Fraction | int
     else:
         limit = floor + abs(Fraction(floor)) * Fraction(above or 0) / 100
     if limit < floor:
-        raise NoNetwork(f'no network costs less than {floor}, the least cost of a heat flow')
+        raise NoNetwork(f'no network costs less than {floor}, the least cost of a heat flow', Status.FAILED)
     return limit
 
 
@@ -101,5 +103,5 @@ def first_of(pinch: Pinch, case: Case, start: NetworkText | None) -> list[Networ
         return first
     verdict = pinch.audit(case, start)
     if not isinstance(verdict, Accepted):
-        raise NoNetwork(f'the network to begin with is not accepted: {verdict.text.strip()}')
+        raise NoNetwork(f'the network to begin with is not accepted: {verdict.text.strip()}', *ending([verdict]))
     return [start if isinstance(start, Network) else read_network(start), *first]

@@ -8,16 +8,19 @@ from ..case import Case, completed, read_case
 from ..errors import DeskError, Refused
 from ..network import Network, read_network
 from ..program import CaseText, NetworkText, Pinch
-from ..verdicts import Accepted, Rejected
+from ..verdicts import Accepted, Rejected, TooFine, ending
 from .costed import Costed
 from .structure import Structure, splits
 from .texts import Duties, duties_of, network_of, structure_of
 
 
 class NotAccepted(DeskError):
-    """There is no network: the one that is given is not accepted, or the case has none."""
+    """The network that is given is not accepted; `verdict` says why."""
 
-    status = 1
+    def __init__(self, verdict: Rejected | TooFine) -> None:
+        told = f'rejected at {verdict.place}: {verdict.reason}' if isinstance(verdict, Rejected) else 'too fine'
+        super().__init__(f'the network is {told} (`pinchdesk audit` says more): only an accepted one is changed')
+        self.status, self.no = ending([verdict])
 
 
 @dataclass(frozen=True)
@@ -63,8 +66,7 @@ class Judge:
         """A network that somebody has; `NotAccepted` where it is not, `Refused` where it has no structure."""
         verdict = self.pinch.audit(self.case, network)
         if not isinstance(verdict, Accepted):
-            told = f'rejected at {verdict.place}: {verdict.reason}' if isinstance(verdict, Rejected) else 'too fine'
-            raise NotAccepted(f'the network is {told} (`pinchdesk audit` says more): only an accepted one is changed')
+            raise NotAccepted(verdict)
         return Judged(structure_of(self.case, network), duties_of(network), network, verdict)
 
     def of(self, costed: Costed | None) -> Judged | None:
