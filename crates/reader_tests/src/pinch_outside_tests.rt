@@ -17,6 +17,18 @@ use std::test::Fail;
 /// The most bytes that a file may have.
 const LONGEST: usize = 8_388_608;
 
+/// Bytes that are taken in a thousand pieces.
+const LARGE: usize = 5_000_011;
+
+/// So many bytes, which no shift by a piece makes the same.
+fn varied_bytes(alloc: Global, count: usize) -> Result<Vec<u8>, AllocError> {
+    let mut bytes = Vec::new(alloc);
+    for number in 0..count {
+        bytes.push((number % 251) as u8)?;
+    }
+    Ok(bytes)
+}
+
 /// A shelf in memory that notes the largest sum of what was taken and what a take asks for.
 #[derive(Drop)]
 struct WatchingShelf {
@@ -119,12 +131,32 @@ fn a_file_of_the_folder_is_taken(rt: HostRuntime) -> Result<(), Fail> {
     Ok(())
 }
 
-/// An output that keeps its bytes. A write takes five of them at most, and is refused beyond the
-/// room.
+#[test]
+fn a_large_file_of_the_folder_is_taken_whole(rt: HostRuntime) -> Result<(), Fail> {
+    let alloc = rt.alloc();
+    let name = "pinch_outside_large.csv";
+    let large = varied_bytes(alloc, LARGE)?;
+    fs::write(&rt, name, large.as_slice())?;
+    let mut shelf = FileShelf::new(&rt);
+    let bytes = take_all(alloc, &mut shelf, name);
+    fs::remove_file(&rt, name)?;
+    assert!(rt; bytes.is_ok_and(|bytes| bytes.as_slice() == large.as_slice()));
+    Ok(())
+}
+
+/// How many bytes a write takes at most.
+#[derive(Clone, Copy)]
+enum Most {
+    Always(usize),
+    OneMoreThanAreKept,
+}
+
+/// An output that keeps its bytes. A write is refused beyond the room.
 #[derive(Drop)]
 struct Page {
     bytes: RefCell<Vec<u8>>,
     room: usize,
+    most: Most,
 }
 
 impl Print for Page {
@@ -144,15 +176,38 @@ impl Print for Page {
         let Ok(mut kept) = self.bytes.try_borrow_mut() else {
             return Err(io::Error::from(ErrorKind::ResourceBusy));
         };
-        let count = bytes.len().min(5).min(self.room.saturating_sub(kept.len()));
+        let most = match self.most {
+            Most::Always(count) => count,
+            Most::OneMoreThanAreKept => kept.len().saturating_add(1),
+        };
+        let room = self.room.saturating_sub(kept.len());
+        let count = bytes.len().min(most).min(room);
         kept.extend_from_slice(&bytes[..count])?;
         Ok(count)
     }
 }
 
-/// How much room there is, the answer, and what is written.
+/// Writes a text to an output: the answer, and what the output keeps.
+fn page_of(
+    alloc: Global,
+    room: usize,
+    most: Most,
+    text: &[u8],
+) -> (Result<(), SinkFault>, Vec<u8>) {
+    let page = Page {
+        bytes: RefCell::new(Vec::new(alloc)),
+        room,
+        most,
+    };
+    let mut sink = OutSink::new(&page);
+    let answer = write_all_of(&mut sink, text);
+    (answer, page.bytes.into_inner())
+}
+
+/// How much room there is, the answer, and what is written. The last write of the whole text is of
+/// a single byte.
 const PAGES: &[(usize, Result<(), SinkFault>, &str)] = &[
-    (100, Ok(()), "hot 20000\n"),
+    (100, Ok(()), "hot 200000\n"),
     (7, Err(SinkFault), "hot 200"),
     (0, Err(SinkFault), ""),
 ];
@@ -161,15 +216,27 @@ const PAGES: &[(usize, Result<(), SinkFault>, &str)] = &[
 fn an_output_takes_a_text_or_its_front(rt: HostRuntime) -> Result<(), Fail> {
     let alloc = rt.alloc();
     for (room, wanted, written) in PAGES {
-        let page = Page {
-            bytes: RefCell::new(Vec::new(alloc)),
-            room: *room,
-        };
-        let mut sink = OutSink::new(&page);
-        let answer = write_all_of(&mut sink, b"hot 20000\n");
+        let (answer, bytes) = page_of(alloc, *room, Most::Always(5), b"hot 200000\n");
         assert_same(&rt, written, &answer, wanted);
-        let bytes = page.bytes.into_inner();
         assert_lists(&rt, written, bytes.as_slice(), written.as_bytes());
+    }
+    Ok(())
+}
+
+#[test]
+fn an_output_takes_a_large_text_by_small_writes_and_large_ones(
+    rt: HostRuntime,
+) -> Result<(), Fail> {
+    let alloc = rt.alloc();
+    let text = varied_bytes(alloc, LARGE)?;
+    for most in [
+        Most::OneMoreThanAreKept,
+        Most::Always(4096),
+        Most::Always(LARGE),
+    ] {
+        let (answer, bytes) = page_of(alloc, LARGE, most, text.as_slice());
+        assert_same(&rt, "a large text", &answer, &Ok(()));
+        assert!(rt; bytes.as_slice() == text.as_slice());
     }
     Ok(())
 }
