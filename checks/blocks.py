@@ -5,7 +5,7 @@ import re
 import subprocess
 import tempfile
 
-from common import ROOT, example, run
+from common import ROOT, Report, example, run
 from patience import written
 
 DOCUMENTS = ('README.md', 'docs/USER_GUIDE.md', 'docs/HOW_TO_ENTER.md', 'docs/NETWORK_BY_HAND.md')
@@ -20,11 +20,16 @@ OUTSIDE = re.compile(r'\brt\b|ssh|dask-|checks/|\.ci/|\bpip\b|desk/test|\./insta
 DESK = '/usr/bin/python3'
 
 
+def has_desk() -> bool:
+    """Whether the desk has its packages."""
+    asked = [DESK, '-c', 'import openpyxl, pint, matplotlib, jinja2']
+    return os.access(DESK, os.X_OK) and subprocess.run(asked, stderr=subprocess.DEVNULL).returncode == 0
+
+
 class Blocks:
-    def __init__(self, program, report):
-        self.program, self.report, self.left = program, report, []
-        asked = [DESK, '-c', 'import openpyxl, pint, matplotlib, jinja2']
-        self.has_desk = subprocess.run(asked, stderr=subprocess.DEVNULL).returncode == 0
+    def __init__(self, program: str, report: Report, with_desk: bool) -> None:
+        self.program, self.report, self.with_desk = program, report, with_desk
+        self.left: list[str] = []
 
     def check(self, documents):
         for name in DOCUMENTS:
@@ -50,8 +55,8 @@ class Blocks:
     def block(self, name, held, block, folder):
         if OUTSIDE.search(block):
             return
-        if 'desk/' in block and not self.has_desk:
-            return self.left.append('%s: the desk has not its packages: %s' % (name, block.split('\n')[0]))
+        if 'desk/' in block and not self.with_desk:
+            return self.left.append('%s: no desk, or none with its packages: %s' % (name, block.split('\n')[0]))
         environment = dict(os.environ, PINCH=self.program, PATH=os.path.join(folder, 'bin') + ':' + os.environ['PATH'])
         with subprocess.Popen(['sh', '-e', '-c', block], cwd=folder, env=environment, stdin=subprocess.DEVNULL,
                               stdout=subprocess.PIPE, stderr=subprocess.STDOUT) as done:
