@@ -1,16 +1,21 @@
 """Networks of few exchangers: windows, plans, what is joined, what is written; each accepted with what it says."""
 from __future__ import annotations
 
+import csv
+import io
+from dataclasses import replace
 from fractions import Fraction
 from pathlib import Path
 
 import pytest
 from conftest import EXAMPLES, example, pinchdesk
 
-from pinchdesk import Accepted, Cut, Pinch, completed, read_case, read_network
+from pinchdesk import (Accepted, Basis, Cut, Pinch, Shown, completed, find_network, read_case, read_network,
+                       tradeoff)
 from pinchdesk.matches import windows
-from pinchdesk.matches.found import NoNetwork, find_network
+from pinchdesk.matches.found import NoNetwork
 from pinchdesk.matches.joined import joined
+from pinchdesk.matches.judged import NotAccepted
 from pinchdesk.matches.plan import Match, Plan
 from pinchdesk.matches.written import written
 
@@ -25,7 +30,8 @@ def test_as_few_as_published_at_the_least_cost(pinch: Pinch, name: str) -> None:
     verdict = pinch.audit(example(f'{name}.csv'), found.text)
     assert isinstance(verdict, Accepted) and verdict.cost == verdict.floor == found.verdict.cost
     assert found.text.startswith(f'# {found.exchangers} exchangers\n# bound: at least ')
-    assert f'\n# cost {verdict.cost}\n# floor {verdict.floor}\n# excess {verdict.excess}\n' in found.text
+    cost, excess, unit = Shown().cost(verdict.cost), Shown().kilowatts(verdict.excess), 'price times W'
+    assert f'\n# cost {cost} {unit}\n# floor {verdict.floor} {unit}\n# excess {excess} kW\nexchanger ' in found.text
 
 
 def test_windows_end_where_no_heat_crosses(pinch: Pinch) -> None:
@@ -51,7 +57,7 @@ def test_more_cost_buys_fewer_exchangers(pinch: Pinch) -> None:
 def test_no_network(pinch: Pinch) -> None:
     with pytest.raises(NoNetwork, match='no heat flow'):
         find_network(example('too-little-cooling.csv'), pinch=pinch)
-    with pytest.raises(NoNetwork, match='less than 107500'):
+    with pytest.raises(NoNetwork, match='less than 107500 price times W'):
         find_network(example('tc3.csv'), most_cost=107499, pinch=pinch)
     with pytest.raises(NoNetwork, match='rejected'):
         find_network(example('tc3.csv'), start='end S1\n', pinch=pinch)
@@ -89,3 +95,67 @@ def test_the_word(tmp_path: Path) -> None:
     assert pinchdesk('network', str(EXAMPLES / 'too-little-cooling.csv')).status == 1
     assert pinchdesk('network', str(EXAMPLES / 'tc3.csv'), '--cost', '1').status == 1
     assert pinchdesk('network', str(EXAMPLES / 'tc3.csv'), '--seconds', '0').status == 2
+
+
+HEAT = 'Stream;Kind;Supply (°C);Target (°C);CP (kW/K);Price (EUR/MWh)\nH1;;150;60;2;\nC1;;20;125;2,5;\n'
+# A table, what its heats are taken times, its cost, and that cost's unit.
+PRICED = [(HEAT + 'LP;heater;180;;;30,05\n', '10', '2.479', 'EUR/h'), (HEAT, '10', '82500', 'price times W'),
+          (HEAT.replace('EUR/MWh', 'EUR/(kW a)') + 'LP;heater;180;;;20\n', '0.1', '1650', 'EUR/a')]
+
+
+@pytest.mark.parametrize('table, scale, cost, unit', PRICED, ids=['per MWh', 'no price', 'per kW and year'])
+def test_a_network_is_told_in_the_units_of_its_case(table: str, scale: str, cost: str, unit: str,
+                                                    tmp_path: Path) -> None:
+    plant, case, out = tmp_path / 'plant.csv', tmp_path / 'case.csv', tmp_path / 'case-network.txt'
+    plant.write_text(table)
+    assert pinchdesk('case', '-d', '10', '--scale', scale, str(plant), '-o', str(case)).status == 0
+    assert pinchdesk('network', str(case), '--seconds', '1', '-o', str(out)).status == 0
+    head = f'\n# cost {cost} {unit}\n# floor {cost} {unit}\n# excess 0 kW\n'
+    times = f'# duties and sizes are {Fraction(scale)} times the plant\'s, as in the case\nexchanger '
+    assert head + times in out.read_text()
+    folder = tmp_path / 'ways'
+    done = pinchdesk('tradeoff', str(case), str(out), '--seconds', '0.1', '--form', 'csv', '--networks', str(folder))
+    assert done.out.startswith(f'exchangers,cost {unit},above the floor {unit},excess kW')
+    held = next(folder.iterdir()).read_text()
+    assert f'\n# cost {cost} {unit}, floor {cost} {unit}, excess 0 kW\n{times}' in held
+    (tmp_path / 'list').write_text(f'case\n{case}\n{EXAMPLES}/tc3.csv\n')
+    done = pinchdesk('many', 'network', str(tmp_path / 'list'), '--seconds', '1', '--form', 'csv')
+    first, other = csv.DictReader(io.StringIO(done.out))
+    assert (first[f'cost {unit}'], first[f'floor {unit}'], first['excess kW'], first['exchangers']) == (
+        cost, cost, '0', '2')
+    assert other['cost price times W'] == '107500' and other['said'].startswith('bound: at least ')
+
+
+@pytest.mark.parametrize('table, scale, cost, unit', PRICED, ids=['per MWh', 'no price', 'per kW and year'])
+def test_what_a_network_may_cost_is_asked_in_the_unit_that_is_told(table: str, scale: str, cost: str, unit: str,
+                                                                   tmp_path: Path) -> None:
+    plant, case = tmp_path / 'plant.csv', tmp_path / 'case.csv'
+    plant.write_text(table)
+    assert pinchdesk('case', '-d', '10', '--scale', scale, str(plant), '-o', str(case)).status == 0
+    more, less = (f'{float(cost) * part:g}' for part in (1.01, 0.99))
+    for asked in (more, f'{more} {unit}', more.replace('.', ',')):
+        assert pinchdesk('network', str(case), '--seconds', '1', '--cost', asked).status == 0
+    refused = pinchdesk('network', str(case), '--seconds', '1', '--cost', less)
+    assert refused.status == 1 and f' {unit}, the least cost of a heat flow' in refused.err
+    for asked, told in ((f'{more} USD/d', f'the costs of the case are in {unit}, and `USD/d` is another unit'),
+                        ('dear', f'dear is no number of a cost: one is wanted in {unit}'),
+                        ('32.000', 'the cost 32.000 may be 32 or 32000')):
+        refused = pinchdesk('network', str(case), '--cost', asked)
+        assert (refused.status, refused.err) == (2, f'pinchdesk: {told}\n')
+
+
+def test_a_cost_below_the_least_one_is_refused_with_all_its_digits(pinch: Pinch) -> None:
+    case = read_case(example('tc3.csv'))
+    small = replace(case, basis=Basis(cost_unit='EUR/h', cost_divisor=Fraction(10 ** 9)))
+    with pytest.raises(NoNetwork, match='less than 0.000108 EUR/h'):
+        find_network(small, most_cost=107_000, pinch=pinch)
+
+
+def test_a_network_to_begin_with_is_refused_in_the_units_of_its_case(pinch: Pinch) -> None:
+    case = b'#scale,10,,,,,\n' + example('tc3.csv')
+    network = example('tc3-network.txt').replace(b'E4 S1 S3 20000', b'E4 S1 S3 20500')
+    said = r'is rejected at .*: .* °C in place of .* °C \(MissedTarget\)'
+    with pytest.raises(NoNetwork, match=said):
+        find_network(case, start=network, pinch=pinch)
+    with pytest.raises(NotAccepted, match=said):
+        tradeoff(case, network, pinch)

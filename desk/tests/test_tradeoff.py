@@ -271,20 +271,21 @@ def test_a_picture_of_long_costs_and_many_networks_has_room(pinch: Pinch) -> Non
     for rows in (made.rows, made.rows + made.rows[-1:] * 4):
         figure = tradeoff_figure(replace(made, rows=rows))
         assert cut_off(figure) == []
-    assert 'the network at the beginning: 11, 105500000' in svg_texts(figure)
+    assert 'the network at the beginning: 11, 105500000 price times W' in svg_texts(figure)
 
 
 def test_the_word_gives_a_table_and_the_networks(desk: Captured, tmp_path: Path, pinch: Pinch) -> None:
     folder = tmp_path / 'networks'
     done = desk('tradeoff', *TC3, '--seconds', '0.01', '--form', 'csv', '--networks', str(folder))
-    assert done.status == 0 and done.out.startswith('exchangers,cost price times W,above the floor,excess kW,splits,')
+    assert done.status == 0
+    assert done.out.startswith('exchangers,cost price times W,above the floor price times W,excess kW,splits,')
     rows = [line.split(',') for line in done.out.split('\r\n')[1:]]
     assert [row[:4] for row in rows[:3]] == [['floor', '107500', '0', ''], ['7', '107500', '0', '0'],
                                              ['6', '111500', '4000', '4']]
     assert '6,4,path,HOT (+H3) S3 (-E4) S1 (+C1) COLD' in done.out
     files = {each.name: each.read_bytes() for each in folder.iterdir()}
     assert {'tc3-7.txt', 'tc3-6.txt', 'tc3-5.txt'} <= set(files)
-    assert files['tc3-6.txt'].startswith(b'# 6 exchangers, 1 splits\n# cost 111500 price times W, floor 107500, ')
+    assert files['tc3-6.txt'].startswith(b'# 6 exchangers, 1 splits\n# cost 111500 price times W, floor 107500 price')
     verdict = pinch.audit(example('tc3.csv'), files['tc3-6.txt'])
     assert isinstance(verdict, Accepted) and verdict.cost == 111500
 

@@ -14,7 +14,7 @@ from fractions import Fraction
 from .asked import held_case, judged, takes_network
 from .case import Side, Stream, Utility
 from .errors import about
-from .findings import Finding, finding_of, stream_at
+from .findings import Finding, finding_of, headline, stream_at
 from .network import read_network
 from .output import read_bytes
 from .program import Pinch
@@ -155,15 +155,7 @@ def sums_sheet(followed: Followed) -> Sheet:
 
 
 def verdict_sheet(followed: Followed, verdict: Verdict) -> Sheet:
-    shown = Shown(followed.case.basis)
-    if isinstance(verdict, Accepted):
-        told = f'accepted, {shown.kilowatts(verdict.excess)} kW above the hot target'
-    elif isinstance(verdict, Rejected):
-        finding = finding_of(followed, verdict, shown)
-        told = f'rejected at {finding.place}: {finding.sentence} ({verdict.reason})'
-    else:
-        told = f'too fine at {verdict.place}: nothing is said of the network'
-    return Sheet('', (), ((told,),))
+    return Sheet('', (), ((headline(followed, verdict),),))
 
 
 def mixes_sheets(followed: Followed, verdict: Verdict) -> list[Sheet]:

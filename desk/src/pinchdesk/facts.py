@@ -1,9 +1,9 @@
 """Answers as rows of a table of many answers: cells by their headings, in engineers' units."""
 from __future__ import annotations
 
-import re
 from collections.abc import Iterator, Sequence
 from decimal import Decimal
+from itertools import takewhile
 
 from .answers import Cut, HeatFlow, Targets
 from .case import Case
@@ -14,7 +14,6 @@ from .word import Answer, Facts
 
 SAID = 'said'
 LONGEST = 300
-NUMBERED = re.compile(r'(?P<first>-?\d+(?:\.\d+)?) (?P<behind>[^\W\d]+)|(?P<before>[^\W\d]+) (?P<last>-?\d+(?:\.\d+)?)')
 
 
 def targets_facts(case: Case, targets: Targets) -> Facts:
@@ -74,16 +73,7 @@ def facts_of_rows(sheet: Sheet, named: bool) -> Iterator[Facts]:
 
 
 def facts_of_comments(content: str | bytes) -> Facts:
-    """The comments with which a text begins: a number with its name (`7 exchangers`, `cost 107500`) is a cell, all
-    else is said."""
-    found: dict[str, Cell] = {}
-    said: list[str] = []
-    for line in content.split('\n') if isinstance(content, str) else []:
-        if not line.startswith('#'):
-            break
-        match = NUMBERED.fullmatch(line.strip('#, '))
-        if match:
-            found[match['before'] or match['behind']] = Decimal(match['first'] or match['last'])
-        else:
-            said.append(line.strip('#, '))
-    return found | ({SAID: '; '.join(said)[:LONGEST]} if said else {})
+    """The comments with which a text begins are said."""
+    lines = content.split('\n') if isinstance(content, str) else []
+    said = [line.strip('#, ') for line in takewhile(lambda line: line.startswith('#'), lines)]
+    return {SAID: '; '.join(said)[:LONGEST]} if said else {}

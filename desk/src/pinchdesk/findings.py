@@ -8,7 +8,7 @@ from .case import Case, Stream
 from .network import End, Mix, Pass, Split
 from .shown import Shown, decimal, is_rounded
 from .states import Followed
-from .verdicts import PlaceKind, Rejected
+from .verdicts import Accepted, PlaceKind, Rejected, Verdict
 
 REASONS = {
     'HotEndApproach': 'too close at its hot end: the hot side enters at {found}, and the cold one leaves so warm that '
@@ -57,6 +57,17 @@ def finding_of(followed: Followed, rejected: Rejected, shown: Shown) -> Finding:
     sentence = REASONS.get(rejected.reason, rejected.reason).format(found=found, wanted=wanted)
     where = f'{place} ({stream})' if stream and place.kind is PlaceKind.LINE else str(place)
     return Finding(where, exchanger, stream, found, wanted, sentence, rejected.reason)
+
+
+def headline(followed: Followed, verdict: Verdict) -> str:
+    """A verdict in one sentence."""
+    shown = Shown(followed.case.basis)
+    if isinstance(verdict, Accepted):
+        return f'accepted, {shown.kilowatts(verdict.excess)} kW above the hot target'
+    if isinstance(verdict, Rejected):
+        finding = finding_of(followed, verdict, shown)
+        return f'rejected at {finding.place}: {finding.sentence} ({verdict.reason})'
+    return f'too fine at {verdict.place}: nothing is said of the network'
 
 
 def exchanger_before(followed: Followed, statement: object) -> str | None:

@@ -7,8 +7,10 @@ from __future__ import annotations
 
 from dataclasses import dataclass
 from fractions import Fraction
+from math import ceil
 
 from .case import Basis
+from .harmless import printable
 
 Number = int | Fraction
 
@@ -22,6 +24,11 @@ def decimal(value: Number, places: int) -> str:
     text = digits[:len(digits) - places] + ('.' + digits[len(digits) - places:] if places else '')
     text = text.rstrip('0').rstrip('.') if places else text
     return '-' + text if held < 0 and text != '0' else text
+
+
+def decimal_up(value: Number, places: int) -> str:
+    """A number with at most so many decimals, rounded up: what is at least this is at least the number."""
+    return decimal(Fraction(ceil(Fraction(value) * 10 ** places), 10 ** places), places)
 
 
 def is_rounded(value: Number, places: int) -> bool:
@@ -65,11 +72,24 @@ class Shown:
     def in_cost(self, cost: Number) -> Fraction:
         return Fraction(cost) / self.basis.cost_divisor / self.basis.scale
 
+    def with_unit(self, cost: Number) -> str:
+        """A cost with its unit beside it."""
+        return f'{self.cost(cost)} {self.cost_unit}'
+
+    def in_program(self, cost: Fraction) -> Fraction:
+        """A cost in the unit of `cost_unit`, as the program has it."""
+        return cost * self.basis.cost_divisor * self.basis.scale
+
+    def scale_remarks(self) -> list[str]:
+        """What stands with numbers of the case as the program has them, where these are not the plant's."""
+        return [f'duties and sizes are {self.basis.scale} times the plant\'s, as in the case'] \
+            if self.basis.scale != 1 else []
+
     @property
     def price_unit(self) -> str:
-        return self.basis.price_unit or 'per W'
+        return printable(self.basis.price_unit) or 'per W'
 
     @property
     def cost_unit(self) -> str:
         """The unit of costs; that of a case without one is price times W."""
-        return self.basis.cost_unit or 'price times W'
+        return printable(self.basis.cost_unit) or 'price times W'

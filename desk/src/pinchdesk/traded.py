@@ -46,10 +46,10 @@ def tradeoff_sheets(traded: TradeOff) -> list[Sheet]:
         *([begun_row(traded, shown)] if traded.left_begun else []),
         *(row_of(each, traded, shown) for each in traded.rows)]
     unit = shown.cost_unit
-    headings = ('exchangers', f'cost {unit}', 'above the floor', 'excess kW', 'splits', 'gone', 'new')
+    headings = ('exchangers', f'cost {unit}', f'above the floor {unit}', 'excess kW', 'splits', 'gone', 'new')
     moved = tuple((Decimal(row.exchangers), Decimal(shown.kilowatts(each.heat)), 'loop' if each.loop else 'path',
                    each.told) for row in traded.rows for each in row.shifts)
-    changes = Sheet('Heat moved from one network to the next', ('to', 'kW', '', 'way'), moved)
+    changes = Sheet('Heat moved from one network to the next', ('to', 'kW', 'along', 'way'), moved)
     return [Sheet('Exchangers against cost', headings, tuple(rows)), *[changes] * bool(moved),
             Sheet('What is proved', (), ((said_of(traded),),))]
 
@@ -87,8 +87,8 @@ def network_text(row: Row, traded: TradeOff) -> str:
     """A network as a text, with what it is in comments."""
     shown = Shown(traded.case.basis)
     head = (f'# {row.exchangers} exchangers, {row.judged.splits} splits',
-            f'# cost {shown.cost(row.cost)} {shown.cost_unit}, floor {shown.cost(traded.floor)}, '
-            f'excess {shown.kilowatts(row.excess)} kW')
+            f'# cost {shown.with_unit(row.cost)}, floor {shown.with_unit(traded.floor)}, '
+            f'excess {shown.kilowatts(row.excess)} kW', *(f'# {each}' for each in shown.scale_remarks()))
     return '\n'.join(head) + '\n' + print_network(row.network)
 
 
@@ -115,7 +115,7 @@ def write_networks(traded: TradeOff, folder: str, stem: str, inputs: list[str]) 
 def told_on(case: Case) -> Callable[[Judged], None]:
     """Tells what was found last."""
     shown = Shown(case.basis)
-    return lambda judged: tell(f'{judged.count} exchangers at {shown.cost(judged.cost)} {shown.cost_unit}')
+    return lambda judged: tell(f'{judged.count} exchangers at {shown.with_unit(judged.cost)}')
 
 
 def tradeoff(options: Namespace) -> Answer:

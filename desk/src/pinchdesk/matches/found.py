@@ -6,10 +6,13 @@ from dataclasses import dataclass
 from fractions import Fraction
 
 from ..answers import Cut, Design
-from ..case import Case, completed, read_case
+from ..case import Basis, Case, completed, read_case
 from ..errors import INFEASIBLE, DeskError, Status
+from ..findings import headline
 from ..network import Network, print_network, read_network
 from ..program import CaseText, NetworkText, Pinch
+from ..shown import Shown, decimal_up
+from ..states import follow
 from ..verdicts import Accepted, ending
 from .effort import Effort, nobody
 
@@ -28,13 +31,14 @@ class NoNetwork(DeskError):
 class FewExchangers:
     """A network that `pinch audit` accepted, with what it said. `bound` is what the solver says that no network at
     this cost has fewer exchangers than; `staged` the same for networks of so many stages, in each of the windows, with
-    isothermal mixing, None where that was not settled; `ended` is why the search ended."""
+    isothermal mixing, None where that was not settled; `ended` is why the search ended. `basis` is that of the case."""
 
     network: Network
     verdict: Accepted
     bound: int
     staged: tuple[int, tuple[int, ...]] | None
     ended: str
+    basis: Basis = Basis()
 
     @property
     def exchangers(self) -> int:
@@ -46,13 +50,19 @@ class FewExchangers:
         return ''.join(f'# {each}\n' for each in self.comments()) + print_network(self.network)
 
     def comments(self) -> list[str]:
-        verdict = self.verdict
+        shown, verdict = Shown(self.basis), self.verdict
+        return [f'{self.exchangers} exchangers', self.bounds, f'cost {shown.with_unit(verdict.cost)}',
+                f'floor {shown.with_unit(verdict.floor)}', f'excess {shown.kilowatts(verdict.excess)} kW',
+                *shown.scale_remarks()]
+
+    @property
+    def bounds(self) -> str:
+        """What the solver says of fewer exchangers, in words."""
         staged = ''
         if self.staged is not None:
             stages = '+'.join(map(str, self.staged[1]))
             staged = f'; at least {self.staged[0]} in {stages} stages with isothermal mixing'
-        return [f'{self.exchangers} exchangers', f'bound: at least {self.bound} by the solver{staged} ({self.ended})',
-                f'cost {verdict.cost}', f'floor {verdict.floor}', f'excess {verdict.excess}']
+        return f'bound: at least {self.bound} by the solver{staged} ({self.ended})'
 
 
 def find_network(case: CaseText, most_cost: Fraction | int | None = None, above: Fraction | int | None = None,
@@ -67,7 +77,7 @@ def find_network(case: CaseText, most_cost: Fraction | int | None = None, above:
     if isinstance(flow, Cut):
         raise NoNetwork('there is no heat flow, so there is no network (`pinchdesk flow` says why)')
     held = completed(case if isinstance(case, Case) else read_case(case))
-    limit = limit_of(flow.cost, most_cost, above)
+    limit = limit_of(flow.cost, most_cost, above, Shown(held.basis))
     # The solver takes a while to load, which no other word should wait for.
     from .search import Search
     search = Search(pinch, held, flow.cost, limit, effort)
@@ -81,17 +91,18 @@ def find_network(case: CaseText, most_cost: Fraction | int | None = None, above:
     if best is None:
         raise NoNetwork('interrupted before there was a network', Status.STOPPED)
     staged = search.staged if search.staged is not None and search.staged[0] <= best.exchangers else None
-    return FewExchangers(best.network, best.verdict, min(effort.bound, best.exchangers), staged, ended)
+    return FewExchangers(best.network, best.verdict, min(effort.bound, best.exchangers), staged, ended, held.basis)
 
 
-def limit_of(floor: int, most_cost: Fraction | int | None, above: Fraction | int | None) -> Fraction:
+def limit_of(floor: int, most_cost: Fraction | int | None, above: Fraction | int | None, shown: Shown) -> Fraction:
     """The most that the network may cost; `NoNetwork` where that is below the least cost of all."""
     if most_cost is not None:
         limit = Fraction(most_cost)
     else:
         limit = floor + abs(Fraction(floor)) * Fraction(above or 0) / 100
     if limit < floor:
-        raise NoNetwork(f'no network costs less than {floor}, the least cost of a heat flow', Status.FAILED)
+        least = f'{decimal_up(shown.in_cost(floor), 6)} {shown.cost_unit}'
+        raise NoNetwork(f'no network costs less than {least}, the least cost of a heat flow', Status.FAILED)
     return limit
 
 
@@ -102,6 +113,7 @@ def first_of(pinch: Pinch, case: Case, start: NetworkText | None) -> list[Networ
     if start is None:
         return first
     verdict = pinch.audit(case, start)
+    held = start if isinstance(start, Network) else read_network(start)
     if not isinstance(verdict, Accepted):
-        raise NoNetwork(f'the network to begin with is not accepted: {verdict.text.strip()}', *ending([verdict]))
-    return [start if isinstance(start, Network) else read_network(start), *first]
+        raise NoNetwork(f'the network to begin with is {headline(follow(case, held), verdict)}', *ending([verdict]))
+    return [held, *first]

@@ -6,8 +6,10 @@ from fractions import Fraction
 
 from ..case import Case, completed, read_case
 from ..errors import DeskError, Refused
+from ..findings import headline
 from ..network import Network, read_network
 from ..program import CaseText, NetworkText, Pinch
+from ..states import follow
 from ..verdicts import Accepted, Rejected, TooFine, ending
 from .costed import Costed
 from .structure import Structure, splits
@@ -15,11 +17,10 @@ from .texts import Duties, duties_of, network_of, structure_of
 
 
 class NotAccepted(DeskError):
-    """The network that is given is not accepted; `verdict` says why."""
+    """The network that is given is not accepted: what is told of it, and its verdict."""
 
-    def __init__(self, verdict: Rejected | TooFine) -> None:
-        told = f'rejected at {verdict.place}: {verdict.reason}' if isinstance(verdict, Rejected) else 'too fine'
-        super().__init__(f'the network is {told} (`pinchdesk audit` says more): only an accepted one is changed')
+    def __init__(self, told: str, verdict: Rejected | TooFine) -> None:
+        super().__init__(f'the network is {told}: only an accepted one is changed')
         self.status, self.no = ending([verdict])
 
 
@@ -66,7 +67,8 @@ class Judge:
         """A network that somebody has; `NotAccepted` where it is not, `Refused` where it has no structure."""
         verdict = self.pinch.audit(self.case, network)
         if not isinstance(verdict, Accepted):
-            raise NotAccepted(verdict)
+            told = headline(follow(self.case, network), verdict)
+            raise NotAccepted(told, verdict)
         return Judged(structure_of(self.case, network), duties_of(network), network, verdict)
 
     def of(self, costed: Costed | None) -> Judged | None:

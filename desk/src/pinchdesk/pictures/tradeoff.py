@@ -51,12 +51,12 @@ def floor_line(axes: Axes, floor: float) -> list[Xy]:
 def put_points(axes: Axes, traded: TradeOff, points: list[Xy], shown: Shown) -> None:
     floor, begun = traded.floor, traded.begun
     axes.axhline(float(shown.in_cost(floor)), color=PALE, linestyle='--', linewidth=1.2,
-                 label=f'floor, no network costs less: {shown.cost(floor)}')
+                 label=f'floor, no network costs less: {shown.with_unit(floor)}')
     axes.plot(*zip(*points), color=HOT, linewidth=1.2, marker='o', markersize=5.5, markerfacecolor=INK,
               markeredgecolor=INK, label='networks, each accepted by the audit')
     if traded.left_begun:
         axes.plot([begun.count], [float(shown.in_cost(begun.cost))], 'o', color=PALE, markerfacecolor='white',
-                  markersize=6, label=f'the network at the beginning: {begun.count}, {shown.cost(begun.cost)}')
+                  markersize=6, label=f'the network at the beginning: {begun.count}, {shown.with_unit(begun.cost)}')
     axes.set_title('Exchangers against cost')
     axes.set_xlabel('exchangers, with heaters and coolers')
     axes.set_ylabel(f'cost of utilities, {said(shown.cost_unit)}')
