@@ -49,9 +49,12 @@ pub all_made : {X : Type 0} (IsItem : ℕ → X → Type 0) (many workers worker
     → AreItemsOfWorker IsItem many workers worker items
 all_made IsItem many workers worker number items made end = record {
   each = made.each;
-  all = λ j. (made.within j, λ below. ⊎_elim (λ less. less) (λ past.
-      let more = mul-le (length items) workers j workers past (omega arith) in
-      absurd (omega (arith, made.next, end, below, more))) (cases_lt j (length items)));
+  all = λ j. (
+    made.within j,
+    λ below. ⊎_elim (λ less. less) (λ past.
+        let more = mul-le (length items) workers j workers past (omega arith) in
+        absurd (omega (arith, made.next, end, below, more))) (cases_lt j (length items)),
+  );
 }
 
 -- ---- the last item
@@ -105,10 +108,10 @@ module _ {X : Type 0} (IsItem : ℕ → X → Type 0) (left workers : ℕ) (some
             λ j. (
               λ less. let more =
                   times_less workers (left % workers) j (left / workers) some (omega (arith, less, place)) in
-              omega (arith, more, n),
+                  omega (arith, more, n),
               λ less. let fewer =
                   less_times workers (left % workers) j (left / workers) some (omega (arith, less, n)) in
-              omega (arith, fewer, place),
+                  omega (arith, fewer, place),
             );
       }
 
@@ -121,7 +124,7 @@ module _ {X : Type 0} (IsItem : ℕ → X → Type 0) (left workers : ℕ) (some
     all =
         λ j. (
           λ less. let below = (of.all j).0 less in
-          ⊎_elim (λ same. absurd (other (own j same))) (λ apart. omega (arith, below, apart))
+              ⊎_elim (λ same. absurd (other (own j same))) (λ apart. omega (arith, below, apart))
               (cases_eq (worker + j * workers) left),
           λ less. (of.all j).1 (omega (arith, less)),
         );
@@ -174,7 +177,7 @@ has_last IsItem left lists (Err e) some each is = tt
 has_last IsItem left lists (Ok items) some each is =
     let own = left % length lists in
     let here : slice_get lists own ≡ Some (Ok items)
-        = slice_get-get_or lists own (Ok items) (mod_below left (length lists) some) ∙ ap Some (sym is) in
+    = slice_get-get_or lists own (Ok items) (mod_below left (length lists) some) ∙ ap Some (sym is) in
     let there = ((each own (Ok items) here).all (left / length lists)).1 (let n = number_is IsItem left (length lists) some in omega (arith, n)) in
     omega (arith, there)
 
