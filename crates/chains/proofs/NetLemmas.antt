@@ -42,6 +42,7 @@ module _ (c : Case) (places : List ℤ) (hot cold : List Part) (complete : IsCom
       let most_links = mul-le (length chains.groups) (length cold + 2 * length places) (MOST_STREAMS + ALL_UTILITIES)
       (MOST_PARTS + 2 * MOST_PLACES) few (omega (arith, few_cold, few_places)) in
       record {
+        some = (places, is_grid);
         links =
             λ other grid.
             subst (λ ps. length chains.net.links ≤ length hot + length chains.groups * (length cold + 2 * length ps))

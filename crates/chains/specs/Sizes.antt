@@ -5,9 +5,10 @@ use Rattle.grid.specs.Grid.{IsGrid}
 use Rattle.chains.specs.declared.net.Chains.{Chains}
 use Rattle.chains.specs.declared.net.TheConstants.{MOST_INNER_LINKS, MOST_INNER_NODES}
 
--- for so many hot and cold parts: for each place of the grid a group adds two nodes and two links at most, and for
--- each cold part one link
+-- for so many hot and cold parts: the case has a grid, and for each place of it a group adds two nodes and two links at
+-- most, and for each cold part one link
 pub record IsSmall (c : Case) (hots colds : ℕ) (chains : Chains) : Type 0 where
+  pub some : (places : List ℤ) × IsGrid c places
   pub links : (places : List ℤ) → IsGrid c places
       → length chains.net.links ≤ hots + length chains.groups * (colds + 2 * length places)
   pub nodes : (places : List ℤ) → IsGrid c places

@@ -13,7 +13,7 @@ pub const MOST_INNER_LINKS: usize = 900_000;
 #[derive(Debug, Drop)]
 pub struct Group {
     pub sources: Items<Source>,
-    /// The first node of the chain, at the highest place of the grid.
+    /// The first node of the chain, for the highest rank at which a part stands.
     pub first_node: u32,
 }
 
