@@ -35,7 +35,8 @@ def test_units_of_megawatts_in_the_headings_are_not_dropped(pinch: Pinch) -> Non
 
 def test_kelvins_and_fahrenheits_are_not_taken_for_celsius() -> None:
     assert streams('name,Ts (K),Tt (K),CP\nH,423.15,333.15,2\n') == [('hot', 'H', 1500, 600, 200, 0)]
-    assert streams('name,Ts (°F),Tt (°F),CP\nH,302,140,2\n') == [('hot', 'H', 1500, 600, 200, 0)]
+    assert streams('name,Ts (°F),Tt (°F),CP (kW/K)\nH,302,140,2\n', Wanted('10 K')) == [
+        ('hot', 'H', 1500, 600, 200, 0)]
 
 
 def test_a_number_with_two_readings_is_refused_with_both() -> None:
@@ -195,11 +196,10 @@ def test_names_are_made_fit_and_told() -> None:
             '=1+1,150,60,2\n')
     case = made(held).case
     names = [each.name for each in case.streams]
-    assert names == ['Kuehlwasser-Rueck', 'Column-1-overhea', 'Column-1-overh-2', 'S4', 'script-alert-1-s', 'fit',
-                     '1-plus-1'] \
-        or names[0] == 'Kuehlwasser-Ruec'
+    assert names == ['Kuehlwasser-Ruec', 'Column-1-vapour', 'Column-1-liquid', 'S4', 'script-alert-1-s', 'fit',
+                     '1-plus-1']
     assert len(set(names)) == 7
-    assert case.basis.names[1] == ('Column 1/overhead vapour', 'Column-1-overhea')
+    assert case.basis.names[1] == ('Column 1/overhead vapour', 'Column-1-vapour')
     assert 'the name `温度` becomes S4' in made(held).notes
     assert read_case(example('four-stream.csv')).basis.names == ()
 

@@ -31,7 +31,7 @@ def test_other_words_are_passed_over(words: str) -> None:
 
 
 def test_units_alone_may_stand_above_the_headings() -> None:
-    assert streams(f',°F,°F,MW/K\n{HEAD}A,302,140,0.002\n') == [('hot', 'A', 1500, 600, 200, 0)]
+    assert streams(f',°F,°F,MW/K\n{HEAD}A,302,140,0.002\n', Wanted('18 °F')) == [('hot', 'A', 1500, 600, 200, 0)]
     assert streams('A,B,C,D,E,F\nname,supply,target,CP,duty,contribution\nA,150,60,2,180,5\n')[0][2] == 1500
 
 

@@ -114,8 +114,11 @@ def test_a_rejected_network_is_no_good_row(desk: Desk, tmp_path: Path) -> None:
 def test_a_word_of_several_rows_has_all_of_them(desk: Desk) -> None:
     done = desk('sweep', LIST, '0', '20', '10', '--form', 'csv')
     rows = rows_of(done)
-    # Two cases with steam of their own have no heat flow at one of the differences.
-    assert done.status == 1 and len(rows) == 21
+    # Two cases with steam of their own have no heat flow at one of the differences, and two with contributions of
+    # their own have a row more, of the case as it is.
+    assert done.status == 1 and len(rows) == 23
+    assert [row['case'] for row in rows if row['least difference K'] == 'its own'] == [
+        'column.csv', 'own-contributions.csv']
     assert {row['answer'] for row in rows if row['least cost price times W'] == 'no heat flow'} == {'infeasible'}
     assert [row['least difference K'] for row in rows[:4]] == ['0', '10', '20', '0']
     assert {row['case'] for row in rows[:3]} == {'four-stream.csv'}

@@ -107,9 +107,23 @@ def test_no_heat_flow_is_no_good_answer(desk: Captured) -> None:
 
 def test_a_sweep_is_in_least_differences(desk: Captured) -> None:
     done = desk('sweep', FOUR, '0', '20', '10', '--workers', '2', '--form', 'csv')
-    assert done.out.split('\r\n')[1:4] == ['0,0,40,0', '10,20,60,20000', '20,65,105,65000']
-    for words in (['x', '10', '1'], ['0', '10', '0.1'], ['0', '10', '0'], ['10', '0', '1'], ['0', '1000', '1']):
-        assert desk('sweep', FOUR, *words).status == 2
+    assert done.out.split('\r\n')[1:4] == ['0,0,40,0,', '10,20,60,20000,the case as it is', '20,65,105,65000,']
+    for words, said in ((['x', '10', '1'], 'x is no least difference'), (['0', '10', '0.1'], '0.1 is no least'),
+                        (['0', '10', '0'], 'the step is 0'), (['10', '0', '1'], '10 K, is above the last one, 0 K'),
+                        (['0', '1000', '1'], '200 K at most, and 1000 is more'),
+                        (['0', '200', '0.2'], '1000 rows at most, and this one would have 1001: take a step of 0.4 K'),
+                        (['0', '10', '1', '--workers', '17'], '17 is no number of workers: 1 to 16')):
+        done = desk('sweep', FOUR, *words)
+        assert done.status == 2 and said in done.err
+    assert desk('sweep', FOUR, '0', '199.8', '0.2').status == 0
+
+
+def test_a_sweep_says_what_it_replaces_and_has_the_case_as_it_is(desk: Captured) -> None:
+    done = desk('sweep', str(EXAMPLES / 'own-contributions.csv'), '10', '30', '20')
+    assert done.out.split('\n')[0] == 'Sweep: the contributions of their own of off-gas, reboiler, steam are replaced'
+    assert [line.split()[:4] for line in done.out.split('\n')[2:5]] == [
+        ['its', 'own', '93.75', '28.75'], ['10', '85', '20', '85000'], ['30', '165', '100', '165000']]
+    assert [line.count('the case as it is') for line in done.out.split('\n')[2:5]] == [1, 0, 0]
 
 
 def test_prices_are_of_utilities_by_name(desk: Captured, tmp_path: Path) -> None:

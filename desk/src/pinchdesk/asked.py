@@ -5,11 +5,10 @@ import os
 from argparse import ArgumentParser, Namespace
 from collections.abc import Sequence
 from dataclasses import replace
-from decimal import Decimal, InvalidOperation
 
 from .answers import Cut
 from .case import Case, completed, read_case
-from .errors import WordsError, about
+from .errors import about
 from .facts import flow_facts, targets_facts
 from .network import read_network
 from .output import read_bytes
@@ -17,6 +16,7 @@ from .program import Pinch
 from .reports import audit_sheets, flow_sheets, prices_sheets, site_sheets, sweep_sheets, targets_sheets
 from .sheets import FORMS, Sheet, form_of, rendered
 from .states import follow
+from .sweeps import as_it_is, asked_range, check_workers
 from .verdicts import Verdict, ending
 from .word import Answer, Facts, Word
 
@@ -99,28 +99,19 @@ def audit(options: Namespace) -> Answer:
         return judged(audit_sheets(followed, verdict), options, verdict)
 
 
-def contribution_of(text: str) -> int:
-    """Half of a least difference in K, in tenths of °C; `WordsError` where that is no whole number."""
-    try:
-        held = Decimal(text.replace(',', '.')) * 5
-    except InvalidOperation:
-        held = Decimal('NaN')
-    if not held.is_finite() or held != int(held) or held < 0:
-        raise WordsError(f'{text} is no least difference in K: a number of fifths of a K is wanted, as 10 or 2.4')
-    return int(held)
-
-
 def sweep(options: Namespace) -> Answer:
     content = read_bytes(options.case)
-    first, last, step = (contribution_of(each) for each in (options.first, options.last, options.step))
+    first, last, step = asked_range(options.first, options.last, options.step, options.workers)
     with about(case=options.case):
-        answer = Pinch().sweep(content, first, last, step, options.workers)
+        pinch = Pinch()
+        answer, held = pinch.sweep(content, first, last, step, options.workers), held_case(content)
         good = all(each.cost is not None for each in answer.points)
-        return answer_of(sweep_sheets(held_case(content), answer), options, good)
+        return answer_of(sweep_sheets(held, answer, as_it_is(pinch, content, held)), options, good)
 
 
 def prices(options: Namespace) -> Answer:
     content, study = read_bytes(options.case), read_bytes(options.study)
+    check_workers(options.workers)
     with about(case=options.case, study=options.study):
         answer = Pinch().prices(content, study, options.workers)
         good = answer.feasible

@@ -8,7 +8,7 @@ from fractions import Fraction
 from .errors import Refused
 from .layout import EMPTY
 from .numerals import NoNumber, Numeral, Says, numeral_of, readings
-from .quantities import Kind, UnknownUnit, rounded, unit_of
+from .quantities import Kind, UnknownUnit, names_fahrenheit, of_kilowatts, rounded, unit_of
 from .tables import Cell, Table, TableRow
 
 EXAMPLES = {Kind.TEMPERATURE: '°C, K, °F', Kind.DIFFERENCE: 'K, °C, °F',
@@ -81,14 +81,14 @@ def decimal_mark(table: Table, cells: Iterable[tuple[int, int, Cell]], told: str
 @dataclass
 class CellReader:
     """Reads the cells of a table whose decimal mark and units are known. Of a kind of numbers `taken` has where there
-    was no unit, and `others` the row, the column and the unit of a number with another one than is taken then."""
+    was no unit, and `others` the units that stand there and are others than is taken then, with a row and a column."""
 
     told: Told
     mark: str
     units: dict[int, str]
     titles: dict[int, str]
     taken: dict[Kind, str] = field(default_factory=dict)
-    others: dict[Kind, tuple[int, int, str]] = field(default_factory=dict)
+    others: dict[tuple[Kind, str], tuple[int, int]] = field(default_factory=dict)
 
     def given(self, row: TableRow, column: int | None) -> bool:
         """Whether there is something in a cell; a dash is nothing."""
@@ -149,15 +149,23 @@ class CellReader:
     def seen(self, row: int, kind: Kind, column: int, unit: str) -> None:
         """Keeps in mind that a number has a unit, and another one than is taken where there is none."""
         if not same_unit(unit, kind.default, kind):
-            self.others.setdefault(kind, (row, column, unit))
+            self.others.setdefault((kind, unit), (row, column))
 
     def settle_units(self) -> None:
-        """Tells a fault for each kind of numbers of which some have a unit and others none, where that matters."""
+        """Tells a fault for each kind of numbers without a unit where others of it, or of one that it is made of, have
+        another unit than is taken."""
         for kind, where in self.taken.items():
-            if kind in self.others:
-                row, column, unit = self.others[kind]
+            found = next(((unit, *place) for (other, unit), place in self.others.items()
+                          if contradicts(unit, other, kind)), None)
+            if found:
+                unit, row, column = found
                 cause = f'the unit `{unit}` stands with this number, and none with {where}: write it with all of them'
                 self.told.fault(row, column, cause)
+
+    @property
+    def fahrenheit(self) -> bool:
+        """Whether a number of the table has degrees of Fahrenheit."""
+        return any(contradicts(unit, kind, Kind.DIFFERENCE) for kind, unit in self.others)
 
     def whole(self, row: TableRow, column: int | None, kind: Kind, scale: Fraction = Fraction(1)) -> int | None:
         """A cell as a whole number of the program's unit; what is rounded is told."""
@@ -176,6 +184,17 @@ def last_digit(text: str) -> Fraction:
     """Half of what the last digit of a number stands for."""
     decimals = len(text.partition('.')[2])
     return Fraction(1, 2 * 10 ** decimals)
+
+
+def contradicts(text: str, kind: Kind, other: Kind) -> bool:
+    """Whether a unit of a kind, which is not the one that is taken, leaves open which one another kind has."""
+    try:
+        unit = unit_of(text, kind)
+    except UnknownUnit:
+        return kind is other
+    degrees = other is not Kind.HEAT and names_fahrenheit(unit, kind)
+    heats = {kind, other} == {Kind.FLOW, Kind.HEAT} and not of_kilowatts(unit, kind)
+    return kind is other or degrees or heats
 
 
 def same_unit(one: str, other: str, kind: Kind) -> bool:

@@ -2,6 +2,7 @@
 case."""
 from __future__ import annotations
 
+import re
 from collections.abc import Iterable, Sequence
 from dataclasses import dataclass, replace
 from fractions import Fraction
@@ -166,6 +167,7 @@ class Maker:
             self.reader.seen(*seen)
         self.reader.settle_units()
         units_in_words(self.layout, body.lines, body.passed, self.told, self.reader.taken)
+        self.entries.check_signs()
         below_titles(body.lines, body.passed, {row: each.side for row, each, _ in self.streams}, self.told)
         self.told.settle()
 
@@ -240,15 +242,17 @@ class Maker:
             cause = 'no contribution: say the least difference, as -d 10'
             self.told.faults.append(Refused(3, '', 'no contribution', cause))
             return 0, 0
+        if self.reader.fahrenheit and re.fullmatch(r'[\d.,\s]+', self.wanted.difference):
+            cause = f'the least difference {self.wanted.difference} has no unit, and the table has degrees ' \
+                    f'Fahrenheit: say -d "{self.wanted.difference} °F", or in kelvins as -d "10 K"'
+            self.told.faults.append(Refused(3, '', 'no unit', cause))
+            return 0, 0
         return half(self.wanted.difference, self.told), 0
 
     def with_prices(self, share: int) -> tuple[list[Utility], Basis]:
-        """The utilities with whole prices, and the basis that turns them back. Where no price stands at all a heater
-        costs 1 and a cooler nothing; where some do, only a cooler may be without."""
+        """The utilities with whole prices, and the basis that turns them back."""
         given = [(value, unit) for _, _, value, unit in self.priced if value is not None]
-        for row, line, value, _ in self.priced:
-            if given and value is None and line.kind == 'heater':
-                self.told.fault(row, line.at(Heading.PRICE), 'the price is missing, and others have one')
+        self.without_price()
         self.told.settle()
         try:
             made = priced([value for value, _ in given], [unit for _, unit in given], self.wanted.hours)
@@ -268,6 +272,25 @@ class Maker:
         prices = [usual[line.kind] if value is None else next(whole) for _, line, value, _ in self.priced]
         return [replace(each, price=price, contribution=share if own is None else own)
                 for (_, each, own), price in zip(self.utilities, prices)], made.basis
+
+    def without_price(self) -> None:
+        """Where no price stands at all a heater costs 1 and a cooler nothing; where some do all coolers may be without,
+        and then cost nothing. That is told, and a fault where another one of the side has a price."""
+        names = {kind: [line.name() for _, line, value, _ in self.priced if line.kind == kind and value is not None]
+                 for kind in ('heater', 'cooler')}
+        free = [(row, line) for row, line, value, _ in self.priced if value is None]
+        for row, line in free:
+            if names[line.kind] or line.kind == 'heater' and any(names.values()):
+                other = next(each for each in (*names[line.kind], *names['cooler']))
+                self.told.fault(row, line.at(Heading.PRICE), f'the price of {line.name()} is missing, and {other} has '
+                                'one')
+        coolers = [line.name() for _, line in free if line.kind == 'cooler']
+        if not any(names.values()) and free:
+            self.told.once('no price stands with the utilities: a heater costs 1 per W, and a cooler nothing')
+        elif any(names.values()) and coolers:
+            self.told.once(f'no price stands with {", ".join(coolers)}: a cooler costs nothing')
+        elif any(names.values()) and not names['cooler']:
+            self.told.once('no cooler is given: COLD stands in, and costs nothing')
 
     def without_heater(self, basis: Basis) -> None:
         """Where prices stand and no heater does, `HOT` stands in at the price 1 per W, which no unit of prices has."""

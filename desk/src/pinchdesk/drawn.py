@@ -5,13 +5,14 @@ from argparse import ArgumentParser, Namespace
 from dataclasses import replace
 from typing import TYPE_CHECKING, Any
 
-from .asked import CASE_HELP, contribution_of, held_case, takes_workers
+from .asked import CASE_HELP, held_case, takes_workers
 from .errors import WordsError, about
 from .network import read_network
 from .output import read_bytes
 from .program import Pinch
 from .site import read_site
 from .states import follow, pinches_of
+from .sweeps import asked_range, check_workers
 from .answers import Cut
 from .verdicts import ending
 from .word import Answer, Word
@@ -100,7 +101,7 @@ def site(options: Namespace) -> Answer:
 
 def sweep(options: Namespace) -> Answer:
     form, content = form_of(options.output), read_bytes(options.case)
-    first, last, step = (contribution_of(each) for each in (options.first, options.last, options.step))
+    first, last, step = asked_range(options.first, options.last, options.step, options.workers)
     with about(case=options.case):
         answer = Pinch().sweep(content, first, last, step, options.workers)
     from .pictures import sweep_figure
@@ -110,6 +111,7 @@ def sweep(options: Namespace) -> Answer:
 
 def prices(options: Namespace) -> Answer:
     form, content, study = form_of(options.output), read_bytes(options.case), read_bytes(options.study)
+    check_workers(options.workers)
     with about(case=options.case, study=options.study):
         answer = Pinch().prices(content, study, options.workers)
     from .pictures import prices_figure

@@ -18,6 +18,7 @@ class Entries:
 
     def __init__(self, reader: CellReader, told: Told, names: dict[str, str], scale: Fraction) -> None:
         self.reader, self.told, self.names, self.scale = reader, told, names, scale
+        self.duties: list[tuple[Line, Side, Entered]] = []
 
     def name(self, line: Line) -> str:
         cell = line.row.cell(line.columns[Heading.NAME])
@@ -55,7 +56,7 @@ class Entries:
         if supply is None or target is None:
             return None
         side = self.side(line, supply, target)
-        size = self.load(line) if supply == target else self.flow(line, abs(supply - target))
+        size = self.load(line) if supply == target else self.flow(line, abs(supply - target), side)
         if side is None or size is None:
             return None
         cp, load = (0, size) if supply == target else (size, 0)
@@ -89,10 +90,23 @@ class Entries:
             return None
         return load
 
-    def flow(self, line: Line, span: int) -> int | None:
+    def check_signs(self) -> None:
+        """Tells a fault for each duty whose sign contradicts its temperatures: below 0 is what a hot stream gives, and
+        then no hot one of the table is above 0."""
+        signed = any(duty.value < 0 for _, _, duty in self.duties)
+        for line, side, duty in self.duties:
+            if signed and duty.value and (duty.value < 0) != (side is Side.HOT):
+                way = 'cools down' if side is Side.HOT else 'warms up'
+                sign = 'above' if duty.value > 0 else 'below'
+                what = f'the duty {duty.text} is {sign} 0, and the stream {way}: a duty below 0 is what a stream gives'
+                self.told.fault(line.row.number, line.at(Heading.LOAD), what)
+
+    def flow(self, line: Line, span: int, side: Side | None) -> int | None:
         """The CP of a sensible stream in 10 W/K: that of its row, or its duty over its span."""
         column, load = line.at(Heading.CP), line.at(Heading.LOAD)
         duty = self.reader.measured(line.row, load, Kind.HEAT) if self.given(line, Heading.LOAD) else None
+        if duty and side:
+            self.duties.append((line, side, duty))
         if self.given(line, Heading.CP):
             held = self.reader.measured(line.row, column, Kind.FLOW)
             if held is None or duty and not self.agree(line, held, duty, span):
@@ -125,6 +139,9 @@ class Entries:
         # Each temperature may be half a tenth of a degree away.
         open_part = flow.slack * span + duty.slack + abs(flow.value)
         if apart <= open_part and apart <= MOST_APART * max(abs(made), said):
+            if apart:
+                what = f'the CP {flow.text} counts, which makes {whole_watts(made)} W, and not the duty {duty.text}'
+                self.told.note(line.row.number, line.at(Heading.LOAD), what)
             return True
         what = f'the CP {flow.text} makes {whole_watts(made)} W between both temperatures, and the duty is {duty.text}'
         self.told.fault(line.row.number, line.at(Heading.LOAD), what)

@@ -2,38 +2,97 @@
 digit."""
 from __future__ import annotations
 
+import os.path
 import re
+import string
 import unicodedata
-from collections.abc import Iterable
+from bisect import bisect_left
+from collections import Counter
+from collections.abc import Iterable, Iterator, Mapping, Sequence
+from itertools import count, product
 
 LONGEST = 16
+# How much of a short name is for what tells it from another one, with the `-` before it.
+TAIL = 9
 FIT = re.compile(r'[A-Za-z0-9][A-Za-z0-9_-]{0,15}')
 LETTERS = {'ä': 'ae', 'ö': 'oe', 'ü': 'ue', 'Ä': 'Ae', 'Ö': 'Oe', 'Ü': 'Ue', 'ß': 'ss', 'æ': 'ae', 'Æ': 'Ae', 'ø': 'o',
            'Ø': 'O', 'œ': 'oe', 'ł': 'l', 'Ł': 'L', 'đ': 'd', 'α': 'a', 'β': 'b', 'γ': 'g', 'Δ': 'D', '&': '-and-',
            '+': '-plus-'}
 
 
-def fitted(name: str) -> str:
-    """A name in the letters that a name may have; empty where none is left."""
+def whole(name: str) -> str:
+    """A name in the letters that a name may have, as long as it is; empty where none is left."""
     held = ''.join(LETTERS.get(each, each) for each in name)
     plain = ''.join(each for each in unicodedata.normalize('NFKD', held) if not unicodedata.combining(each))
-    fit = re.sub(r'-+', '-', re.sub(r'[^A-Za-z0-9_]', '-', plain)).lstrip('-_')
-    return fit[:LONGEST].rstrip('-_')
+    return re.sub(r'-+', '-', re.sub(r'[^A-Za-z0-9_]', '-', plain)).strip('-_')
+
+
+def fitted(name: str) -> str:
+    """A name that a case may have: cut where it is too long; empty where no letter is left."""
+    return whole(name)[:LONGEST].rstrip('-_')
 
 
 def fit_names(names: Iterable[str]) -> dict[str, str]:
-    """The name in the case of each name in the table. A name that is fit stays; of the others two never become one, and
-    none becomes one that stays."""
+    """The name in the case of each name in the table. A name that is fit stays; of the others two never become one,
+    none becomes one that stays, and each keeps what tells it from the others."""
     held = list(dict.fromkeys(names))
-    taken = {each for each in held if FIT.fullmatch(each)} | {'HOT', 'COLD'}
-    made: dict[str, str] = {}
-    for at, name in enumerate(held, 1):
-        if FIT.fullmatch(name):
-            made[name] = name
-            continue
-        made[name] = apart(fitted(name) or f'S{at}', taken)
+    made = {each: each for each in held if FIT.fullmatch(each)}
+    full = {name: whole(name) or f'S{at}' for at, name in enumerate(held, 1)}
+    taken = {*made, 'HOT', 'COLD'}
+    shared = Counter(full.values())
+    for name in held:
+        if name not in made and len(full[name]) <= LONGEST and shared[full[name]] == 1 and full[name] not in taken:
+            made[name] = full[name]
+    taken.update(made.values())
+    left = [name for name in held if name not in made]
+    order = sorted(shared)
+    cuts = Counter(each[:LONGEST].rstrip('-_') for each in order)
+    ways = {name: list(short_names(full[name], order, cuts)) for name in left}
+    wanted = Counter(way for name in left for way in set(ways[name]))
+    for name in left:
+        free = [way for way in ways[name] if way not in taken and wanted[way] == 1]
+        made[name] = free[0] if free else lettered(full[name], taken)
         taken.add(made[name])
-    return made
+    return {name: made[name] for name in held}
+
+
+def short_names(name: str, order: Sequence[str], cuts: Mapping[str, int]) -> Iterator[str]:
+    """Ways to make a long name short, the best first: with the number at its end, cut where nothing else begins so,
+    with the word that no other has there, with its last words. `order` has all names, sorted, `cuts` how many of them
+    are one where they are cut."""
+    if len(name) <= LONGEST:
+        return
+    number, cut = re.search(r'-?[0-9]+$', name), name[:LONGEST].rstrip('-_')
+    if number and len(number[0]) < LONGEST // 2:
+        yield joined(name, number[0])
+    elif cuts[cut] == 1:
+        yield cut
+    if cuts[cut] > 1:
+        at = bisect_left(order, name)
+        beside = (*order[max(at - 1, 0):at], *order[at + 1:at + 2])
+        alike = max(len(os.path.commonprefix([name, each])) for each in beside)
+        word = name.rfind('-', 0, alike) + 1
+        yield joined(name, ('-' + name[word:] if alike - word < TAIL else name[alike:])[:TAIL])
+    words = name.split('-')
+    for last in range(1, len(words)):
+        tail = '-' + '-'.join(words[-last:])
+        if len(tail) > LONGEST - 3:
+            return
+        yield joined(name, tail)
+
+
+def joined(name: str, tail: str) -> str:
+    """The beginning of a name, and what stands at its end."""
+    return name[:LONGEST - len(tail)].rstrip('-_') + tail.rstrip('-_')
+
+
+def lettered(name: str, taken: set[str]) -> str:
+    """A name with letters behind it, where nothing else tells it from those that are taken; a number would seem to be
+    one of the plant's."""
+    if name[:LONGEST].rstrip('-_') not in taken:
+        return name[:LONGEST].rstrip('-_')
+    ends = (''.join(each) for size in count(1) for each in product(string.ascii_lowercase, repeat=size))
+    return next(made for made in (joined(name, f'-{end}') for end in ends if end != 'a') if made not in taken)
 
 
 def apart(name: str, taken: set[str]) -> str:

@@ -151,6 +151,20 @@ def is_unit(text: str, kind: Kind) -> bool:
     return True
 
 
+def names_fahrenheit(unit: Unit, kind: Kind) -> bool:
+    """Whether a unit has degrees of Fahrenheit's size, alone or below its line."""
+    if kind in (Kind.TEMPERATURE, Kind.DIFFERENCE):
+        return unit.factor != IN_PROGRAM[kind]
+    return kind is Kind.FLOW and re.search('°F|degR|°R|rankine', normal(multiple_of(unit.text)[1]), re.I) is not None
+
+
+def of_kilowatts(unit: Unit, kind: Kind) -> bool:
+    """Whether a unit of heats or CPs counts in kW."""
+    degree = Fraction(9, 5) if names_fahrenheit(unit, kind) else Fraction(1)
+    usual: Unit = unit_of(kind.default, kind)
+    return unit.factor == usual.factor * degree
+
+
 def is_multiple(text: str, kind: Kind) -> bool:
     """Whether a text is a power of ten of a unit of heat, as `1000 kcal/h` and `10 W/K`."""
     times, _ = multiple_of(text)

@@ -3,12 +3,13 @@ from __future__ import annotations
 
 from decimal import Decimal
 
-from .answers import Cut, HeatFlow, Prices, ScenarioAnswer, SiteAnswer, SpanAnswer, Sweep, Targets
+from .answers import Cut, HeatFlow, Prices, ScenarioAnswer, SiteAnswer, SpanAnswer, Sweep, SweepRow, Targets
 from .case import Case, Side
 from .findings import finding_of
 from .sheets import Cell, Sheet
 from .shown import Number, Shown
 from .states import Followed
+from .sweeps import own_contributions
 from .verdicts import Accepted, TooFine, Verdict
 
 
@@ -106,15 +107,20 @@ def penalties_sheet(verdict: Accepted, shown: Shown) -> Sheet:
     return Sheet(title, ('', 'kW') if rows else (), rows)
 
 
-def sweep_sheets(case: Case, sweep: Sweep) -> list[Sheet]:
-    """Targets and least cost over the least difference, which is twice the contribution."""
-    shown = Shown(case.basis)
+def sweep_sheets(case: Case, sweep: Sweep, base: SweepRow | None = None) -> list[Sheet]:
+    """Targets and least cost over the least difference, which is twice the contribution, with the case as it is: a row
+    of the sweep, or `base` above them where sources have contributions of their own, which a sweep replaces."""
+    shown, own = Shown(case.basis), own_contributions(case)
     rows: list[tuple[Cell, ...]] = []
-    for each in sweep.points:
+    for each in (*([base] if base else []), *sweep.points):
+        as_it_is = each is base or not own and each.contribution == case.contribution
         least: Cell = 'no heat flow' if each.cost is None else cost(shown, each.cost)
-        approach = celsius(shown, 2 * each.contribution)
-        rows.append((approach, kilowatts(shown, each.hot), kilowatts(shown, each.cold), least))
-    return [Sheet('Sweep', ('least difference K', 'hot kW', 'cold kW', f'least cost {shown.cost_unit}'), tuple(rows))]
+        approach: Cell = 'its own' if each is base else celsius(shown, 2 * each.contribution)
+        rows.append((approach, kilowatts(shown, each.hot), kilowatts(shown, each.cold), least,
+                     'the case as it is' if as_it_is else ''))
+    title = f'Sweep: the contributions of their own of {", ".join(own)} are replaced' if own else 'Sweep'
+    headings = ('least difference K', 'hot kW', 'cold kW', f'least cost {shown.cost_unit}', 'remark')
+    return [Sheet(title, headings, tuple(rows))]
 
 
 def prices_sheets(case: Case, prices: Prices) -> list[Sheet]:

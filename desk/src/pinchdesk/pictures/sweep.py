@@ -7,6 +7,7 @@ from matplotlib.figure import Figure
 from ..answers import Sweep
 from ..case import Case
 from ..shown import Shown
+from ..sweeps import own_contributions
 from .style import COLD, HOT, INK, blank, framed, said, styled
 
 COST = '#1e8449'
@@ -29,8 +30,9 @@ def sweep_figure(case: Case, sweep: Sweep) -> Figure:
             at = [each.contribution / 5 for each in gaps]
             axes.plot(at, [0] * len(at), 'x', color=INK, markersize=7, label='no heat flow: no cost', clip_on=False)
         note = '' if gaps else ' (the least cost is the hot target)'
-        axes.set_title('Targets and least cost over the least difference' if priced else
-                       f'Targets over the least difference{note}')
+        own = '\ncontributions of their own are replaced' if own_contributions(case) else ''
+        axes.set_title('Targets and least cost over the least difference' + own if priced else
+                       f'Targets over the least difference{note}{own}')
         handles = [line for each in figure.axes for line in each.get_lines()]
         axes.legend(handles, [line.get_label() for line in handles], loc='upper center', bbox_to_anchor=(0.5, -0.11),
                     ncol=4)
