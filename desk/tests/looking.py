@@ -78,6 +78,20 @@ def bars_of(figure: Figure) -> list[tuple[list[Any], str]]:
     return found
 
 
+def lines_named(axes: Any, name: str) -> list[list[tuple[float, float]]]:
+    """The points of the lines of a diagram that have this name inside it."""
+    return [points_of(each) for each in axes.get_lines() if each.get_gid() == name]
+
+
+def line_of(axes: Any, label: str) -> list[tuple[float, float]]:
+    """The points of the line that has this label in the legend."""
+    return next(points_of(each) for each in axes.get_lines() if each.get_label() == label)
+
+
+def points_of(line: Line2D) -> list[tuple[float, float]]:
+    return [(float(each[0]), float(each[1])) for each in line.get_xydata()]
+
+
 def dashed_of(figure: Figure) -> set[float]:
     """Where the upright dashed lines of a grid diagram stand, in inches."""
     return {float(each.get_xdata()[0]) for each in figure.findobj(Line2D)

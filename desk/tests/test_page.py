@@ -72,7 +72,7 @@ def test_numbers_are_in_engineers_units(steam: str, pinch: Pinch) -> None:
 def test_the_page_stands_alone_and_styles_do_not_meet(steam: str) -> None:
     assert '<svg' not in steam and steam.count('<style>') == 1 and '<script' not in steam
     assert re.findall('(?:src|href)="(?!data:image/svg)', steam) == []
-    assert steam.count('<img src="data:image/svg+xml;base64,') == 3
+    assert steam.count('<img src="data:image/svg+xml;base64,') == 5
 
 
 def test_prices_and_costs_of_the_page_have_the_units_of_the_table(tmp_path: Path) -> None:

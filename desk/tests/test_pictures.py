@@ -10,22 +10,14 @@ from conftest import NETWORKS, example
 from looking import bars_of, cut_off, dashed_of, overlapping, svg_texts, texts_of
 from matplotlib.figure import Figure
 
-from pinchdesk import (Accepted, HeatFlow, Pinch, Rejected, WordsError, completed, follow, pinches_of, read_case,
+from pinchdesk import (Accepted, Pinch, Rejected, WordsError, completed, follow, pinches_of, read_case,
                        read_network, read_site)
-from pinchdesk.pictures import curves_figure, grid_figure, prices_figure, rendered, site_figure, sweep_figure
+from pinchdesk.pictures import grid_figure, prices_figure, rendered, site_figure, sweep_figure
 from pinchdesk.pictures.gridplan import plan_of
 from pinchdesk.pictures.labels import meets
 from pinchdesk.pictures.style import ACROSS, FAULT
 from pinchdesk.shown import Shown
 
-FURNACE = b"""contribution,,50,,,,
-cold,C1,200,1350,200,,
-hot,H2,1700,600,300,,
-cold,C3,800,1400,400,,
-hot,H4,1500,300,150,,
-heater,FURNACE,9000,0,1000000000000,3,
-cooler,CW,100,0,1000000000000,1,
-"""
 # Three branches of 50, 30 and 20 %; two pinches; a stream that begins at the lower one.
 THREE = b"""contribution,,0,,,,
 hot,H,2000,1000,100,,
@@ -53,11 +45,6 @@ end z
 """
 
 
-def curves(pinch: Pinch, content: bytes) -> Figure:
-    case = completed(read_case(content))
-    return curves_figure(case, pinch.targets(content), pinch.curves(content), pinch.flow(content))
-
-
 def grid(pinch: Pinch, content: bytes, text: bytes, most: int = 60) -> Figure:
     followed = follow(completed(read_case(content)), read_network(text))
     pinches = pinches_of(pinch.targets(content), pinch.curves(content))
@@ -67,50 +54,6 @@ def grid(pinch: Pinch, content: bytes, text: bytes, most: int = 60) -> Figure:
 def assert_readable(figure: Figure) -> None:
     assert overlapping(figure) == []
     assert cut_off(figure) == []
-
-
-@pytest.mark.parametrize('name', ['four-stream', 'three-levels', 'own-contributions', 'column', 'too-little-cooling'])
-def test_curves_show_targets_and_pinches_on_both_scales(name: str, pinch: Pinch) -> None:
-    content = example(f'{name}.csv')
-    figure, case, targets = curves(pinch, content), read_case(content), pinch.targets(content)
-    assert_readable(figure)
-    shown, texts = Shown(case.basis), ' '.join(svg_texts(figure))
-    for each in (targets.hot, targets.cold):
-        assert f'{shown.kilowatts(each)} kW' in texts
-    for each in targets.pinches:
-        assert f'pinch {shown.celsius(each)} °C' in texts
-        assert f'hot {shown.celsius(each + case.contribution)} °C' in texts
-        assert f'cold {shown.celsius(each - case.contribution)} °C' in texts
-
-
-@pytest.mark.parametrize('name', ['four-stream', 'three-levels'])
-def test_labels_do_not_lie_on_curves(name: str, pinch: Pinch) -> None:
-    figure = curves(pinch, example(f'{name}.csv'))
-    for axes in figure.axes:
-        labels = [box for _, box, each in texts_of(figure) if each in axes.texts]
-        for line in axes.get_lines()[:2]:
-            points = axes.transData.transform(line.get_xydata())
-            for box in labels:
-                assert not any(meets(box, one, other) for one, other in zip(points, points[1:]))
-
-
-def test_the_cold_curve_begins_at_the_cooling_that_is_used(pinch: Pinch) -> None:
-    content = example('three-levels.csv')
-    flow, case = pinch.flow(content), completed(read_case(content))
-    assert isinstance(flow, HeatFlow)
-    used = sum(flow.use(each.name) for each in case.utilities if each.side.value == 'cold')
-    assert used > pinch.targets(content).cold
-    cold = next(line for line in curves(pinch, content).axes[0].get_lines() if line.get_label() == 'cold streams')
-    assert cold.get_xdata()[0] * 1000 == used
-
-
-def test_a_furnace_does_not_squeeze_the_curves(pinch: Pinch) -> None:
-    figure = curves(pinch, FURNACE)
-    assert_readable(figure)
-    axes = figure.axes[0]
-    heights = [axes.transAxes.inverted().transform(axes.transData.transform((0, at)))[1] for at in (20, 170, 900)]
-    assert heights[1] - heights[0] > 0.4 and heights[2] <= 1
-    assert any('FURNACE at 900 °C: 20 kW' in text for text in svg_texts(figure))
 
 
 @pytest.mark.parametrize('name', NETWORKS)

@@ -2,6 +2,7 @@
 from __future__ import annotations
 
 from argparse import ArgumentParser, Namespace
+from collections.abc import Callable
 from dataclasses import replace
 from typing import TYPE_CHECKING, Any
 
@@ -69,13 +70,17 @@ def picture(figure: Figure, form: str, good: bool = True) -> Answer:
     return Answer(rendered(figure, form), good)
 
 
-def curves(options: Namespace) -> Answer:
-    form, content = form_of(options.output), read_bytes(options.case)
-    with about(case=options.case):
-        pinch = Pinch()
-        targets, points, flow = pinch.targets(content), pinch.curves(content), pinch.flow(content)
-    from .pictures import curves_figure
-    return picture(curves_figure(held_case(content), targets, points, flow), form, not isinstance(flow, Cut))
+def curves_by(name: str) -> Callable[[Namespace], Answer]:
+    """What draws curves by this function of `pictures`."""
+    def run(options: Namespace) -> Answer:
+        form, content = form_of(options.output), read_bytes(options.case)
+        with about(case=options.case):
+            pinch = Pinch()
+            targets, points, flow = pinch.targets(content), pinch.curves(content), pinch.flow(content)
+        from . import pictures
+        figure = getattr(pictures, name)(held_case(content), targets, points, flow)
+        return picture(figure, form, not isinstance(flow, Cut))
+    return run
 
 
 def grid(options: Namespace) -> Answer:
@@ -127,8 +132,14 @@ def part(name: str, summary: str, example: str, arguments: Any, run: Any, inputs
 
 
 PARTS = (
-    part('curves', 'the composite curves and the grand one, with targets, pinches and utilities',
-         'examples/four-stream.csv -o curves.svg', takes_case, curves, ('case',)),
+    part('curves', 'all curves on one sheet, with targets, pinches and utilities',
+         'examples/four-stream.csv -o curves.svg', takes_case, curves_by('curves_figure'), ('case',)),
+    part('composite', 'the composite curves at the targets', 'examples/four-stream.csv -o composite.svg', takes_case,
+         curves_by('composite_figure'), ('case',)),
+    part('balanced', 'the balanced composite curves: streams and the utilities that are used',
+         'examples/three-levels.csv -o balanced.svg', takes_case, curves_by('balanced_figure'), ('case',)),
+    part('grand', 'the grand composite curve, and the utilities that stand on it',
+         'examples/three-levels.csv -o grand.svg', takes_case, curves_by('grand_figure'), ('case',)),
     part('grid', 'the grid diagram of a network', 'examples/tc3.csv examples/tc3-network.txt -o grid.svg',
          takes_network, grid, ('case', 'network')),
     part('site', 'the profiles of a site', 'examples/three-plants.csv -o site.svg', takes_site, site, ('site',)),
@@ -139,6 +150,6 @@ PARTS = (
          ('case', 'study')),
 )
 WORDS = (
-    Word('draw', 'a picture: curves, grid, site, sweep or prices, as .svg, .png or .pdf',
+    Word('draw', 'a picture: curves, a grid, a site, a sweep or prices, as .svg, .png or .pdf',
          'pinchdesk draw curves examples/four-stream.csv -o curves.svg', takes_nothing, nothing, (), True, PARTS),
 )

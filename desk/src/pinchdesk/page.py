@@ -58,6 +58,16 @@ class Answered:
 
 
 @dataclass(frozen=True)
+class Picture:
+    """A picture on the page: what it shows, its address, and how wide it is at least, in dots of a screen, so that it
+    can be read: where there is less room it scrolls in its own box."""
+
+    name: str
+    address: str
+    width: int
+
+
+@dataclass(frozen=True)
 class Reviewed:
     """A network on the page: its verdict, tables, and picture, or why there is none."""
 
@@ -66,7 +76,7 @@ class Reviewed:
     verdict: Verdict
     sheets: list[Sheet]
     more: list[Sheet]
-    picture: str
+    picture: Picture | None
     note: str
 
     @property
@@ -78,11 +88,11 @@ class Reviewed:
         return str(verdict_sheet(self.followed, self.verdict).rows[0][0])
 
 
-def image(figure: Figure) -> str:
-    """A picture as an address that holds it."""
-    from .pictures import rendered
+def imaged(figure: Figure) -> tuple[str, int]:
+    """A picture as an address that holds it, and its width in dots of a screen."""
+    from .pictures import readable_width, rendered
     content = rendered(figure, 'svg', letters_as_shapes=True)
-    return 'data:image/svg+xml;base64,' + base64.b64encode(content).decode('ascii')
+    return 'data:image/svg+xml;base64,' + base64.b64encode(content).decode('ascii'), readable_width(figure)
 
 
 def answers_of(pinch: Pinch, case: Given, networks: Sequence[Given]) -> tuple[Answered, list[Verdict]]:
@@ -107,18 +117,30 @@ def reviewed(answered: Answered, given: Given, verdict: Verdict) -> Reviewed:
     pinches = answered.pinches
     more = [streams_sheet(followed, verdict), sums_sheet(followed)]
     sheets = [exchangers_sheet(followed, pinches, verdict), *mixes_sheets(followed, verdict)]
-    picture, note = grid_of(followed, pinches, verdict)
+    picture, note = grid_of(given.name, followed, pinches, verdict)
     balance = audit_sheets(followed, verdict)[:1]
     return Reviewed(given, followed, verdict, [*balance, *sheets], more, picture, note)
 
 
-def grid_of(followed: Followed, pinches: tuple[PinchPoint, ...], verdict: Verdict) -> tuple[str, str]:
+def curves_of(answered: Answered) -> list[Picture]:
+    """The diagrams of the curves; without a heat flow nothing is balanced."""
+    from .pictures import balanced_figure, composite_figure, grand_figure
+    chosen = [('Composite curves', composite_figure), ('Balanced composite curves', balanced_figure),
+              ('Grand composite curve', grand_figure)]
+    if isinstance(answered.flow, Cut):
+        del chosen[1]
+    return [Picture(name, *imaged(drawing(answered.case, answered.targets, answered.curves, answered.flow)))
+            for name, drawing in chosen]
+
+
+def grid_of(name: str, followed: Followed, pinches: tuple[PinchPoint, ...],
+            verdict: Verdict) -> tuple[Picture | None, str]:
     """The grid diagram, or why there is none."""
     from .pictures import grid_figure
     try:
-        return image(grid_figure(followed, pinches, verdict)), ''
+        return Picture(f'Grid diagram of {name}', *imaged(grid_figure(followed, pinches, verdict))), ''
     except WordsError as fault:
-        return '', str(fault)
+        return None, str(fault)
 
 
 def case_streams(case: Case) -> Sheet:
@@ -198,14 +220,13 @@ def page_of(case: Given, networks: Sequence[Given], unfolded: bool = False) -> t
     """The page, and how the word ends: by its heat flow and its networks. `unfolded` where what is folded shall be
     seen, as on paper."""
     answered, verdicts = answers_of(Pinch(), case, networks)
-    from .pictures import curves_figure
     held = [reviewed(answered, given, verdict) for given, verdict in zip(networks, verdicts)]
     shown = Shown(answered.case.basis)
     values = {
         'case': case, 'answered': answered, 'networks': held, 'shown': shown, 'unfolded': unfolded,
         'targets': targets_sheets(answered.case, answered.targets), 'tables': case_sheets(answered),
         'flow': flow_sheets(answered.case, answered.flow), 'cut': isinstance(answered.flow, Cut),
-        'curves': image(curves_figure(answered.case, answered.targets, answered.curves, answered.flow)),
+        'curves': curves_of(answered),
         'compared': compared(held, shown) if held else None, 'bars': bars,
     }
     return template().render(values), *ending(verdicts, [answered.flow])

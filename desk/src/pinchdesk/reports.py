@@ -6,6 +6,7 @@ from decimal import Decimal
 from .answers import Cut, HeatFlow, Prices, ScenarioAnswer, SiteAnswer, SpanAnswer, Sweep, SweepRow, Targets
 from .case import Case, Side
 from .findings import finding_of
+from .pinchplaces import temperatures_at
 from .sheets import Cell, Sheet
 from .shown import Number, Shown
 from .states import Followed
@@ -26,15 +27,20 @@ def cost(shown: Shown, value: Number) -> Decimal:
 
 
 def targets_sheets(case: Case, targets: Targets) -> list[Sheet]:
-    """Both targets, and each pinch on the shifted scale and where sources with the contribution of the case pass it."""
+    """Both targets, and each pinch on the shifted scale and where the streams of both sides stand at it."""
     shown = Shown(case.basis)
     rows: list[tuple[Cell, ...]] = [('hot utility', kilowatts(shown, targets.hot), 'kW'),
                                     ('cold utility', kilowatts(shown, targets.cold), 'kW')]
-    pinches = tuple((celsius(shown, each), celsius(shown, each + case.contribution),
-                     celsius(shown, each - case.contribution)) for each in targets.pinches)
+    pinches = tuple((celsius(shown, each), *(side_cell(case, side, each, shown) for side in (Side.HOT, Side.COLD)))
+                    for each in targets.pinches)
     title = 'Pinches' if pinches else 'No pinch'
     headings = ('shifted °C', 'hot side °C', 'cold side °C') if pinches else ()
     return [Sheet('Targets', ('', '', ''), tuple(rows)), Sheet(title, headings, pinches)]
+
+
+def side_cell(case: Case, side: Side, pinch: int, shown: Shown) -> Cell:
+    held = temperatures_at(case, side, pinch)
+    return celsius(shown, held.low) if held.low == held.high else held.told(shown)
 
 
 def uses_sheet(case: Case, flow: HeatFlow, shown: Shown) -> Sheet:

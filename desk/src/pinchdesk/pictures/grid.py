@@ -15,10 +15,11 @@ from ..shown import Shown
 from ..states import Followed, Passage, PinchPoint, PinchSide
 from ..verdicts import Accepted, PlaceKind, Rejected, Verdict
 from .gridends import End, end_of, end_texts, reading
-from .gridplan import Plan, lane_heights, plan_of, reach, width
+from .gridplan import Plan, lane_heights, plan_of, reach
 from .gridstreams import put_streams
 from .paper import Look, Paper
 from .style import ABOVE, ACROSS, BELOW, BETWEEN, FAULT, INK, NEUTRAL, PALE, styled
+from .widths import width
 
 # How many exchangers have room; the order of their bars among what lies above and below them; the room around texts.
 MOST, BARS, PAD = 60, 4, 0.034

@@ -4,10 +4,6 @@ from __future__ import annotations
 
 from dataclasses import dataclass
 from fractions import Fraction
-from functools import lru_cache
-
-from matplotlib.backends.backend_agg import RendererAgg
-from matplotlib.font_manager import FontProperties
 
 from ..case import Side, Stream, Utility
 from ..network import Split
@@ -16,35 +12,10 @@ from ..states import Followed, PinchPoint
 from .columns import Columns, Tracks, columns_of
 from .courses import Course, course_of
 from .lanes import count_of, lanes_of, share_of
+from .widths import shape, width
 
 # An A3 sheet is 16.5 inches wide; names and columns of numbers take the rest.
 ROOM, SIZES = 13.4, (8.5, 7.5, 6.5, 5.5, 5.0)
-
-
-# All digits of the letters that are used take the same room, and only what is inked at both ends counts beside that.
-SAME = str.maketrans('123456789', '000000000')
-
-
-def width(text: str, size: float, bold: bool = False) -> float:
-    """The width of a text in inches."""
-    return measured(shape(text), size, bold)
-
-
-def shape(text: str) -> str:
-    """A text that is as wide as this one, and as many others."""
-    return text[:1] + text[1:-1].translate(SAME) + text[1:][-1:]
-
-
-@lru_cache(maxsize=65536)
-def measured(text: str, size: float, bold: bool) -> float:
-    font = FontProperties(family='DejaVu Sans', size=size, weight='bold' if bold else 'normal')
-    found = measurer().get_text_width_height_descent(text, font, ismath=False)[0]
-    return float(found) / 72
-
-
-@lru_cache(maxsize=1)
-def measurer() -> RendererAgg:
-    return RendererAgg(1, 1, 72)
 
 
 @dataclass(frozen=True)

@@ -2,19 +2,24 @@
 free."""
 from __future__ import annotations
 
-from collections.abc import Sequence
+from collections.abc import Iterable, Iterator, Sequence
 from dataclasses import dataclass, field
 from typing import Any
 
+import numpy
 from matplotlib.axes import Axes
 from matplotlib.text import Annotation
 from matplotlib.transforms import Bbox
 
 Xy = tuple[float, float]
-# Around a point, in points of print: how far, and which side of the text is there.
+# A place around a point, in points of print: how far, and which side of the text is there.
+Place = tuple[float, float, int, int]
 NEAR = 7.0
-PLACES = tuple((dx * far, dy * far, -dx, -dy) for far in (NEAR, 2 * NEAR, 4 * NEAR, 7 * NEAR, 11 * NEAR)
-               for dx, dy in ((1, 1), (1, -1), (-1, 1), (-1, -1), (0, 1), (0, -1), (1, 0), (-1, 0)))
+SIDES = ((1, 1), (1, -1), (-1, 1), (-1, -1), (0, 1), (0, -1), (1, 0), (-1, 0))
+PLACES: tuple[Place, ...] = tuple((dx * far, dy * far, -dx, -dy) for far in (NEAR, 2 * NEAR, 4 * NEAR, 7 * NEAR)
+                                  for dx, dy in SIDES)
+# Where none of these is free, all places of the diagram are tried, so many dots apart.
+STEP = 22
 ACROSS = {-1: 'right', 0: 'center', 1: 'left'}
 UPRIGHT = {-1: 'top', 0: 'center', 1: 'bottom'}
 
@@ -26,33 +31,65 @@ class Labels:
     axes: Axes
     curves: list[Sequence[Xy]] = field(default_factory=list)
     taken: list[Bbox] = field(default_factory=list)
+    leaders: list[tuple[Any, Any]] = field(default_factory=list)
 
     def __post_init__(self) -> None:
         # From here on the scales stand, so that what is measured stays where it is.
         self.axes.set_xlim(*self.axes.get_xlim())
         self.axes.set_ylim(*self.axes.get_ylim())
 
-    def put(self, text: str, at: Xy, **style: Any) -> Annotation:
-        """Writes a label near a point, with a thin line to it where it stands far off."""
+    def keep_off(self, line: Sequence[Xy]) -> None:
+        self.curves.append(line)
+
+    def put(self, text: str, *points: Xy, **style: Any) -> Annotation:
+        """Writes a label near one of some points, with a thin line to it where it stands far off."""
         wide, high = self.size(text, style)
-        best: tuple[float, Any, Bbox] | None = None
-        for place in PLACES:
+        near = ((at, place) for place in PLACES for at in points)
+        best = self.best(near, wide, high)
+        if best[0] >= 1:
+            other = self.best(((at, place) for at in points for place in self.all_places(at)), wide, high)
+            best = other if other[0] < best[0] else best
+        return self.written(text, *best[1:], style)
+
+    def put_where_free(self, text: str, at: Xy, **style: Any) -> Annotation | None:
+        """Writes a label right at a point, or nothing where there is no room."""
+        wide, high = self.size(text, style)
+        best = self.best(((at, place) for place in PLACES[:16]), wide, high)
+        return None if best[0] else self.written(text, *best[1:], style)
+
+    def best(self, places: Iterable[tuple[Xy, Place]], wide: float, high: float) -> tuple[float, Xy, Place, Bbox]:
+        """The place that costs least, the first of equal ones; none is tried behind one that is free."""
+        found: tuple[float, Xy, Place, Bbox] | None = None
+        for at, place in places:
             box = self.box(at, place, wide, high)
             cost = self.cost(box)
-            if best is None or cost < best[0]:
-                best = (cost, place, box)
-            if cost == 0:
+            if is_far(place) and (found is None or cost < found[0]):
+                cost += self.leading(at, box)
+            if found is None or cost < found[0]:
+                found = (cost, at, place, box)
+            if not cost:
                 break
-        assert best is not None
-        self.taken.append(best[2])
-        return self.written(text, at, best[1], style)
+        assert found is not None
+        return found
 
-    def written(self, text: str, at: Xy, place: Any, style: dict[str, Any]) -> Annotation:
+    def all_places(self, at: Xy) -> Iterator[Place]:
+        """Places all over the diagram, the nearest first."""
+        frame, dots = self.axes.get_window_extent(), float(self.axes.figure.dpi) / 72
+        x, y = self.axes.transData.transform(at)
+        held = [(float(across - x), float(up - y)) for across in numpy.arange(frame.x0, frame.x1, STEP)
+                for up in numpy.arange(frame.y0, frame.y1, STEP)]
+        for dx, dy in sorted(held, key=lambda each: each[0] ** 2 + each[1] ** 2):
+            yield dx / dots, dy / dots, -1 if dx > 0 else 1, -1 if dy > 0 else 1
+
+    def written(self, text: str, at: Xy, place: Place, box: Bbox, style: dict[str, Any]) -> Annotation:
         dx, dy, side, end = place
-        far = max(abs(dx), abs(dy)) > 2 * NEAR
-        line = {'arrowstyle': '-', 'color': '#999999', 'linewidth': 0.6, 'shrinkA': 0, 'shrinkB': 2} if far else None
-        return self.axes.annotate(text, at, (dx, dy), textcoords='offset points', ha=ACROSS[-int(side)],
-                                  va=UPRIGHT[-int(end)], arrowprops=line, annotation_clip=False, zorder=6, **style)
+        self.taken.append(box)
+        line = None
+        if is_far(place):
+            line = {'arrowstyle': '-', 'color': '#999999', 'linewidth': 0.6, 'shrinkA': 0, 'shrinkB': 2}
+            self.leaders.append(self.leader(at, box))
+        return self.axes.annotate(text, at, (dx, dy), textcoords='offset points', ha=ACROSS[-side], va=UPRIGHT[-end],
+                                  arrowprops=line, annotation_clip=False, zorder=6, **style)
 
     def size(self, text: str, style: dict[str, Any]) -> Xy:
         """Width and height of a text in dots, with some room around it."""
@@ -61,7 +98,7 @@ class Labels:
         tried.remove()
         return box.width + 4, box.height + 4
 
-    def box(self, at: Xy, place: Any, wide: float, high: float) -> Bbox:
+    def box(self, at: Xy, place: Place, wide: float, high: float) -> Bbox:
         dx, dy, side, end = place
         x, y = self.axes.transData.transform(at)
         dots = self.axes.figure.dpi / 72
@@ -69,16 +106,47 @@ class Labels:
         low = y + dy * dots - (0 if end < 0 else high if end > 0 else high / 2)
         return Bbox.from_bounds(left, low, wide, high)
 
+    def leader(self, at: Xy, box: Bbox) -> tuple[Any, Any]:
+        """The thin line from a point to the nearest place of a label far off."""
+        x, y = self.axes.transData.transform(at)
+        return (x, y), (min(max(x, box.x0), box.x1), min(max(y, box.y0), box.y1))
+
+    def leading(self, at: Xy, box: Bbox) -> float:
+        """What a thin line costs: it shall be short, and pass through no label, no other such line and few curves."""
+        one, other = self.leader(at, box)
+        length = float(numpy.hypot(other[0] - one[0], other[1] - one[1]))
+        return 0.2 + length / 1000 + 3 * sum(meets(each, one, other) for each in self.taken) \
+            + 2 * sum(crosses(one, other, *each) for each in self.leaders) \
+            + 0.3 * sum(self.crossed(one, other, curve) for curve in self.curves)
+
+    def crossed(self, one: Any, other: Any, curve: Sequence[Xy]) -> int:
+        points = self.axes.transData.transform(curve)
+        return sum(crosses(one, other, points[at], points[at + 1]) for at in range(len(points) - 1))
+
     def cost(self, box: Bbox) -> float:
         """How much a box lies on what is there already; 0 where it is free."""
         frame = self.axes.get_window_extent()
         outside = (box.x0 < frame.x0) + (box.x1 > frame.x1) + (box.y0 < frame.y0) + (box.y1 > frame.y1)
         on_labels = sum(box.overlaps(other) for other in self.taken)
-        return float(4 * outside + 3 * on_labels + sum(self.on_curve(box, curve) for curve in self.curves))
+        on_leaders = sum(meets(box, *each) for each in self.leaders)
+        return float(8 * outside + 6 * on_labels + 3 * on_leaders
+                     + sum(self.on_curve(box, curve) for curve in self.curves))
 
     def on_curve(self, box: Bbox, curve: Sequence[Xy]) -> int:
         points = self.axes.transData.transform(curve)
         return sum(meets(box, points[at], points[at + 1]) for at in range(len(points) - 1))
+
+
+def is_far(place: Place) -> bool:
+    return max(abs(place[0]), abs(place[1])) > 2 * NEAR
+
+
+def crosses(one: Any, other: Any, third: Any, fourth: Any) -> bool:
+    """Whether two straight lines cross."""
+    def turn(a: Any, b: Any, c: Any) -> float:
+        return float((b[0] - a[0]) * (c[1] - a[1]) - (b[1] - a[1]) * (c[0] - a[0]))
+    return turn(one, other, third) * turn(one, other, fourth) < 0 and \
+        turn(third, fourth, one) * turn(third, fourth, other) < 0
 
 
 def meets(box: Bbox, one: Any, other: Any) -> bool:

@@ -9,8 +9,11 @@ import numpy
 from matplotlib.axes import Axes
 from matplotlib.ticker import FixedLocator, FuncFormatter, MaxNLocator
 
-# A gap this much longer than what is shown below or above it is cut down to a small part of that.
-LONG, LEFT, MARGIN = 0.7, 0.1, 0.06
+# A gap this much longer than what is shown below or above it is cut down to a small part of that; of what is shown no
+# less than so many °C count.
+LONG, LEFT, MARGIN, LEAST = 0.7, 0.1, 0.06, 20.0
+# How far apart numbers of the scale stand at least, in dots.
+APART = 30
 
 
 @dataclass(frozen=True)
@@ -34,7 +37,7 @@ def gaps_of(curves: Sequence[float], levels: Sequence[float]) -> tuple[Gap, ...]
         bottom, top = low, high
         for level in sorted(levels, reverse=direction < 0):
             far = level - top if direction > 0 else bottom - level
-            span = max(top - bottom, 1.0)
+            span = max(top - bottom, LEAST)
             if far > LONG * span:
                 edges = sorted((top + MARGIN * span, level - MARGIN * span)) if direction > 0 else \
                     sorted((level + MARGIN * span, bottom - MARGIN * span))
@@ -69,8 +72,13 @@ def broken(axes: Axes, gaps: tuple[Gap, ...], levels: Sequence[float]) -> None:
     inside = [low, *sorted(edge for gap in gaps for edge in (gap.low, gap.high)), high]
     kept = list(zip(inside[::2], inside[1::2]))
     longest = max(kept, key=lambda each: float(each[1] - each[0]))
-    ticks = [tick for tick in MaxNLocator(8).tick_values(*longest) if longest[0] <= tick <= longest[1]]
-    ticks += [level for level in levels if not longest[0] <= level <= longest[1]]
+    dots = axes.get_window_extent().height / float(forward(gaps, high) - forward(gaps, low))
+    bins = max(1, min(8, int((longest[1] - longest[0]) * dots / APART)))
+    steps = MaxNLocator(bins, steps=[1, 2, 2.5, 5, 10]).tick_values(*longest)
+    ticks = [tick for tick in steps if longest[0] <= tick <= longest[1]]
+    for level in sorted({each for each in levels if not longest[0] <= each <= longest[1]}):
+        if all(abs(float(forward(gaps, level) - forward(gaps, tick))) * dots > APART for tick in ticks):
+            ticks.append(level)
     axes.yaxis.set_major_locator(FixedLocator(sorted(ticks)))
     axes.yaxis.set_major_formatter(FuncFormatter(lambda value, _: f'{value:g}'))
     for gap in gaps:

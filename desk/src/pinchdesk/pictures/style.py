@@ -2,6 +2,7 @@
 from __future__ import annotations
 
 import io
+import math
 from collections.abc import Iterator
 from contextlib import contextmanager
 from typing import Any
@@ -10,6 +11,7 @@ import matplotlib
 from matplotlib.axes import Axes
 from matplotlib.backends.backend_agg import FigureCanvasAgg
 from matplotlib.figure import Figure
+from matplotlib.text import Text
 
 HOT, COLD, INK, PALE, FAULT = '#c0392b', '#2471a3', '#222222', '#777777', '#e00000'
 ABOVE, BELOW, BETWEEN, ACROSS, NEUTRAL = '#a04000', '#1f618d', '#1e8449', '#8e1fb5', '#333333'
@@ -25,6 +27,8 @@ STYLE: dict[str, Any] = {
     'axes.unicode_minus': True, 'axes.formatter.useoffset': False, 'axes.formatter.limits': (-5, 9),
 }
 DOTS = 150
+# The smallest letters that can be read on a screen, in points.
+READABLE = 6.0
 
 
 @contextmanager
@@ -50,6 +54,12 @@ def rendered(figure: Figure, form: str, letters_as_shapes: bool = False) -> byte
     # Verdana has the same widths.
     return held.getvalue().replace(b"'DejaVu Sans'", b"'DejaVu Sans', Verdana, sans-serif") if form == 'svg' \
         else held.getvalue()
+
+
+def readable_width(figure: Figure) -> int:
+    """How wide a picture is on a screen, in dots, where its smallest letters can still be read."""
+    smallest = min((each.get_fontsize() for each in figure.findobj(Text) if each.get_text().strip()), default=READABLE)
+    return math.ceil(float(figure.get_size_inches()[0]) * 96 * READABLE / smallest)
 
 
 def said(text: str) -> str:
