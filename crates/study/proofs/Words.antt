@@ -29,7 +29,7 @@ pub use Rattle.std.proofs.lemmas.List.Elements.{All-tail, All-weaker, filter-app
 pub use Rattle.std.proofs.lemmas.List.Folds.{list_any_at, list_any_none}
 pub use Rattle.std.proofs.lemmas.List.Kept.{AllPairs-filter}
 pub use Rattle.std.proofs.lemmas.List.Sums.{count_by-le-length, length-filter, sum_by-append}
-pub use Rattle.std.proofs.lemmas.Option.{same_Some, slice_get-get_or, slice_get-map, slice_get_past, slice_get_within}
+pub use Rattle.std.proofs.lemmas.Option.{get_or_from_slice_get, same_Some, slice_get-get_or, slice_get-map, slice_get_past, slice_get_within}
 pub use Rattle.std.proofs.lemmas.Result.{IfOk-weaker}
 pub use Rattle.std.proofs.lemmas.Str.Parse.{numerals_by_value, tells_by_index}
 pub use Rattle.std.specs.Char.{is_ascii_alphanumeric}
@@ -37,6 +37,7 @@ pub use Rattle.std.specs.Fmt.{decimal}
 pub use Rattle.std.specs.Int.{IsInRange, is_in_range, w128}
 pub use Rattle.std.specs.Int.RustNames.{unsigned_abs}
 pub use Rattle.std.specs.List.{range_with_len}
+pub use Rattle.std.specs.Option.{option_to_list}
 pub use Rattle.std.specs.Ordering.{int_eq}
 pub use Rattle.std.specs.Prelude.{All, AllPairs, Bool, IsSome, IsTrue, MatchOption, MatchResult, SomeIff, codes, count_by, filter, if◌then◌else◌, neg_ℤ}
 pub use Rattle.std.specs.Prelude.{option_map, pos, set, slice_get, ℤ, ◌*ℤ◌, ◌++◌, ◌+ℤ◌, ◌-ℤ◌, ◌<ℤ◌, ◌==◌, ◌≤ℤ◌}
@@ -62,7 +63,7 @@ pub use Rattle.stream_case.specs.declared.stream.Stream.{Stream}
 pub use Rattle.stream_case.specs.declared.utility.Utility.{Utility}
 pub use Rattle.study.specs.Chords.{IsChord, IsChordEnd, IsGap, IsSmallChord, chord_at}
 pub use Rattle.study.specs.Cost.{IsCostOf}
-pub use Rattle.study.specs.CostCurve.{HasFlowWith, IsCostCurve, IsPoint, IsPointOf, IsSmallPoint}
+pub use Rattle.study.specs.CostCurve.{HasFlowWith, IsCostCurve, IsPoint, IsPointOf, IsSmallPoint, IsTaken}
 pub use Rattle.study.specs.CostRange.{IsCost}
 pub use Rattle.study.specs.Draws.{draw, next_state, state_after}
 pub use Rattle.study.specs.Plan.{IsSweepPlan, contribution_at, has_row}

@@ -1,5 +1,5 @@
 -- The least cost of a case over the price of one utility, and its points.
-use Rattle.std.specs.Prelude.{ℕ, ◌<◌, ℤ, List, All, length}
+use Rattle.std.specs.Prelude.{◌≡◌, ◌⊎◌, ℕ, ◌<◌, ℤ, List, [], ◌∷◌, ◌++◌, All, length}
 use Rattle.stream_case.specs.Limits.{IsPrice}
 use Rattle.stream_case.specs.declared.case.Case.{Case}
 use Rattle.study.specs.CostRange.{IsCost}
@@ -28,8 +28,17 @@ pub record Curve : Type 0 where
   pub case : Case
   pub utility : ℕ
 
+-- a curve, with the points of it that are known ahead, the nearest one last
+pub record KnownCurve : Type 0 where
+  pub curve : Curve
+  pub ahead : List Point
+
 abbrev pub IsPointOf : Curve → Point → Type 0
 IsPointOf curve = IsPoint curve.case curve.utility
+
+-- a point of these is taken, the last of them, or another one, and then all are left
+abbrev pub IsTaken : List Point → Point → List Point → Type 0
+IsTaken known point left = (known ≡ left ++ point ∷ []) ⊎ (left ≡ known)
 
 -- a completed case that has a heat flow, with its parts and their net, utility number i of it, and points of the curve
 pub record IsCostCurve (p : PricedCase) (i : ℕ) (known : List Point) : Type 0 where

@@ -1,5 +1,5 @@
 //! The least cost of a case over the price of one of its utilities.
-ghost use Rattle.std.specs.Prelude.{◌≡◌, ◌<◌, length, All, IfOk};
+ghost use Rattle.std.specs.Prelude.{◌≡◌, ◌<◌, [], ◌∷◌, ◌++◌, length, All, IfOk, OnErr, OnOk};
 ghost use Rattle.stream_case.specs.Limits.{IsPrice};
 
 use crate::priced::PricedCase;
@@ -25,20 +25,20 @@ pub(crate) struct CostCurve<'a> {
 }
 
 impl<'a> Model for CostCurve<'a> {
-    ghost use Rattle.study.specs.CostCurve.{Curve, IsCostCurve};
+    ghost use Rattle.study.specs.CostCurve.{IsCostCurve, KnownCurve};
 
-    ghost Value = { Curve };
+    ghost Value = { KnownCurve };
 
     ghost view = { λ c. record {
-      case = c.priced.case.now;
-      utility = c.utility;
+      curve = record { case = c.priced.case.now; utility = c.utility };
+      ahead = c.ahead.items;
     } };
 
     ghost invariant = { λ c. IsCostCurve c.priced c.utility c.ahead.items };
 }
 
 impl<'a> CostCurve<'a> {
-    ghost use Rattle.study.specs.CostCurve.{HasFlowWith, IsPointOf};
+    ghost use Rattle.study.specs.CostCurve.{HasFlowWith, IsPointOf, IsTaken};
     ghost use Rattle.study.specs.PricedCase.{IsPricedCase};
 
     /// The curve of a case, without a point ahead.
@@ -46,7 +46,9 @@ impl<'a> CostCurve<'a> {
         requires priced { IsPricedCase priced.now }
         requires utility { utility < length priced.now.case.now.utilities }
         requires flow { HasFlowWith priced.now.case.now utility }
-        ensures { result ≡ record { case = priced.now.case.now; utility = utility } }
+        ensures curve { result.curve
+            ≡ record { case = priced.now.case.now; utility = utility } }
+        ensures ahead { result.ahead ≡ [] }
     {
         CostCurve {
             priced: *priced,
@@ -57,15 +59,18 @@ impl<'a> CostCurve<'a> {
 
     /// The points ahead.
     pub fn ahead(&self) -> &[Point]
-        ensures { All (IsPointOf self.now) result.now }
+        ensures value { result.now ≡ self.now.ahead }
+        ensures points { All (IsPointOf self.now.curve) result.now }
     {
         self.ahead.as_slice()
     }
 
-    /// Puts a point before those ahead.
+    /// Puts a point before those ahead: it is the nearest one.
     pub fn keep(&mut self, point: Point) -> Result<(), AllocError>
-        requires { IsPointOf self.old point }
-        ensures { self.new ≡ self.old }
+        requires { IsPointOf self.old.curve point }
+        ensures same { self.new.curve ≡ self.old.curve }
+        ensures kept { OnOk result (self.new.ahead ≡ self.old.ahead ++ point ∷ []) }
+        ensures as_before { OnErr result (self.new.ahead ≡ self.old.ahead) }
     {
         self.ahead.push(point)?;
         Ok(())
@@ -75,7 +80,7 @@ impl<'a> CostCurve<'a> {
     fn new_point(&self, alloc: Global, price: i64) -> Result<Point, AllocError>
         requires { IsPrice price }
         ensures price { IfOk result (λ point. point.price ≡ price) }
-        ensures point { IfOk result (IsPointOf self.now) }
+        ensures point { IfOk result (IsPointOf self.now.curve) }
     {
         match self.priced.cost_with(alloc, self.utility, price)? {
             Some(cost) => Ok(Point { price, cost }),
@@ -88,8 +93,9 @@ impl<'a> CostCurve<'a> {
     pub fn take_point(&mut self, alloc: Global, price: i64) -> Result<Point, AllocError>
         requires { IsPrice price }
         ensures price { IfOk result (λ point. point.price ≡ price) }
-        ensures point { IfOk result (IsPointOf self.old) }
-        ensures same { self.new ≡ self.old }
+        ensures point { IfOk result (IsPointOf self.old.curve) }
+        ensures same { self.new.curve ≡ self.old.curve }
+        ensures taken { IfOk result (λ point. IsTaken self.old.ahead point self.new.ahead) }
     {
         match self.ahead.last().copied() {
             Some(point) if point.price == price => {

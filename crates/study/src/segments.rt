@@ -17,11 +17,11 @@ use stream_case::Items;
 
 /// The chord through a point and that at the next price.
 fn chord_from(alloc: Global, curve: &mut CostCurve, first: Point) -> Result<Chord, AllocError>
-    requires first { IsPointOf curve.old first }
+    requires first { IsPointOf curve.old.curve first }
     requires next { IsPrice (first.price +ℤ pos 1) }
     ensures from { IfOk result (λ chord. chord.from ≡ first.price) }
-    ensures chord { IfOk result (IsChord curve.old.case curve.old.utility) }
-    ensures same { curve.new ≡ curve.old }
+    ensures chord { IfOk result (IsChord curve.old.curve.case curve.old.curve.utility) }
+    ensures same { curve.new.curve ≡ curve.old.curve }
 {
     let next = curve.take_point(alloc, first.price + 1)?;
     Ok(Chord {
@@ -35,11 +35,11 @@ fn chord_from(alloc: Global, curve: &mut CostCurve, first: Point) -> Result<Chor
 /// never returns, so the end lies between a price that is on it and one that is not; each price
 /// between the two that is looked at brings them nearer to each other.
 fn chord_end(alloc: Global, curve: &mut CostCurve, chord: Chord, to: i64) -> Result<i64, AllocError>
-    requires chord { IsChord curve.old.case curve.old.utility chord }
+    requires chord { IsChord curve.old.curve.case curve.old.curve.utility chord }
     requires order { chord.from <ℤ to }
     requires last { IsPrice to }
-    ensures end { IfOk result (IsChordEnd curve.old.case curve.old.utility chord to) }
-    ensures same { curve.new ≡ curve.old }
+    ensures end { IfOk result (IsChordEnd curve.old.curve.case curve.old.curve.utility chord to) }
+    ensures same { curve.new.curve ≡ curve.old.curve }
 {
     let mut on = chord.from + 1;
     let mut off = to + 1;
@@ -63,13 +63,13 @@ fn segment_from(
     first: Point,
     to: i64,
 ) -> Result<Segment, AllocError>
-    requires utility { curve.old.utility < length curve.old.case.utilities }
-    requires first { IsPointOf curve.old first }
+    requires utility { curve.old.curve.utility < length curve.old.curve.case.utilities }
+    requires first { IsPointOf curve.old.curve first }
     requires order { first.price ≤ℤ to }
     requires last { IsPrice to }
     ensures from { IfOk result (λ segment. segment.from ≡ first.price) }
-    ensures segment { IfOk result (IsSegment curve.old.case curve.old.utility to) }
-    ensures same { curve.new ≡ curve.old }
+    ensures segment { IfOk result (IsSegment curve.old.curve.case curve.old.curve.utility to) }
+    ensures same { curve.new.curve ≡ curve.old.curve }
 {
     if first.price == to {
         return Ok(Segment {
@@ -96,8 +96,8 @@ fn curve_segments(
     from: i64,
     to: i64,
 ) -> Result<Items<Segment>, AllocError>
-    requires span { IsSpan curve.old.case curve.old.utility from to }
-    ensures { IfOk result (AreSpanSegments curve.old.case curve.old.utility from to) }
+    requires span { IsSpan curve.old.curve.case curve.old.curve.utility from to }
+    ensures { IfOk result (AreSpanSegments curve.old.curve.case curve.old.curve.utility from to) }
 {
     let mut segments = Items::new(alloc);
     let mut next = from;

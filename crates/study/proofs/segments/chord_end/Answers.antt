@@ -7,8 +7,8 @@ use Rattle.study.proofs.segments.chord_end.Goals as goal
 
 pub loop-off-init : goal.loop-off-init
 loop-off-init c =
-    let case = c.args.curve.now.case in
-    let i = c.args.curve.now.utility in
+    let case = c.args.curve.now.curve.case in
+    let i = c.args.curve.now.curve.utility in
     let chord = c.args.chord in
     let a = c.requires.chord.small.from.from in
     let b = c.requires.chord.small.from.upto in
@@ -29,12 +29,12 @@ loop-off-init c =
 
 pub next_price-price-requires-clause-ahead : goal.next_price-price-requires-clause-ahead
 next_price-price-requires-clause-ahead c =
-    All-weaker (IsPointOf c.loop-off.curve) IsSmallPoint (λ point is. is.small) _ c.ahead.ensures
+    All-weaker (IsPointOf c.loop-off.curve.curve) IsSmallPoint (λ point is. is.small) _ c.ahead.ensures.points
 
 pub loop-off-preserved-then-point-chord_at : goal.loop-off-preserved-then-point-chord_at
 loop-off-preserved-then-point-chord_at c =
-    let case = c.args.curve.now.case in
-    let i = c.args.curve.now.utility in
+    let case = c.args.curve.now.curve.case in
+    let i = c.args.curve.now.curve.utility in
     let chord = c.args.chord in
     let point = c.in_ok-point.point in
     let on = to_z w64 c.loop-off.on-bits in
@@ -60,8 +60,8 @@ loop-off-preserved-then-point-chord_at c =
 
 pub loop-off-preserved : goal.loop-off-preserved
 loop-off-preserved c =
-    let case = c.args.curve.now.case in
-    let i = c.args.curve.now.utility in
+    let case = c.args.curve.now.curve.case in
+    let i = c.args.curve.now.curve.utility in
     let chord = c.args.chord in
     let point = c.in_ok-point.point in
     let price = to_z w64 (of_z w64 c.next_price-price.result) in
@@ -84,13 +84,13 @@ loop-off-preserved c =
       outside = λ h costs.
           apart (one_cost case (priced (prices_with case i price)) point.cost (chord_at chord price) least costs
           ∙ sym c.chord_at.ensures);
-      same = c.in_ok-keep.ensures ∙ (c.in_ok-point.ensures.same ∙ c.loop-off.invariant.same);
+      same = c.in_ok-keep.ensures.same ∙ (c.in_ok-point.ensures.same ∙ c.loop-off.invariant.same);
     }
 
 pub returns-clause-end : goal.returns-clause-end
 returns-clause-end c =
-    let case = c.args.curve.now.case in
-    let i = c.args.curve.now.utility in
+    let case = c.args.curve.now.curve.case in
+    let i = c.args.curve.now.curve.utility in
     let chord = c.args.chord in
     let on = to_z w64 c.loop-off.on-bits in
     let off = to_z w64 c.loop-off.off-bits in

@@ -7,9 +7,9 @@ invariant-loop-off l = record {
   ahead : (l.chord.from +ℤ pos 1) ≤ℤ l.on;
   order : l.on <ℤ l.off;
   last : l.off ≤ℤ (l.to +ℤ pos 1);
-  inside : CostsWith l.fn.curve.case l.fn.curve.utility l.on (chord_at l.chord l.on);
-  outside : l.off ≤ℤ l.to → CostsWith l.fn.curve.case l.fn.curve.utility l.off (chord_at l.chord l.off) → ⊥;
-  same : l.curve ≡ l.fn.curve;
+  inside : CostsWith l.fn.curve.curve.case l.fn.curve.curve.utility l.on (chord_at l.chord l.on);
+  outside : l.off ≤ℤ l.to → CostsWith l.fn.curve.curve.case l.fn.curve.curve.utility l.off (chord_at l.chord l.off) → ⊥;
+  same : l.curve.curve ≡ l.fn.curve.curve;
 }
 
 abbrev pub decreases-loop-off : goal.decreases-loop-off

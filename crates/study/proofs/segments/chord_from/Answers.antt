@@ -5,8 +5,8 @@ use Rattle.study.proofs.segments.chord_from.Goals as goal
 
 pub returns-clause-chord : goal.returns-clause-chord
 returns-clause-chord c =
-    let case = c.args.curve.now.case in
-    let i = c.args.curve.now.utility in
+    let case = c.args.curve.now.curve.case in
+    let i = c.args.curve.now.curve.utility in
     let first = c.args.first in
     let next = c.in_ok-next.next in
     let price_fits : FitsSigned w64 first.price = search rules in

@@ -18,8 +18,8 @@ loop-next-smaller c =
 
 pub loop-next-preserved : goal.loop-next-preserved
 loop-next-preserved c =
-    let case = c.args.curve.now.case in
-    let i = c.args.curve.now.utility in
+    let case = c.args.curve.now.curve.case in
+    let i = c.args.curve.now.curve.utility in
     let segment = c.in_ok-segment.segment in
     let is = rw (c.in_ok-begin.ensures.same, c.loop-next.invariant.same) at c.in_ok-segment.ensures.segment in
     let from_is = c.in_ok-segment.ensures.from in
@@ -44,8 +44,8 @@ loop-next-preserved c =
 
 pub returns : goal.returns
 returns c =
-    let case = c.args.curve.now.case in
-    let i = c.args.curve.now.utility in
+    let case = c.args.curve.now.curve.case in
+    let i = c.args.curve.now.curve.utility in
     let upto = c.loop-next.invariant.upto in
     let d = c.requires.span.last.from in
     let e = c.requires.span.last.upto in

@@ -6,8 +6,8 @@ abbrev pub invariant-loop-next : goal.invariant-loop-next
 invariant-loop-next l = record {
   from : l.fn.from ≤ℤ l.next;
   upto : l.next ≤ℤ (l.to +ℤ pos 1);
-  segments : AreSegments l.fn.curve.case l.fn.curve.utility l.to l.fn.from l.next l.segments;
-  same : l.curve ≡ l.fn.curve;
+  segments : AreSegments l.fn.curve.curve.case l.fn.curve.curve.utility l.to l.fn.from l.next l.segments;
+  same : l.curve.curve ≡ l.fn.curve.curve;
 }
 
 abbrev pub decreases-loop-next : goal.decreases-loop-next

@@ -5,8 +5,8 @@ use Rattle.study.proofs.segments.segment_from.Goals as goal
 
 pub returns-then-first-to-clause-segment : goal.returns-then-first-to-clause-segment
 returns-then-first-to-clause-segment c =
-    let case = c.args.curve.now.case in
-    let i = c.args.curve.now.utility in
+    let case = c.args.curve.now.curve.case in
+    let i = c.args.curve.now.curve.utility in
     let first = c.args.first in
     let fits : FitsSigned w128 first.cost = search rules in
     let price_fits : FitsSigned w64 first.price = search rules in
@@ -17,8 +17,8 @@ returns-then-first-to-clause-segment c =
 
 pub returns-clause-segment : goal.returns-clause-segment
 returns-clause-segment c =
-    let case = c.args.curve.now.case in
-    let i = c.args.curve.now.utility in
+    let case = c.args.curve.now.curve.case in
+    let i = c.args.curve.now.curve.utility in
     let chord = c.in_ok-chord.chord in
     let from = c.in_ok-chord.ensures.from in
     let ahead : chord.from <ℤ c.args.to = omega (arith, ints, from, c.requires.order, c.if-first-to.false) in

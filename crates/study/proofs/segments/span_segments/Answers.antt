@@ -18,7 +18,7 @@ keep-requires c =
     let range = rw c.in-Some.is at c.in_ok-cost.ensures.range in
     let fits : FitsSigned w128 cost = search rules in
     let cost_is = sym (to_z-of_z w128 cost fits) in
-    rw c.new-curve.ensures (record {
+    rw c.new-curve.ensures.curve (record {
       small = record {
         price = subst IsPrice (sym (to_z-of_z w64 c.args.from c.ranges.from)) c.requires.span.first;
         cost = subst IsCost cost_is range;
