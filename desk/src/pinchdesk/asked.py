@@ -6,7 +6,7 @@ from argparse import ArgumentParser, Namespace
 from collections.abc import Sequence
 from dataclasses import replace
 
-from .answers import Cut
+from .answers import Cut, Prices
 from .case import Case, completed, read_case
 from .errors import about
 from .facts import flow_facts, targets_facts
@@ -16,6 +16,7 @@ from .program import Pinch
 from .reports import audit_sheets, flow_sheets, prices_sheets, site_sheets, sweep_sheets, targets_sheets
 from .sheets import FORMS, Sheet, form_of, rendered
 from .states import follow
+from .studied import studied
 from .sweeps import as_it_is, asked_range, check_workers
 from .verdicts import Verdict, ending
 from .word import Answer, Facts, Word
@@ -51,7 +52,8 @@ def takes_sweep(parser: ArgumentParser) -> None:
 
 def takes_study(parser: ArgumentParser) -> None:
     takes_case(parser)
-    parser.add_argument('study', metavar='STUDY', help='a price study (docs/FORMATS.md)')
+    parser.add_argument('study', metavar='STUDY', help='a price study (docs/FORMATS.md), in the unit of the '
+                        'prices of the case')
     takes_workers(parser)
 
 
@@ -109,13 +111,21 @@ def sweep(options: Namespace) -> Answer:
         return answer_of(sweep_sheets(held, answer, as_it_is(pinch, content, held)), options, good)
 
 
-def prices(options: Namespace) -> Answer:
-    content, study = read_bytes(options.case), read_bytes(options.study)
+def priced(options: Namespace) -> tuple[Case, Prices, tuple[str, ...]]:
+    """The case of a study with what the program answers, and what is told of the study."""
+    content, study, pinch = read_bytes(options.case), read_bytes(options.study), Pinch()
     check_workers(options.workers)
-    with about(case=options.case, study=options.study):
-        answer = Pinch().prices(content, study, options.workers)
-        good = answer.feasible
-        return answer_of(prices_sheets(held_case(content), answer), options, good)
+    with about(case=options.case):
+        pinch.targets(content)
+    with about(study=options.study):
+        asked = studied(study, read_case(content))
+        answer = pinch.prices(asked.case, asked.content, options.workers)
+    return completed(asked.case), answer, tuple(f'{options.study}: {each}' for each in asked.notes)
+
+
+def prices(options: Namespace) -> Answer:
+    case, answer, notes = priced(options)
+    return replace(answer_of(prices_sheets(case, answer), options, answer.feasible), notes=notes)
 
 
 def site(options: Namespace) -> Answer:

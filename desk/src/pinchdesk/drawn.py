@@ -6,14 +6,14 @@ from collections.abc import Callable
 from dataclasses import replace
 from typing import TYPE_CHECKING, Any
 
-from .asked import CASE_HELP, held_case, takes_workers
+from .asked import CASE_HELP, held_case, priced, takes_workers
 from .errors import WordsError, about
 from .network import read_network
 from .output import read_bytes
 from .program import Pinch
 from .site import read_site
 from .states import follow, pinches_of
-from .sweeps import asked_range, check_workers
+from .sweeps import asked_range
 from .answers import Cut
 from .verdicts import ending
 from .word import Answer, Word
@@ -48,7 +48,8 @@ def takes_sweep(parser: ArgumentParser) -> None:
 
 def takes_study(parser: ArgumentParser) -> None:
     takes_case(parser)
-    parser.add_argument('study', metavar='STUDY', help='a price study with a span (docs/FORMATS.md)')
+    parser.add_argument('study', metavar='STUDY', help='a price study with a span (docs/FORMATS.md), in '
+                        'the unit of the prices of the case')
     parser.add_argument('--utility', metavar='NAME', help='of several spans, those of this utility alone')
     takes_workers(parser)
 
@@ -115,12 +116,10 @@ def sweep(options: Namespace) -> Answer:
 
 
 def prices(options: Namespace) -> Answer:
-    form, content, study = form_of(options.output), read_bytes(options.case), read_bytes(options.study)
-    check_workers(options.workers)
-    with about(case=options.case, study=options.study):
-        answer = Pinch().prices(content, study, options.workers)
+    form = form_of(options.output)
+    case, answer, notes = priced(options)
     from .pictures import prices_figure
-    return picture(prices_figure(held_case(content), answer, options.utility), form, answer.feasible)
+    return replace(picture(prices_figure(case, answer, options.utility), form, answer.feasible), notes=notes)
 
 
 def nothing(options: Namespace) -> Answer:

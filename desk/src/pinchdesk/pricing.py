@@ -7,7 +7,7 @@ from __future__ import annotations
 
 import re
 from collections.abc import Sequence
-from dataclasses import dataclass
+from dataclasses import dataclass, field
 from fractions import Fraction
 from math import gcd, lcm
 
@@ -21,9 +21,9 @@ WATT_YEAR = re.compile(r'\b([kMG]?W)a\b')
 
 @dataclass(frozen=True)
 class PriceUnit:
-    """A unit of prices: money per `amount` watt-hours, or watts for a year."""
+    """A unit of prices: money per `amount` watt-hours, or watts for a year. Two are one however they are written."""
 
-    text: str
+    text: str = field(compare=False)
     money: str
     amount: Fraction
     yearly: bool
@@ -47,6 +47,14 @@ def price_unit_of(text: str) -> PriceUnit:
     if len(years) > 1 or not rest:
         raise UnknownUnit(text)
     return PriceUnit(text.strip(), money, amount_of(text, rest, bool(years)), bool(years))
+
+
+def same_price_unit(one: str, other: str) -> bool:
+    """Whether two texts name one unit of prices."""
+    try:
+        return price_unit_of(one) == price_unit_of(other)
+    except UnknownUnit:
+        return one == other
 
 
 def amount_of(text: str, rest: str, yearly: bool) -> Fraction:
@@ -102,12 +110,16 @@ def common(price: Fraction, unit: PriceUnit, yearly: bool, hours: Fraction | Non
     return held * hours
 
 
+def times_ten(below: int) -> int:
+    """The least power of ten that a number divides, else the number itself."""
+    return next((10 ** power for power in range(8) if 10 ** power % below == 0), below)
+
+
 def whole_prices(prices: Sequence[Fraction]) -> tuple[Fraction, tuple[int, ...], bool]:
     """A factor that makes all prices whole and small enough, and the prices; where there is none they are rounded."""
     below = lcm(*(each.denominator for each in prices)) if prices else 1
     above = gcd(*(int(each * below) for each in prices)) or 1
-    tens = next((10 ** power for power in range(8) if 10 ** power % below == 0), below)
-    for factor in (Fraction(tens), Fraction(below), Fraction(below, above)):
+    for factor in (Fraction(times_ten(below)), Fraction(below), Fraction(below, above)):
         if all(abs(each * factor) <= MOST for each in prices):
             return factor, tuple(int(each * factor) for each in prices), False
     largest = max(abs(each) for each in prices)

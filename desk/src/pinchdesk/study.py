@@ -1,13 +1,17 @@
 """The price study: the only reader of it in the desk, and its printer (docs/FORMATS.md, *The price study*). Prices are
-per W."""
+per W, as the rows of a case file have them; of a study in another unit see `studied`."""
 from __future__ import annotations
 
 import csv
 import io
+from collections.abc import Iterable, Sequence
 from dataclasses import dataclass
 
 from .case import is_passed_over, number, records
-from .errors import refused_row
+from .errors import Refused, refused_row
+from .harmless import read_again
+
+PER_WATT = 'per W'
 
 
 @dataclass(frozen=True)
@@ -42,6 +46,9 @@ def read_study(text: str | bytes) -> Study:
     program to check."""
     items: list[Item] = []
     scenario: int | None = None
+    at, unit = unit_of_rows(records(text))
+    if unit not in ('', PER_WATT):
+        raise unit_refusal(at, f'the prices are in {unit}, and the program has them {PER_WATT}')
     for at, row in records(text):
         if len(row) != 4:
             raise refused_row('study', at, 'FieldCount')
@@ -61,6 +68,19 @@ def read_study(text: str | bytes) -> Study:
     return Study(tuple(items))
 
 
+def unit_of_rows(rows: Iterable[tuple[int, Sequence[str]]]) -> tuple[int, str]:
+    """The unit that a study says its prices are in, with its row; `Refused` where it says two."""
+    units = {read_again(row[1]): at for at, row in rows if len(row) == 4 and row[0] == '#price'}
+    if len(units) > 1:
+        raise unit_refusal(max(units.values()), f'a second unit of its prices: {" and ".join(units)}')
+    return next(((at, unit) for unit, at in units.items()), (0, ''))
+
+
+def unit_refusal(at: int, cause: str) -> Refused:
+    place = f'study row {at}'
+    return Refused(4, place, 'unit', f'{place}: {cause}')
+
+
 def priced(item: Item, utility: str, price: int) -> Scenario:
     assert isinstance(item, Scenario)
     return Scenario(item.name, (*item.prices, (utility, price)))
@@ -70,6 +90,7 @@ def print_study(study: Study) -> str:
     """The study as a file; reading it gives the same study."""
     held = io.StringIO(newline='')
     writer = csv.writer(held, lineterminator='\n')
+    writer.writerow(['#price', PER_WATT, '', ''])
     for item in study.items:
         if isinstance(item, Span):
             writer.writerow(['span', item.utility, item.first, item.last])

@@ -1,0 +1,161 @@
+"""A price study is in the unit of its case's prices: what is asked in it and what is answered are of one unit."""
+from __future__ import annotations
+
+from dataclasses import replace
+from decimal import Decimal
+from fractions import Fraction
+from pathlib import Path
+
+import pytest
+from conftest import example
+from hypothesis import given
+from hypothesis import strategies as some
+from looking import svg_texts
+from test_words import Captured
+
+import pinchdesk
+from pinchdesk import (Basis, Pinch, Refused, Scenario, ScenarioAnswer, Span, SpanAnswer, Study, print_study,
+                       read_case, read_study)
+from pinchdesk.pictures import prices_figure
+from pinchdesk.studied import studied
+
+PLANT = ('Stream;Kind;Supply (°C);Target (°C);CP (kW/K);Price (EUR/MWh)\n'
+         'H1;;150;60;2;\nC1;;20;125;2,5;\nLP;heater;180;;;30,05\n')
+STEAM = example('two-steam-levels.csv')
+
+
+@pytest.fixture
+def desk(capfd: pytest.CaptureFixture[str]) -> Captured:
+    return Captured(capfd)
+
+
+@pytest.fixture
+def plant(tmp_path: Path, monkeypatch: pytest.MonkeyPatch, desk: Captured) -> Path:
+    """A case of a table with prices in EUR/MWh: 82.5 kW of steam at 30.05."""
+    monkeypatch.chdir(tmp_path)
+    Path('plant.csv').write_text(PLANT)
+    assert desk('case', '-d', '10', 'plant.csv', '-o', 'case.csv').status == 0
+    return tmp_path
+
+
+def test_a_study_is_in_the_unit_of_the_prices_of_its_case(plant: Path, desk: Captured) -> None:
+    Path('study.csv').write_text('scenario,Today,,\nscenario,Winter,,\nprice,LP,50,\n')
+    done = desk('prices', 'case.csv', 'study.csv', '--form', 'csv')
+    # 82.5 kW at 30.05 and at 50 EUR/MWh.
+    assert done.out == 'scenario,least cost EUR/h\r\nToday,2.479\r\nWinter,4.125\r\n'
+    assert done.err == 'pinchdesk: study.csv: its prices are taken in EUR/MWh, as those of the case\n'
+    for said in ('EUR/MWh', 'EUR per MWh'):
+        Path('study.csv').write_text(f'#price,{said},,\nscenario,Winter,,\nprice,LP,50 EUR/MWh,\n')
+        assert desk('prices', 'case.csv', 'study.csv', '--form', 'csv') == (
+            type(done)(0, 'scenario,least cost EUR/h\r\nWinter,4.125\r\n', ''))
+    Path('study.csv').write_text('#price,per W,,\nscenario,Winter,,\nprice,LP,5000,\n')
+    assert 'Winter,4.125' in desk('prices', 'case.csv', 'study.csv', '--form', 'csv').out
+
+
+def test_a_price_of_a_study_may_be_finer_than_those_of_the_case(plant: Path, desk: Captured) -> None:
+    Path('study.csv').write_text('scenario,Winter,,\nprice,LP,"90,9091",\nspan,LP,0.001,1\n')
+    done = desk('prices', 'case.csv', 'study.csv', '--form', 'csv')
+    assert 'Winter,7.5\r\n' in done.out and 'LP,0.001,1,0,0.083,82.5' in done.out
+    Path('study.csv').write_text('scenario,Winter,,\nprice,LP,"50,0004",\nspan,LP,0.001,20\n')
+    done = desk('prices', 'case.csv', 'study.csv')
+    assert done.status == 3 and 'row 3: from 0.001 to 20 EUR/MWh there are 199991 prices in steps of 0.0001' in done.err
+
+
+def test_a_picture_of_a_span_is_in_the_unit_too(plant: Path, desk: Captured, pinch: Pinch) -> None:
+    Path('study.csv').write_text('span,LP,10.5,40\n')
+    done = desk('prices', 'case.csv', 'study.csv', '--form', 'csv')
+    assert done.out.split('\r\n')[1] == 'LP,10.5,40,0.866,3.3,82.5'
+    made = studied(b'span,LP,10.5,40\n', read_case(Path('case.csv').read_bytes()))
+    texts = svg_texts(prices_figure(made.case, pinch.prices(made.case, made.content)))
+    assert {'10.5: 0.866', '40: 3.3', '82.5 kW', 'price of LP, EUR/MWh', 'least cost, EUR/h'} <= set(texts)
+    assert desk('draw', 'prices', 'case.csv', 'study.csv', '-o', 'out.svg').status == 0
+    assert '40: 3.3' in Path('out.svg').read_text()
+
+
+REFUSED = [('price,LP,20000,', 'row 2: 20000 EUR/MWh is too large or too fine: in steps of 0.01, which the prices '
+                               'want, a case has at most 10000'),
+           ('price,LP,0.000001,', 'row 2: 0.000001 EUR/MWh is too large or too fine'),
+           ('price,LP,32.000,', 'row 2: `32.000` may be 32 or 32000'), ('price,LP,+5,', 'row 2: `+5` may be a change'),
+           ('price,LP,dear,', 'row 2: `dear`: no number'), ('price,LP,,', 'row 2: ``: no number'),
+           ('price,LP,5 USD/MWh,', 'the prices of the case are in EUR/MWh, and `USD/MWh` is another unit'),
+           ('price,XP,5,', 'study row 2 UnknownName'), ('price,LP,5', 'study row 2 FieldCount'),
+           ('span,LP,5,4', 'study row 2 BadRange'), ('#price,USD/MWh,,', 'row 2: the prices are in USD/MWh, and those'),
+           ('#price,EUR/MWh,,\n#price,EUR/kWh,,', 'row 3: a second unit of its prices: EUR/MWh and EUR/kWh'),
+           ('price,LP,1e99999999,', 'and `e99999999` is another unit'),
+           ('span,LP,0,2000', 'there are 200001 prices in steps of 0.01')]
+
+
+@pytest.mark.parametrize('row, said', REFUSED, ids=range(len(REFUSED)))
+def test_what_has_no_exact_price_is_refused_by_its_row(row: str, said: str, plant: Path, desk: Captured) -> None:
+    Path('study.csv').write_text(f'scenario,Winter,,\n{row}\n')
+    done = desk('prices', 'case.csv', 'study.csv')
+    assert (done.status, done.out) == (3, '') and said in done.err
+    assert done.err.startswith('pinchdesk: study.csv: study row ')
+
+
+def test_where_hot_stands_in_prices_are_no_finer(pinch: Pinch) -> None:
+    basis = Basis(price_unit='as in the table', price_divisor=Fraction(10), cost_unit='price times W',
+                  cost_divisor=Fraction(10))
+    case = replace(read_case(example('four-stream.csv')), basis=basis)
+    assert studied(b'scenario,S,,\nprice,HOT,0.3,\n', case).content == b'scenario,S,,\nprice,HOT,3,\n'
+    with pytest.raises(Refused, match='0.03 as in the table is too fine: without a heater of its own .* of 0.1'):
+        studied(b'scenario,S,,\nprice,HOT,0.03,\n', case)
+
+
+def test_a_case_without_units_has_whole_prices(desk: Captured, plant: Path) -> None:
+    Path('steam.csv').write_bytes(STEAM)
+    Path('study.csv').write_text('scenario,S,,\nprice,HP,5,\n')
+    assert desk('prices', 'steam.csv', 'study.csv').err == ''
+    Path('study.csv').write_text('scenario,S,,\nprice,HP,5.5,\n')
+    assert 'study row 2 BadNumber' in desk('prices', 'steam.csv', 'study.csv').err
+    Path('study.csv').write_text('#price,EUR/MWh,,\nscenario,S,,\nprice,HP,5,\n')
+    done = desk('prices', 'steam.csv', 'study.csv')
+    assert 'row 1: the prices are in EUR/MWh, and those of the case per W' in done.err
+
+
+def test_a_study_in_another_unit_is_none_of_the_program(pinch: Pinch) -> None:
+    with pytest.raises(Refused, match='study row 1: the prices are in EUR/MWh, and the program has them per W'):
+        read_study('#price,EUR/MWh,,\nscenario,S,,\n')
+    with pytest.raises(Refused, match='the program has them per W'):
+        pinch.prices(STEAM, '#price,EUR/MWh,,\nscenario,S,,\n')
+
+
+def test_studies_of_a_notebook_are_per_watt(plant: Path, pinch: Pinch) -> None:
+    case = read_case(Path('case.csv').read_bytes())
+    study = Study((Scenario('Winter', (('LP', 5000),)),))
+    made = pinchdesk.many('prices', {'held': (case, study), 'text': (case, 'scenario,Winter,,\nprice,LP,50,\n')},
+                          processes=1)
+    assert [each.outcome.facts[0]['least cost EUR/h'] for each in made.done] == [Decimal('4.125')] * 2
+    assert print_study(study).startswith('#price,per W,,\n')
+
+
+prices = some.decimals(-500, 500, places=2)
+
+
+@given(some.lists(prices, min_size=1, max_size=3), prices,
+       some.sampled_from([1, 2, 10, 25, 1000]), some.sampled_from(['EUR/MWh', 'per kWh', '€/(kW a)']))
+def test_the_answer_is_that_of_the_same_prices_per_watt(held: list[Decimal], start: Decimal, divisor: int,
+                                                        unit: str) -> None:
+    """The plant of two steam levels with its prices in a unit, and as the program has them, a thousand times as
+    fine."""
+    pinch, case = Pinch(), read_case(STEAM)
+    priced = replace(case, basis=Basis(price_unit=unit, price_divisor=Fraction(divisor), cost_unit='EUR/h',
+                                       cost_divisor=Fraction(divisor)))
+    rows = [f'scenario,S{at},,\nprice,HP,{price},' for at, price in enumerate(held)]
+    text = '\n'.join([f'#price,{unit},,', *rows, f'span,LP,{start},{start + 1}', ''])
+    asked = studied(text.encode(), priced)
+    answers = pinch.prices(asked.case, asked.content).answers
+    fine = replace(case, utilities=tuple(replace(each, price=each.price * 1000) for each in case.utilities))
+    whole = Study(tuple(Scenario(f'S{at}', (('HP', int(price * divisor * 1000)),)) for at, price in enumerate(held)
+                        if abs(price * divisor * 1000) <= 10 ** 6))
+    if len(whole.items) == len(held):
+        wanted = pinch.prices(fine, whole).answers
+        for answer, want in zip(answers, wanted):
+            assert isinstance(answer, ScenarioAnswer) and isinstance(want, ScenarioAnswer)
+            assert answer.cost is not None and want.cost is not None
+            assert Fraction(answer.cost) / asked.case.basis.cost_divisor == Fraction(want.cost, 1000 * divisor)
+    span = answers[-1]
+    assert isinstance(span, SpanAnswer)
+    first, last = span.segments[0].first, span.segments[-1].last
+    assert [Fraction(each) / asked.case.basis.price_divisor for each in (first, last)] == [start, start + 1]
+    assert isinstance(read_study(asked.content).items[-1], Span)
