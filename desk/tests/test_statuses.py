@@ -151,3 +151,25 @@ def test_a_closed_or_full_output_is_no_traceback(line: str, status: int, said: s
         assert (tmp_path / 'out.csv').read_text().startswith('contribution')
     if 'out.svg' in line:
         assert (tmp_path / 'out.svg').read_text().startswith('<?xml')
+
+
+# Limits of the machine.
+
+LIMITED = [
+    ('ulimit -n 12; $D many targets $1/list.txt', 2, '7 cases: 7 failed'),
+    ('ulimit -n 8; $D targets $1/tc3.csv', 2, 'Too many open files'),
+    ('ulimit -n 6; $D many targets $1/list.txt', 2, 'Too many open files'),
+    ('ulimit -n 8; $D page $1/tc3.csv -o x.html', 2, 'Too many open files'),
+    ('ulimit -f 0; $D targets $1/tc3.csv 2>&1 | cat >&2', 0, 'No usable temporary directory'),
+    ('ulimit -f 1; $D targets $1/tc3.csv -o x.xlsx 2>&1 | cat >&2', 0, 'this machine has no room left'),
+    ('ulimit -f 1; $D draw curves $1/tc3.csv -o x.svg 2>&1 | cat >&2', 0, 'x.svg: cannot be written: File too large'),
+    ('ulimit -v 30000; $D targets $1/tc3.csv', 2, 'there is not enough memory'),
+    ('ulimit -v 250000; $D whatif $1/tc3.csv --workers 16', 2, 'room'),
+    ('mkfifo f; $D targets f', 3, 'f: is no plain file'),
+    ('mkfifo f; $D targets $1/tc3.csv -o f', 2, 'is no plain file')]
+
+
+@pytest.mark.parametrize('line, status, said', LIMITED)
+def test_a_machine_without_room_is_one_line(line: str, status: int, said: str, tmp_path: Path) -> None:
+    ended = shell(line, tmp_path)
+    assert (ended.status, ended.err.count('\n')) == (status, 1) and said in ended.err

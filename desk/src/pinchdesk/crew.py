@@ -64,10 +64,15 @@ class Hand:
         context: Any = multiprocessing.get_context('fork' if forked else 'spawn')
         self.pipe, there = context.Pipe()
         self.job: Job | None = None
-        self.process = context.Process(target=work, args=(there, [*others, self.pipe] if forked else []))
-        with without_main():
-            self.process.start()
-        there.close()
+        self.process = context.Process(target=work, args=(there, [*others, self.pipe] if forked else []), daemon=True)
+        try:
+            with without_main():
+                self.process.start()
+        except OSError:
+            self.pipe.close()
+            raise
+        finally:
+            there.close()
 
     def give(self, job: Job | None) -> None:
         self.job = job
@@ -101,12 +106,20 @@ class Hand:
 class Crew:
     """The processes, and the jobs that are to be done again."""
 
-    def __init__(self, count: int) -> None:
+    def __init__(self) -> None:
         self.hands: list[Hand] = []
         self.again: list[Job] = []
         self.deaths: Counter[int] = Counter()
+
+    def begin(self, count: int) -> None:
+        """Hires so many, or as many as the system has files and processes for; an `OSError` where it has none."""
         for _ in range(count):
-            self.hire()
+            try:
+                self.hire()
+            except OSError:
+                if not self.hands:
+                    raise
+                return
 
     def hire(self) -> None:
         self.hands.append(Hand([each.pipe for each in self.hands]))
@@ -131,7 +144,7 @@ class Crew:
         job, how = hand.job, hand.end()
         assert job
         self.hands.remove(hand)
-        self.hire()
+        self.begin(1)
         self.deaths[job.number] += 1
         if self.deaths[job.number] >= TRIES:
             return lost(job, how)
@@ -147,8 +160,9 @@ class Crew:
 
 def by_processes(jobs: Iterator[Job], count: int) -> Generator[Outcome, None, None]:
     """The outcomes of jobs, in the order in which they come, by so many processes."""
-    crew = Crew(count)
+    crew = Crew()
     try:
+        crew.begin(count)
         yield from crew.outcomes(jobs)
     finally:
         crew.end()

@@ -11,6 +11,8 @@ from .errors import Status
 TRACE = 'PINCHDESK_TRACE'
 PACKAGE = Path(__file__).resolve().parent
 LONGEST = 300
+# How Python says that there is no thread more, and the writer of workbooks that the temporary folder is full.
+MACHINE = ("RuntimeError: can't start new thread", 'SerialisationError: ')
 
 
 def failure_of(fault: BaseException) -> tuple[Status, str]:
@@ -20,11 +22,14 @@ def failure_of(fault: BaseException) -> tuple[Status, str]:
     if isinstance(fault, MemoryError):
         return Status.FAILED, 'there is not enough memory'
     if isinstance(fault, ImportError):
-        return Status.FAILED, f'the package {fault.name or ""} is wanted, and cannot be loaded: {fault}'
+        named = f'the package {fault.name}' if fault.name else 'a package'
+        return Status.FAILED, f'{named} is wanted, and cannot be loaded: {" ".join(str(fault).split())[:LONGEST]}'
     if isinstance(fault, OSError):
         where = f'{fault.filename}: ' if fault.filename is not None else ''
         return Status.FAILED, f'{where}{fault.strerror or fault or type(fault).__name__}'
-    told = f'{type(fault).__name__}: {fault}'[:LONGEST]
+    told = f'{type(fault).__name__}: {" ".join(str(fault).split())}'[:LONGEST]
+    if told.startswith(MACHINE):
+        return Status.FAILED, f'this machine has no room left: {told}'
     return Status.BROKEN, f'the desk failed, please report this line: {told} ({place_of(fault)}; {TRACE}=1 shows more)'
 
 

@@ -4,6 +4,7 @@ A job carries what its files hold, so that whoever does it needs none of them. W
 happens: a file that is refused spoils no other."""
 from __future__ import annotations
 
+import os
 import tempfile
 import threading
 from argparse import Namespace
@@ -19,6 +20,8 @@ from .word import Answer, Facts, Word
 
 # How often a job is tried whose process or worker dies.
 TRIES = 3
+# How many bytes the name of a file has at most.
+LONGEST_NAME = 255
 # matplotlib is not to draw two pictures at once; a worker of a cluster may have several threads.
 DRAWING = threading.Lock()
 
@@ -102,7 +105,9 @@ def answer_of(word: Word, options: Namespace) -> Answer:
 def placed(folder: Path, file: File) -> str:
     """Lays a file out under its own last name, which a page shows and an ending of which may count."""
     folder.mkdir()
-    path = folder / (Path(file.path).name or 'file')
+    name = Path(file.path.replace('\0', '_')).name
+    fit = name if len(os.fsencode(name)) <= LONGEST_NAME else name[-LONGEST_NAME // 4:]
+    path = folder / (fit if fit not in ('', '..') else 'file')
     path.write_bytes(file.content)
     return str(path)
 

@@ -8,7 +8,6 @@ from functools import partial
 from .crew import processors
 from .errors import WordsError
 from .lists import listed
-from .output import check_place
 from .repeated import Order, done_all
 from .sheets import FORMS, form_of, rendered
 from .taking import declared, taken
@@ -42,10 +41,8 @@ def answer(word: Word, words: tuple[str, ...], options: Namespace) -> Answer:
         raise WordsError(f'{options.processes} is no number of processes')
     form, held = form_of(options.output, options.form), taken(options, OWN)
     rows = listed(options.place, held.roles, held.common)
-    if options.output is not None:
-        check_place(options.output, [path for row in rows for paths in row.paths.values() for path in paths])
     order = Order(words, held.options, options.scheduler, options.processes, options.into, options.ending,
-                  getattr(options, 'scenarios', None))
+                  getattr(options, 'scenarios', None), options.place, options.output)
     results = done_all(order, rows)
     return Answer(rendered([results.sheet()], form), notes=(*results.notes, results.told), status=results.status)
 

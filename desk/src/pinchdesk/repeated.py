@@ -3,20 +3,20 @@ from __future__ import annotations
 
 import importlib
 import os
-from collections import Counter
 from collections.abc import Generator, Iterator, Mapping, Sequence
 from contextlib import closing
 from dataclasses import dataclass, field
-from pathlib import Path
 
 from .case import Case
 from .causes import lines_of
 from .crew import by_processes, processors
-from .errors import Refused, WordsError
+from .errors import OutputError, Refused, WordsError
+from .failures import failure_of
 from .jobs import File, Job, Outcome, word_of
+from .kept import names_of
 from .lists import Listed, Role, listed
 from .network import Network
-from .output import check_place, read_bytes, write_whole
+from .output import check_apart, made_folder, read_bytes, write_whole
 from .program import as_bytes, case_bytes, found, network_bytes
 from .progress import tell
 from .quantities import registry
@@ -34,7 +34,7 @@ ENDINGS = {'case': 'csv', 'draw': 'svg', 'page': 'html'}
 class Order:
     """A word with its part, its options, and who does it: so many processes here, or the workers of a scheduler.
     `into` is the folder where each answer is kept, and `ending` what the files there end with; `scenarios` is a table
-    of changes, by each of which each case is taken too."""
+    of changes, by each of which each case is taken too; `place` is the list, and `output` where the table goes."""
 
     words: tuple[str, ...]
     options: Mapping[str, object]
@@ -43,23 +43,20 @@ class Order:
     into: str | None = None
     ending: str | None = None
     scenarios: str | None = None
+    place: str | None = None
+    output: str | None = None
 
     def kept(self, rows: Sequence[Listed]) -> list[str]:
-        """The names of the files of the answers, each of its own."""
-        ending = self.ending or ENDINGS.get(self.words[0], 'txt')
-        stems = Counter((Path(each.name).stem, each.names.get(SCENARIO)) for each in rows)
-        seen: Counter[str] = Counter()
-        names = []
-        for row in rows:
-            path = Path(row.name)
-            # Of two with one name their folders tell them apart, and else a number.
-            alone = stems[path.stem, row.names.get(SCENARIO)] == 1
-            stem = path.stem if alone else str(path.with_suffix('')).strip('/.')
-            stem = '-'.join([stem, *([row.names[SCENARIO]] if SCENARIO in row.names else [])])
-            stem = stem.replace(os.sep, '_') or '_'
-            seen[stem] += 1
-            names.append(f'{stem}-{seen[stem]}.{ending}' if seen[stem] > 1 else f'{stem}.{ending}')
-        return names
+        """The names of the files of the answers."""
+        ending = self.ending.removeprefix('.') if self.ending is not None else ENDINGS.get(self.words[0], 'txt')
+        if not ending or os.sep in ending or '\0' in ending:
+            raise WordsError(f'{self.ending} is no ending of a file')
+        return names_of(rows, ending)
+
+    def read(self, rows: Sequence[Listed]) -> list[str]:
+        """The paths of all files that are read."""
+        held = [path for row in rows for paths in row.paths.values() for path in paths]
+        return [*dict.fromkeys(held), *(each for each in (self.place, self.scenarios) if each is not None)]
 
 
 class Work:
@@ -76,14 +73,17 @@ class Work:
         self.stopped = False
 
     def check(self) -> None:
-        """`OutputError` where an answer would be written over one of the files that are read."""
-        if self.order.into is None or self.names is None:
-            return
-        os.makedirs(self.order.into, exist_ok=True)
-        inputs = {os.path.realpath(path) for row in self.rows for paths in row.paths.values() for path in paths}
-        for name in self.names:
-            path = os.path.join(self.order.into, name)
-            check_place(path, [path] if os.path.realpath(path) in inputs else [])
+        """`OutputError` where an answer would be written over one of the files that are read, or over another."""
+        outputs = [] if self.order.output is None else [self.order.output]
+        check_apart([*outputs, *(self.path(number) for number in range(len(self.names or ())))],
+                    self.order.read(self.rows))
+        if self.order.into is not None:
+            made_folder(self.order.into, parents=True)
+
+    def path(self, number: int) -> str:
+        """Where the answer of a row is kept."""
+        assert self.order.into is not None and self.names is not None
+        return os.path.join(self.order.into, self.names[number])
 
     def jobs(self) -> Iterator[Job]:
         """The jobs, each with what its files hold when it is its turn. A file that cannot be read is an outcome."""
@@ -94,6 +94,10 @@ class Work:
                 files |= self.varied(row, files)
             except Refused as fault:
                 self.take(Outcome(number, fault.status, told='; '.join(lines_of(fault))))
+                continue
+            except Exception as fault:  # Whatever it is, the other rows have to go on.
+                status, told = failure_of(fault)
+                self.take(Outcome(number, status, told=told))
                 continue
             yield self.job(number, files)
 
@@ -109,11 +113,14 @@ class Work:
         return Job(number, self.order.words, self.order.options, files, self.names[number] if self.names else None)
 
     def take(self, outcome: Outcome) -> None:
-        """Takes an outcome, once, and keeps its answer."""
+        """Takes an outcome, once, and keeps its answer; where that cannot be written, it failed."""
         if outcome.number in self.outcomes:
             return
-        if outcome.content is not None and self.order.into is not None and self.names is not None:
-            write_whole(os.path.join(self.order.into, self.names[outcome.number]), outcome.content)
+        if outcome.content is not None and self.names is not None:
+            try:
+                write_whole(self.path(outcome.number), outcome.content)
+            except OutputError as fault:
+                outcome = Outcome(outcome.number, fault.status, told=str(fault))
         self.outcomes[outcome.number] = outcome
         bad = sum(each.status != 0 for each in self.outcomes.values())
         tell(f'{len(self.outcomes)} of {len(self.rows)}' + (f', {bad} not good' if bad else ''))

@@ -2,8 +2,9 @@
 from __future__ import annotations
 
 import os
+import re
 from argparse import ArgumentParser, Namespace
-from collections.abc import Callable
+from collections.abc import Callable, Iterable
 from dataclasses import replace
 from decimal import Decimal
 from pathlib import Path
@@ -13,7 +14,7 @@ from .asked import CASE_HELP, answer_of, takes_form
 from .case import Case, read_case
 from .errors import OutputError, WordsError, about
 from .network import Exchanger, print_network, read_network
-from .output import check_place, read_bytes, reason, write_whole
+from .output import check_apart, key_of, made_folder, read_bytes, write_whole
 from .program import Pinch
 from .progress import tell
 from .sheets import Cell, Sheet
@@ -92,23 +93,26 @@ def network_text(row: Row, traded: TradeOff) -> str:
     return '\n'.join(head) + '\n' + print_network(row.network)
 
 
-def check_folder(folder: str) -> None:
-    """`OutputError` where networks cannot be written into a folder of this name; the folder is made."""
-    try:
-        Path(folder).mkdir(exist_ok=True)
-    except OSError as fault:
-        raise OutputError(f'{folder}: cannot be made a folder: {reason(fault)}') from fault
-    if not os.access(folder, os.W_OK):
-        raise OutputError(f'{folder}: nothing can be written there')
+def check_folder(folder: str, stem: str, held: Iterable[str]) -> None:
+    """`OutputError` where networks cannot be written into a folder, or one of them may be a file that is read or
+    written besides. The folder is made."""
+    made_folder(folder)
+    networks = re.compile(re.escape(stem) + '-[0-9]+[.]txt')
+    there = {key_of(each.path) for each in os.scandir(folder) if networks.fullmatch(each.name)}
+    where = key_of(folder)[:2]
+    for path in held:
+        place = os.path.realpath(path)
+        if key_of(path) in there or key_of(os.path.dirname(place))[:2] == where \
+                and networks.fullmatch(os.path.basename(place)):
+            raise OutputError(f'{path}: one of the networks may be written there: give another folder')
 
 
-def write_networks(traded: TradeOff, folder: str, stem: str, inputs: list[str]) -> list[str]:
-    """Writes each network, and gives the names of the files."""
+def write_networks(traded: TradeOff, folder: str, stem: str, others: list[str]) -> list[str]:
+    """Writes each network, and gives the names of the files. Others are read, or written besides."""
     paths = [(str(Path(folder, f'{stem}-{row.exchangers}.txt')), row) for row in traded.rows]
-    for path, _ in paths:
-        check_place(path, inputs)
+    check_apart((path for path, _ in paths), others)
     for path, row in paths:
-        write_whole(path, network_text(row, traded), inputs)
+        write_whole(path, network_text(row, traded), others)
     return [path for path, _ in paths]
 
 
@@ -123,8 +127,9 @@ def tradeoff(options: Namespace) -> Answer:
         raise WordsError(f'--seconds {options.seconds:g}: a number of seconds above 0 is wanted, at most a day')
     content = read_bytes(options.case)
     network = read_bytes(options.network) if options.network else None
+    stem, others = Path(options.case).stem, [each for each in (options.case, options.network, options.output) if each]
     if options.networks:
-        check_folder(options.networks)
+        check_folder(options.networks, stem, others)
     from .matches.tradeoff import tradeoff as traded_of
     with about(case=options.case, network=options.network or ''):
         pinch = Pinch()
@@ -136,8 +141,7 @@ def tradeoff(options: Namespace) -> Answer:
         traded = traded_of(case, held, pinch, options.seconds, told_on(case))
     notes = []
     if options.networks:
-        inputs = [each for each in (options.case, options.network) if each]
-        written = write_networks(traded, options.networks, Path(options.case).stem, inputs)
+        written = write_networks(traded, options.networks, stem, others)
         notes.append(f'written: {", ".join(written)}')
     if traded.stopped:
         notes.append('the search was stopped: these are the networks that were found so far')

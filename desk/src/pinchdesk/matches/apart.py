@@ -60,7 +60,8 @@ class Apart:
         """The process. It has a session of its own, so that an interruption from the keyboard is for this one alone."""
         if self.process is None:
             self.process = subprocess.Popen([sys.executable, '-c', BEGIN], stdin=subprocess.PIPE,
-                                            stdout=subprocess.PIPE, start_new_session=True)
+                                            stdout=subprocess.PIPE, stderr=subprocess.DEVNULL,
+                                            start_new_session=True)
             self.answer(self.process, BEGIN_IN)
         return self.process
 

@@ -2,6 +2,7 @@
 from __future__ import annotations
 
 import ctypes
+import errno
 import os
 from collections.abc import Iterator
 from contextlib import contextmanager
@@ -14,7 +15,9 @@ def silent() -> Iterator[None]:
     """What a library writes to standard output inside goes nowhere."""
     try:
         kept = os.dup(1)
-    except OSError:
+    except OSError as fault:
+        if fault.errno != errno.EBADF:
+            raise
         # There is no standard output.
         yield
         return
