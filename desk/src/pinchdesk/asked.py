@@ -6,6 +6,7 @@ from argparse import ArgumentParser, Namespace
 from collections.abc import Sequence
 from dataclasses import replace
 
+from .amounts import whole
 from .answers import Cut, Prices
 from .case import Case, completed, read_case
 from .errors import about
@@ -39,7 +40,7 @@ def takes_network(parser: ArgumentParser) -> None:
 
 
 def takes_workers(parser: ArgumentParser) -> None:
-    parser.add_argument('--workers', type=int, default=min(16, os.cpu_count() or 1), metavar='N',
+    parser.add_argument('--workers', type=whole, default=min(16, os.cpu_count() or 1), metavar='N',
                         help='by how many workers it is made (1 to 16); the answer is the same')
 
 

@@ -6,7 +6,11 @@ from collections.abc import Iterator, Sequence
 from dataclasses import dataclass, replace
 from fractions import Fraction
 
+from .amounts import exact, shortened
 from .harmless import plain, read_again
+
+# What a scale and a divisor are at least; at most they are one over it. Prices in odd units have long divisors.
+LEAST_SCALE, LEAST_DIVISOR, LONGEST = Fraction(1, 10 ** 6), Fraction(1, 10 ** 30), 400
 
 
 @dataclass(frozen=True)
@@ -26,24 +30,26 @@ class Basis:
 
 
 def noted(basis: Basis, row: Sequence[str]) -> Basis:
-    """The basis with what a comment row of the desk says; any other comment says nothing."""
+    """The basis with what a comment row of the desk says; any other comment says nothing. A `ValueError` where its
+    number is none that there can be."""
     word, first, second = row[0], read_again(row[1]), row[2]
-    try:
-        if word == '#scale':
-            return replace(basis, scale=positive(first))
-        if word == '#price':
-            return replace(basis, price_unit=first, price_divisor=positive(second))
-        if word == '#cost':
-            return replace(basis, cost_unit=first, cost_divisor=positive(second))
-    except (ValueError, ZeroDivisionError):
-        return basis
+    if word == '#scale':
+        return replace(basis, scale=between(first, LEAST_SCALE))
+    if word == '#price':
+        return replace(basis, price_unit=first, price_divisor=between(second, LEAST_DIVISOR))
+    if word == '#cost':
+        return replace(basis, cost_unit=first, cost_divisor=between(second, LEAST_DIVISOR))
     return replace(basis, names=(*basis.names, (first, second))) if word == '#name' else basis
 
 
-def positive(text: str) -> Fraction:
-    held = Fraction(text)
-    if held <= 0:
-        raise ValueError(text)
+def between(text: str, least: Fraction) -> Fraction:
+    """A number of at least this and at most one over it; a `ValueError` where it is none."""
+    try:
+        held = exact(text, LONGEST)
+    except ValueError:
+        held = Fraction(0)
+    if not least <= held <= 1 / least:
+        raise ValueError(f'`{shortened(text)}` is no number from {least} to {1 / least}')
     return held
 
 

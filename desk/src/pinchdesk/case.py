@@ -14,7 +14,7 @@ from dataclasses import dataclass, field, replace
 
 from .basis import Basis as Basis
 from .basis import basis_rows, noted
-from .errors import refused_row
+from .errors import Refused, refused_row
 
 ANY_HEAT = 10 ** 12
 NUMBER = re.compile(r'-?[0-9]{1,13}')
@@ -165,7 +165,7 @@ class CaseReader:
         if len(row) != 7:
             raise refused_row('case', at, 'FieldCount')
         if is_passed_over(row):
-            self.basis = noted(self.basis, row)
+            self.note(at, row)
         elif row[0] in ('hot', 'cold'):
             self.take_stream(at, row)
         elif row[0] in ('heater', 'cooler'):
@@ -176,6 +176,14 @@ class CaseReader:
             self.contribution = number('case', at, row[2])
         else:
             raise refused_row('case', at, 'UnknownKind')
+
+    def note(self, at: int, row: Sequence[str]) -> None:
+        """Reads a comment of the desk; `Refused` where it says what cannot be."""
+        try:
+            self.basis = noted(self.basis, row)
+        except ValueError as fault:
+            place = f'case row {at}'
+            raise Refused(3, place, 'comment', f'{place} {row[0]}: {fault}') from fault
 
     def take_stream(self, at: int, row: Sequence[str]) -> None:
         supply, target, cp = (number('case', at, text) for text in row[2:5])

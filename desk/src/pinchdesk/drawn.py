@@ -6,6 +6,7 @@ from collections.abc import Callable
 from dataclasses import replace
 from typing import TYPE_CHECKING, Any
 
+from .amounts import whole
 from .asked import CASE_HELP, held_case, priced, takes_workers
 from .errors import WordsError, about
 from .network import read_network
@@ -31,7 +32,7 @@ def takes_case(parser: ArgumentParser) -> None:
 def takes_network(parser: ArgumentParser) -> None:
     takes_case(parser)
     parser.add_argument('network', metavar='NETWORK', help='a network text')
-    parser.add_argument('--most', type=int, default=60, metavar='N',
+    parser.add_argument('--most', type=whole, default=60, metavar='N',
                         help='how many exchangers are drawn at most: up to 60 can be read on A3')
 
 

@@ -2,9 +2,9 @@
 from __future__ import annotations
 
 from argparse import ArgumentParser, Namespace
-from decimal import Decimal, InvalidOperation
 from fractions import Fraction
 
+from .amounts import exact, shortened
 from .case import print_case, print_comments
 from .convert import Wanted, case_of_table, checked
 from .errors import Refused, WordsError
@@ -28,12 +28,12 @@ def takes_table(parser: ArgumentParser) -> None:
 
 def number(text: str, what: str) -> Fraction:
     try:
-        held = Decimal(text)
-    except InvalidOperation:
-        held = Decimal(0)
-    if not held.is_finite() or held <= 0 or abs(held.adjusted()) > 9:
-        raise WordsError(f'{text} is no {what}')
-    return Fraction(held)
+        held = exact(text)
+    except ValueError:
+        held = Fraction(0)
+    if not Fraction(1, 10 ** 9) <= held < 10 ** 10:
+        raise WordsError(f'{shortened(text)} is no {what}')
+    return held
 
 
 def wanted_of(options: Namespace) -> Wanted:

@@ -5,6 +5,7 @@ from argparse import ArgumentParser, Namespace
 from collections.abc import Sequence
 from functools import partial
 
+from .amounts import whole
 from .crew import processors
 from .errors import WordsError
 from .lists import listed
@@ -14,6 +15,7 @@ from .taking import declared, taken
 from .word import Answer, Word
 
 OWN = ('place', 'scenarios', 'scheduler', 'processes', 'into', 'ending', 'output', 'form', 'word', 'part', 'its')
+MOST_PROCESSES = 256
 EXAMPLE = 'examples/list.txt'
 
 
@@ -26,7 +28,7 @@ def takes(word: Word, parser: ArgumentParser) -> None:
         parser.add_argument('--scenarios', metavar='TABLE', help='a table of changes, as whatif takes it: each case is '
                             'taken as it is and in each scenario')
     parser.add_argument('--form', choices=FORMS, help='the form of the table; else the ending of FILE says it')
-    parser.add_argument('--processes', type=int, default=processors(), metavar='N',
+    parser.add_argument('--processes', type=whole, default=processors(), metavar='N',
                         help='by how many processes it is done here')
     parser.add_argument('--scheduler', metavar='ADDRESS', help='by the workers of a scheduler of dask.distributed, as '
                         'tcp://host:8786, which have to have this desk and this program')
@@ -37,8 +39,8 @@ def takes(word: Word, parser: ArgumentParser) -> None:
 
 def answer(word: Word, words: tuple[str, ...], options: Namespace) -> Answer:
     """Does the word over all cases: a table of what came of them."""
-    if options.processes < 1:
-        raise WordsError(f'{options.processes} is no number of processes')
+    if not 1 <= options.processes <= MOST_PROCESSES:
+        raise WordsError(f'{options.processes} is no number of processes: 1 to {MOST_PROCESSES}')
     form, held = form_of(options.output, options.form), taken(options, OWN)
     rows = listed(options.place, held.roles, held.common)
     order = Order(words, held.options, options.scheduler, options.processes, options.into, options.ending,

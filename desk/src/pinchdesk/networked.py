@@ -5,6 +5,7 @@ from argparse import ArgumentParser, Namespace
 from decimal import Decimal
 from fractions import Fraction
 
+from .amounts import exact, seconds_of, shortened
 from .asked import CASE_HELP
 from .case import read_case
 from .errors import WordsError, about
@@ -16,7 +17,6 @@ from .program import Pinch
 from .progress import tell
 from .shown import Shown
 from .word import Answer, Facts, Word
-
 
 def takes(parser: ArgumentParser) -> None:
     parser.add_argument('case', metavar='CASE', help=CASE_HELP)
@@ -33,9 +33,9 @@ def number_of(text: str | None, what: str) -> Fraction | None:
     if text is None:
         return None
     try:
-        return Fraction(text.replace(',', '.'))
-    except (ValueError, ZeroDivisionError) as fault:
-        raise WordsError(f'{text} is no number of {what}') from fault
+        return exact(text.replace(',', '.'))
+    except ValueError as fault:
+        raise WordsError(f'{shortened(text)} is no number of {what}') from fault
 
 
 def cost_of(text: str, shown: Shown) -> Fraction:
@@ -62,9 +62,9 @@ def facts_of(found: FewExchangers) -> Facts:
 
 
 def network(options: Namespace) -> Answer:
-    seconds, above = number_of(options.seconds, 'seconds'), number_of(options.above, 'percent')
-    if seconds is None or seconds <= 0 or above is not None and above < 0:
-        raise WordsError('the seconds are above 0, the percent at least 0')
+    seconds, above = seconds_of(options.seconds), number_of(options.above, 'percent')
+    if above is not None and above < 0:
+        raise WordsError('the percent are at least 0')
     content = read_bytes(options.case)
     start = None if options.start is None else read_bytes(options.start)
     with about(case=options.case, network=options.start or 'network'):

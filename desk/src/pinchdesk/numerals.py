@@ -9,11 +9,13 @@ import re
 from dataclasses import dataclass
 from decimal import Decimal
 
+from .amounts import MOST_ZEROS
+
 GROUPS = " '’\u00a0\u202f\u2009"
 SHAPE = re.compile(rf"(?P<sign>[-+−]?)\s?(?P<body>[0-9][0-9.,{GROUPS}]*|[.,][0-9]+)"
-                   r'(?P<exponent>[eE][-+]?[0-9]{1,3}(?![0-9A-Za-z]))?(?P<unit>.*)', re.S)
+                   r'(?P<exponent>[eE][-+]?[0-9]{1,40}(?![0-9A-Za-z]))?(?P<unit>.*)', re.S)
 GROUPED = re.compile(rf'[0-9]{{1,3}}(?:[{GROUPS}][0-9]{{3}})+(?:[.,][0-9]*)?')
-LONGEST = 40
+LONGEST, LONGEST_TEXT = 40, 200
 
 
 class Says(enum.Enum):
@@ -85,11 +87,13 @@ def says_of_one(body: str, marks: list[str]) -> Says:
 
 def numeral_of(text: str) -> Numeral:
     """The number that a text begins with, and what stands behind it; `NoNumber` where it begins with none."""
-    match = SHAPE.fullmatch(text.strip())
+    match = SHAPE.fullmatch(text.strip()) if len(text) <= LONGEST_TEXT else None
     if not match or len(match['body']) > LONGEST:
         raise NoNumber('no number')
     body = match['body'].rstrip(GROUPS)
     exponent = int(match['exponent'][1:]) if match['exponent'] else 0
+    if abs(exponent) > MOST_ZEROS:
+        raise NoNumber(f'a number with more than {MOST_ZEROS} zeros')
     return Numeral(match['sign'], body, exponent, match['unit'].strip())
 
 

@@ -6,11 +6,7 @@ import sys
 from contextlib import suppress
 
 from .errors import OutputError
-
-
-def printable(text: str) -> str:
-    """A text on one line, without what would steer a terminal."""
-    return ''.join(each if each.isprintable() else '?' for each in text)
+from .harmless import printable
 
 
 def fill() -> None:

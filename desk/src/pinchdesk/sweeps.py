@@ -1,9 +1,9 @@
 """What a sweep asks for, within its limits, and the case as it is beside its rows."""
 from __future__ import annotations
 
-from decimal import Decimal, InvalidOperation
 from fractions import Fraction
 
+from .amounts import exact, shortened
 from .answers import Cut, SweepRow
 from .case import Case
 from .errors import WordsError
@@ -18,13 +18,14 @@ def contribution_of(text: str) -> int:
     """Half of a least difference in K, in tenths of °C; `WordsError` where that is no whole number, or out of its
     limits."""
     try:
-        held = Decimal(text.replace(',', '.')) * 5
-    except InvalidOperation:
-        held = Decimal('NaN')
-    if held.is_finite() and held > 5 * MOST_KELVIN:
-        raise WordsError(f'a least difference is {MOST_KELVIN} K at most, and {text} is more')
-    if not held.is_finite() or held != int(held) or held < 0:
-        raise WordsError(f'{text} is no least difference in K: a number of fifths of a K is wanted, as 10 or 2.4')
+        held = exact(text.replace(',', '.')) * 5
+    except ValueError:
+        held = Fraction(-1)
+    if held > 5 * MOST_KELVIN:
+        raise WordsError(f'a least difference is {MOST_KELVIN} K at most, and {shortened(text)} is more')
+    if held.denominator != 1 or held < 0:
+        raise WordsError(f'{shortened(text)} is no least difference in K: a number of fifths of a K is wanted, as 10 '
+                         'or 2.4')
     return int(held)
 
 

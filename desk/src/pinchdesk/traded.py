@@ -10,9 +10,10 @@ from decimal import Decimal
 from pathlib import Path
 from typing import TYPE_CHECKING
 
+from .amounts import seconds_of
 from .asked import CASE_HELP, answer_of, takes_form
 from .case import Case, read_case
-from .errors import OutputError, WordsError, about
+from .errors import OutputError, about
 from .network import Exchanger, print_network, read_network
 from .output import check_apart, key_of, made_folder, read_bytes, write_whole
 from .program import Pinch
@@ -33,7 +34,7 @@ def takes_tradeoff(parser: ArgumentParser) -> None:
     parser.add_argument('network', metavar='NETWORK', nargs='?',
                         help='a network text to begin with; without it one of the least cost is searched')
     takes_form(parser)
-    parser.add_argument('--seconds', type=float, default=30.0, metavar='S',
+    parser.add_argument('--seconds', default='30', metavar='S',
                         help='how long it searches at most; it ends earlier where nothing more is gained, and '
                              'Control-C ends it with what was found')
     parser.add_argument('--networks', metavar='FOLDER', help='where the networks are written, one file for each row')
@@ -123,8 +124,7 @@ def told_on(case: Case) -> Callable[[Judged], None]:
 
 
 def tradeoff(options: Namespace) -> Answer:
-    if not 0 < options.seconds <= 86_400:
-        raise WordsError(f'--seconds {options.seconds:g}: a number of seconds above 0 is wanted, at most a day')
+    seconds = float(seconds_of(options.seconds))
     content = read_bytes(options.case)
     network = read_bytes(options.network) if options.network else None
     stem, others = Path(options.case).stem, [each for each in (options.case, options.network, options.output) if each]
@@ -138,7 +138,7 @@ def tradeoff(options: Namespace) -> Answer:
             pinch.audit(content, network)
         case = read_case(content)
         held = None if network is None else read_network(network)
-        traded = traded_of(case, held, pinch, options.seconds, told_on(case))
+        traded = traded_of(case, held, pinch, seconds, told_on(case))
     notes = []
     if options.networks:
         written = write_networks(traded, options.networks, stem, others)

@@ -1,0 +1,85 @@
+"""What is read is bounded: by its size, in a moment and in little memory, whatever stands in it."""
+from __future__ import annotations
+
+from collections.abc import Callable
+from fractions import Fraction
+from pathlib import Path
+
+import pytest
+from conftest import EXAMPLES, Done, example
+from hypothesis import given
+from hypothesis import strategies as st
+from tabled import refusal
+
+from pinchdesk import Basis, Refused, print_case, read_case
+from pinchdesk.amounts import LONGEST, exact
+from pinchdesk.cli import main
+
+TC3, TABLE = str(EXAMPLES / 'tc3.csv'), str(EXAMPLES / 'table.csv')
+Desk = Callable[..., Done]
+# Numbers that fill the memory where they are taken for what they say, and texts that are no numbers.
+HUGE = ('1e400', '-1e400', '1e5000', '1e99999999', '1e-99999999', '1E+999999999999', '9' * 5000, '1/' + '9' * 5000,
+        '0.' + '0' * 5000 + '1', '1e' + '9' * 5000, 'nan', 'inf', '-inf', '1_000', '１２', '0x10', '1/0', '')
+
+
+@pytest.fixture
+def desk(capfd: pytest.CaptureFixture[str]) -> Desk:
+    def run(*words: str) -> Done:
+        status = main(list(words))
+        held = capfd.readouterr()
+        return Done(status, held.out, held.err)
+    return run
+
+
+# Numbers.
+
+@given(st.one_of(st.fractions(), st.decimals(allow_nan=False, allow_infinity=False), st.text(max_size=50),
+                 st.from_regex(r'-?[0-9]{1,3}(\.[0-9]{1,3})?([eE][+-]?[0-9]{1,9})?', fullmatch=True)))
+def test_a_number_is_exact_or_none(value: object) -> None:
+    text = str(value)
+    try:
+        held = exact(text)
+    except ValueError:
+        return
+    assert len(text.strip()) <= LONGEST and held == Fraction(text.strip()) and text.isascii()
+
+
+@pytest.mark.parametrize('text', HUGE)
+@pytest.mark.parametrize('words', [
+    ['network', TC3, '--cost=#'], ['network', TC3, '--above=#'], ['network', TC3, '--seconds=#'],
+    ['tradeoff', TC3, '--seconds=#'], ['sweep', '--', TC3, '#', '10', '1'], ['sweep', '--', TC3, '0', '#', '1'],
+    ['sweep', '--', TC3, '0', '10', '#'], ['case', TABLE, '-d#'], ['case', TABLE, '--scale=#'], ['case', TABLE, '--hours=#'],
+    ['sweep', TC3, '0', '10', '1', '--workers=#'], ['whatif', TC3, '--workers=#'],
+    ['many', 'targets', TC3, '--processes=#'], ['draw', 'grid', TC3, TC3, '--most=#', '-o', 'x.svg']])
+def test_no_number_of_the_words_fills_the_memory(words: list[str], text: str, desk: Desk) -> None:
+    ended = desk(*(each.replace('#', text) for each in words))
+    assert ended.status in (2, 3) and ended.out == '' and ended.err.count('\n') == 1
+
+
+@pytest.mark.parametrize('text', [*HUGE, '1e7', '1e-7', '-1', '0', 'ten'])
+@pytest.mark.parametrize('row', ['#scale,{},,,,,', '#price,EUR/MWh,{},,,,', '#cost,EUR/h,{},,,,'])
+def test_a_comment_says_what_can_be(row: str, text: str, desk: Desk, tmp_path: Path) -> None:
+    if 'scale' not in row and text in ('1e7', '1e-7'):
+        return
+    case = tmp_path / 'case.csv'
+    case.write_bytes(row.format(text).encode() + b'\n' + example('four-stream.csv'))
+    for words in (['targets'], ['flow'], ['units'], ['network', '--seconds', '2'], ['whatif']):
+        ended = desk(words[0], str(case), *words[1:])
+        assert (ended.status, ended.out) == (3, '') and 'case row 1 #' in ended.err
+    with pytest.raises(Refused):
+        read_case(case.read_bytes())
+
+
+@given(st.fractions(min_value=Fraction(1, 10 ** 6), max_value=10 ** 6).filter(lambda each: each > 0))
+def test_a_scale_and_divisors_are_read_again(value: Fraction) -> None:
+    basis = Basis(scale=value, price_unit='EUR/MWh', price_divisor=value * 10 ** 9, cost_unit='EUR/h',
+                  cost_divisor=value / 10 ** 12)
+    case = read_case(example('four-stream.csv'))
+    text = print_case(type(case)(case.contribution, case.streams, case.utilities, case.forbids, basis))
+    assert read_case(text).basis == basis
+
+
+@pytest.mark.parametrize('text', ['1e400', '-1e400', '1e99999999', '1e-99999999', '9' * 41, '1E+31'])
+def test_no_number_of_a_table_fills_the_memory(text: str) -> None:
+    for cell in (text, f'{text} °C', f'"{text}"'):
+        assert len(refusal(f'Stream;Supply;Target;CP\nH1;{cell};60;2\nC1;20;125;2.5\n')) < 400
