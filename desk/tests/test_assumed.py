@@ -9,6 +9,7 @@ from tabled import TEN, made, refusal, streams
 from pinchdesk.convert import Wanted
 from pinchdesk.naming import FIT, fit_names
 
+
 # The columns of a table without headings.
 
 @pytest.mark.parametrize('text', [

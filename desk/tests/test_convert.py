@@ -43,7 +43,7 @@ def test_a_number_with_two_readings_is_refused_with_both() -> None:
     held = 'Strom;Ein;Aus;CP\n'.replace('Ein', 'in').replace('Aus', 'out') + 'S1;150;60;32.000\n'
     assert refusal(held) == 'row 2 column 4: `32.000` may be 32 or 32000: say --decimal . or --decimal ,'
     assert streams(held, replace(TEN, decimal='.'))[0][4] == 3200
-    assert streams(held, replace(TEN, decimal=','))[0][4] == 3_200_000
+    assert 'the CP 32000 kW/K is outside its limits' in refusal(held, replace(TEN, decimal=','))
     assert 'may be 1250 or 1.25' in refusal('S1\t150\t60\t1,250\n')
     assert streams('S1\t150,5\t60\t1,250\n')[0] == ('hot', 'S1', 1505, 600, 125, 0)
 
@@ -66,7 +66,7 @@ def test_what_the_program_refuses_is_refused_by_the_row_of_the_table(pinch: Pinc
     assert fault.value.place == 'row 32'
     with pytest.raises(Refused) as fault:
         checked(made('name,supply,target,CP\nA,-280,60,2\n'), pinch)
-    assert fault.value.place == 'row 2'
+    assert fault.value.place == 'row 2 column 2'
 
 
 def test_a_textbook_sheet_meets_its_published_targets(pinch: Pinch) -> None:

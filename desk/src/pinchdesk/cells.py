@@ -3,11 +3,12 @@ from __future__ import annotations
 
 from collections.abc import Iterable
 from dataclasses import dataclass, field
+from decimal import Decimal
 from fractions import Fraction
 
 from .errors import Refused
 from .layout import EMPTY
-from .numerals import NoNumber, Numeral, Says, numeral_of, readings
+from .numerals import NoNumber, Numeral, Says, numeral_of, plain, readings
 from .quantities import Kind, UnknownUnit, names_fahrenheit, of_kilowatts, rounded, unit_of
 from .tables import Cell, Table, TableRow
 
@@ -81,7 +82,8 @@ def decimal_mark(table: Table, cells: Iterable[tuple[int, int, Cell]], told: str
 @dataclass
 class CellReader:
     """Reads the cells of a table whose decimal mark and units are known. Of a kind of numbers `taken` has where there
-    was no unit, and `others` the units that stand there and are others than is taken then, with a row and a column."""
+    was no unit, and `others` the units that stand there and are others than is taken then, with a row and a column.
+    `entered` has each number that was read, by its row and column."""
 
     told: Told
     mark: str
@@ -89,6 +91,7 @@ class CellReader:
     titles: dict[int, str]
     taken: dict[Kind, str] = field(default_factory=dict)
     others: dict[tuple[Kind, str], tuple[int, int]] = field(default_factory=dict)
+    entered: dict[tuple[int, int], Entered] = field(default_factory=dict)
 
     def given(self, row: TableRow, column: int | None) -> bool:
         """Whether there is something in a cell; a dash is nothing."""
@@ -127,9 +130,9 @@ class CellReader:
         except UnknownUnit:
             self.told.fault(row.number, column, f'the unit `{text}` is not known here: {EXAMPLES[kind]} and more are')
             return None
-        cell = row.cell(column)
-        written = cell.text if own and not cell.unit else f'{cell.text} {text}'
-        return Entered(unit.exact(value), slack * unit.factor, written)
+        made = Entered(unit.exact(value), slack * unit.factor, written(row.cell(column), value, own, text))
+        self.entered[row.number, column] = made
+        return made
 
     def unit_text(self, row: TableRow, column: int, kind: Kind, own: str) -> str | None:
         """The unit of a cell: its own, else that of its column, else the usual one; None where two disagree."""
@@ -178,6 +181,14 @@ class CellReader:
         if nearest != exact:
             self.told.note(row.number, column, f'{held.text} is rounded to {nearest} ({kind.program})')
         return nearest
+
+
+def written(cell: Cell, value: Fraction, own: str, unit: str) -> str:
+    """A number with its unit, as a message has it: `150 °C`, `16 x 1000 kcal/h`, and without marks of thousands."""
+    number = cell.text.removesuffix(own).strip() if own and not cell.unit else cell.text
+    if sum(not each.isdigit() for each in number) > 1 or abs(value) >= 1000:
+        number = plain(Decimal(value.numerator) / value.denominator)
+    return f'{number} x {unit}' if unit[:1].isdigit() else f'{number} {unit}'
 
 
 def last_digit(text: str) -> Fraction:

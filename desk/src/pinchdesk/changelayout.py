@@ -6,7 +6,7 @@ from collections.abc import Iterator, Mapping
 from dataclasses import dataclass
 
 from .errors import Refused
-from .layout import BRACKETED, NOTES, splits, squeezed
+from .layout import BRACKETED, is_note_column, splits, squeezed, unknown_headings
 from .quantities import Kind
 from .tables import Table, TableRow
 
@@ -87,10 +87,12 @@ def layout_of(table: Table) -> ChangeLayout:
     columns: dict[Column, int] = {}
     fields: dict[int, Field] = {}
     units: dict[int, str] = {}
+    strange = [(at, cell.text) for at, cell in head.filled()
+               if meaning_of(cell.text)[0] is None and not is_note_column(cell.text)]
+    if strange:
+        raise unknown_headings(table, head, strange, known_headings())
     for at, cell in head.filled():
         found, unit = meaning_of(cell.text)
-        if found is None and squeezed(BRACKETED.sub(r'\1', cell.text)) not in NOTES:
-            raise table.refusal(head.number, at, f'the heading `{cell.text}` is not known: {known_headings()}')
         if found in columns or found in fields.values():
             raise table.refusal(head.number, at, f'a second column `{cell.text}`')
         if isinstance(found, Column):

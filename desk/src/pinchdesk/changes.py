@@ -17,6 +17,7 @@ from .case import ANY_HEAT, Case, Source, Stream, Utility, case_rows, completed,
 from .causes import CAUSES
 from .changelayout import Field
 from .errors import Refused
+from .limits import outside_of_row
 from .program import CaseText, Pinch, case_bytes
 from .quantities import rounded
 from .scenarios import SOURCES, Change, Variant, Way
@@ -124,7 +125,8 @@ def told(case: Case, fault: Refused) -> str:
     number = fault.place.split()[-1]
     at = int(number) - 1 if number.isdigit() else len(rows)
     where = f'{rows[at][1]}: ' if at < len(rows) and rows[at][1] else ''
-    return f'{where}{CAUSES.get(fault.cause, "refused")} ({fault.cause})'
+    said = outside_of_row(rows[at]) if at < len(rows) and fault.cause == 'OutOfRange' else ''
+    return f'{where}{said or CAUSES.get(fault.cause, "refused")} ({fault.cause})'
 
 
 def changed(case: Case, scenario: Variant) -> Outcome:

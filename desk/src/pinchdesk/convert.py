@@ -8,21 +8,31 @@ from dataclasses import dataclass, replace
 from fractions import Fraction
 
 from .basis import Basis, basis_rows
-from .case import Case, Forbid, Stream, Utility, print_case, read_case
+from .case import Case, Forbid, Side, Stream, Utility, print_case, read_case
 from .causes import CAUSES
 from .cells import CellReader, Told, decimal_mark
 from .doubts import as_case, below_titles, doubts_of, units_in_words
 from .entries import Entries
 from .errors import Refused, WordsError
 from .layout import Heading, Layout, known, layout_of
+from .limits import CONTRIBUTION, MOST_COLD, MOST_FORBIDS, MOST_HOT, MOST_UTILITIES
 from .lines import Body, Line, body_of, headed_line
+from .moneys import LEADING, fault_of, is_money
 from .naming import fit_names
 from .numerals import NoNumber, Says, numeral_of, readings
 from .pricing import PriceFault, PriceUnit, priced, price_unit_of
 from .program import Pinch
 from .quantities import Kind, UnknownUnit, rounded, unit_of
+from .roundings import Span
+from .roundings import told as how_far_off
 from .tables import Cell, Table, TableRow, read_table
 from .unheaded import check_order, plain_line
+
+
+# So many sheets beside the first one are looked at for a table.
+MOST_SHEETS = 8
+# More rows of sources than this are none of a case, and are not looked at one by one.
+MOST_READ = 500
 
 
 @dataclass(frozen=True)
@@ -41,13 +51,14 @@ class Wanted:
 @dataclass(frozen=True)
 class Converted:
     """A case that was made of a table: `origins` has the row of the table behind each row of the case, `notes` is
-    told."""
+    told, `exact` are its streams before anything was rounded."""
 
     case: Case
     table: Table
     origins: tuple[int, ...]
     notes: tuple[str, ...]
     comments: tuple[str, ...] = ()
+    exact: tuple[Span, ...] = ()
 
 
 def case_of_table(content: bytes, name: str, wanted: Wanted) -> Converted:
@@ -60,7 +71,21 @@ def case_of_table(content: bytes, name: str, wanted: Wanted) -> Converted:
     best = max(headings(each) for each in tables)
     if best > 1:
         tables = tuple(each for each in tables if headings(each) == best)
-    return tables_converted(tables, wanted)
+    try:
+        return tables_converted(tables, wanted)
+    except Refused:
+        if best < 2:
+            check_sheets(content, name, tables[0])
+        raise
+
+
+def check_sheets(content: bytes, name: str, first: Table) -> None:
+    """`Refused` where the sheet that is read has no table of streams, and other ones have."""
+    found = [each for each in first.others[:MOST_SHEETS] if headings(read_table(content, name, each)[0]) > 1]
+    if found:
+        has = 'has one' if len(found) == 1 else 'have one'
+        cause = f'sheet {first.sheet} has no table of streams, and {", ".join(found)} {has}: say --sheet {found[0]}'
+        raise Refused(3, f'sheet {first.sheet}', 'no table', cause)
 
 
 def is_case(content: bytes) -> bool:
@@ -105,7 +130,12 @@ def converted(table: Table, wanted: Wanted) -> Converted:
     reader = CellReader(told, mark, dict(layout.units), dict(layout.titles))
     if not layout.headed:
         check_order(lines, mark, told)
-    names = fit_names(line.name() for line in lines if line.kind not in ('contribution', 'forbid') and line.name())
+    sources = [line for line in lines if line.kind not in ('contribution', 'forbid')]
+    if len(sources) > MOST_READ:
+        cause = f'a case has at most {MOST_HOT} hot and {MOST_COLD} cold streams and {MOST_UTILITIES} heaters and ' \
+                f'coolers, and the table has {len(sources)} rows of them'
+        raise table.refusal(sources[MOST_READ].row.number, None, cause)
+    names = fit_names(line.name() for line in sources if line.name())
     for old, new in names.items():
         if old != new:
             told.notes.append(f'the name `{old}` becomes {new}')
@@ -137,8 +167,9 @@ class Maker:
 
     def __init__(self, told: Told, reader: CellReader, entries: Entries, layout: Layout, wanted: Wanted) -> None:
         self.told, self.reader, self.entries, self.layout, self.wanted = told, reader, entries, layout, wanted
-        self.contributions: list[tuple[int, int]] = []
+        self.contributions: list[tuple[int, int, Fraction]] = []
         self.streams: list[tuple[int, Stream, int | None]] = []
+        self.stream_lines: list[tuple[Line, Side]] = []
         self.utilities: list[tuple[int, Utility, int | None]] = []
         self.priced: list[tuple[int, Line, Fraction | None, PriceUnit | None]] = []
         self.forbids: list[tuple[int, Forbid]] = []
@@ -146,7 +177,7 @@ class Maker:
     def made(self, body: Body, names: dict[str, str]) -> Converted:
         for line in body.lines:
             self.take(line)
-        share, share_row = self.contribution()
+        share, exact_share, share_row = self.contribution()
         self.settle(body)
         if not self.streams:
             raise Refused(3, '', 'no stream', 'the table has no stream: is its separator another one (--separator)?')
@@ -159,7 +190,8 @@ class Maker:
         rows = [share_row] * (len(list(basis_rows(basis))) + 1)
         rows += [row for row, _, _ in self.streams] + [row for row, _, _ in self.utilities]
         rows += [row for row, _ in self.forbids]
-        return Converted(case, self.told.table, tuple(rows), tuple(self.told.notes), body.comments)
+        exact = tuple(self.entries.exact(line, side, exact_share) for line, side in self.stream_lines)
+        return Converted(case, self.told.table, tuple(rows), tuple(self.told.notes), body.comments, exact)
 
     def settle(self, body: Body) -> None:
         """Tells a fault for what stands beside the numbers and contradicts what was taken of them."""
@@ -168,8 +200,20 @@ class Maker:
         self.reader.settle_units()
         units_in_words(self.layout, body.lines, body.passed, self.told, self.reader.taken)
         self.entries.check_signs()
+        self.entries.check_scale()
+        self.check_counts()
         below_titles(body.lines, body.passed, {row: each.side for row, each, _ in self.streams}, self.told)
         self.told.settle()
+
+    def check_counts(self) -> None:
+        """Tells a fault for the first source and the first pair that are too many."""
+        hot, cold = ([row for row, each, _ in self.streams if each.side is side] for side in Side)
+        for rows, most, what in ((hot, MOST_HOT, 'hot streams'), (cold, MOST_COLD, 'cold streams'),
+                                 ([row for row, _, _ in self.utilities], MOST_UTILITIES, 'heaters and coolers'),
+                                 ([row for row, _ in self.forbids], MOST_FORBIDS, 'forbidden matches')):
+            if len(rows) > most:
+                end = {1: 'st', 2: 'nd', 3: 'rd'}.get((most + 1) % 10 if most + 1 != 13 else 0, 'th')
+                self.told.fault(rows[most], None, f'a case has at most {most} {what}, and this is the {most + 1}{end}')
 
     def take(self, line: Line) -> None:
         row = line.row.number
@@ -187,6 +231,7 @@ class Maker:
             stream = self.entries.stream(line)
             if stream:
                 self.streams.append((row, *stream))
+                self.stream_lines.append((line, stream[0].side))
 
     def take_contribution(self, line: Line) -> None:
         """The contribution of the case: the one number of its row."""
@@ -196,8 +241,9 @@ class Maker:
             if self.reader.given(line.row, column):
                 cause = f'`{line.row.cell(column).text}`: a contribution of the case has one number and no name'
                 self.told.fault(line.row.number, column, cause)
-        share = self.reader.whole(line.row, line.at(heading), Kind.DIFFERENCE)
-        self.contributions.append((line.row.number, share or 0))
+        share = self.entries.limited(line, heading, Kind.DIFFERENCE, CONTRIBUTION)
+        entered = self.reader.entered.get((line.row.number, line.columns[heading]))
+        self.contributions.append((line.row.number, share or 0, entered.value if entered else Fraction(0)))
 
     def take_forbid(self, line: Line) -> None:
         """A pair that may not exchange heat: the hot name in the column of names, the cold one in the next one that is
@@ -215,39 +261,56 @@ class Maker:
         column = line.at(Heading.PRICE)
         if column is None or not self.entries.given(line, Heading.PRICE):
             return None, None
+        text = line.row.cell(column).text
+        if LEADING.fullmatch(text):
+            cause = f'`{text}`: the money stands behind the number with its unit, as 30 $/MWh, or in the heading'
+            self.told.fault(line.row.number, column, cause)
+            return None, None
         held = self.reader.number(line.row, column)
         if held is None:
             return None, None
         value, _, own = held
         headed = self.layout.units.get(column, '')
-        text = own or headed
         try:
-            if own and headed and price_unit_of(own) != price_unit_of(headed):
-                self.told.fault(line.row.number, column, f'two units, `{headed}` in the heading and `{own}` here')
-            return value, price_unit_of(text) if text else None
-        except UnknownUnit:
-            cause = f'the unit `{text}` is none of a price: EUR/MWh, per kWh, EUR/(kW a)'
-            self.told.fault(line.row.number, column, cause)
+            unit = price_unit_of(headed) if headed and is_money(own) else None
+            unit = unit or (price_unit_of(own or headed) if own or headed else None)
+            if own and headed:
+                self.agree(line, own, price_unit_of(headed))
+            return value, unit
+        except UnknownUnit as fault:
+            self.told.fault(line.row.number, column, unknown_price(str(fault)))
             return None, None
 
-    def contribution(self) -> tuple[int, int]:
-        """The contribution of the case, and its row: of the table, or half of the least difference that is told."""
+    def agree(self, line: Line, own: str, headed: PriceUnit) -> None:
+        """Tells a fault where the unit of a price, or its money alone, is not that of the heading."""
+        unit = None if is_money(own) else price_unit_of(own)
+        cause = fault_of(own, headed.text, unit.money if unit else own, headed.money)
+        if not cause and unit and (unit.amount, unit.yearly) != (headed.amount, headed.yearly):
+            cause = f'two units, `{headed.text}` in the heading and `{own}` here'
+        if cause:
+            self.told.fault(line.row.number, line.at(Heading.PRICE), cause)
+
+    def contribution(self) -> tuple[int, Fraction, int]:
+        """The contribution of the case, rounded and exact, and its row: of the table, or half of the least difference
+        that is told."""
+        difference = self.wanted.difference
         if len(self.contributions) > 1:
             self.told.fault(self.contributions[1][0], None, 'a second contribution')
-        if self.contributions and self.wanted.difference is not None:
+        if self.contributions and difference is not None:
             self.told.fault(self.contributions[0][0], None, 'the table has a contribution, and -d gives one too')
         if self.contributions:
-            return self.contributions[0][1], self.contributions[0][0]
-        if self.wanted.difference is None:
+            row, share, exact = self.contributions[0]
+            return share, exact, row
+        if difference is None:
             cause = 'no contribution: say the least difference, as -d 10'
             self.told.faults.append(Refused(3, '', 'no contribution', cause))
-            return 0, 0
-        if self.reader.fahrenheit and re.fullmatch(r'[\d.,\s]+', self.wanted.difference):
-            cause = f'the least difference {self.wanted.difference} has no unit, and the table has degrees ' \
-                    f'Fahrenheit: say -d "{self.wanted.difference} °F", or in kelvins as -d "10 K"'
+            return 0, Fraction(0), 0
+        if self.reader.fahrenheit and re.fullmatch(r'[-+\d.,\s]+', difference):
+            cause = f'the least difference {difference} has no unit, and the table has degrees Fahrenheit: say ' \
+                    f'-d "{difference} °F", or in kelvins as -d "10 K"'
             self.told.faults.append(Refused(3, '', 'no unit', cause))
-            return 0, 0
-        return half(self.wanted.difference, self.told), 0
+            return 0, Fraction(0), 0
+        return *half(difference, self.told), 0
 
     def with_prices(self, share: int) -> tuple[list[Utility], Basis]:
         """The utilities with whole prices, and the basis that turns them back."""
@@ -300,8 +363,16 @@ class Maker:
         self.told.once('no heater is given: HOT stands in, at the price 1')
 
 
-def half(difference: str, told: Told) -> int:
-    """Half of a least difference, as `10` or `18 °F`, in tenths of °C; what is rounded is told."""
+def unknown_price(unit: str) -> str:
+    """What is said of a unit that is none of a price."""
+    if is_money(unit):
+        return f'`{unit}` is a money, and a price is per something: write {unit}/MWh'
+    return f'the unit `{unit}` is none of a price: a price is per heat, as EUR/MWh, or per power and year, as ' \
+           'EUR/(kW a)'
+
+
+def half(difference: str, told: Told) -> tuple[int, Fraction]:
+    """Half of a least difference, as `10` or `18 °F`, in tenths of °C, rounded and exact; what is rounded is told."""
     try:
         numeral = numeral_of(difference)
         if numeral.says is Says.EITHER:
@@ -310,20 +381,26 @@ def half(difference: str, told: Told) -> int:
         exact = unit.exact(Fraction(numeral.value(numeral.says.value or '.'))) / 2
     except (NoNumber, UnknownUnit) as fault:
         raise WordsError(f'{difference} is no least difference: a number is wanted, in K or with its unit') from fault
+    if not CONTRIBUTION.holds(rounded(exact)):
+        raise Refused(3, '', 'OutOfRange', f'the least difference {difference} is outside its limits, 0 to 200 K')
     nearest = rounded(exact)
     if nearest != exact:
         told.notes.append(f'half of the least difference {difference} is rounded to {nearest} (tenths of °C)')
-    return nearest
+    return nearest, exact
 
 
 def checked(made: Converted, pinch: Pinch) -> Converted:
-    """What was made, where the program takes it; what it refuses is refused by the row of the table."""
+    """What was made, where the program takes it, with what is told of its targets where numbers were rounded; what it
+    refuses is refused by the row of the table."""
     try:
-        pinch.targets(print_case(made.case))
+        targets = pinch.targets(print_case(made.case))
     except Refused as fault:
         row = made.origins[int(fault.place.split()[-1]) - 1] if fault.place.split()[-1].isdigit() else 0
         cause = f'{CAUSES.get(fault.cause, "refused")} ({fault.cause})'
         if not row:
             raise Refused(3, '', fault.cause, cause) from fault
         raise made.table.refusal(row, None, cause) from fault
-    return made
+    said = how_far_off(made.exact, targets.hot, targets.cold, made.case.basis.scale)
+    if not said:
+        return made
+    return replace(made, notes=(*made.notes, said), comments=(*made.comments, f'# {said}'))

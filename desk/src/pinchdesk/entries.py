@@ -5,9 +5,13 @@ from fractions import Fraction
 
 from .case import ANY_HEAT, Side, Stream, Utility
 from .cells import CellReader, Entered, Told
+from .errors import Refused
 from .layout import Heading
+from .limits import CONTRIBUTION, CP, HEAT, LOAD, TEMPERATURE, Limit, fitting_scale, outside
 from .lines import Line
 from .quantities import Kind, rounded
+from .roundings import Span, span_of
+from .shown import decimal
 
 # A duty and a CP may differ by what their last digits leave open, but by no more than this part.
 MOST_APART = Fraction(1, 20)
@@ -19,6 +23,8 @@ class Entries:
     def __init__(self, reader: CellReader, told: Told, names: dict[str, str], scale: Fraction) -> None:
         self.reader, self.told, self.names, self.scale = reader, told, names, scale
         self.duties: list[tuple[Line, Side, Entered]] = []
+        self.heats: list[tuple[Limit, Fraction]] = []
+        self.too_large = False
 
     def name(self, line: Line) -> str:
         cell = line.row.cell(line.columns[Heading.NAME])
@@ -33,8 +39,34 @@ class Entries:
 
     def share(self, line: Line) -> int | None:
         """The contribution of a row's own; None where it has none."""
-        column = line.at(Heading.CONTRIBUTION)
-        return self.reader.whole(line.row, column, Kind.DIFFERENCE) if self.given(line, Heading.CONTRIBUTION) else None
+        if not self.given(line, Heading.CONTRIBUTION):
+            return None
+        return self.limited(line, Heading.CONTRIBUTION, Kind.DIFFERENCE, CONTRIBUTION)
+
+    def limited(self, line: Line, heading: Heading, kind: Kind, limit: Limit) -> int | None:
+        """A number of a row as a whole one of the program's unit; a fault where it is outside its limits."""
+        column = line.at(heading)
+        held = self.reader.measured(line.row, column, kind)
+        if held is None:
+            return None
+        scale = self.scale if limit.scaled else Fraction(1)
+        name = 'duty' if limit is LOAD else heading.name.lower()
+        self.check(line, heading, limit, held.value, f'the {name} {held.text}')
+        return self.reader.rounded(line.row, column, kind, held, scale)
+
+    def check(self, line: Line, heading: Heading, limit: Limit, exact: Fraction, what: str) -> None:
+        """Tells a fault where a number, before all heats are taken so many times, is outside its limits."""
+        if limit.scaled:
+            self.heats.append((limit, exact))
+        if not limit.holds(rounded(exact * self.scale if limit.scaled else exact)):
+            self.too_large |= limit.scaled
+            self.told.fault(line.row.number, line.at(heading), outside(what, limit, self.scale))
+
+    def check_scale(self) -> None:
+        """Says which scale would do where a heat is outside its limits."""
+        if self.too_large:
+            said = fitting_scale(self.heats, self.scale)
+            self.told.faults.append(Refused(3, '', 'scale', said))
 
     def none_of(self, line: Line, what: str, headings: tuple[Heading, ...]) -> None:
         """Tells a fault for each of these columns in which there is something."""
@@ -46,7 +78,7 @@ class Entries:
         if not self.given(line, heading):
             self.told.fault(line.row.number, line.at(heading), f'the {heading.name.lower()} temperature is missing')
             return None
-        return self.reader.whole(line.row, line.at(heading), Kind.TEMPERATURE)
+        return self.limited(line, heading, Kind.TEMPERATURE, TEMPERATURE)
 
     def stream(self, line: Line) -> tuple[Stream, int | None] | None:
         """A stream with the contribution of its own."""
@@ -61,6 +93,17 @@ class Entries:
             return None
         cp, load = (0, size) if supply == target else (size, 0)
         return Stream(name, side, supply, target, cp, load, 0), share
+
+    def exact(self, line: Line, side: Side, share: Fraction) -> Span:
+        """A stream that was made of a line, as the table has it; `share` is the contribution of the case."""
+        def entered(heading: Heading) -> Fraction | None:
+            held = self.reader.entered.get((line.row.number, line.columns.get(heading, -1)))
+            return held.value if held and self.given(line, heading) else None
+        supply, target, cp = (entered(each) for each in (Heading.SUPPLY, Heading.TARGET, Heading.CP))
+        load, own = entered(Heading.LOAD), entered(Heading.CONTRIBUTION)
+        assert supply is not None and target is not None
+        heat = cp * abs(supply - target) if cp else abs(load or Fraction(0))
+        return span_of(side, (supply, target), heat, share if own is None else own)
 
     def side(self, line: Line, supply: int, target: int) -> Side | None:
         row = line.row.number
@@ -84,11 +127,11 @@ class Entries:
         if not self.given(line, Heading.LOAD):
             self.told.fault(line.row.number, column, 'supply and target are one: the duty is missing')
             return None
-        load = self.reader.whole(line.row, column, Kind.HEAT, self.scale)
-        if load is not None and load <= 0:
+        held = self.reader.measured(line.row, column, Kind.HEAT)
+        if held is not None and held.value <= 0:
             self.told.fault(line.row.number, column, 'a duty is above 0 (in W): hot or cold says which way it goes')
             return None
-        return load
+        return self.limited(line, Heading.LOAD, Kind.HEAT, LOAD)
 
     def check_signs(self) -> None:
         """Tells a fault for each duty whose sign contradicts its temperatures: below 0 is what a hot stream gives, and
@@ -112,15 +155,16 @@ class Entries:
             if held is None or duty and not self.agree(line, held, duty, span):
                 return None
             made = self.reader.rounded(line.row, column, Kind.FLOW, held, self.scale)
+            exact, what = held.value, f'the CP {held.text}'
         elif duty:
-            column, made = load, self.flow_of(line, duty, span)
+            column, made, exact = load, self.flow_of(line, duty, span), abs(duty.value) / span
+            what = f'the CP of the duty {duty.text}, {decimal(exact / 100, 6)} kW/K,'
         else:
             if not self.given(line, Heading.LOAD):
                 self.told.fault(line.row.number, column, 'a CP or a duty is missing')
             return None
-        if made == 0:
-            self.told.fault(line.row.number, column, 'the CP is 0 in 10 W/K: --scale 10 takes all heats ten times')
-            return None
+        heading = Heading.CP if column == line.at(Heading.CP) else Heading.LOAD
+        self.check(line, heading, CP, exact, what if made else f'the CP is 0 in 10 W/K: {what}')
         return made
 
     def flow_of(self, line: Line, duty: Entered, span: int) -> int:
@@ -161,13 +205,17 @@ class Entries:
         least, most = self.bound(line, Heading.LEAST, 0), self.bound(line, Heading.MOST, ANY_HEAT)
         if least is None or most is None:
             return None
+        if least > most:
+            low, high = (self.reader.entered[line.row.number, line.columns[each]].text
+                         for each in (Heading.LEAST, Heading.MOST))
+            self.told.fault(line.row.number, line.at(Heading.LEAST), f'the least {low} is above the most {high}')
         side = Side.HOT if line.kind == 'heater' else Side.COLD
         return Utility(name, side, level, least, most, 0, 0), share
 
     def bound(self, line: Line, heading: Heading, usual: int) -> int | None:
         if not self.given(line, heading):
             return usual
-        return self.reader.whole(line.row, line.at(heading), Kind.HEAT, self.scale)
+        return self.limited(line, heading, Kind.HEAT, HEAT)
 
 
 def whole_watts(value: Fraction) -> str:

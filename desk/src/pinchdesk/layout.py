@@ -243,7 +243,8 @@ def complete(table: Table, layout: Layout, row: TableRow) -> Layout:
     titles = [(column, title) for column, title in layout.titles.items()
               if column not in layout.columns.values() and not is_note_column(title)]
     if titles:
-        raise unknown(table, row, titles)
+        names = ', '.join(each.name.lower() for each in Heading) + '; take the column out, or head it `note`'
+        raise unknown_headings(table, row, titles, names)
     columns = dict(layout.columns)
     if Heading.NUMBER in columns:
         columns.setdefault(Heading.NAME, columns[Heading.NUMBER])
@@ -260,10 +261,9 @@ def is_note_column(title: str) -> bool:
     return squeezed(BRACKETED.sub(r'\1', title)) in NOTES
 
 
-def unknown(table: Table, row: TableRow, titles: Sequence[tuple[int, str]]) -> Refused:
-    """The refusal of headings that are not known, each with its place."""
-    names = ', '.join(each.name.lower() for each in Heading)
+def unknown_headings(table: Table, row: TableRow, titles: Sequence[tuple[int, str]], names: str) -> Refused:
+    """The refusal of headings that are not known, each with its place, and of what is known instead."""
     causes = [f'the heading `{title}` is not known' for _, title in titles]
-    causes[-1] += f': {names}; take the column out, or head it `note`'
+    causes[-1] += f': {names}'
     faults = [table.refusal(row.number, column, cause) for (column, _), cause in zip(titles, causes)]
     return Refused(3, faults[0].place, faults[0].cause, '\n'.join(each.text for each in faults))

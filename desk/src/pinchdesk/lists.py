@@ -13,6 +13,7 @@ from pathlib import Path
 
 from .convert import is_case
 from .errors import Refused, WordsError
+from .layout import unknown_headings
 from .output import read_bytes
 from .tables import Table, TableRow, read_table
 
@@ -108,6 +109,7 @@ def in_list(place: str, roles: Sequence[Role], common: Mapping[str, tuple[str, .
 def fitting(tables: Sequence[Table], roles: Sequence[Role]) -> Table:
     """Of the readings of a text the one that has the headings, else the one with as many columns as there are
     files."""
+    check_headings(tables, roles)
     headed = [each for each in tables if head_of(each, roles)]
     plain = [each for each in tables if width(each) <= len(roles) or roles[-1].several]
     held = headed or plain
@@ -128,12 +130,28 @@ def remark(row: TableRow) -> bool:
     return row.cell(0).text.startswith('#')
 
 
-def headings(row: TableRow, roles: Sequence[Role]) -> dict[int, str]:
-    """What the columns are, where this is a row of headings; nothing for what this word does not take."""
+def known_headings(roles: Sequence[Role]) -> dict[str, str]:
+    """The option that each heading stands for; nothing for what this word does not take."""
     known = dict.fromkeys(OTHERS, '') | {NAME: NAME}
-    known |= {each.name: each.option for each in roles} | {each.option: each.option for each in roles}
+    return known | {each.name: each.option for each in roles} | {each.option: each.option for each in roles}
+
+
+def headings(row: TableRow, roles: Sequence[Role]) -> dict[int, str]:
+    """What the columns are, where this is a row of headings."""
+    known = known_headings(roles)
     cells = [(column, cell.text.lower().lstrip('# ')) for column, cell in row.filled()]
     return {column: known[text] for column, text in cells} if all(text in known for _, text in cells) else {}
+
+
+def check_headings(tables: Sequence[Table], roles: Sequence[Role]) -> None:
+    """`Refused` where the first row has two headings at least, and some that are not known."""
+    known = known_headings(roles)
+    for table in tables:
+        for row in table.rows[:1]:
+            cells = [(column, cell.text) for column, cell in row.filled()]
+            strange = [(column, text) for column, text in cells if text.lower().lstrip('# ') not in known]
+            if strange and len(cells) - len(strange) > 1:
+                raise unknown_headings(table, row, strange, ', '.join(known))
 
 
 def head_of(table: Table, roles: Sequence[Role]) -> TableRow | None:
@@ -152,9 +170,23 @@ def rows_of(table: Table, roles: Sequence[Role], place: str,
     body = [each for each in table.rows if each is not head and not remark(each)]
     columns = headings(head, roles) if head else {column: roles[min(column, last)].option
                                                   for column in range(width(table))}
+    check_remarks(table, head, columns, place)
     if body and roles[0].option not in columns.values():
         raise Refused(3, '', 'columns', f'it has no column `{roles[0].name}`')
     return tuple(row_of(table, row, columns, roles, place, common) for row in body)
+
+
+def check_remarks(table: Table, head: TableRow | None, columns: Mapping[int, str], place: str) -> None:
+    """`Refused` where a row that begins with `#` may be a remark, or a row whose file or name begins so."""
+    for row in table.rows:
+        if row is head or not remark(row):
+            continue
+        texts = [cell.text for _, cell in row.filled()]
+        named = columns.get(0) == NAME and texts[0][1:2].strip()
+        for text in texts if named else texts[:1]:
+            if os.path.isfile(text) or os.path.isfile(os.path.join(os.path.dirname(place), text)):
+                raise table.refusal(row.number, 0, f'`{texts[0]}` may be a remark, or a row with the file {text}: take '
+                                    'it out, or write ./ before the file')
 
 
 def row_of(table: Table, row: TableRow, columns: Mapping[int, str], roles: Sequence[Role], place: str,

@@ -12,6 +12,7 @@ from fractions import Fraction
 from math import gcd, lcm
 
 from .case import Basis
+from .moneys import two_moneys
 from .quantities import KILOWATT, OPEN, SIGNS, YEAR, UnknownUnit, parsed, registry, rounded
 
 MOST = 1_000_000
@@ -83,9 +84,8 @@ class PriceFault(ValueError):
 
 def priced(prices: Sequence[Fraction], units: Sequence[PriceUnit | None], hours: Fraction | None) -> Priced:
     """Whole prices in the proportions of these; `PriceFault` where their units do not go together."""
-    if len({each.money if each else None for each in units}) > 1:
-        raise PriceFault('prices in different money, or some with a unit and some without: write all of them in one')
     first = units[0] if units else None
+    check_together(units)
     if first is None:
         factor, whole, inexact = whole_prices(prices)
         basis = Basis() if factor == 1 else Basis(price_unit='as in the table', price_divisor=factor,
@@ -98,6 +98,17 @@ def priced(prices: Sequence[Fraction], units: Sequence[PriceUnit | None], hours:
     cost_unit = (first.money + '/' if first.money else 'per ') + ('a' if yearly else 'h')
     basis = Basis(price_unit=first.text, price_divisor=factor, cost_unit=cost_unit, cost_divisor=factor * times)
     return Priced(whole, basis, inexact)
+
+
+def check_together(units: Sequence[PriceUnit | None]) -> None:
+    """`PriceFault` where some prices have a unit and some none, or where they are in two moneys."""
+    known = [each for each in units if each]
+    if known and len(known) < len(units):
+        raise PriceFault('some prices have a unit, and some have none: write it with all of them')
+    for each in known:
+        said = two_moneys(known[0].money, each.money)
+        if said:
+            raise PriceFault(said + ('' if said.startswith('`') else ': write all prices in one'))
 
 
 def common(price: Fraction, unit: PriceUnit, yearly: bool, hours: Fraction | None) -> Fraction:

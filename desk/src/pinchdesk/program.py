@@ -14,8 +14,9 @@ from typing import TypeVar
 
 from . import printed
 from .answers import Curves, Cut, Design, HeatFlow, Prices, SiteAnswer, Sweep, Targets
-from .case import Case, print_case
+from .case import Case, print_case, records
 from .errors import ProgramError, Refused, WordsError
+from .limits import outside_of_row
 from .network import Network, print_network
 from .study import Study, print_study, read_study
 from .verdicts import Verdict
@@ -122,7 +123,16 @@ class Pinch:
         text = done.stdout.decode('ascii', 'replace')
         if done.returncode in (0, 1, 9):
             return text
-        raise refusal(done.returncode, text, words)
+        raise named(refusal(done.returncode, text, words), files.get('case', b''))
+
+
+def named(fault: Exception, case: bytes) -> Exception:
+    """A refusal of a case with the number that is outside its limits."""
+    if isinstance(fault, Refused) and fault.cause == 'OutOfRange' and fault.place.startswith('case row '):
+        row = dict(records(case)).get(int(fault.place.split()[-1]), [])
+        said = outside_of_row(row)
+        return Refused(fault.answered, fault.place, fault.cause, f'{fault.text}: {said}' if said else fault.text)
+    return fault
 
 
 def refusal(status: int, text: str, words: list[str]) -> Exception:

@@ -188,7 +188,8 @@ def workbook_table(content: bytes, sheet: str | None) -> Table:
     merged = tuple((each.min_row, each.min_col - 1, each.max_col) for each in page.merged_cells.ranges)
     columns = [each for each in page.column_dimensions.values() if each.hidden and each.min and each.max]
     hidden = tuple(column - 1 for each in columns for column in range(each.min, min(each.max, MOST_COLUMNS) + 1))
-    others = tuple(each for each in shown if each != wanted and values[each].max_row > 1) if sheet is None else ()
+    others = tuple(each for each in shown if each != wanted and values[each].dimensions != 'A1:A1'
+                   or each != wanted and values[each]['A1'].value is not None) if sheet is None else ()
     return Table(wanted, tuple(rows_of(page, formulas[wanted])), merged, hidden=hidden, others=others)
 
 
