@@ -101,7 +101,7 @@ def test_duties_with_signs_that_agree_are_read() -> None:
 
 def test_of_a_cp_and_a_duty_that_differ_a_little_the_cp_counts_and_that_is_told() -> None:
     table = made('name,supply °C,target °C,CP kW/K,duty kW\nH,150,60,2.0,182\n')
-    assert table.notes == ('row 2 column 5: the CP 2.0 kW/K counts, which makes 180000 W, and not the duty 182 kW',)
+    assert table.notes == ('row 2 column 5: the CP 2.0 kW/K counts, which makes 180 kW, and not the duty 182 kW',)
 
 
 # Names.

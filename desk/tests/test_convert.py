@@ -50,7 +50,7 @@ def test_a_number_with_two_readings_is_refused_with_both() -> None:
 
 def test_a_cp_and_a_duty_that_disagree_are_refused() -> None:
     said = refusal('name,supply,target,CP,duty\nH,150,60,2.0,180\nC,20,120,3.0,300000\n')
-    assert said.startswith('row 3 column 5: the CP 3.0 kW/K makes 300000 W') and '300000 kW' in said
+    assert said.startswith('row 3 column 5: the CP 3.0 kW/K makes 300 kW') and '300000 kW' in said
     assert streams('name,supply,target,CP,duty\nH,150,60,2.0,182\n')[0][4] == 200
     assert 'row 2 column 5' in refusal('name,supply,target,CP,duty\nH,150,60,2.00,190\n')
 
@@ -125,10 +125,28 @@ def test_no_unit_at_all_is_told() -> None:
 def test_what_is_rounded_is_told() -> None:
     held = made('name,supply °C,target °C,CP kW/K\nH,150.04,60,2.346\n')
     assert streams('name,supply °C,target °C,CP kW/K\nH,150.04,60,2.346\n') == [('hot', 'H', 1500, 600, 235, 0)]
-    assert held.notes == ('row 2 column 2: 150.04 °C is rounded to 1500 (tenths of °C)',
-                          'row 2 column 4: 2.346 kW/K is rounded to 235 (10 W/K)')
+    assert held.notes == ('row 2 column 2: 150.04 °C is rounded to 150 °C',
+                          'row 2 column 4: 2.346 kW/K is rounded to 2.35 kW/K')
     notes = made('name,supply °C,target °C,duty kW\nH,150,60,181\n').notes
-    assert notes == ('row 2 column 4: from 181 kW the CP is rounded to 201 (10 W/K), which makes 180900 W',)
+    assert notes == ('row 2 column 4: from 181 kW the CP is rounded to 2.01 kW/K, which makes 180.9 kW',)
+    notes = made('name,supply °C,target °C,CP kW/K\nH,150,60,2\n', Wanted(difference='18.3 °F')).notes
+    assert notes == ('half of the least difference 18.3 °F is rounded to 5.1 K',)
+
+
+def test_what_is_rounded_in_a_scaled_case_is_told_as_the_plant_has_it() -> None:
+    notes = made('kind,name,supply °C,target °C,CP kW/K,duty kW,most kW\nhot,H,150,60,0.02346,,\n'
+                 'cold,B,90,90,,1.50004,\ncold,C,20,90,,1.5,\nheater,ST,150,,,,2.00007\n',
+                 Wanted(difference='10', scale=Fraction(10))).notes
+    assert notes[:4] == ('row 2 column 5: 0.02346 kW/K is rounded to 0.023 kW/K',
+                         'row 3 column 6: 1.50004 kW is rounded to 1.5 kW',
+                         'row 4 column 6: from 1.5 kW the CP is rounded to 0.021 kW/K, which makes 1.47 kW',
+                         'row 5 column 7: 2.00007 kW is rounded to 2.0001 kW')
+
+
+def test_prices_that_are_rounded_are_told_in_their_unit() -> None:
+    notes = made('kind,name,supply °C,target °C,CP kW/K,price EUR/MWh\nhot,H,150,60,2,\nheater,HP,160,,,1000.01\n'
+                 'heater,LP,120,,,30.12345\ncooler,CW,20,,,2\n').notes
+    assert notes == ('row 4 column 6: the price 30.12345 is rounded to 30.12 EUR/MWh',)
 
 
 def test_a_scale_takes_all_heats_times_ten() -> None:
@@ -297,7 +315,7 @@ def test_units_of_formats_and_of_merged_titles_are_seen() -> None:
 def test_numbers_of_formulas_have_fifteen_digits() -> None:
     assert made(workbook([['name', 'supply °C', 'target °C', 'CP kW/K'],
                           ['H', 0.1 + 0.2, 60, 2.0000000000000004]])).notes == (
-        'sheet Streams row 2 column B: 0.3 °C is rounded to 3 (tenths of °C)',)[1:]
+        'sheet Streams row 2 column B: 0.3 °C is rounded to 0.3 °C',)[1:]
 
 
 def test_what_is_no_workbook_is_refused() -> None:

@@ -161,6 +161,6 @@ def test_prices_keep_their_proportions_or_are_rounded(values: list[Decimal]) -> 
     made = priced(exact, [None] * len(exact), None)
     assert all(abs(each) <= 10 ** 6 for each in made.prices)
     divisor = made.basis.price_divisor
-    apart = Fraction(1, 2) if made.rounded else Fraction(0)
-    for price, value in zip(made.prices, exact):
+    for at, (price, value) in enumerate(zip(made.prices, exact)):
+        apart = Fraction(1, 2) if made.rounded(at) else Fraction(0)
         assert abs(price - value * divisor) <= apart

@@ -179,7 +179,7 @@ class CellReader:
         exact = held.value * scale
         nearest = rounded(exact)
         if nearest != exact:
-            self.told.note(row.number, column, f'{held.text} is rounded to {nearest} ({kind.program})')
+            self.told.note(row.number, column, f'{held.text} is rounded to {kind.shown(nearest, scale)}')
         return nearest
 
 

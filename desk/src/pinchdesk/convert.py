@@ -20,11 +20,12 @@ from .lines import Body, Line, body_of, headed_line
 from .moneys import LEADING, fault_of, is_money
 from .naming import fit_names
 from .numerals import NoNumber, Says, numeral_of, readings
-from .pricing import PriceFault, PriceUnit, priced, price_unit_of
+from .pricing import Priced, PriceFault, PriceUnit, priced, price_unit_of
 from .program import Pinch
 from .quantities import Kind, UnknownUnit, rounded, unit_of
 from .roundings import Span
 from .roundings import told as how_far_off
+from .shown import Shown, decimal
 from .tables import Cell, Table, TableRow, read_table
 from .unheaded import check_order, plain_line
 
@@ -326,8 +327,7 @@ class Maker:
             self.told.once('--hours changes nothing, since no price has a unit')
         if given and given[0][1] is None:
             self.told.once('no unit stands with the prices: they are taken per W, in their proportion')
-        if made.rounded:
-            self.told.notes.append('prices are rounded, so that they are whole and within the limits')
+        self.tell_rounded(made)
         if given and not any(line.kind == 'heater' for _, line, _, _ in self.priced):
             self.without_heater(made.basis)
         whole = iter(made.prices)
@@ -335,6 +335,15 @@ class Maker:
         prices = [usual[line.kind] if value is None else next(whole) for _, line, value, _ in self.priced]
         return [replace(each, price=price, contribution=share if own is None else own)
                 for (_, each, own), price in zip(self.utilities, prices)], made.basis
+
+    def tell_rounded(self, made: Priced) -> None:
+        """Tells the prices that are not what the table has, since they have to be whole and within the limits."""
+        shown = Shown(made.basis)
+        held = [(row, line) for row, line, value, _ in self.priced if value is not None]
+        for at, (row, line) in enumerate(held):
+            if made.rounded(at):
+                was, price = decimal(made.exact[at], 9), f'{shown.price(made.prices[at])} {shown.price_unit}'
+                self.told.note(row, line.at(Heading.PRICE), f'the price {was} is rounded to {price}')
 
     def without_price(self) -> None:
         """Where no price stands at all a heater costs 1 and a cooler nothing; where some do all coolers may be without,
@@ -385,7 +394,7 @@ def half(difference: str, told: Told) -> tuple[int, Fraction]:
         raise Refused(3, '', 'OutOfRange', f'the least difference {difference} is outside its limits, 0 to 200 K')
     nearest = rounded(exact)
     if nearest != exact:
-        told.notes.append(f'half of the least difference {difference} is rounded to {nearest} (tenths of °C)')
+        told.notes.append(f'half of the least difference {difference} is rounded to {Kind.DIFFERENCE.shown(nearest)}')
     return nearest, exact
 
 

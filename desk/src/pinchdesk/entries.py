@@ -172,7 +172,8 @@ class Entries:
         heat = abs(duty.value) * self.scale
         made = rounded(heat / span)
         if made * span != heat:
-            what = f'from {duty.text} the CP is rounded to {made} (10 W/K), which makes {made * span} W'
+            what = f'from {duty.text} the CP is rounded to {Kind.FLOW.shown(made, self.scale)}, which makes ' \
+                   f'{Kind.HEAT.shown(made * span, self.scale)}'
             self.told.note(line.row.number, line.at(Heading.LOAD), what)
         return made
 
@@ -184,10 +185,11 @@ class Entries:
         open_part = flow.slack * span + duty.slack + abs(flow.value)
         if apart <= open_part and apart <= MOST_APART * max(abs(made), said):
             if apart:
-                what = f'the CP {flow.text} counts, which makes {whole_watts(made)} W, and not the duty {duty.text}'
+                what = f'the CP {flow.text} counts, which makes {Kind.HEAT.shown(made)}, and not the duty {duty.text}'
                 self.told.note(line.row.number, line.at(Heading.LOAD), what)
             return True
-        what = f'the CP {flow.text} makes {whole_watts(made)} W between both temperatures, and the duty is {duty.text}'
+        what = f'the CP {flow.text} makes {Kind.HEAT.shown(made)} between both temperatures, and the duty is ' \
+               f'{duty.text}'
         self.told.fault(line.row.number, line.at(Heading.LOAD), what)
         return False
 
@@ -216,8 +218,3 @@ class Entries:
         if not self.given(line, heading):
             return usual
         return self.limited(line, heading, Kind.HEAT, HEAT)
-
-
-def whole_watts(value: Fraction) -> str:
-    """A heat for a message: whole watts."""
-    return str(rounded(value))

@@ -18,6 +18,7 @@ from .progress import tell
 from .shown import Shown
 from .word import Answer, Facts, Word
 
+
 def takes(parser: ArgumentParser) -> None:
     parser.add_argument('case', metavar='CASE', help=CASE_HELP)
     cost = parser.add_mutually_exclusive_group()

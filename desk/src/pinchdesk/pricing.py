@@ -71,11 +71,16 @@ def amount_of(text: str, rest: str, yearly: bool) -> Fraction:
 
 @dataclass(frozen=True)
 class Priced:
-    """Whole prices per W, the basis that turns prices and costs back, and whether they were rounded."""
+    """Whole prices per W, the basis that turns prices and costs back, and what they would be without rounding, in the
+    unit of the basis."""
 
     prices: tuple[int, ...]
     basis: Basis
-    rounded: bool
+    exact: tuple[Fraction, ...]
+
+    def rounded(self, at: int) -> bool:
+        """Whether a price is not what the table has."""
+        return self.exact[at] * self.basis.price_divisor != self.prices[at]
 
 
 class PriceFault(ValueError):
@@ -87,17 +92,18 @@ def priced(prices: Sequence[Fraction], units: Sequence[PriceUnit | None], hours:
     first = units[0] if units else None
     check_together(units)
     if first is None:
-        factor, whole, inexact = whole_prices(prices)
+        factor, whole = whole_prices(prices)
         basis = Basis() if factor == 1 else Basis(price_unit='as in the table', price_divisor=factor,
                                                   cost_unit='price times W', cost_divisor=factor)
-        return Priced(whole, basis, inexact)
+        return Priced(whole, basis, tuple(prices))
     yearly = hours is not None or any(each.yearly for each in units if each)
     per_watt = [common(price, each, yearly, hours) for price, each in zip(prices, units) if each]
     times = 1 / common(Fraction(1), first, yearly, hours)
-    factor, whole, inexact = whole_prices([each * times for each in per_watt])
+    exact = tuple(each * times for each in per_watt)
+    factor, whole = whole_prices(exact)
     cost_unit = (first.money + '/' if first.money else 'per ') + ('a' if yearly else 'h')
     basis = Basis(price_unit=first.text, price_divisor=factor, cost_unit=cost_unit, cost_divisor=factor * times)
-    return Priced(whole, basis, inexact)
+    return Priced(whole, basis, exact)
 
 
 def check_together(units: Sequence[PriceUnit | None]) -> None:
@@ -126,15 +132,15 @@ def times_ten(below: int) -> int:
     return next((10 ** power for power in range(8) if 10 ** power % below == 0), below)
 
 
-def whole_prices(prices: Sequence[Fraction]) -> tuple[Fraction, tuple[int, ...], bool]:
+def whole_prices(prices: Sequence[Fraction]) -> tuple[Fraction, tuple[int, ...]]:
     """A factor that makes all prices whole and small enough, and the prices; where there is none they are rounded."""
     below = lcm(*(each.denominator for each in prices)) if prices else 1
     above = gcd(*(int(each * below) for each in prices)) or 1
     for factor in (Fraction(times_ten(below)), Fraction(below), Fraction(below, above)):
         if all(abs(each * factor) <= MOST for each in prices):
-            return factor, tuple(int(each * factor) for each in prices), False
+            return factor, tuple(int(each * factor) for each in prices)
     largest = max(abs(each) for each in prices)
     factor = Fraction(10) ** (len(str(MOST)) - 1)
     while largest * factor > MOST:
         factor /= 10
-    return factor, tuple(rounded(each * factor) for each in prices), True
+    return factor, tuple(rounded(each * factor) for each in prices)

@@ -12,22 +12,24 @@ from fractions import Fraction
 from functools import lru_cache
 from typing import Any
 
+from .shown import decimal
+
 
 class Kind(enum.Enum):
-    """What is measured: with the unit that is taken where none is given, and the program's unit."""
+    """What is measured: with the unit that is taken where none is given, and how many of the program's that is."""
 
-    TEMPERATURE = ('°C', 'tenths of °C')
-    DIFFERENCE = ('K', 'tenths of °C')
-    FLOW = ('kW/K', '10 W/K')
-    HEAT = ('kW', 'W')
+    TEMPERATURE = ('°C', 10)
+    DIFFERENCE = ('K', 10)
+    FLOW = ('kW/K', 100)
+    HEAT = ('kW', 1000)
 
     @property
     def default(self) -> str:
         return self.value[0]
 
-    @property
-    def program(self) -> str:
-        return self.value[1]
+    def shown(self, value: int | Fraction, scale: Fraction = Fraction(1)) -> str:
+        """A number of the program as an engineer reads it, with its unit: of a case with a scale that of the plant."""
+        return f'{decimal(value / scale / self.value[1], 6)} {self.default}'
 
 
 class UnknownUnit(ValueError):
