@@ -1,8 +1,8 @@
 -- What may be solved, and what proves an answer.
-use Rattle.std.specs.Prelude.{◌≡◌, ◌==◌, ℕ, ◌<◌, ℤ, pos, ◌-ℤ◌, ◌≤ℤ◌, ◌<ℤ◌, List, length, slice_index_or, if◌then◌else◌}
+use Rattle.std.specs.Prelude.{◌≡◌, ◌==◌, ◌||◌, ℕ, ◌-◌, ◌<◌, ℤ, pos, ◌-ℤ◌, ◌≤ℤ◌, ◌<ℤ◌, List, length, slice_index_or, if◌then◌else◌, Option, None, Some}
 use Rattle.flow_net.specs.declared.net.Link.{Link}
 use Rattle.flow_net.specs.declared.net.Net.{Net}
-use Rattle.flow_net.specs.Net.{link_at, flow_on, outflow, inflow, reduced_cost, IsRouting, AreProofOfLeast, IsWithinLimits, AreEnds, IsRoom, AreInitialPotentials}
+use Rattle.flow_net.specs.Net.{link_at, flow_on, outflow, inflow, reduced_cost, cost_of, IsRouting, IsRoutable, AreProofOfLeast, IsWithinLimits, AreEnds, IsRoom, AreInitialPotentials}
 use Rattle.flow_bench.specs.declared.problem.Problem.{Problem}
 
 -- the conditions of `solve`
@@ -21,6 +21,19 @@ Fit links potentials =
 pub record IsCertified (p : Problem) (flow potentials : List ℤ) : Type 0 where
   pub routing : IsRouting p.net p.source p.sink p.amount flow
   pub proof : AreProofOfLeast p.net.links flow potentials
+
+-- what is found of a problem: what a routing of the amount costs, of which potentials prove that none costs less; or
+-- nothing, and then there is none
+abbrev pub IsFound : Problem → Option ℤ → Type 0
+IsFound p (Some cost) =
+    (flow : List ℤ) × (potentials : List ℤ) × IsCertified p flow potentials × (cost ≡ cost_of p.net.links flow)
+IsFound p None = ¬ IsRoutable p.net p.source p.sink p.amount
+
+-- the initial potential of node v: 10^6 at the source and the last node but one, -10^6 at the sink and the last node
+abbrev pub start_at : Problem → ℕ → ℤ
+start_at p v =
+    if v == p.source || p.net.nodes - v == 2 then pos 1000000
+    else (if v == p.sink || p.net.nodes - v == 1 then pos 0 -ℤ pos 1000000 else pos 0)
 
 -- what leaves node v less what enters it, by a list of these
 abbrev pub surplus_at : List ℤ → ℕ → ℤ

@@ -1,12 +1,33 @@
 //! What an answer costs, and whether it is a routing whose potentials prove that none costs less.
 ghost use Rattle.std.specs.Prelude.{◌≡◌, ◌↔◌, ◌<◌, pos, ◌+ℤ◌, IfOk, IsTrue, FitsSigned, length, slice_set, replicate};
 ghost use Rattle.std.specs.Int.{w128};
-ghost use Rattle.flow_net.specs.Net.{potential_at, reduced_cost, cost_of, IsWithinLimits, IsWithinRooms, AreEnds};
-ghost use Rattle.flow_bench.specs.Certificate.{IsCertified, AreSurpluses, AreBalanced, AreProved, IsProved, surplus_at, due};
+ghost use Rattle.flow_net.specs.Net.{potential_at, reduced_cost, cost_of, IfBlocked, IsRoutable, IsWithinLimits, IsWithinRooms, AreEnds};
+ghost use Rattle.flow_bench.specs.Certificate.{IsCertified, IsFound, AreSurpluses, AreBalanced, AreProved, IsProved, surplus_at, due};
 
 use crate::problem::Problem;
-use flow_net::{Link, Net};
+use anyhow::{Result, ensure};
+use flow_net::{Link, Net, Solved};
 use std::alloc::{AllocError, Global};
+
+/// What the flow costs, once its certificate is checked; none where the net is blocked.
+pub fn checked_cost(alloc: Global, problem: &Problem, solved: &Solved) -> Result<Option<i128>>
+    requires net { IsWithinLimits problem.now.net }
+    requires ends { AreEnds problem.now.net problem.now.source problem.now.sink }
+    requires blocked { IfBlocked solved.now (λ set. ¬ IsRoutable problem.now.net
+        problem.now.source problem.now.sink problem.now.amount) }
+    ensures { IfOk result (IsFound problem.now) }
+{
+    match solved {
+        Solved::Blocked { reached: _set } => Ok(None),
+        Solved::Routed { flow, potentials } => {
+            ensure!(
+                is_certified(alloc, problem, flow.as_slice(), potentials.as_slice())?,
+                "the answer is not certified"
+            );
+            Ok(Some(cost_of(&problem.net, flow.as_slice())))
+        }
+    }
+}
 
 /// Whether the flow routes the amount, and the potentials prove that it costs least.
 pub fn is_certified(

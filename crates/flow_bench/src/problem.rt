@@ -1,4 +1,7 @@
 //! A net with the amount to route, read from text.
+ghost use Rattle.std.specs.Prelude.{◌≡◌, ◌<◌, pos, ◌≤ℤ◌, ◌<ℤ◌, map, IfOk, OnOk};
+ghost use Rattle.std.specs.List.{range_with_len};
+ghost use Rattle.flow_bench.specs.Certificate.{start_at};
 
 use anyhow::{Context, Result};
 use flow_net::{Link, Net};
@@ -18,25 +21,37 @@ pub struct Problem {
 impl Problem {
     /// The start numbers of the nets of heat flows: 10^6 at the source and the last node but one,
     /// -10^6 at the sink and the last node, and 0 elsewhere.
-    pub fn start(&self, alloc: Global) -> Result<Items<i64>, AllocError> {
+    pub fn start(&self, alloc: Global) -> Result<Items<i64>, AllocError>
+        ensures { IfOk result (λ start. start
+            ≡ map (start_at self.now) (range_with_len 0 self.now.net.nodes)) }
+    {
         let mut start = Items::new(alloc);
         for node in 0..self.net.nodes {
-            let left = self.net.nodes - node;
-            start.push(if node == self.source || left == 2 {
-                1_000_000
-            } else if node == self.sink || left == 1 {
-                -1_000_000
-            } else {
-                0
-            })?;
+            start.push(self.start_at(node))?;
         }
         Ok(start)
+    }
+
+    fn start_at(&self, node: u32) -> i64
+        requires { node < self.now.net.nodes }
+        ensures { result ≡ start_at self.now node }
+    {
+        let left = self.net.nodes - node;
+        if node == self.source || left == 2 {
+            1_000_000
+        } else if node == self.sink || left == 1 {
+            -1_000_000
+        } else {
+            0
+        }
     }
 }
 
 /// Reads lines `p min NODES LINKS`, `n NODE SUPPLY` for source and sink, and `a FROM TO LOW ROOM COST`,
 /// where nodes count from 1. LOW is taken as 0. Other lines are comments.
-pub fn read(alloc: Global, text: &str) -> Result<Problem> {
+pub fn read(alloc: Global, text: &str) -> Result<Problem>
+    ensures amount { IfOk result (λ problem. pos 0 ≤ℤ problem.amount) }
+{
     let mut problem = Problem {
         net: Net {
             nodes: 0,
@@ -52,7 +67,10 @@ pub fn read(alloc: Global, text: &str) -> Result<Problem> {
     Ok(problem)
 }
 
-fn add_line(problem: &mut Problem, line: &str) -> Result<()> {
+fn add_line(problem: &mut Problem, line: &str) -> Result<()>
+    requires amount { pos 0 ≤ℤ problem.old.amount }
+    ensures amount { OnOk result (pos 0 ≤ℤ problem.new.amount) }
+{
     let mut words = line.split_whitespace();
     match words.next() {
         Some("p") => {
@@ -70,7 +88,11 @@ fn add_line(problem: &mut Problem, line: &str) -> Result<()> {
 }
 
 /// A node that supplies something is the source, any other one the sink.
-fn set_supply(problem: &mut Problem, node: u32, supply: i64) {
+fn set_supply(problem: &mut Problem, node: u32, supply: i64)
+    ensures source { pos 0 <ℤ supply
+        → problem.new ≡ record problem.old { source = node; amount = supply } }
+    ensures sink { supply ≤ℤ pos 0 → problem.new ≡ record problem.old { sink = node } }
+{
     if supply > 0 {
         problem.source = node;
         problem.amount = supply;
