@@ -18,7 +18,6 @@ pub fn parts_of_case(alloc: Global, case: &Case) -> Result<Parts, AllocError>
     parts_of(alloc, case, &grid)
 }
 
-#[tactic(auto, using(heat_flow::proofs::ReachLemmas::sources_of_parts))]
 pub fn reach_of_case(alloc: Global, case: &Case, parts: &Parts) -> Result<Reach, AllocError>
     requires complete { IsComplete case.now }
     requires parts { AreCaseParts case.now parts.now.hot parts.now.cold }
@@ -26,7 +25,6 @@ pub fn reach_of_case(alloc: Global, case: &Case, parts: &Parts) -> Result<Reach,
     reach_of(alloc, case, parts)
 }
 
-#[tactic(auto, using(grid::proofs::OnGridLemmas::parts_on_grid))]
 pub fn chains_of_case(alloc: Global, case: &Case, parts: &Parts) -> Result<Chains, AllocError>
     requires complete { IsComplete case.now }
     requires parts { AreCaseParts case.now parts.now.hot parts.now.cold }
@@ -34,7 +32,6 @@ pub fn chains_of_case(alloc: Global, case: &Case, parts: &Parts) -> Result<Chain
     chains_of(alloc, case, parts)
 }
 
-#[tactic(auto, using(grid::proofs::OnGridLemmas::parts_on_grid))]
 pub fn answer_of(alloc: Global, case: &Case, parts: &Parts) -> Result<Answer, AllocError>
     requires complete { IsComplete case.now }
     requires parts { AreCaseParts case.now parts.now.hot parts.now.cold }
