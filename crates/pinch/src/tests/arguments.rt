@@ -53,6 +53,18 @@ const LINES: &[(&[u8], &str)] = &[
     (b"pinch", ""),
     (b"pinch|targets|plant.csv", "targets|plant.csv|"),
     (b"pinch|| a  b |\xc3\xa9", "| a  b |é|"),
+    (
+        b"pinch|prices|plant.csv|study.csv|4",
+        "prices|plant.csv|study.csv|4|",
+    ),
+    (
+        b"pinch|sweep|plant.csv|0|100|50",
+        "sweep|plant.csv|0|100|50|",
+    ),
+    (
+        b"pinch|sweep|plant.csv|0|100|50|2",
+        "sweep|plant.csv|0|100|50|2|",
+    ),
     // An argument that is no text leaves no words.
     (b"pinch|targets|\xff", ""),
     (b"pinch|\xff|targets", ""),
@@ -95,6 +107,12 @@ fn end_of<R: Threads + Sync + AllocGlobal>(
 const EXIT_CODES: &[(&[u8], u8, &str)] = &[
     (b"pinch|targets|plant.csv", 0, FOUR_STREAM_TARGETS),
     (b"pinch|targets|other.csv", 6, "read fault case\n"),
+    (
+        b"pinch|sweep|plant.csv|50|50|1|1",
+        0,
+        "row 50 20000 60000 20000\n",
+    ),
+    (b"pinch|sweep|plant.csv|50|50|1", 2, WORDS),
     (b"pinch", 2, WORDS),
     (b"pinch|targets|\xff", 2, WORDS),
 ];

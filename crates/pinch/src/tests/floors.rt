@@ -30,6 +30,17 @@ const ABOVE: &[(&str, &str, &str)] = &[
         "accepted\nhot 4000\ncold 0\nexcess 0\ncost 20000\nfloor 4000\nplace 350\n\
          penalty exchanger E1 0\n",
     ),
+    // The dearest of as many heaters as there may be.
+    (
+        "contribution,,50,,,,\ncold,C,300,700,10,,\nheater,A,900,0,10000,12,\n\
+         heater,B,900,0,10000,11,\nheater,D,900,0,10000,10,\nheater,E,900,0,10000,9,\n\
+         heater,F,900,0,10000,8,\nheater,G,900,0,10000,7,\nheater,H,900,0,10000,6,\n\
+         heater,I,900,0,10000,5,\nheater,J,900,0,10000,4,\nheater,K,900,0,10000,3,\n\
+         heater,L,900,0,10000,2,\nheater,M,900,0,10000,1,\n",
+        "exchanger E1 A C 4000\npass C E1 a\nend a\n",
+        "accepted\nhot 4000\ncold 0\nexcess 0\ncost 48000\nfloor 4000\nplace 350\n\
+         penalty exchanger E1 0\n",
+    ),
     // The dear heater has to give 1000 W, and gives 2000.
     (
         "contribution,,50,,,,\ncold,C,300,700,10,,\n\
