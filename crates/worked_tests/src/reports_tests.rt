@@ -107,3 +107,12 @@ fn rows_of_a_sweep_have_their_text(rt: HostRuntime) -> Result<(), Fail> {
     assert_printed(&rt, Shown::Sweep { rows }, text);
     Ok(())
 }
+
+/// The targets, and so many pinches of ten bytes that the text is longer than most files.
+#[test]
+fn a_text_of_two_million_bytes_is_made(rt: HostRuntime) -> Result<(), Fail> {
+    let pinches = vec![in rt.alloc(); 850; 200_000]?;
+    let text = text_of(rt.alloc(), &targets_with(pinches))?;
+    assert_same(&rt, "its bytes", &text.len(), &2_000_021);
+    Ok(())
+}
