@@ -67,7 +67,7 @@ def sheet(**changes: object) -> bytes:
     """A workbook with two streams, and something done to cell D3: a format, a struck letter; or to row or column."""
     book = openpyxl.Workbook()
     page = book.active
-    for row in (['name', 'supply', 'target', 'CP'], ['A', 150, 60, 2], ['B', 20, 60, 3000]):
+    for row in (['name', 'supply', 'target', 'CP'], ['A', 150, 60, 2], ['B', 20, 60, 300]):
         page.append(row)
     for name, held in changes.items():
         if name == 'form':
@@ -89,22 +89,22 @@ def sheet(**changes: object) -> bytes:
 @pytest.mark.parametrize('changes, said', [
     ({'row': 3}, 'sheet Sheet row 3: the row is hidden'),
     ({'column': 'C'}, 'sheet Sheet row 1 column C: the column is hidden'),
-    ({'struck': 'D3'}, 'sheet Sheet row 3 column D: `3000`: struck out'),
+    ({'struck': 'D3'}, 'sheet Sheet row 3 column D: `300`: struck out'),
     ({'struck': 'A3'}, 'sheet Sheet row 3 column A: `B`: struck out'),
-    ({'form': '0.0,'}, 'sheet Sheet row 3 column D: `3000`: shown as a thousandth'),
-    ({'form': '#,##0,,"MW/K"'}, 'sheet Sheet row 3 column D: `3000`: shown as a thousandth'),
-    ({'form': '0.0%'}, 'sheet Sheet row 3 column D: `3000`: a percentage'),
+    ({'form': '0.0,'}, 'sheet Sheet row 3 column D: `300`: shown as a thousandth'),
+    ({'form': '#,##0,,"MW/K"'}, 'sheet Sheet row 3 column D: `300`: shown as a thousandth'),
+    ({'form': '0.0%'}, 'sheet Sheet row 3 column D: `300`: a percentage'),
     ({'form': '0 [$€-407]'}, 'sheet Sheet row 3 column D: the unit `€` is not known'),
 ])
 def test_what_a_spreadsheet_shows_otherwise_is_refused(changes: dict[str, object], said: str) -> None:
     assert refusal(sheet(**changes)).startswith(said)
 
 
-@pytest.mark.parametrize('form, flow', [('0.0 "W/K"', 300), ('0\\ \\W\\/\\K', 300), ('0 [$W/K]', 300),
-                                        ('#,##0.00_);(#,##0.00)', 300_000), ('_-* #,##0.0_-', 300_000),
-                                        ('0.0;[Red]-0.0', 300_000), ('#,##0.0\\ ', 300_000)])
+@pytest.mark.parametrize('form, flow', [('0.0 "W/K"', 30), ('0\\ \\W\\/\\K', 30), ('0 [$W/K]', 30),
+                                        ('#,##0.00_);(#,##0.00)', 30_000), ('_-* #,##0.0_-', 30_000),
+                                        ('0.0;[Red]-0.0', 30_000), ('#,##0.0\\ ', 30_000)])
 def test_the_unit_that_a_format_writes_is_seen(form: str, flow: int) -> None:
-    units = 'the unit `W/K`' in refusal(sheet(form=form)) if flow == 300 else streams(sheet(form=form))[1][4] == flow
+    units = 'the unit `W/K`' in refusal(sheet(form=form)) if flow == 30 else streams(sheet(form=form))[1][4] == flow
     assert units
 
 

@@ -62,9 +62,11 @@ def units_in_words(layout: Layout, lines: Sequence[Line], passed: Sequence[Words
     stands with the numbers."""
     noted = [Words(line.row.number, column, cell.text) for line in lines for column, cell in line.row.filled()
              if layout.headed and line.kind != 'forbid' and is_note(layout, column)]
+    faults: set[int] = set()
     for words in (*passed, *noted):
         kinds = [kind for kind in taken if names_other_unit(words.text, kind)]
-        if kinds:
+        if kinds and words.row not in faults:
+            faults.add(words.row)
             units = ' and '.join(kind.default for kind in kinds)
             cause = f'`{shortened(words.text)}` names a unit, and the numbers have none, so that {units} would be ' \
                     'taken: write the unit with the heading'

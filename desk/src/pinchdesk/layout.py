@@ -42,6 +42,12 @@ KINDS = {Heading.SUPPLY: Kind.TEMPERATURE, Heading.TARGET: Kind.TEMPERATURE, Hea
 NOTES = frozenset('note notes remark remarks comment comments description fluid medium service bemerkung kommentar '
                   'stoff'.split())
 BRACKETED = re.compile(r'(.*?)[\s_]*[(\[](.*)[)\]]\s*')
+# What the title over several columns is about.
+ABOUT = {Kind.TEMPERATURE: re.compile(r'temp|supply|target|inlet|outlet|\bT\b|°', re.I),
+         Kind.DIFFERENCE: re.compile(r'differ|contribution|approach|[dΔ∆]\s*T', re.I),
+         Kind.FLOW: re.compile(r'CP\b|capacit|flow|wärmekap', re.I),
+         Kind.HEAT: re.compile(r'heat|dut(?:y|ies)|load|enthalp|power|energy|\bQ\b|[dΔ∆]H\b|wärme|leistung|'
+                               r'least|most', re.I)}
 # A unit that has no letter: `CP (%)`, `Price €`.
 SIGN = re.compile(r'.*[(\[/,]\s*([^\w\s()\[\]/,.:;–—-]+)\s*[)\]]?\s*|.*?([%‰°€$£¥]+)\s*')
 # A sign of money belongs to the unit behind it: `Price €/MWh`.
@@ -232,10 +238,17 @@ def with_first(layout: Layout, row: TableRow, merged: tuple[tuple[int, int, int]
         end = next((end for at, begin, end in merged if (at, begin) == (row.number, column)), None)
         following = [each for each in filled if each > column]
         reach = range(column, end or (following[0] if following else max(layout.columns.values(), default=0) + 1))
-        meant = [each for each in reach if match and each in kinds and is_unit(match[2], kinds[each])]
+        meant = [each for each in reach if match and each in kinds and is_unit(match[2], kinds[each])
+                 and kinds[each] in kinds_of(match[1])]
         made.update({each: match[2] for each in meant if match and each not in layout.units})
         used += bool(meant)
     return replace(layout, units=made, heads=(*layout.heads, *[row.number] * (used == len(filled))))
+
+
+def kinds_of(title: str) -> frozenset[Kind]:
+    """The kinds of numbers that a title over several columns is about."""
+    found = frozenset(kind for kind, pattern in ABOUT.items() if pattern.search(title))
+    return found - {Kind.TEMPERATURE} if Kind.DIFFERENCE in found else found
 
 
 def complete(table: Table, layout: Layout, row: TableRow) -> Layout:

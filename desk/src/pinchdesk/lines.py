@@ -10,7 +10,7 @@ from .cells import Told
 from .layout import KINDS, Heading, Layout, Words, is_comment, is_number, squeezed
 from .numerals import NoNumber, numeral_of
 from .quantities import Kind
-from .tables import Cell, TableRow
+from .tables import Cell, TableRow, letters
 
 KIND_WORDS = {'hot': 'hot', 'h': 'hot', 'hotstream': 'hot', 'cold': 'cold', 'c': 'cold', 'coldstream': 'cold',
               'heater': 'heater', 'hotutility': 'heater', 'hu': 'heater', 'cooler': 'cooler', 'coldutility': 'cooler',
@@ -89,7 +89,7 @@ def body_of(layout: Layout, rows: Sequence[Line | None], told: Told) -> Body:
                 told.fault(row.number, None, f'a stream above the headings: `{shortened(joined(row))}`')
         if why:
             told.note(row.number, None, f'passed over, {why}: `{shortened(joined(row))}`')
-            passed.append(Words(row.number, None, joined(row)))
+            passed += words_of(row)
             comments += [joined(row)] if is_comment(row) else []
             others += units_beside(layout, row) if why == 'a sum' else []
         elif line:
@@ -97,6 +97,14 @@ def body_of(layout: Layout, rows: Sequence[Line | None], told: Told) -> Body:
     for words in layout.beside:
         told.note(words.row, words.column, f'passed over, beside a heading: `{shortened(words.text)}`')
     return Body(tuple(lines), (*layout.beside, *passed), tuple(comments), tuple(others))
+
+
+def words_of(row: TableRow) -> list[Words]:
+    """The words of a row that is passed over, of all of it and of each cell; none of the letters of the columns."""
+    cells = [(column, cell.text) for column, cell in row.filled()]
+    if all(text == letters(column) for column, text in cells):
+        return []
+    return [Words(row.number, None, joined(row)), *(Words(row.number, column, text) for column, text in cells)]
 
 
 def headed_line(row: TableRow, layout: Layout, told: Told) -> Line | None:
