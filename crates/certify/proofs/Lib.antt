@@ -9,4 +9,5 @@ pub mod Reading
 pub mod Said
 pub mod SourceRows
 pub mod Table
+pub mod Unnamed
 pub mod Words

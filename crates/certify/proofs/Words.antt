@@ -1,5 +1,5 @@
 -- The words and lemmas from elsewhere that the proofs of this crate speak in, passed on from one place. Declares nothing.
-pub use Rattle.certify.specs.Answers.{ArePricesOf, AreUsesOf, HasPartPrices, HoldsOfFlow, HoldsOfTransfers, IsAnswerOver, IsFirstOf, flow_causes, index_of}
+pub use Rattle.certify.specs.Answers.{ArePricesOf, AreUsesOf, HasPartPrices, HoldsOfFlow, HoldsOfTransfers, IsAnswer, IsAnswerOver, IsFirstOf, flow_causes, index_of}
 pub use Rattle.certify.specs.Answers.{is_span_of, own_parts, prices_of, span_of, transfer_by, transfer_causes, transfer_of, transfers_of, use_of}
 unfoldable pub use Rattle.certify.specs.Checks.{checks, field_checks, is_within, kind_checks, priced_checks, span_checks}
 pub use Rattle.certify.specs.Given.{cut_kind_in, entry_as, entry_by, kind_of, lengthened, report_in, with_any, with_entry}
@@ -27,6 +27,7 @@ pub use Rattle.first_fault.proofs.Steps.{Follows, Give, IsKept, all_give, given_
 pub use Rattle.first_fault.specs.Checks.{Check, first_failing}
 pub use Rattle.first_fault.specs.Outcome.{given_by}
 pub use Rattle.grid.proofs.MakingLemmas.{AreParts-made, HoldsPlaces-IsGrid, holds_levels}
+pub use Rattle.grid.proofs.PartsExist.{some_parts}
 pub use Rattle.grid.proofs.PlaceLemmas.{interval_ends, interval_falls}
 pub use Rattle.grid.proofs.RunLemmas.{latent_run, level_run, level_run-is, stream_run, sum-made}
 pub use Rattle.grid.proofs.SizeLemmas.{IsLength-covered, IsSide, IsSide-made, length-grid}
@@ -34,7 +35,7 @@ pub use Rattle.grid.specs.Bounds.{IsBounded}
 pub use Rattle.grid.specs.Grid.{IsGrid, places_of}
 pub use Rattle.grid.specs.Making.{covers, made_parts, stands_at}
 pub use Rattle.grid.specs.OnGrid.{IsOnPlaces}
-pub use Rattle.grid.specs.Part.{AreCaseParts, AreParts, IsPartOf, IsPiece, comes_before, comes_before_source}
+pub use Rattle.grid.specs.Part.{AreCaseParts, AreParts, IsPartOf, IsPiece, comes_before, comes_before_source, utility_part}
 pub use Rattle.grid.specs.declared.part.Part.{Part}
 pub use Rattle.heat_flow.proofs.Blanks.{blank}
 pub use Rattle.heat_flow.proofs.CostLemmas.{HasCost-flow}
@@ -54,7 +55,9 @@ pub use Rattle.heat_flow.specs.declared.cut.Cut.{Cut}
 pub use Rattle.heat_flow.specs.declared.cut.CutKind.{CutKind}
 pub use Rattle.heat_flow.specs.declared.cut.CutKind.TheVariants.{Demand, Supply}
 pub use Rattle.heat_flow.specs.declared.flow.Transfer.{Transfer}
-pub use Rattle.indexmap.specs.IndexMap.{IndexMap, Updates}
+pub use Rattle.indexmap.specs.IndexMap.{IndexMap, Updates, hasher_of}
+pub use Rattle.keyed_index.specs.Key.{begun_by}
+unfoldable pub use Rattle.keyed_index.specs.Key.{keyed_by}
 pub use Rattle.sha2.specs.Hashers.{Holds256}
 pub use Rattle.statements.proofs.NextLine.{nothing_left, passed_over, statement_next}
 pub use Rattle.statements.proofs.PlainNumbers.{number_plain}
@@ -68,14 +71,14 @@ pub use Rattle.std.proofs.lemmas.Int.{ints, to_z-of_z}
 pub use Rattle.std.proofs.lemmas.List.{flat_map_more, length-take-le, take_more}
 pub use Rattle.std.proofs.lemmas.List.Elements.{All-append, All-cons, All-contains, All-head, All-map, All-nil, All-push, All-tail, All-weaker}
 pub use Rattle.std.proofs.lemmas.List.Elements.{filter_map-append}
-pub use Rattle.std.proofs.lemmas.List.Folds.{position_or_len_push}
+pub use Rattle.std.proofs.lemmas.List.Folds.{list_any-append, position_or_len_push}
 pub use Rattle.std.proofs.lemmas.List.Sums.{position_or_len_is, prefix_len-le-length}
 pub use Rattle.std.proofs.lemmas.Option.{none-some, same_Some, slice_get-get_or, slice_get_past, slice_get_within}
 pub use Rattle.std.specs.Cmp.{both_ways}
 pub use Rattle.std.specs.Cmp.Lexicographic.{bytes_decides}
 pub use Rattle.std.specs.Fmt.{signed_decimal}
 pub use Rattle.std.specs.Int.{w128}
-pub use Rattle.std.specs.List.{filter_map, flat_map, position_or_len}
+pub use Rattle.std.specs.List.{filter_map, flat_map, list_any, position_or_len}
 pub use Rattle.std.specs.Option.{option_map_or, option_or}
 pub use Rattle.std.specs.Prelude.{All, AllPairs, Bool, Contains, IsTrue, codes, if◌then◌else◌, is_some, pos, slice_get, true, ℤ, ◌*ℤ◌, ◌+ℤ◌, ◌-ℤ◌, ◌<ℤ◌, ◌≤ℤ◌}
 pub use Rattle.stream_case.proofs.CaseLemmas.{IsName-source_name, IsSourceOf-side, length-AreStreams, source_named-source_name}
@@ -84,7 +87,8 @@ pub use Rattle.stream_case.proofs.DigitLemmas.{integer_read}
 pub use Rattle.stream_case.proofs.EndLemmas.{stream_ends-between}
 pub use Rattle.stream_case.proofs.HeatLemmas.{heat-between, load-between}
 pub use Rattle.stream_case.proofs.NameTests.{name-passes}
-pub use Rattle.stream_case.specs.Case.{IsComplete, IsSourceOf, source_name}
+pub use Rattle.stream_case.proofs.SourceLemmas.{same_side-true}
+pub use Rattle.stream_case.specs.Case.{IsComplete, IsSourceOf, completed, has_utility, source_name, standard_utility, unless_given}
 unfoldable pub use Rattle.stream_case.specs.Case.{source_named}
 unfoldable pub use Rattle.stream_case.specs.Digits.{integer_in}
 pub use Rattle.stream_case.specs.Limits.{IsPartPrice, IsShifted}
@@ -103,5 +107,5 @@ pub use Rattle.sums.proofs.IntegerLemmas.{if_between, if_one-times, if_zero, int
 pub use Rattle.sums.proofs.ListLemmas.{All-slice_get}
 pub use Rattle.sums.proofs.OrderLemmas.{AllPairs-head, AllPairs-tail}
 pub use Rattle.sums.proofs.ProductLemmas.{product_within, zero_times}
-pub use Rattle.sums.proofs.SumLemmas.{int_sum_by-at_most, int_sum_by-same, int_sum_by-zero, int_sum_from-grouped}
+pub use Rattle.sums.proofs.SumLemmas.{int_sum_by-at_most, int_sum_by-same, int_sum_by-zero, int_sum_from-grouped, int_sum_from-zero}
 pub use Rattle.sums.specs.Sum.{int_sum_by, int_sum_from}

@@ -1,5 +1,5 @@
 -- What a report says of a case, and what the check of it answers: the first of its sentences that fails.
-use Rattle.std.specs.Prelude.{◌≡◌, ◌⊎◌, ℕ, ℤ, Bool, IsTrue, ◌&&◌, List, [], ◌∷◌, length, map, position, All, Option, Some, None, is_some, slice_get}
+use Rattle.std.specs.Prelude.{◌≡◌, ◌⊎◌, ◌<◌, ℕ, ℤ, Bool, IsTrue, ◌&&◌, List, [], ◌∷◌, length, map, position, All, Option, Some, None, is_some, slice_get}
 use Rattle.std.specs.List.{filter_map}
 use Rattle.std.specs.Ordering.{int_eq}
 use Rattle.std.specs.Str.{bytes_eq}
@@ -141,6 +141,11 @@ IsAnswerOver c hot cold (report.Cut kind need offer parts) checked =
 -- the answer to a report of a case
 abbrev pub IsAnswer : Case → Report → Checked → Type 0
 IsAnswer c r checked = HoldsOfParts c (λ hot cold. IsAnswerOver c hot cold r checked)
+
+-- a report names parts: those of both sides by their prices, or those of a cut
+abbrev pub NamesParts : Report → Type 0
+NamesParts (report.Flow cost uses moves gives takes) = (0 < length gives) × (0 < length takes)
+NamesParts (report.Cut kind need offer parts) = 0 < length parts
 
 -- ---- what a report proves: its cost is the least one, or there is no heat flow
 

@@ -1,8 +1,9 @@
 //! Whether a report proves what it says.
 
-ghost use Rattle.std.specs.Prelude.{◌≡◌, All, IfOk, OnErr, length};
+ghost use Rattle.std.specs.Prelude.{◌≡◌, ◌<◌, All, IfNone, IfOk, IfSome, OnErr, length};
 ghost use Rattle.stream_case.specs.Case.{IsComplete};
-ghost use Rattle.certify.specs.Answers.{ArePricesOf, HasPartPrices, HoldsOfCut, HoldsOfFlow, HoldsOfTransfers, IsAnswer, IsAnswerOver, IsFirstOf, Proves, cut_causes, flow_causes, prices_of, transfer_causes};
+ghost use Rattle.stream_case.specs.declared.case.Case.{Case};
+ghost use Rattle.certify.specs.Answers.{ArePricesOf, HasPartPrices, HoldsOfCut, HoldsOfFlow, HoldsOfTransfers, IsAnswer, IsAnswerOver, IsFirstOf, NamesParts, Proves, cut_causes, flow_causes, prices_of, transfer_causes};
 ghost use Rattle.certify.specs.Setting.{IsSound, cold_parts, hot_parts};
 ghost use Rattle.stream_case.specs.Limits.{IsPartPrice};
 
@@ -106,7 +107,7 @@ fn check_flow(
     Ok(check_transfers(setting, cost, uses, &flow, &prices))
 }
 
-/// The first check that fails of a report of a cut.
+/// The first check that fails of a report of a cut. One that names no part takes no memory.
 fn check_cut(
     alloc: Global,
     setting: &Setting,
@@ -116,8 +117,9 @@ fn check_cut(
     spans: &[Span],
 ) -> Result<Checked, AllocError>
     requires { IsSound setting.now }
-    ensures { IfOk result (IsFirstOf cut_causes (HoldsOfCut setting.now.case.now
+    ensures first { IfOk result (IsFirstOf cut_causes (HoldsOfCut setting.now.case.now
         (hot_parts setting.now) (cold_parts setting.now) kind need offer spans.now)) }
+    ensures memory { OnErr result (0 < length spans.now) }
 {
     let own = parts_of(kind.side(), setting.parts);
     let Some(members) = members_of(alloc, setting.case, own, spans)? else {
@@ -166,15 +168,42 @@ fn check_over(alloc: Global, setting: &Setting, report: &Report) -> Result<Check
     }
 }
 
+/// Why a report that names no parts proves nothing, whatever the case: each completed case has
+/// parts on both sides, and no parts are no cut.
+fn why_unnamed(report: &Report) -> Option<NoWhy>
+    ensures answer { (c : Case) → IsComplete c → IfSome result (λ why.
+        IsAnswer c report.now (Checked.No why)) }
+    ensures named { IfNone result (NamesParts report.now) }
+{
+    match report {
+        Report::Flow { gives, takes, .. } => {
+            if gives.is_empty() || takes.is_empty() {
+                return Some(NoWhy::Parts);
+            }
+        }
+        Report::Cut { parts, .. } => {
+            if parts.is_empty() {
+                return Some(NoWhy::Cut);
+            }
+        }
+    }
+    None
+}
+
 /// Checks a report of a completed case, by the definitions alone. The answer is yes exactly where
 /// no check fails, and else no with the first that does. After yes the cost of a flow is the least
-/// cost of the case (weak duality of linear programs), and with a cut there is no heat flow.
+/// cost of the case (weak duality of linear programs), and with a cut there is no heat flow. Memory
+/// is taken only for a report that names parts.
 pub fn check_report(alloc: Global, case: &Case, report: &Report) -> Result<Checked, AllocError>
     requires complete { IsComplete case.now }
     requires prices { HasPartPrices report.now }
     ensures answer { IfOk result (IsAnswer case.now report.now) }
     ensures proves { IfOk result (Proves case.now report.now) }
+    ensures memory { OnErr result (NamesParts report.now) }
 {
+    if let Some(why) = why_unnamed(report) {
+        return Ok(Checked::No { why });
+    }
     let parts = case_parts(alloc, case)?;
     let permits = permits_of(alloc, case)?;
     let setting = Setting {

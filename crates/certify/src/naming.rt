@@ -1,6 +1,6 @@
 //! The parts that a report names.
 
-ghost use Rattle.std.specs.Prelude.{◌≡◌, ◌↔◌, ◌<◌, ◌≤◌, IsTrue, All, IfOk, IfSome, is_some, length};
+ghost use Rattle.std.specs.Prelude.{◌≡◌, ◌↔◌, ◌<◌, ◌≤◌, IsTrue, All, IfOk, IfSome, OnErr, is_some, length};
 ghost use Rattle.std.specs.List.{filter_map};
 ghost use Rattle.stream_case.specs.Case.{IsSourceOf};
 ghost use Rattle.certify.specs.Answers.{ArePricesOf, index_of, span_of, transfer_by, transfer_of, transfers_of};
@@ -79,7 +79,8 @@ pub fn flow_of(
     }))
 }
 
-/// The indexes of the parts that a cut names, if each is one of these parts.
+/// The indexes of the parts that a cut names, if each is one of these parts. A cut that names none
+/// takes no memory.
 pub fn members_of(
     alloc: Global,
     case: &Case,
@@ -92,7 +93,11 @@ pub fn members_of(
         All (λ s. IsTrue (is_some (index_of case.now parts.now s))) spans.now) }
     ensures members { IfOk result (λ members. IfSome members (λ m. m ≡
         filter_map (index_of case.now parts.now) spans.now)) }
+    ensures memory { OnErr result (0 < length spans.now) }
 {
+    if spans.is_empty() {
+        return Ok(Some(Items::new(alloc)));
+    }
     let table = table_of(alloc, case, parts)?;
     let mut members = Vec::with_capacity(alloc, spans.len())?;
     for span in spans {

@@ -5,6 +5,7 @@ ghost use Rattle.stream_case.specs.Case.{IsSourceOf};
 ghost use Rattle.stream_case.specs.declared.limits.TheConstants.{MOST_PARTS};
 ghost use Rattle.certify.specs.Answers.{span_of};
 ghost use Rattle.certify.specs.Table.{IsTableOf, IsWithSpan, bytes_of_parts, bytes_of_span, index_in};
+ghost use Rattle.indexmap.specs.IndexMap.{hasher_of};
 ghost use Rattle.keyed_index.specs.Key.{begun_by, keyed_by};
 ghost use Rattle.sha2.specs.Hashers.{Holds256};
 
@@ -58,6 +59,7 @@ fn key_of(case: &Case, parts: &[Part]) -> TextKey
 /// Adds the span of a part. A span that is there keeps its index, and takes no memory.
 fn add_span(table: &mut PartTable, span: Span, index: u32) -> Result<(), AllocError>
     ensures added { OnOk result (IsWithSpan span index table.old table.new) }
+    ensures key { hasher_of table.new ≡ hasher_of table.old }
     ensures memory { OnErr result (index_in table.old span ≡ None) }
 {
     if table.contains_key(&span) {
@@ -67,11 +69,13 @@ fn add_span(table: &mut PartTable, span: Span, index: u32) -> Result<(), AllocEr
     Ok(())
 }
 
-/// The table of these parts.
+/// The table of these parts, under the key that is drawn from all their spans.
 pub fn table_of(alloc: Global, case: &Case, parts: &[Part]) -> Result<PartTable, AllocError>
     requires few { length parts.now ≤ MOST_PARTS }
     requires sources { All (λ p. IsSourceOf case.now p.source) parts.now }
     ensures table { IfOk result (IsTableOf case.now parts.now) }
+    ensures key { IfOk result (λ table. begun_by (hasher_of table) ≡
+        keyed_by (bytes_of_parts case.now parts.now)) }
     ensures memory { OnErr result (0 < length parts.now) }
 {
     let mut table = IndexMap::with_hasher(alloc, key_of(case, parts));

@@ -13,8 +13,16 @@ check_over-requires-clause-setting c =
       permits = c.in_ok-permits.ensures;
     }
 
-pub returns : goal.returns
-returns c =
+pub returns-in-Some-clause-answer : goal.returns-in-Some-clause-answer
+returns-in-Some-clause-answer c =
+    rw c.in-Some.is at (c.why_unnamed.ensures.answer c.args.case.now c.requires.complete)
+
+pub returns-clause-answer : goal.returns-clause-answer
+returns-clause-answer c =
     let parts = c.in_ok-parts.parts in
-    let both = answered c.args.case.now parts.hot parts.cold c.args.report.now c.check_over.result c.in_ok-parts.ensures c.check_over.ensures in
-    record { answer = both.0; proves = both.1 }
+    (answered c.args.case.now parts.hot parts.cold c.args.report.now c.check_over.result c.in_ok-parts.ensures c.check_over.ensures).0
+
+pub returns-clause-proves : goal.returns-clause-proves
+returns-clause-proves c =
+    let parts = c.in_ok-parts.parts in
+    (answered c.args.case.now parts.hot parts.cold c.args.report.now c.check_over.result c.in_ok-parts.ensures c.check_over.ensures).1
