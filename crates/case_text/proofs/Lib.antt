@@ -1,3 +1,4 @@
+pub mod Keyed
 pub mod ListLemmas
 pub mod Sources
 pub mod Tests

@@ -5,7 +5,7 @@ use Rattle.case_text.proofs.Words.{count_by-map, count_on, count_on-add, first_s
 use Rattle.case_text.proofs.Words.{lookup, map-map, names_of, none_there, one_more_on, or_parts, position-map, same_side, side_of, slice_get-map, source_named}
 use Rattle.case_text.proofs.Words.{stream_of, sum_by_push, utility_of}
 use Rattle.std.proofs.Common.{List, None, Option, [], ap, arith, cond, count_by, false, is_some, length, map, option_map, pos, position, slice_get, sym}
-use Rattle.std.proofs.Common.{unwrap_or, ℕ, ℤ, ◌++◌, ◌+◌, ◌<◌, ◌||◌, ◌∙◌, ◌∷◌, ◌≡◌, ◌≤◌}
+use Rattle.std.proofs.Common.{unwrap_or, ℕ, ℤ, ◌++◌, ◌<◌, ◌||◌, ◌∙◌, ◌∷◌, ◌≡◌, ◌≤◌}
 use Rattle.stream_case.specs.declared.source.Side.TheVariants as side
 use Rattle.stream_case.specs.declared.source.Source.TheVariants as source
 

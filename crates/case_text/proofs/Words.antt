@@ -2,7 +2,7 @@
 pub use Rattle.case_text.specs.Additions.{HasFewSources}
 pub use Rattle.case_text.specs.Checks.{contribution_causes}
 unfoldable pub use Rattle.case_text.specs.Checks.{end_checks, is_reserved, is_reserved_from, is_source, is_taken}
-pub use Rattle.case_text.specs.Given.{Given, case_of, entry_by, nothing, source_at, stream_data, stream_of, utility_data, utility_of, with_entry}
+pub use Rattle.case_text.specs.Given.{Given, KeyedGiven, case_of, entry_by, nothing, source_at, stream_data, stream_of, utility_data, utility_of, with_entry}
 pub use Rattle.case_text.specs.Outcome.{IsCase, IsOutcome, end_fault, grammar}
 pub use Rattle.case_text.specs.Printed.{forbid_row, own_contribution, own_load, stream_row, utility_kind, utility_row}
 unfoldable pub use Rattle.case_text.specs.Printed.{contribution_field, load_field, printed_rows}
@@ -16,6 +16,7 @@ pub use Rattle.case_text.specs.declared.kind.Kind.{Kind}
 pub use Rattle.first_fault.proofs.CheckLemmas.{Passes, none_fails}
 pub use Rattle.first_fault.proofs.OneOutcome.{fault_or_value, no_value, one_fault, one_value}
 pub use Rattle.first_fault.proofs.Steps.{Follows, Give, IsKept, all_give, given_has, nothing_gives, one_more_gives}
+pub use Rattle.first_fault.specs.Checks.{first_failing}
 pub use Rattle.first_fault.specs.Outcome.{given_by}
 pub use Rattle.indexmap.proofs.CallerLemmas.{insert_entry-new}
 pub use Rattle.rows.proofs.PrintedNumbers.{IsPrintable, contribution, heat, load, number_read, optional_read, price, stream_flow_rate, temperature}

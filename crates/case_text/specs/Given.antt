@@ -1,5 +1,6 @@
 -- What the rows of a case file give, one after the other, and the case that is made of it.
 use Rattle.std.specs.Prelude.{ℕ, ℤ, pos, List, [], ◌∷◌, ◌++◌, map, Option, Some, None, unwrap_or}
+use Rattle.std.specs.declared.hash.DefaultHasher.{DefaultHasher}
 use Rattle.rows.specs.Rows.{Row}
 use Rattle.stream_case.specs.Case.{source_named}
 use Rattle.stream_case.specs.declared.case.Case.{Case}
@@ -25,6 +26,11 @@ pub record Given : Type 0 where
   pub streams : List (List ℕ × StreamData)
   pub utilities : List (List ℕ × UtilityData)
   pub forbids : List Forbid
+
+-- the same, in maps whose hashes begin with this hasher
+pub record KeyedGiven : Type 0 where
+  pub rows : Given
+  pub key : DefaultHasher
 
 abbrev pub nothing : Given
 nothing = record { contribution = None; streams = []; utilities = []; forbids = [] }

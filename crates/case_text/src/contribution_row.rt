@@ -14,7 +14,7 @@ use rows::{ContributionCauses, contribution_in};
 
 /// What a row of that kind gives.
 pub fn contribution_entry(given: &Given, row: &ByteRecord) -> Result<Entry, CaseWhy>
-    ensures { Checked (contribution_checks given.now (fields_of row.now))
+    ensures { Checked (contribution_checks given.now.rows (fields_of row.now))
         (λ e. e ≡ Entry.Contribution (number (fields_of row.now) 2)) result }
 {
     let causes = ContributionCauses {

@@ -16,8 +16,8 @@ use stream_case::{Forbid, MOST_FORBIDS, Side};
 /// What a row of that kind gives.
 #[tactic(auto, unfolding(crate::specs::Checks::forbid_checks))]
 pub fn forbid_entry(given: &Given, row: &ByteRecord) -> Result<Entry, CaseWhy>
-    ensures { Checked (forbid_checks given.now (fields_of row.now))
-        (λ e. e ≡ Entry.Forbid (forbid_in given.now (fields_of row.now))) result }
+    ensures { Checked (forbid_checks given.now.rows (fields_of row.now))
+        (λ e. e ≡ Entry.Forbid (forbid_in given.now.rows (fields_of row.now))) result }
 {
     if !are_empty(row, &[3, 4, 5, 6]) {
         return Err(CaseWhy::FieldCount);

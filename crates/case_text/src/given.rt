@@ -7,6 +7,7 @@ ghost use Rattle.stream_case.specs.Stream.{count_on};
 ghost use Rattle.case_text.specs.Given.{case_of, case_with, nothing, source_at, stream_of, utility_of, with_entry};
 ghost use Rattle.case_text.specs.Checks.{end_checks, is_source, is_taken};
 ghost use Rattle.case_text.specs.Additions.{IsFresh, TakesMemory};
+ghost use Rattle.keyed_index.specs.Key.{keyed_by};
 
 use crate::entry::{Entry, StreamData, UtilityData};
 use crate::fault::CaseWhy;
@@ -26,21 +27,35 @@ pub struct Given {
 }
 
 impl Model for Given {
-    ghost use Rattle.case_text.specs.Given.{Given as GivenByRows};
+    ghost use Rattle.std.specs.Prelude.{◌≡◌};
+    ghost use Rattle.case_text.specs.Given.{KeyedGiven};
     ghost use Rattle.case_text.specs.Additions.{HasFewSources};
+    ghost use Rattle.indexmap.specs.IndexMap.{hasher_of};
+    ghost use Rattle.keyed_index.specs.Key.{begun_by};
 
-    ghost Value = { GivenByRows };
+    ghost Value = { KeyedGiven };
 
-    ghost view = { λ f. record { contribution = f.contribution; streams = f.streams.entries; utilities = f.utilities.entries; forbids = f.forbids.items } };
+    ghost view = { λ f. record {
+      rows = record {
+        contribution = f.contribution;
+        streams = f.streams.entries;
+        utilities = f.utilities.entries;
+        forbids = f.forbids.items;
+      };
+      key = begun_by (hasher_of f.streams);
+    } };
 
-    ghost invariant = { λ f. HasFewSources f.streams.entries f.utilities.entries };
+    ghost invariant = { λ f. HasFewSources f.streams.entries f.utilities.entries
+        × (hasher_of f.utilities ≡ hasher_of f.streams) };
 }
 
 impl Given {
-    /// Nothing yet. The hashes of the names have this key.
-    pub fn new(alloc: Global, key: TextKey) -> Given
-        ensures { result ≡ nothing }
+    /// Nothing yet. The hashes of the names have the key of this text.
+    pub fn new(alloc: Global, text: &[u8]) -> Given
+        ensures nothing { result.rows ≡ nothing }
+        ensures key { result.key ≡ keyed_by text.now }
     {
+        let key = TextKey::of_text(text);
         Given {
             contribution: None,
             streams: IndexMap::with_hasher(alloc, key),
@@ -51,7 +66,7 @@ impl Given {
 
     /// Whether an earlier row gave a contribution.
     pub fn has_contribution(&self) -> bool
-        ensures { result ≡ is_some self.now.contribution }
+        ensures { result ≡ is_some self.now.rows.contribution }
     {
         self.contribution.is_some()
     }
@@ -59,14 +74,14 @@ impl Given {
     /// Whether an earlier stream or utility has this name.
     #[tactic(auto, unfolding(crate::specs::Checks::is_taken))]
     pub fn has_name(&self, name: &Name) -> bool
-        ensures { result ≡ is_taken (case_of self.now) name.now }
+        ensures { result ≡ is_taken (case_of self.now.rows) name.now }
     {
         self.streams.contains_key(name) || self.utilities.contains_key(name)
     }
 
     /// How many streams a side has.
     pub fn count_streams(&self, side: Side) -> usize
-        ensures { result ≡ count_on side (case_of self.now).streams }
+        ensures { result ≡ count_on side (case_of self.now.rows).streams }
     {
         self.streams
             .iter()
@@ -76,23 +91,23 @@ impl Given {
 
     /// How many utilities there are, on both sides.
     pub fn count_utilities(&self) -> usize
-        ensures { result ≡ length self.now.utilities }
+        ensures { result ≡ length self.now.rows.utilities }
     {
         self.utilities.len()
     }
 
     /// How many matches are forbidden.
     pub fn count_forbids(&self) -> usize
-        ensures { result ≡ length self.now.forbids }
+        ensures { result ≡ length self.now.rows.forbids }
     {
         self.forbids.len()
     }
 
     /// The earlier source with this name, and its side.
     fn source_named(&self, name: &Name) -> Option<(Source, Side)>
-        ensures { MatchOption result (source_named (case_of self.now) name.now ≡ None)
-            (λ s. (source_named (case_of self.now) name.now ≡ Some s.0)
-            × (side_of (case_of self.now) s.0 ≡ Some s.1)) }
+        ensures { MatchOption result (source_named (case_of self.now.rows) name.now ≡ None)
+            (λ s. (source_named (case_of self.now.rows) name.now ≡ Some s.0)
+            × (side_of (case_of self.now.rows) s.0 ≡ Some s.1)) }
     {
         if let Some((index, _, stream)) = self.streams.get_full(name) {
             return Some((Source::Stream(index as u32), stream.side));
@@ -104,8 +119,9 @@ impl Given {
     /// The earlier source with this name, if it is one of this side.
     #[tactic(auto, unfolding(crate::specs::Checks::is_source))]
     pub fn source(&self, side: Side, name: &Name) -> Result<Source, CaseWhy>
-        ensures { Checked ((is_source side (case_of self.now) name.now, CaseWhy.UnknownName) ∷ [])
-            (λ source. source ≡ source_at self.now name.now) result }
+        ensures { Checked
+            ((is_source side (case_of self.now.rows) name.now, CaseWhy.UnknownName) ∷ [])
+            (λ source. source ≡ source_at self.now.rows name.now) result }
     {
         match self.source_named(name) {
             Some((source, own)) if own == side => Ok(source),
@@ -115,15 +131,16 @@ impl Given {
 
     /// Whether an earlier row forbade this match.
     pub fn is_forbidden(&self, forbid: Forbid) -> bool
-        ensures { result ≡ is_forbidden self.now.forbids forbid.hot forbid.cold }
+        ensures { result ≡ is_forbidden self.now.rows.forbids forbid.hot forbid.cold }
     {
         self.forbids.contains(&forbid)
     }
 
     /// Takes what a row gave. A row that is passed over takes no memory, nor does a contribution.
     pub fn add(&mut self, entry: Entry) -> Result<(), AllocError>
-        requires { IsFresh self.old entry }
-        ensures added { OnOk result (self.new ≡ with_entry self.old entry) }
+        requires { IsFresh self.old.rows entry }
+        ensures added { OnOk result
+            (self.new ≡ record self.old { rows = with_entry self.old.rows entry }) }
         ensures memory { OnErr result (TakesMemory entry) }
     {
         match entry {
@@ -138,8 +155,10 @@ impl Given {
 
     /// Takes a stream with a new name.
     fn add_stream(&mut self, name: Name, stream: StreamData) -> Result<(), AllocError>
-        requires { IsFresh self.old (Entry.Stream name stream) }
-        ensures { OnOk result (self.new ≡ with_entry self.old (Entry.Stream name stream)) }
+        requires { IsFresh self.old.rows (Entry.Stream name stream) }
+        ensures { OnOk result (self.new ≡ record self.old {
+          rows = with_entry self.old.rows (Entry.Stream name stream);
+        }) }
     {
         self.streams.insert(name, stream)?;
         Ok(())
@@ -147,8 +166,10 @@ impl Given {
 
     /// Takes a utility with a new name.
     fn add_utility(&mut self, name: Name, utility: UtilityData) -> Result<(), AllocError>
-        requires { IsFresh self.old (Entry.Utility name utility) }
-        ensures { OnOk result (self.new ≡ with_entry self.old (Entry.Utility name utility)) }
+        requires { IsFresh self.old.rows (Entry.Utility name utility) }
+        ensures { OnOk result (self.new ≡ record self.old {
+          rows = with_entry self.old.rows (Entry.Utility name utility);
+        }) }
     {
         self.utilities.insert(name, utility)?;
         Ok(())
@@ -157,7 +178,8 @@ impl Given {
     /// The contribution of a whole file, or what the file lacks.
     #[tactic(auto, unfolding(crate::specs::Checks::end_checks))]
     pub fn contribution(&self) -> Result<i32, CaseWhy>
-        ensures { Checked (end_checks self.now) (λ c. self.now.contribution ≡ Some c) result }
+        ensures { Checked (end_checks self.now.rows)
+            (λ c. self.now.rows.contribution ≡ Some c) result }
     {
         let contribution = self.contribution.ok_or(CaseWhy::NoContribution)?;
         if self.streams.is_empty() {
@@ -169,7 +191,7 @@ impl Given {
     /// The streams, in a case with this contribution.
     fn streams(&self, alloc: Global, contribution: i32) -> Result<Vec<Stream>, AllocError>
         ensures { IfOk result
-            (λ streams. streams.items ≡ map (stream_of contribution) self.now.streams) }
+            (λ streams. streams.items ≡ map (stream_of contribution) self.now.rows.streams) }
     {
         self.streams
             .iter()
@@ -180,7 +202,7 @@ impl Given {
     /// The utilities, in a case with this contribution.
     fn utilities(&self, alloc: Global, contribution: i32) -> Result<Vec<Utility>, AllocError>
         ensures { IfOk result
-            (λ utilities. utilities.items ≡ map (utility_of contribution) self.now.utilities) }
+            (λ utilities. utilities.items ≡ map (utility_of contribution) self.now.rows.utilities) }
     {
         self.utilities
             .iter()
@@ -190,7 +212,7 @@ impl Given {
 
     /// The case with this contribution, in tenths of °C: each source that gave none of its own has it.
     pub fn case(&self, alloc: Global, contribution: i32) -> Result<Case, AllocError>
-        ensures { IfOk result (λ case. case ≡ case_with contribution self.now) }
+        ensures { IfOk result (λ case. case ≡ case_with contribution self.now.rows) }
     {
         Ok(Case {
             contribution,

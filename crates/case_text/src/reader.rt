@@ -1,14 +1,16 @@
 //! Reading a case file.
 
-ghost use Rattle.std.specs.Prelude.{◌≡◌, ◌≤◌, length, ⊤, IfOk};
+ghost use Rattle.std.specs.Prelude.{◌≡◌, ◌≤◌, Err, length, ⊤, IfErr, IfOk, OnOk};
 ghost use Rattle.csv.specs.Records.{fields_of};
 ghost use Rattle.rows.specs.Rows.{rows_of};
 ghost use Rattle.first_fault.specs.Checks.{Checked};
 ghost use Rattle.stream_case.specs.Case.{IsValid};
-ghost use Rattle.case_text.specs.Given.{entry_in, nothing};
+ghost use Rattle.case_text.specs.Given.{entry_in};
 ghost use Rattle.case_text.specs.Checks.{checks};
 ghost use Rattle.case_text.specs.Additions.{IsFresh};
-ghost use Rattle.case_text.specs.Outcome.{IsOutcome, grammar};
+ghost use Rattle.case_text.specs.Outcome.{IsOutcome, grammar, keyed_grammar};
+ghost use Rattle.first_fault.specs.Outcome.{SoundBefore, given_by};
+ghost use Rattle.keyed_index.specs.Key.{keyed_by};
 
 use crate::contribution_row::contribution_entry;
 use crate::entry::Entry;
@@ -19,7 +21,6 @@ use crate::kind::{Kind, kind_of};
 use crate::stream_row::stream_entry;
 use crate::utility_row::utility_entry;
 use csv::ByteRecord;
-use keyed_index::TextKey;
 use rows::{Collector, Rows, read_rows};
 use std::alloc::{AllocError, Global};
 use stream_case::Case;
@@ -27,9 +28,9 @@ use stream_case::Case;
 /// What a row gives, or the first of its checks that fails.
 #[tactic(auto, unfolding(crate::specs::Checks::checks, crate::specs::Checks::kind_checks))]
 fn entry_of(given: &Given, row: &ByteRecord) -> Result<Entry, CaseWhy>
-    ensures fresh { IfOk result (IsFresh given.now) }
-    ensures checked { Checked (checks given.now (fields_of row.now))
-        (λ e. e ≡ entry_in given.now (fields_of row.now)) result }
+    ensures fresh { IfOk result (IsFresh given.now.rows) }
+    ensures checked { Checked (checks given.now.rows (fields_of row.now))
+        (λ e. e ≡ entry_in given.now.rows (fields_of row.now)) result }
 {
     if row.len() != 7 {
         return Err(CaseWhy::FieldCount);
@@ -53,7 +54,7 @@ impl Collector for Given {
 
     ghost is_sound = { λ _. ⊤ };
 
-    ghost grammar = { λ _. grammar };
+    ghost grammar = { λ given. keyed_grammar given.key };
 
     ghost given = { λ given. given };
 
@@ -66,13 +67,30 @@ impl Collector for Given {
     }
 }
 
-/// The case of rows, or the first row at fault with its cause; `given` takes what they give.
-fn case_of(alloc: Global, rows: &mut Rows<'_>, given: &mut Given) -> Result<Case, CaseFault>
-    requires few { length rows.old ≤ 2000000000 }
-    requires none { given.old ≡ nothing }
-    ensures { IsOutcome rows.old result }
+/// What the rows of a text give and how many they are, or the first row at fault with its cause.
+/// The key of the names is drawn from the text.
+pub fn given_of(alloc: Global, bytes: &[u8]) -> Result<(Given, u32), CaseFault>
+    requires { length bytes.now ≤ 2000000000 }
+    ensures key { IfOk result (λ r. r.0.key ≡ keyed_by bytes.now) }
+    ensures given { IfOk result (λ r. r.0.rows ≡ given_by grammar (rows_of bytes.now)) }
+    ensures number { IfOk result (λ r. r.1 ≡ length (rows_of bytes.now)) }
+    ensures few { IfOk result (λ r. r.1 ≤ 2000000000) }
+    ensures sound { OnOk result
+        (SoundBefore grammar (rows_of bytes.now) (length (rows_of bytes.now))) }
+    ensures fault { IfErr result (λ fault. IsOutcome (rows_of bytes.now) (Err fault)) }
 {
-    let number = read_rows(alloc, rows, given)?;
+    let mut rows = Rows::new(alloc, bytes);
+    let mut given = Given::new(alloc, bytes);
+    let number = read_rows(alloc, &mut rows, &mut given)?;
+    Ok((given, number))
+}
+
+/// The case of a text, or the first row at fault with its cause.
+fn case_of(alloc: Global, bytes: &[u8]) -> Result<Case, CaseFault>
+    requires { length bytes.now ≤ 2000000000 }
+    ensures { IsOutcome (rows_of bytes.now) result }
+{
+    let (given, number) = given_of(alloc, bytes)?;
     match given.contribution() {
         Ok(contribution) => Ok(given.case(alloc, contribution)?),
         Err(why) => Err(CaseFault::Row {
@@ -89,7 +107,5 @@ pub fn read_case(alloc: Global, bytes: &[u8]) -> Result<Case, CaseFault>
     ensures outcome { IsOutcome (rows_of bytes.now) result }
     ensures valid { IfOk result IsValid }
 {
-    let mut rows = Rows::new(alloc, bytes);
-    let mut given = Given::new(alloc, TextKey::of_text(bytes));
-    case_of(alloc, &mut rows, &mut given)
+    case_of(alloc, bytes)
 }

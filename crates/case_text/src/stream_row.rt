@@ -80,8 +80,8 @@ fn stream_data(side: Side, row: &ByteRecord) -> Result<StreamData, CaseWhy>
 /// What a row of that kind gives.
 #[tactic(auto, unfolding(crate::specs::Checks::stream_checks))]
 pub fn stream_entry(given: &Given, side: Side, row: &ByteRecord) -> Result<Entry, CaseWhy>
-    ensures fresh { IfOk result (IsFresh given.now) }
-    ensures checked { Checked (stream_checks side given.now (fields_of row.now))
+    ensures fresh { IfOk result (IsFresh given.now.rows) }
+    ensures checked { Checked (stream_checks side given.now.rows (fields_of row.now))
         (λ e. e ≡ Entry.Stream (field (fields_of row.now) 1)
         (stream_data side (fields_of row.now))) result }
 {

@@ -58,8 +58,8 @@ fn utility_data(side: Side, row: &ByteRecord) -> Result<UtilityData, CaseWhy>
 /// What a row of that kind gives.
 #[tactic(auto, unfolding(crate::specs::Checks::utility_checks))]
 pub fn utility_entry(given: &Given, side: Side, row: &ByteRecord) -> Result<Entry, CaseWhy>
-    ensures fresh { IfOk result (IsFresh given.now) }
-    ensures checked { Checked (utility_checks side given.now (fields_of row.now))
+    ensures fresh { IfOk result (IsFresh given.now.rows) }
+    ensures checked { Checked (utility_checks side given.now.rows (fields_of row.now))
         (λ e. e ≡ Entry.Utility (field (fields_of row.now) 1)
         (utility_data side (fields_of row.now))) result }
 {
