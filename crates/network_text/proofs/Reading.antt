@@ -3,7 +3,7 @@ use Rattle.network_text.proofs.Words.{Case, Entry, IsComplete, IsFresh, IsOutcom
 use Rattle.network_text.proofs.Words.{checks, each_passes, entry_in, first_failing, grammar, start, with_entry}
 use Rattle.network_text.proofs.Shaped.Law.{has_room}
 use Rattle.network_text.proofs.Shaped.Kept.{adds_next, shape_so_far}
-use Rattle.std.proofs.Common.{◌∷◌, Err, IsErrAnd, List, None, Ok, Result, Some, [], length, length-append, refl, subst, sym, ℕ, ◌+◌, ◌<◌, ◌≡◌}
+use Rattle.std.proofs.Common.{◌∷◌, Err, IfErr, IsErrAnd, List, None, Ok, Result, Some, [], length, length-append, refl, subst, sym, ℕ, ◌+◌, ◌<◌, ◌≡◌}
 use Rattle.network_text.specs.declared.fault.NetFault.TheVariants as fault
 
 -- ---- the lines so far are as many as the statements
@@ -31,10 +31,10 @@ fresh_next {case} {given = given} complete reads s passes gives =
     let shape = shape_so_far (StaysValid-IsComplete case complete) reads.give in
     (adds_next shape s (each_passes (checks case given s) passes) gives).fresh
 
--- ---- want of memory is no outcome, and gives no network
+-- ---- want of memory is no outcome
 
-pub no_outcome : (case : Case) (statements : List Statement) (r : Result Network NetFault)
+pub no_outcome : {V : Type 0} (case : Case) (statements : List Statement) (r : Result V NetFault)
     → IsErrAnd r (λ f. f ≡ fault.OutOfMemory)
-    → IsOutcome case statements r
-no_outcome case statements (Ok network) h = absurd h
+    → IfErr r (λ f. IsOutcome case statements (Err f))
+no_outcome case statements (Ok v) h = tt
 no_outcome case statements (Err f) h = subst (λ (g : NetFault). IsOutcome case statements (Err g)) (sym h) tt

@@ -8,8 +8,10 @@ pub use Rattle.fractions.proofs.Comparisons.{Decides-is_below, positive-is, posi
 pub use Rattle.fractions.proofs.Limits.{bounded_back, bounded_within}
 pub use Rattle.fractions.specs.Rationals.{IsWithinLimits, Rational, fraction_text, is_below, rational_zero}
 pub use Rattle.indexmap.proofs.CallerLemmas.{insert_entry-new}
-pub use Rattle.indexmap.specs.IndexMap.{IndexMap, insert_entry}
-pub use Rattle.network_text.specs.Building.{IsFresh, IsTracked, named_branch, named_sides, own_entry}
+pub use Rattle.indexmap.specs.IndexMap.{IndexMap, hasher_of, insert_entry}
+pub use Rattle.keyed_index.specs.Key.{begun_by}
+unfoldable pub use Rattle.keyed_index.specs.Key.{keyed_by}
+pub use Rattle.network_text.specs.Building.{IsFresh, IsTracked, KeyedNetwork, named_branch, named_sides, own_entry}
 unfoldable pub use Rattle.network_text.specs.Building.{own_entries}
 pub use Rattle.network_text.specs.Checks.{has_stream, is_free_side, is_missed, is_used, misses_side}
 unfoldable pub use Rattle.network_text.specs.Checks.{checks, end_checks, exchanger_checks, exchanger_field_checks, first_missing, fraction_checks, is_passed}

@@ -3,6 +3,7 @@ use Rattle.std.specs.Prelude.{◌≡◌, ◌≢◌, ℕ, ◌+◌, ◌*◌, ◌<�
 use Rattle.std.specs.List.{enumerate_from}
 use Rattle.std.specs.Map.{keys_of}
 use Rattle.std.specs.Option.{ForSome, option_to_list}
+use Rattle.std.specs.declared.hash.DefaultHasher.{DefaultHasher}
 use Rattle.stream_case.specs.Name.{IsAnyName}
 use Rattle.stream_case.specs.declared.limits.TheConstants.{ALL_STREAMS}
 use Rattle.stream_case.specs.declared.stream.Stream.{Stream}
@@ -16,6 +17,11 @@ use Rattle.networks.specs.declared.network.Branch.{Branch}
 use Rattle.networks.specs.declared.network.Line.{Line}
 use Rattle.networks.specs.declared.network.Network.{Network}
 use Rattle.networks.specs.declared.network.Passage.{Passage}
+
+-- a network so far, in tables whose hashes begin with this hasher
+pub record KeyedNetwork : Type 0 where
+  pub network : Network
+  pub key : DefaultHasher
 
 -- the branches that an entry uses are there and free, the names that it makes are new, and so is that of its
 -- exchanger; the side that it passes is free

@@ -6,3 +6,4 @@ pub mod Outcome
 pub mod Building
 pub mod Printed
 pub mod Laws
+pub mod Tables

@@ -13,8 +13,8 @@ use stream_case::Name;
 /// The number of the branch with this name, if it was made.
 #[tactic(auto, unfolding(crate::specs::Given::branch_at))]
 fn known_branch(given: &Given, name: &[u8]) -> Option<u32>
-    ensures some { is_some result ≡ is_some (branch_named given.now name.now) }
-    ensures value { IfSome result (λ number. number ≡ branch_at given.now name.now) }
+    ensures some { is_some result ≡ is_some (branch_named given.now.network name.now) }
+    ensures value { IfSome result (λ number. number ≡ branch_at given.now.network name.now) }
 {
     given.branch_named(name)
 }
@@ -22,8 +22,8 @@ fn known_branch(given: &Given, name: &[u8]) -> Option<u32>
 /// The number of the exchanger with this name, if it was declared.
 #[tactic(auto, unfolding(crate::specs::Given::exchanger_at))]
 fn known_exchanger(given: &Given, name: &[u8]) -> Option<u32>
-    ensures some { is_some result ≡ is_some (exchanger_named given.now name.now) }
-    ensures value { IfSome result (λ number. number ≡ exchanger_at given.now name.now) }
+    ensures some { is_some result ≡ is_some (exchanger_named given.now.network name.now) }
+    ensures value { IfSome result (λ number. number ≡ exchanger_at given.now.network name.now) }
 {
     given.exchanger_named(name)
 }
@@ -31,8 +31,8 @@ fn known_exchanger(given: &Given, name: &[u8]) -> Option<u32>
 /// The number of a branch that is used.
 #[tactic(auto, unfolding(crate::specs::Checks::used_branch_checks))]
 pub fn used_branch(given: &Given, field: &[u8]) -> Result<u32, NetWhy>
-    ensures { Checked (used_branch_checks given.now field.now) (λ number.
-        number ≡ branch_at given.now field.now) result }
+    ensures { Checked (used_branch_checks given.now.network field.now) (λ number.
+        number ≡ branch_at given.now.network field.now) result }
 {
     let Some(number) = known_branch(given, field) else {
         return Err(NetWhy::UnknownBranch);
@@ -46,7 +46,8 @@ pub fn used_branch(given: &Given, field: &[u8]) -> Result<u32, NetWhy>
 /// The name of a branch that is made.
 #[tactic(auto, unfolding(crate::specs::Checks::new_branch_checks))]
 pub fn new_branch(given: &Given, field: &[u8]) -> Result<Name, NetWhy>
-    ensures { Checked (new_branch_checks given.now field.now) (λ name. name ≡ field.now) result }
+    ensures { Checked (new_branch_checks given.now.network field.now) (λ name.
+        name ≡ field.now) result }
 {
     let Some(name) = branch_name(field) else {
         return Err(NetWhy::BadName);
@@ -60,7 +61,7 @@ pub fn new_branch(given: &Given, field: &[u8]) -> Result<Name, NetWhy>
 /// The name of an exchanger that is declared.
 #[tactic(auto, unfolding(crate::specs::Checks::new_exchanger_checks))]
 pub fn new_exchanger(given: &Given, field: &[u8]) -> Result<Name, NetWhy>
-    ensures { Checked (new_exchanger_checks given.now field.now) (λ name.
+    ensures { Checked (new_exchanger_checks given.now.network field.now) (λ name.
         name ≡ field.now) result }
 {
     let Some(name) = exchanger_name(field) else {
@@ -75,8 +76,8 @@ pub fn new_exchanger(given: &Given, field: &[u8]) -> Result<Name, NetWhy>
 /// The number of an exchanger that a branch passes.
 #[tactic(auto, unfolding(crate::specs::Checks::passed_checks))]
 pub fn passed_exchanger(given: &Given, branch: u32, field: &[u8]) -> Result<u32, NetWhy>
-    ensures { Checked (passed_checks given.now branch field.now) (λ exchanger.
-        exchanger ≡ exchanger_at given.now field.now) result }
+    ensures { Checked (passed_checks given.now.network branch field.now) (λ exchanger.
+        exchanger ≡ exchanger_at given.now.network field.now) result }
 {
     let Some(exchanger) = known_exchanger(given, field) else {
         return Err(NetWhy::UnknownName);
@@ -90,7 +91,7 @@ pub fn passed_exchanger(given: &Given, branch: u32, field: &[u8]) -> Result<u32,
 /// Tests that two branches are two, and of one stream.
 #[tactic(auto, unfolding(crate::specs::Checks::mixed_checks))]
 pub fn check_mixed(given: &Given, first: u32, second: u32) -> Result<(), NetWhy>
-    ensures { Checked (mixed_checks given.now first second) (λ _. Unit {0}) result }
+    ensures { Checked (mixed_checks given.now.network first second) (λ _. Unit {0}) result }
 {
     if second == first {
         return Err(NetWhy::SpentBranch);

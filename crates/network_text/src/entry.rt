@@ -27,7 +27,7 @@ pub struct Entry {
 #[tactic(auto, using(first_fault::proofs::CheckLemmas::then_others), unfolding(crate::specs::Checks::exchanger_field_checks))]
 fn exchanger_fields(case: &Case, given: &Given, s: &Statement<'_>) -> Result<Entry, NetWhy>
     requires { IsComplete case.now }
-    ensures { Checked (exchanger_field_checks case.now given.now s.now) (λ e.
+    ensures { Checked (exchanger_field_checks case.now given.now.network s.now) (λ e.
         e ≡ exchanger_entry case.now s.now) result }
 {
     let name = new_exchanger(given, s.field(1))?;
@@ -48,7 +48,7 @@ fn exchanger_fields(case: &Case, given: &Given, s: &Statement<'_>) -> Result<Ent
 #[tactic(auto, unfolding(crate::specs::Checks::exchanger_checks))]
 fn exchanger_entry(case: &Case, given: &Given, s: &Statement<'_>) -> Result<Entry, NetWhy>
     requires { IsComplete case.now }
-    ensures { Checked (exchanger_checks case.now given.now s.now) (λ e.
+    ensures { Checked (exchanger_checks case.now given.now.network s.now) (λ e.
         e ≡ exchanger_entry case.now s.now) result }
 {
     if s.len() != 5 {
@@ -63,8 +63,8 @@ fn exchanger_entry(case: &Case, given: &Given, s: &Statement<'_>) -> Result<Entr
 /// What the statement of a split gives.
 #[tactic(auto, using(first_fault::proofs::CheckLemmas::then_others), unfolding(crate::specs::Checks::split_checks))]
 fn split_entry(given: &Given, s: &Statement<'_>) -> Result<Entry, NetWhy>
-    ensures { Checked (split_checks given.now s.now) (λ e.
-        e ≡ split_entry given.now s.now) result }
+    ensures { Checked (split_checks given.now.network s.now) (λ e.
+        e ≡ split_entry given.now.network s.now) result }
 {
     if s.len() != 5 {
         return Err(NetWhy::FieldCount);
@@ -91,8 +91,8 @@ fn split_entry(given: &Given, s: &Statement<'_>) -> Result<Entry, NetWhy>
 /// What the statement of a pass gives.
 #[tactic(auto, using(first_fault::proofs::CheckLemmas::then_others), unfolding(crate::specs::Checks::pass_checks))]
 fn pass_entry(given: &Given, s: &Statement<'_>) -> Result<Entry, NetWhy>
-    ensures { Checked (pass_checks given.now s.now) (λ e.
-        e ≡ pass_entry given.now s.now) result }
+    ensures { Checked (pass_checks given.now.network s.now) (λ e.
+        e ≡ pass_entry given.now.network s.now) result }
 {
     if s.len() != 4 {
         return Err(NetWhy::FieldCount);
@@ -113,7 +113,8 @@ fn pass_entry(given: &Given, s: &Statement<'_>) -> Result<Entry, NetWhy>
 /// What the statement of a mix gives.
 #[tactic(auto, using(first_fault::proofs::CheckLemmas::then_others), unfolding(crate::specs::Checks::mix_checks))]
 fn mix_entry(given: &Given, s: &Statement<'_>) -> Result<Entry, NetWhy>
-    ensures { Checked (mix_checks given.now s.now) (λ e. e ≡ mix_entry given.now s.now) result }
+    ensures { Checked (mix_checks given.now.network s.now) (λ e.
+        e ≡ mix_entry given.now.network s.now) result }
 {
     if s.len() != 4 {
         return Err(NetWhy::FieldCount);
@@ -135,7 +136,8 @@ fn mix_entry(given: &Given, s: &Statement<'_>) -> Result<Entry, NetWhy>
 /// What the statement of an end gives.
 #[tactic(auto, using(first_fault::proofs::CheckLemmas::then_others), unfolding(crate::specs::Checks::end_checks))]
 fn end_entry(given: &Given, s: &Statement<'_>) -> Result<Entry, NetWhy>
-    ensures { Checked (end_checks given.now s.now) (λ e. e ≡ end_entry given.now s.now) result }
+    ensures { Checked (end_checks given.now.network s.now) (λ e.
+        e ≡ end_entry given.now.network s.now) result }
 {
     if s.len() != 2 {
         return Err(NetWhy::FieldCount);
@@ -151,8 +153,8 @@ fn end_entry(given: &Given, s: &Statement<'_>) -> Result<Entry, NetWhy>
 #[tactic(auto, unfolding(crate::specs::Checks::checks, crate::specs::Checks::kind_checks, crate::specs::Given::entry_in))]
 pub fn entry_of(case: &Case, given: &Given, s: &Statement<'_>) -> Result<Entry, NetWhy>
     requires { IsComplete case.now }
-    ensures { Checked (checks case.now given.now s.now) (λ e.
-        entry_in case.now given.now s.now ≡ Some e) result }
+    ensures { Checked (checks case.now given.now.network s.now) (λ e.
+        entry_in case.now given.now.network s.now ≡ Some e) result }
 {
     if given.count_lines() >= MOST_STATEMENTS {
         return Err(NetWhy::TooMany);

@@ -5,11 +5,15 @@ ghost use Rattle.std.specs.List.{list_any};
 ghost use Rattle.std.specs.Map.{keys_of};
 ghost use Rattle.std.specs.Option.{ForSome, option_to_list};
 ghost use Rattle.std.specs.Str.{bytes_eq};
+ghost use Rattle.indexmap.specs.IndexMap.{hasher_of};
+ghost use Rattle.indexmap.specs.IndexSet.{hasher_of as set_hasher_of};
+ghost use Rattle.keyed_index.specs.Key.{keyed_by};
 ghost use Rattle.stream_case.specs.Case.{IsComplete};
 ghost use Rattle.networks.specs.Lines.{exchanger_of, exchangers_of, members, passage_of, same_passage, stream_at, uses};
 ghost use Rattle.network_text.specs.Given.{branch_named, exchanger_named, first_stream, start, with_entry};
 ghost use Rattle.network_text.specs.Checks.{first_missing, is_free_side, is_missed, is_passed, is_used, joins_stream, misses_side};
 ghost use Rattle.network_text.specs.Building.{IsFresh, named_branch, named_sides, own_entries};
+ghost use Rattle.network_text.specs.Tables.{KeepsKeys};
 
 use crate::entry::Entry;
 use crate::names::branch_name;
@@ -54,7 +58,8 @@ fn is_exchanger(line: &Line) -> bool
 /// Adds a branch to those that are used.
 fn mark_used(used: &mut KeyedSet<u32>, number: u32) -> Result<(), AllocError>
     requires { list_any (λ other. number == other) used.old.keys ≡ false }
-    ensures { OnOk result (used.new.keys ≡ used.old.keys ++ number ∷ []) }
+    ensures added { OnOk result (used.new.keys ≡ used.old.keys ++ number ∷ []) }
+    ensures key { set_hasher_of used.new ≡ set_hasher_of used.old }
 {
     used.insert(number)?;
     Ok(())
@@ -64,6 +69,7 @@ fn mark_used(used: &mut KeyedSet<u32>, number: u32) -> Result<(), AllocError>
 fn mark_all_used(used: &mut KeyedSet<u32>, numbers: AtMostTwo<u32>) -> Result<(), AllocError>
     requires { AllPairs (λ a b. a ≢ b) (used.old.keys ++ members numbers) }
     ensures added { OnOk result (used.new.keys ≡ used.old.keys ++ members numbers) }
+    ensures key { set_hasher_of used.new ≡ set_hasher_of used.old }
     ensures memory { OnErr result (0 < length (members numbers)) }
 {
     match numbers {
@@ -79,7 +85,9 @@ fn mark_all_used(used: &mut KeyedSet<u32>, numbers: AtMostTwo<u32>) -> Result<()
 /// Adds a branch with a new name.
 fn add_branch(branches: &mut KeyedMap<Name, u32>, name: Name, stream: u32) -> Result<(), AllocError>
     requires { list_any (bytes_eq name) (keys_of branches.old.entries) ≡ false }
-    ensures { OnOk result (branches.new.entries ≡ branches.old.entries ++ (name, stream) ∷ []) }
+    ensures added { OnOk result
+        (branches.new.entries ≡ branches.old.entries ++ (name, stream) ∷ []) }
+    ensures key { hasher_of branches.new ≡ hasher_of branches.old }
 {
     branches.insert(name, stream)?;
     Ok(())
@@ -94,6 +102,7 @@ fn add_branches(
     requires { AllPairs (λ a b. a ≢ b) (keys_of branches.old.entries ++ members names) }
     ensures added { OnOk result (branches.new.entries ≡ branches.old.entries ++
         map (λ name. (name, stream)) (members names)) }
+    ensures key { hasher_of branches.new ≡ hasher_of branches.old }
     ensures memory { OnErr result (0 < length (members names)) }
 {
     match names {
@@ -106,7 +115,7 @@ fn add_branches(
     }
 }
 
-/// The branches of the streams themselves, by name.
+/// The branches of the streams themselves, by name, under this key.
 fn own_branches(
     alloc: Global,
     key: TextKey,
@@ -114,7 +123,8 @@ fn own_branches(
 ) -> Result<KeyedMap<Name, u32>, AllocError>
     requires few { length streams.now ≤ ALL_STREAMS }
     requires distinct { AllPairs (λ a b. a ≢ b) (map (λ s. s.name) streams.now) }
-    ensures { IfOk result (λ branches. branches.entries ≡ own_entries streams.now) }
+    ensures own { IfOk result (λ branches. branches.entries ≡ own_entries streams.now) }
+    ensures key { IfOk result (λ branches. hasher_of branches ≡ key) }
 {
     let mut branches = IndexMap::with_hasher(alloc, key);
     for (index, stream) in streams.iter().enumerate() {
@@ -129,6 +139,7 @@ fn add_declared(exchangers: &mut KeyedMap<Name, Sides>, line: &Line) -> Result<(
         map (λ e. e.name) (option_to_list (exchanger_of line.now))) }
     ensures added { OnOk result (exchangers.new.entries ≡ exchangers.old.entries ++
         map named_sides (option_to_list (exchanger_of line.now))) }
+    ensures key { hasher_of exchangers.new ≡ hasher_of exchangers.old }
     ensures memory { OnErr result (IsSome (exchanger_of line.now)) }
 {
     if let Line::Exchanger {
@@ -146,7 +157,8 @@ fn add_declared(exchangers: &mut KeyedMap<Name, Sides>, line: &Line) -> Result<(
 /// Adds a side of an exchanger to those that are passed.
 fn mark_passed(passed: &mut KeyedSet<Passage>, passage: Passage) -> Result<(), AllocError>
     requires { list_any (same_passage passage) passed.old.keys ≡ false }
-    ensures { OnOk result (passed.new.keys ≡ passed.old.keys ++ passage ∷ []) }
+    ensures added { OnOk result (passed.new.keys ≡ passed.old.keys ++ passage ∷ []) }
+    ensures key { set_hasher_of passed.new ≡ set_hasher_of passed.old }
 {
     passed.insert(passage)?;
     Ok(())
@@ -160,6 +172,7 @@ fn mark_any_passed(
 ) -> Result<(), AllocError>
     requires { ForSome passage (λ p. list_any (same_passage p) passed.old.keys ≡ false) }
     ensures added { OnOk result (passed.new.keys ≡ passed.old.keys ++ option_to_list passage) }
+    ensures key { set_hasher_of passed.new ≡ set_hasher_of passed.old }
     ensures memory { OnErr result (IsSome passage) }
 {
     match passage {
@@ -206,6 +219,7 @@ impl Tables {
             option_to_list passage) }
         ensures branches { OnOk result (self.new.branches.entries ≡ self.old.branches.entries ++
             map (λ name. (name, stream)) (members entry.now.names)) }
+        ensures keys { OnOk result (KeepsKeys self.old self.new) }
     {
         mark_all_used(&mut self.used, entry.line.uses())?;
         add_declared(&mut self.exchangers, &entry.line)?;
@@ -223,26 +237,35 @@ pub struct Given {
 
 impl Model for Given {
     ghost use Rattle.std.specs.Prelude.{map};
-    ghost use Rattle.networks.specs.declared.network.Network.{Network};
-    ghost use Rattle.network_text.specs.Building.{IsTracked, named_branch};
+    ghost use Rattle.indexmap.specs.IndexMap.{hasher_of};
+    ghost use Rattle.keyed_index.specs.Key.{begun_by};
+    ghost use Rattle.network_text.specs.Building.{IsTracked, KeyedNetwork, named_branch};
+    ghost use Rattle.network_text.specs.Tables.{ShareKey};
 
-    ghost Value = { Network };
+    ghost Value = { KeyedNetwork };
 
     ghost view = { λ b. record {
-      branches = map named_branch b.tables.branches.entries;
-      lines = b.lines.items;
+      network = record {
+        branches = map named_branch b.tables.branches.entries;
+        lines = b.lines.items;
+      };
+      key = begun_by (hasher_of b.tables.branches);
     } };
 
     ghost invariant = { λ b. IsTracked b.tables.branches.entries b.tables.used.keys
-        b.tables.exchangers.entries b.tables.passed.keys b.lines.items };
+        b.tables.exchangers.entries b.tables.passed.keys b.lines.items
+        × ShareKey b.tables };
 }
 
 impl Given {
-    /// What no statement gives: the streams' own branches. The hashes of the tables have this key.
-    pub fn new(alloc: Global, key: TextKey, case: &Case) -> Result<Given, AllocError>
+    /// What no statement gives: the streams' own branches. The hashes of the tables have the key of
+    /// this text.
+    pub fn new(alloc: Global, text: &[u8], case: &Case) -> Result<Given, AllocError>
         requires { IsComplete case.now }
-        ensures { IfOk result (λ given. given ≡ start case.now) }
+        ensures start { IfOk result (λ given. given.network ≡ start case.now) }
+        ensures key { IfOk result (λ given. given.key ≡ keyed_by text.now) }
     {
+        let key = TextKey::of_text(text);
         let tables = Tables {
             branches: own_branches(alloc, key, case.streams.as_slice())?,
             used: IndexSet::with_hasher(alloc, key),
@@ -257,14 +280,14 @@ impl Given {
 
     /// How many statements there were.
     pub fn count_lines(&self) -> usize
-        ensures { result ≡ length self.now.lines }
+        ensures { result ≡ length self.now.network.lines }
     {
         self.lines.len()
     }
 
     /// How many branches there are.
     pub fn count_branches(&self) -> u32
-        ensures count { result ≡ length self.now.branches }
+        ensures count { result ≡ length self.now.network.branches }
         ensures small { result ≤ ALL_STREAMS + 2 * MOST_STATEMENTS }
     {
         self.tables.branches.len() as u32
@@ -272,14 +295,14 @@ impl Given {
 
     /// How many exchangers are declared.
     pub fn count_exchangers(&self) -> usize
-        ensures { result ≡ length (exchangers_of self.now.lines) }
+        ensures { result ≡ length (exchangers_of self.now.network.lines) }
     {
         self.tables.exchangers.len()
     }
 
     /// The number of the branch with this name.
     pub fn branch_named(&self, name: &[u8]) -> Option<u32>
-        ensures { result ≡ branch_named self.now name.now }
+        ensures { result ≡ branch_named self.now.network name.now }
     {
         let branches = &self.tables.branches;
         let Some(name) = branch_name(name) else {
@@ -293,7 +316,7 @@ impl Given {
 
     /// The number of the exchanger with this name.
     pub fn exchanger_named(&self, name: &[u8]) -> Option<u32>
-        ensures { result ≡ exchanger_named self.now name.now }
+        ensures { result ≡ exchanger_named self.now.network name.now }
     {
         let exchangers = &self.tables.exchangers;
         let Some(name) = branch_name(name) else {
@@ -307,14 +330,14 @@ impl Given {
 
     /// Whether an earlier statement used the branch with this number.
     pub fn is_used(&self, number: u32) -> bool
-        ensures { result ≡ is_used self.now number }
+        ensures { result ≡ is_used self.now.network number }
     {
         self.tables.used.contains(&number)
     }
 
     /// The stream of the branch with this number.
     pub fn stream_of(&self, number: u32) -> u32
-        ensures { result ≡ stream_at self.now.branches number }
+        ensures { result ≡ stream_at self.now.network.branches number }
     {
         match self.tables.branches.get_index(number as usize) {
             Some((_, stream)) => *stream,
@@ -324,7 +347,7 @@ impl Given {
 
     /// The stream of the first of some branches.
     fn first_stream(&self, numbers: AtMostTwo<u32>) -> u32
-        ensures { result ≡ first_stream self.now.branches (members numbers) }
+        ensures { result ≡ first_stream self.now.network.branches (members numbers) }
     {
         match numbers {
             AtMostTwo::Nothing => 0,
@@ -335,7 +358,7 @@ impl Given {
 
     /// The side of an exchanger that a line passes, if it passes one.
     fn passage_of(&self, line: &Line) -> Option<Passage>
-        ensures { result ≡ passage_of self.now.branches line.now }
+        ensures { result ≡ passage_of self.now.network.branches line.now }
     {
         let Line::Pass {
             from,
@@ -354,7 +377,7 @@ impl Given {
     /// Whether the exchanger with this number has a side of the stream.
     #[tactic(auto, unfolding(crate::specs::Checks::joins_stream))]
     fn joins_stream(&self, exchanger: u32, stream: u32) -> bool
-        ensures { result ≡ joins_stream self.now exchanger stream }
+        ensures { result ≡ joins_stream self.now.network exchanger stream }
     {
         match self.tables.exchangers.get_index(exchanger as usize) {
             Some((_, sides)) => sides.hot.is_stream(stream) || sides.cold.is_stream(stream),
@@ -366,7 +389,7 @@ impl Given {
     /// stream.
     #[tactic(auto, unfolding(crate::specs::Checks::is_passed))]
     fn is_passed(&self, exchanger: u32, stream: u32) -> bool
-        ensures { result ≡ is_passed self.now exchanger stream }
+        ensures { result ≡ is_passed self.now.network exchanger stream }
     {
         self.tables.passed.contains(&Passage { exchanger, stream })
     }
@@ -374,7 +397,7 @@ impl Given {
     /// Whether the exchanger with this number has a side of the stream, and no earlier statement
     /// passed it.
     pub fn is_free_side(&self, exchanger: u32, stream: u32) -> bool
-        ensures { result ≡ is_free_side self.now exchanger stream }
+        ensures { result ≡ is_free_side self.now.network exchanger stream }
     {
         if !self.joins_stream(exchanger, stream) {
             return false;
@@ -384,9 +407,10 @@ impl Given {
 
     /// What there is with one statement more, which gives this entry.
     pub fn with(self, entry: Entry) -> Result<Given, AllocError>
-        requires room { length self.lines < MOST_STATEMENTS }
-        requires fresh { IsFresh self entry }
-        ensures { IfOk result (λ given. given ≡ with_entry self entry) }
+        requires room { length self.network.lines < MOST_STATEMENTS }
+        requires fresh { IsFresh self.network entry }
+        ensures { IfOk result (λ given.
+            given ≡ record self { network = with_entry self.network entry }) }
     {
         let stream = self.first_stream(entry.line.uses());
         let passage = self.passage_of(&entry.line);
@@ -398,7 +422,7 @@ impl Given {
 
     /// Whether a source is a stream, and no statement passes the exchanger on its side.
     fn is_missed(&self, exchanger: u32, source: Source) -> bool
-        ensures { result ≡ is_missed self.now exchanger source }
+        ensures { result ≡ is_missed self.now.network exchanger source }
     {
         match source {
             Source::Stream(stream) => !self.is_passed(exchanger, stream),
@@ -409,7 +433,7 @@ impl Given {
     /// Whether a line declares an exchanger, the one with this number, that has a side which no
     /// statement passes.
     fn misses_side(&self, exchanger: u32, line: &Line) -> bool
-        ensures { result ≡ misses_side self.now exchanger (exchanger_of line.now) }
+        ensures { result ≡ misses_side self.now.network exchanger (exchanger_of line.now) }
     {
         let Line::Exchanger { hot, cold, .. } = line else {
             return false;
@@ -422,7 +446,7 @@ impl Given {
 
     /// The index, among the lines, of the first exchanger with a side that no statement passes.
     pub fn first_missing(&self) -> Option<u32>
-        ensures index { result ≡ first_missing self.now }
+        ensures index { result ≡ first_missing self.now.network }
         ensures small { IfSome result (λ index. index < MOST_STATEMENTS) }
     {
         let mut exchanger = 0;
@@ -439,7 +463,7 @@ impl Given {
 
     /// The network.
     pub fn into_network(self, alloc: Global) -> Result<Network, AllocError>
-        ensures { IfOk result (λ network. network ≡ self) }
+        ensures { IfOk result (λ network. network ≡ self.network) }
     {
         let branches = listed(alloc, &self.tables.branches)?;
         Ok(Network {

@@ -2,7 +2,7 @@
 use Rattle.network_text.proofs.Words.{All-from_recursion, All-nil, AreExchangers, AreMadeBeforeUse, AreMadeInOrder, AreNamed, ArePassedWhenDeclared}
 use Rattle.network_text.proofs.Words.{AreUsedOnce, Branch, Case, Decides-is_below, Entry, Exchanger, ForSome, HasPositiveSize}
 use Rattle.network_text.proofs.Words.{IsAnyName, IsExchanger, IsFresh, IsOfOneStream, IsPositive, IsWithinLimits, Joins, Kind, Network, Passage, Passes}
-use Rattle.network_text.proofs.Words.{PassesDeclared, Rational, Side, Source, Statement, all_pairs_push, and_parts, bounded_within, branch_at, branch_named}
+use Rattle.network_text.proofs.Words.{PassesDeclared, Rational, Statement, all_pairs_push, and_parts, bounded_within, branch_at, branch_named}
 use Rattle.network_text.proofs.Words.{bytes_decides, checks, end_checks, end_entry, entry_by, entry_in, eqb-false, exchanger_at, exchanger_checks}
 use Rattle.network_text.proofs.Words.{exchanger_entry, exchanger_field_checks, exchanger_named, exchanger_of, exchangers_of, false≢true, field, first_stream}
 use Rattle.network_text.proofs.Words.{fraction, fraction_checks, fraction_in, get_or-map, has_stream, index_within, is_below, is_on, is_on-true, is_passed}

@@ -16,7 +16,7 @@ add_branch-requires-in-Two c =
 pub add_branch-requires-in-Two-2 : goal.add_branch-requires-in-Two-2
 add_branch-requires-in-Two-2 c =
     let before = c.args.branches.now.entries in
-    let keys = ap keys_of c.in_ok-add_branch-in-Two.ensures
+    let keys = ap keys_of c.in_ok-add_branch-in-Two.ensures.added
     ∙ map-append (λ (e : List ℕ × ℕ). e.0) before ((c.in-Two.first, c.args.stream) ∷ []) in
     second_new bytes_eq (λ a b. (bytes_decides a b).0) (keys_of before)
     (keys_of c.add_branch-in-Two.new.branches.entries) c.args.names c.in-Two.first c.in-Two.second (ap members c.in-Two.is) c.requires keys

@@ -15,4 +15,4 @@ mark_used-requires-in-Two c =
 pub mark_used-requires-in-Two-2 : goal.mark_used-requires-in-Two-2
 mark_used-requires-in-Two-2 c =
     second_new nat_eq eqb-true c.args.used.now.keys c.mark_used-in-Two.new.used.keys c.args.numbers c.in-Two.first c.in-Two.second
-    (ap members c.in-Two.is) c.requires c.in_ok-mark_used-in-Two.ensures
+    (ap members c.in-Two.is) c.requires c.in_ok-mark_used-in-Two.ensures.added

@@ -4,7 +4,7 @@ use Rattle.network_text.proofs.given.Given.branch_named.Goals as goal
 
 pub returns-in_default : goal.returns-in_default
 returns-in_default c =
-    let none = unnamed _ c.args.name.now c.self.invariant.branch_names (sym c.in_default.ensures.some) in
+    let none = unnamed _ c.args.name.now c.self.invariant.0.branch_names (sym c.in_default.ensures.some) in
     rw (← c.self.view_is) (sym (branch_named-keys c.self.inside.tables.branches.entries c.self.inside.lines.items c.args.name.now ∙ none))
 
 pub returns-in_default-get_index_of : goal.returns-in_default-get_index_of

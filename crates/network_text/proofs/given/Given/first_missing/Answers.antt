@@ -1,6 +1,6 @@
 use Rattle.network_text.proofs.Missing.{count-more, few_before, first-found, missing-at, none-found}
 use Rattle.network_text.proofs.given.Given.first_missing.Goals.{else-is_exchanger, then-is_exchanger}
-use Rattle.network_text.proofs.Words.{Network, exchangers_of, misses_pass}
+use Rattle.network_text.proofs.Words.{KeyedNetwork, exchangers_of, misses_pass}
 use Rattle.std.proofs.Common.{ap, arith, below_more, false, length, refl, sym, true, ◌∙◌, ◌≡◌}
 use Rattle.network_text.proofs.given.Given.first_missing.Goals as goal
 
@@ -10,25 +10,25 @@ loop-index-init c = record { count = refl; none = λ k within. absurd (omega (ar
 
 pub returns-then-misses_side-clause-index : goal.returns-then-misses_side-clause-index
 returns-then-misses_side-clause-index c =
-    let lines = c.deref-line-items.ensures.value ∙ ap (λ (n : Network). n.lines) c.self.view_is in
+    let lines = c.deref-line-items.ensures.value ∙ ap (λ (n : KeyedNetwork). n.network.lines) c.self.view_is in
     let within = rw lines at c.loop-index-test.true in
     let here = rw lines at c.line-item.is in
-    let missing = missing-at c.args.self.now c.loop-index.index c.loop-index.exchanger c.line-item.result within here c.loop-index.invariant.count in
-    sym (first-found c.args.self.now c.loop-index.index within c.loop-index.invariant.none (missing ∙ sym c.misses_side.ensures ∙ c.if-misses_side.true))
+    let missing = missing-at c.args.self.now.network c.loop-index.index c.loop-index.exchanger c.line-item.result within here c.loop-index.invariant.count in
+    sym (first-found c.args.self.now.network c.loop-index.index within c.loop-index.invariant.none (missing ∙ sym c.misses_side.ensures ∙ c.if-misses_side.true))
 
 pub overflow_add-exchanger : goal.overflow_add-exchanger
 overflow_add-exchanger c =
-    let lines = c.deref-line-items.ensures.value ∙ ap (λ (n : Network). n.lines) c.self.view_is in
+    let lines = c.deref-line-items.ensures.value ∙ ap (λ (n : KeyedNetwork). n.network.lines) c.self.view_is in
     let within = rw lines at c.loop-index-test.true in
-    let few = few_before c.args.self.now.lines c.loop-index.index within in
+    let few = few_before c.args.self.now.network.lines c.loop-index.index within in
     let short = ap length c.deref-line-items.ensures.value in
-    omega (arith, few, c.loop-index.invariant.count, c.loop-index-test.true, short, c.self.invariant.few_lines)
+    omega (arith, few, c.loop-index.invariant.count, c.loop-index-test.true, short, c.self.invariant.0.few_lines)
 
 pub loop-index-preserved : goal.loop-index-preserved
 loop-index-preserved c =
-    let n = c.args.self.now in
+    let n = c.args.self.now.network in
     let l = c.line-item.result in
-    let lines = c.deref-line-items.ensures.value ∙ ap (λ (n : Network). n.lines) c.self.view_is in
+    let lines = c.deref-line-items.ensures.value ∙ ap (λ (n : KeyedNetwork). n.network.lines) c.self.view_is in
     let within = rw lines at c.loop-index-test.true in
     let here = rw lines at c.line-item.is in
     let missing = missing-at n c.loop-index.index c.loop-index.exchanger l within here c.loop-index.invariant.count in
@@ -44,6 +44,6 @@ loop-index-preserved c =
 
 pub returns-clause-index : goal.returns-clause-index
 returns-clause-index c =
-    let lines = c.deref-line-items.ensures.value ∙ ap (λ (n : Network). n.lines) c.self.view_is in
+    let lines = c.deref-line-items.ensures.value ∙ ap (λ (n : KeyedNetwork). n.network.lines) c.self.view_is in
     let past = rw lines at c.loop-index-test.false in
-    sym (none-found c.args.self.now c.loop-index.index past c.loop-index.invariant.none)
+    sym (none-found c.args.self.now.network c.loop-index.index past c.loop-index.invariant.none)
