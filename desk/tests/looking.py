@@ -9,6 +9,7 @@ from typing import Any
 
 from matplotlib.colors import to_hex
 from matplotlib.figure import Figure
+from matplotlib.legend import Legend
 from matplotlib.lines import Line2D
 from matplotlib.patches import PathPatch
 from matplotlib.path import Path
@@ -42,8 +43,7 @@ def texts_of(figure: Figure) -> list[tuple[str, Bbox, Any]]:
         found = [each for each in figure.findobj(Text)
                  if each.get_visible() and each.get_text().strip() and id(each) not in hidden]
         boxes = [(each.get_text(), Text.get_window_extent(each, renderer), each) for each in found]
-    frame = figure.bbox
-    return [(text, box.padded(-0.6), each) for text, box, each in boxes if box.overlaps(frame)]
+    return [(text, box.padded(-0.6), each) for text, box, each in boxes]
 
 
 def overlapping(figure: Figure) -> list[tuple[str, str]]:
@@ -52,9 +52,10 @@ def overlapping(figure: Figure) -> list[tuple[str, str]]:
 
 
 def cut_off(figure: Figure) -> list[str]:
-    """Texts that the picture's edge cuts."""
+    """Texts and legends that the picture's edge cuts, or that lie beyond it."""
     frame = figure.bbox
-    return [text for text, box, _ in texts_of(figure)
+    legends = [('a legend', each.get_window_extent()) for each in figure.findobj(Legend)]
+    return [text for text, box in [*((text, box) for text, box, _ in texts_of(figure)), *legends]
             if box.x0 < frame.x0 or box.x1 > frame.x1 or box.y0 < frame.y0 or box.y1 > frame.y1]
 
 

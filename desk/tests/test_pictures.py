@@ -2,6 +2,7 @@
 cut, none on a curve."""
 from __future__ import annotations
 
+from dataclasses import replace
 from fractions import Fraction
 from time import process_time
 
@@ -12,6 +13,7 @@ from matplotlib.figure import Figure
 
 from pinchdesk import (Accepted, Pinch, Rejected, WordsError, completed, follow, pinches_of, read_case,
                        read_network, read_site)
+from pinchdesk.answers import Prices, Segment, SpanAnswer
 from pinchdesk.pictures import grid_figure, prices_figure, rendered, site_figure, sweep_figure
 from pinchdesk.pictures.gridplan import plan_of
 from pinchdesk.pictures.labels import meets
@@ -83,6 +85,25 @@ def test_no_bar_passes_through_the_label_of_another(name: str, pinch: Pinch) -> 
         if each.get_zorder() == 7:
             through = [bar for bar in bars if any(meets(box, one, other) for one, other in zip(bar, bar[1:]))]
             assert len(through) == 1, text
+
+
+@pytest.mark.parametrize('name', NETWORKS)
+def test_no_bar_and_no_pinch_passes_through_a_number(name: str, pinch: Pinch) -> None:
+    figure = grid(pinch, example(f'{name}.csv'), example(f'{name}-network.txt'))
+    bars = [points for points, _ in bars_of(figure)]
+    for text, box, each in texts_of(figure):
+        if each.get_zorder() != 7:
+            assert not any(meets(box, one, other) for bar in bars for one, other in zip(bar, bar[1:])), text
+
+
+def test_exchangers_between_utilities_have_columns_of_their_own(pinch: Pinch) -> None:
+    content = b'contribution,,50,,,,\nhot,H,1000,500,10,,\nheater,A,2000,3000,9000,1,\nheater,B,1900,4000,9000,1,\n' \
+        b'cooler,C,100,0,100000,1,\n'
+    text = b'exchanger E1 H C 5000\nexchanger E2 A C 3000\nexchanger E3 B C 4000\npass H E1 h\nend h\n'
+    figure = grid(pinch, content, text)
+    assert isinstance(pinch.audit(content, text), Accepted)
+    assert_readable(figure)
+    assert len({bar[0][0] for bar, _ in bars_of(figure)}) == 3
 
 
 def test_three_branches_have_their_own_shares(pinch: Pinch) -> None:
@@ -170,6 +191,25 @@ def test_a_sweep_has_a_gap_in_its_cost_alone(pinch: Pinch) -> None:
     assert list(lines['cold target'].get_ydata()) == [each.cold / 1000 for each in sweep.points]
     if 'least cost (right scale)' in lines:
         assert [each != each for each in lines['least cost (right scale)'].get_ydata()] == gaps
+
+
+@pytest.mark.parametrize('name', ['crude', 'three-levels', 'refinery'])
+def test_of_a_sweep_neither_the_legend_nor_the_title_of_an_axis_is_cut(name: str, pinch: Pinch) -> None:
+    content = example(f'{name}.csv')
+    figure = sweep_figure(read_case(content), pinch.sweep(content, 0, 200, 10))
+    assert_readable(figure)
+    assert any('least cost, ' in each for each in svg_texts(figure))
+
+
+def test_large_costs_and_long_units_have_room(pinch: Pinch) -> None:
+    """In a sweep, over a price, and over exchangers."""
+    unit = 'a-money-with-a-long-name per year and plant'
+    content = f'#cost,{unit},1,,,,\n'.encode() + example('crude.csv')
+    case, answer = read_case(content), pinch.sweep(content, 0, 100, 20)
+    points = tuple(replace(each, cost=(each.cost or 10) * 10 ** 6, hot=each.hot * 10 ** 4) for each in answer.points)
+    assert_readable(sweep_figure(case, replace(answer, points=points)))
+    segments = tuple(Segment(at * 100000, (at + 1) * 100000, -10 ** 15, 10 ** 10) for at in range(-3, 3))
+    assert_readable(prices_figure(case, Prices((SpanAnswer('LONGEST-NAME-16B', segments),))))
 
 
 def test_prices_are_segments_with_their_ends(pinch: Pinch) -> None:

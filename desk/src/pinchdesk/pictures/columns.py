@@ -39,11 +39,13 @@ class Block:
 
 @dataclass
 class Columns:
-    """The column of each node, how many there are, and from where to where each pinch has its own ones."""
+    """The column of each node, how many there are, from where to where each pinch has its own ones, and the one of
+    these in which its line stands alone."""
 
     of: dict[Key, int]
     count: int
     pinches: list[Span]
+    lines: list[int]
 
 
 class Placer:
@@ -145,6 +147,13 @@ class Placer:
                 return
             self.apart(waiting)
 
+    def insert(self, column: int) -> None:
+        """An empty column, before which stands what stood before it."""
+        self.busy.insert(column, [])
+        for block in self.blocks:
+            if block.column is not None and block.column >= column:
+                block.column += 1
+
 
 def neighbours(course: Course) -> tuple[dict[Key, list[Node]], dict[Key, list[Node]]]:
     """The nodes that stand left and those that stand right of each."""
@@ -162,15 +171,22 @@ def meets(one: Span, other: Span) -> bool:
 
 
 def columns_of(followed: Followed, course: Course, tracks: Tracks, pinches: int) -> Columns:
-    """The columns of all nodes. Each pinch has columns of its own, in which only what works across it stands."""
-    placer, spans = Placer(followed, course, tracks), []
+    """The columns of all nodes. Each pinch has columns of its own, in which only what works across it stands, with its
+    line in the middle."""
+    placer = Placer(followed, course, tracks)
+    spans: list[Span] = []
+    lines: list[int] = []
     for zone in range(2 * pinches + 1):
         base = len(placer.busy)
         placer.zone(zone, base)
-        if zone % 2 or len(placer.busy) == base:
-            while len(placer.busy) < base + 1:
-                placer.busy.append([])
         if zone % 2:
+            lines.append(base + (len(placer.busy) - base + 1) // 2)
+            placer.insert(lines[-1])
             spans.append((base, len(placer.busy) - 1))
+        elif len(placer.busy) == base:
+            placer.busy.append([])
     held = {key: placer.blocks[at].column or 0 for key, at in placer.block_of.items()}
-    return Columns(held, len(placer.busy), spans)
+    # What no stream passes, as between two utilities, stands behind all else.
+    unpassed = [name for name in placer.exchangers if not {('hot', name), ('cold', name)} & held.keys()]
+    held |= {('hot', name): len(placer.busy) + at for at, name in enumerate(unpassed)}
+    return Columns(held, len(placer.busy) + len(unpassed), spans, lines)

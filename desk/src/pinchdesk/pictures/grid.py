@@ -3,19 +3,18 @@ right to left, a bar for each exchanger, each pinch, and what the network really
 from __future__ import annotations
 
 import textwrap
-from dataclasses import dataclass
-from typing import Any
-
 from matplotlib.figure import Figure
 
-from ..case import Side, Stream, Utility
+from ..case import Side, Utility
 from ..errors import WordsError
 from ..findings import Finding, finding_of
 from ..shown import Shown
 from ..states import Followed, Passage, PinchPoint, PinchSide
-from ..verdicts import Accepted, PlaceKind, Rejected, Verdict
-from .gridends import End, end_of, end_texts, reading
-from .gridplan import Plan, lane_heights, plan_of, reach
+from ..verdicts import Accepted, Rejected, Verdict
+from .gridends import end_texts
+from .gridnumbers import margins, put_numbers
+from .gridplan import PinchText, Plan, lane_heights, pinch_texts, plan_of
+from .gridsheet import Sheet, ends_at
 from .gridstreams import put_streams
 from .paper import Look, Paper
 from .style import ABOVE, ACROSS, BELOW, BETWEEN, FAULT, INK, NEUTRAL, PALE, styled
@@ -25,29 +24,6 @@ from .widths import width
 MOST, BARS, PAD = 60, 4, 0.034
 LEGEND = ((ABOVE, 'above the pinch'), (BETWEEN, 'between pinches'), (BELOW, 'below the pinch'),
           (ACROSS, 'across a pinch (↯ kW that cross it)'))
-
-
-@dataclass
-class Sheet:
-    """Where things are drawn, in inches from the lower left."""
-
-    paper: Paper
-    plan: Plan
-    heights: dict[str, list[float]]
-    labels: float
-    slants: float
-    finding: Finding | None
-    verdict: Verdict
-
-    def write(self, x: float, y: float, text: str, **style: Any) -> None:
-        self.paper.write(x, y, text, **{'fontsize': self.plan.type.size, **style})
-
-    def is_fault(self, name: str) -> bool:
-        """Whether the fault of a rejected network is at this stream or utility."""
-        if self.finding is None or not isinstance(self.verdict, Rejected):
-            return False
-        place = self.verdict.place
-        return name in (self.finding.stream, place.name if place.kind is PlaceKind.UTILITY else None)
 
 
 def grid_figure(followed: Followed, pinches: tuple[PinchPoint, ...], verdict: Verdict, most: int = MOST) -> Figure:
@@ -64,32 +40,20 @@ def grid_figure(followed: Followed, pinches: tuple[PinchPoint, ...], verdict: Ve
     title = headline(followed, verdict, finding, plan)
     wide = max(plan.edges[1] + numbers[-1], 7.0)
     notes = textwrap.wrap(end_texts(plan), int(wide / 0.068))
-    top, bottom = 0.34 + 0.17 * len(title) + (0.5 if len(pinches) > 1 else 0.35), 0.5 + 0.14 * len(notes)
+    pinched = pinch_texts(plan, wide)
+    levels = max((each.level for each in pinched), default=0)
+    top, bottom = 0.34 + 0.17 * len(title) + 0.35 + 0.15 * levels, 0.5 + 0.14 * len(notes)
     high = deep + top + bottom
     with styled():
         heights = {name: [high - top - each for each in lanes] for name, lanes in heights.items()}
         sheet = Sheet(Paper(wide, high), plan, heights, high - top - labels, high - top - slants, finding, verdict)
         put_title(sheet, title, high)
-        put_pinches(sheet, high - top, bottom)
+        put_pinches(sheet, pinched, high - top, bottom)
         put_exchangers(sheet)
         put_streams(sheet)
         put_numbers(sheet, numbers, high - top)
         put_legend(sheet, notes)
         return sheet.paper.done()
-
-
-def margins(plan: Plan) -> list[float]:
-    """Sets the plan's left end, and gives where the columns of CPs and loads end, right of the streams."""
-    size = plan.type.size
-    ends: list[End] = [end_of(plan, each) for each in plan.rows]
-    names = max(width(each.name, size, True) for each in plan.rows)
-    left = max(width(each.left, size, each.missed) for each in ends)
-    plan.left = 0.25 + names + 0.12 + left + 0.05
-    right = max(width(each.right, size, each.missed) for each in ends)
-    flows = max(width(text, size) for text in ['CP kW/K', *(each.flow for each in ends)])
-    loads = max(width(text, size) for text in ['load kW', *(each.load for each in ends)])
-    first = right + 0.3 + flows
-    return [first, first + 0.2 + loads, first + 0.2 + loads + 0.25]
 
 
 def headline(followed: Followed, verdict: Verdict, finding: Finding | None, plan: Plan) -> list[str]:
@@ -112,23 +76,18 @@ def put_title(sheet: Sheet, lines: list[str], high: float) -> None:
         sheet.write(0.25, high - 0.24 - 0.17 * at, line, fontsize=10, ha='left', color=colour, fontweight='bold')
 
 
-def put_pinches(sheet: Sheet, top: float, bottom: float) -> None:
+def put_pinches(sheet: Sheet, texts: list[PinchText], top: float, bottom: float) -> None:
     """A line at each pinch, a band where exchangers work across it; its temperature on both scales above it."""
-    plan, shown, taken = sheet.plan, sheet.plan.shown, [-1.0, -1.0]
-    share, size = plan.followed.case.contribution, max(plan.type.size, 6.5)
-    for at, each in enumerate(plan.pinches):
+    plan = sheet.plan
+    for at, each in enumerate(texts):
         first, last = plan.columns.pinches[at]
-        if last > first or any(column == first for column in plan.columns.of.values()):
-            sheet.paper.band(plan.x(first - 0.5), plan.x(last + 0.5), '#eeeeee')
-        x = plan.pinch_x(at)
-        told = f'pinch {shown.celsius(each.temperature)} °C shifted: hot {shown.celsius(each.temperature + share)}, ' \
-               f'cold {shown.celsius(each.temperature - share)}'
-        half = width(told, size) / 2
-        middle = max(x, half + 0.1)
-        level = next((row for row in (0, 1) if taken[row] < middle - half), 0)
-        taken[level] = middle + half + 0.1
-        sheet.paper.dashed(((x, bottom), (x, top + 0.03)), color=PALE, linestyle=(0, (6, 4)), linewidth=1, zorder=1)
-        sheet.write(middle, top + 0.12 + 0.15 * level, told, color=PALE, fontsize=size)
+        if last > first:
+            sheet.paper.band(plan.x(first - 0.5), plan.x(last + 0.5), bottom, top + 0.03, '#eeeeee')
+        x, y = plan.pinch_x(at), top + 0.12 + 0.15 * each.level
+        sheet.paper.dashed(((x, bottom), (x, y - 0.08)), color=PALE, linestyle=(0, (6, 4)), linewidth=1, zorder=1)
+        sheet.bars.append((x, bottom, top))
+        sheet.paper.ground(each.middle, y, width(each.text, each.size) + PAD, 0.14)
+        sheet.write(each.middle, y, each.text, color=PALE, fontsize=each.size)
 
 
 def colour_of(passage: Passage, pinches: tuple[PinchPoint, ...]) -> str:
@@ -139,18 +98,6 @@ def colour_of(passage: Passage, pinches: tuple[PinchPoint, ...]) -> str:
     if PinchSide.ACROSS in sides:
         return ACROSS
     return BETWEEN if len(sides) > 1 else ABOVE if sides == {PinchSide.ABOVE} else BELOW
-
-
-def ends_at(sheet: Sheet, passage: Passage) -> tuple[tuple[float, float], tuple[float, float]]:
-    """Where the bar of an exchanger begins and ends."""
-    plan, name, made = sheet.plan, passage.exchanger.name, []
-    for side, word, other in ((passage.hot, 'hot', 'cold'), (passage.cold, 'cold', 'hot')):
-        key = (word, name) if (word, name) in plan.columns.of else (other, name)
-        x = plan.x(plan.columns.of[key]) if key in plan.columns.of else plan.x(plan.columns.count)
-        lanes = sheet.heights[side.source.name]
-        lane = plan.lanes[side.source.name].get(side.before.name, 0) if side.before else 0
-        made.append((x, lanes[lane]))
-    return made[0], made[1]
 
 
 def put_exchangers(sheet: Sheet) -> None:
@@ -164,6 +111,7 @@ def put_exchangers(sheet: Sheet) -> None:
         bend = [y, v] if x == u else [y, sheet.slants + 0.12, sheet.slants - 0.12, v]
         across = [x, u] if x == u else [x, x, u, u]
         sheet.paper.line(tuple(zip(across, bend)), Look(ink, weight, BARS))
+        sheet.bars += [(across[at], bend[at], bend[at + 1]) for at in range(0, len(bend), 2)]
         for at, source in (((x, y), passage.hot.source), ((u, v), passage.cold.source)):
             heated = '#f5b7b1' if source.side is Side.HOT else '#aed6f1'
             fill = heated if isinstance(source, Utility) else 'white'
@@ -185,38 +133,6 @@ def put_label(sheet: Sheet, name: str, x: float, ink: str, bad: bool) -> None:
         sheet.paper.frame(*box, FAULT)
     sheet.write(x, sheet.labels, '\n'.join(lines), rotation=90 if upright else 0, color=ink, linespacing=1.15,
                 fontweight='bold', zorder=7)
-
-
-def put_numbers(sheet: Sheet, numbers: list[float], top: float) -> None:
-    """The columns at both sides: names, CPs and loads under their headings, and what is at the ends of each stream."""
-    plan, right = sheet.plan, sheet.plan.edges[1]
-    for x, text in ((right + numbers[0], 'CP kW/K'), (right + numbers[1], 'load kW')):
-        sheet.write(x, top + 0.02, text, ha='right', color=PALE)
-    for each in plan.rows:
-        y, end = sheet.heights[each.name][0], end_of(plan, each)
-        colour = FAULT if sheet.is_fault(each.name) else INK
-        sheet.write(0.25, y, each.name, ha='left', fontweight='bold', color=colour)
-        sheet.write(right + numbers[0], y, end.flow, ha='right')
-        sheet.write(right + numbers[1], y, end.load, ha='right')
-        first, last = reach(plan, each) if isinstance(each, Stream) else utility_reach(sheet, each)
-        for x, text, side, far in ((first, end.left, 'right', -0.1), (last, end.right, 'left', 0.1)):
-            wrong = end.missed and reading(each, side)
-            mark = {'color': FAULT, 'fontweight': 'bold'} if wrong else {}
-            if text:
-                wide = width(text, plan.type.size, wrong)
-                sheet.paper.ground(x + far + (wide if far > 0 else -wide) / 2, y, wide + PAD, plan.type.line)
-                sheet.write(x + far, y, text, ha=side, **mark)
-
-
-def utility_reach(sheet: Sheet, utility: Utility) -> tuple[float, float]:
-    """From the first to the last exchanger of a utility."""
-    held = []
-    for each in sheet.plan.followed.passages:
-        if utility.name in (each.exchanger.hot, each.exchanger.cold):
-            ends = ends_at(sheet, each)
-            held.append(ends[0 if utility.side is Side.HOT else 1][0])
-    margin = 0.6 * sheet.plan.type.pitch
-    return min(held) - margin, max(held) + margin
 
 
 def put_legend(sheet: Sheet, notes: list[str]) -> None:

@@ -25,7 +25,8 @@ def end_of(plan: Plan, row: Stream | Utility) -> End:
     if isinstance(row, Utility):
         duties = [each.duty for each in plan.followed.network.exchangers if row.name in (each.hot, each.cold)]
         level = '' if row.invented else shown.celsius(row.level)
-        return End(level, '', '', shown.kilowatts(sum(duties, Fraction(0))))
+        ends = (level, '') if row.side is Side.HOT else ('', level)
+        return End(*ends, '', shown.kilowatts(sum(duties, Fraction(0))))
     reached, missed = reached_by(plan, row)
     supply = shown.celsius(row.supply)
     flow = 'latent' if row.latent else shown.kilowatts_per_kelvin(row.cp)

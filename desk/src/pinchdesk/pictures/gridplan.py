@@ -7,6 +7,7 @@ from fractions import Fraction
 
 from ..case import Side, Stream, Utility
 from ..network import Split
+from ..pinchplaces import temperatures_at
 from ..shown import Shown, decimal
 from ..states import Followed, PinchPoint
 from .columns import Columns, Tracks, columns_of
@@ -63,8 +64,7 @@ class Plan:
         return self.x(-0.75), self.x(self.columns.count - 0.25)
 
     def pinch_x(self, at: int) -> float:
-        first, last = self.columns.pinches[at]
-        return self.x((first + last) / 2)
+        return self.x(self.columns.lines[at])
 
 
 def labels_of(followed: Followed, pinches: tuple[PinchPoint, ...]) -> dict[str, tuple[str, ...]]:
@@ -183,3 +183,29 @@ def band(plan: Plan) -> float:
     if not plan.type.upright:
         return max((len(each) for each in plan.labels.values()), default=2) * plan.type.line + 0.16
     return max((width('   '.join(each), plan.type.size, True) for each in plan.labels.values()), default=0.5) + 0.2
+
+
+@dataclass(frozen=True)
+class PinchText:
+    """What stands above a pinch, how large, where its middle is, and how many lines above the lowest it stands."""
+
+    text: str
+    size: float
+    middle: float
+    level: int
+
+
+def pinch_texts(plan: Plan, wide: float) -> list[PinchText]:
+    """The texts above the pinches on a sheet of this width; those that are near lie above one another."""
+    case, shown, size = plan.followed.case, plan.shown, max(plan.type.size, 6.5)
+    made: list[PinchText] = []
+    taken: list[float] = []
+    for at, each in enumerate(plan.pinches):
+        hot, cold = (temperatures_at(case, side, each.temperature).told(shown) for side in (Side.HOT, Side.COLD))
+        text = f'pinch {shown.celsius(each.temperature)} °C shifted: hot {hot}, cold {cold}'
+        half = width(text, size) / 2
+        middle = max(min(plan.pinch_x(at), wide - half - 0.1), half + 0.1)
+        level = next((row for row, right in enumerate(taken) if right < middle - half), len(taken))
+        taken[level:level + 1] = [middle + half + 0.1]
+        made.append(PinchText(text, size, middle, level))
+    return made

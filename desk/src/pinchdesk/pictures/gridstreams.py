@@ -2,19 +2,16 @@
 from __future__ import annotations
 
 from collections.abc import Mapping
-from typing import TYPE_CHECKING
 
 from ..case import Side, Stream, Utility
 from ..network import End
 from ..states import Branch
 from .courses import Node
 from .gridplan import percent, reach
+from .gridsheet import Sheet, utility_reach
 from .lanes import drawn_branches, node_at, share_of
 from .paper import Look
 from .style import COLD, FAULT, HOT
-
-if TYPE_CHECKING:
-    from .grid import Sheet
 
 STREAM = 1.8
 
@@ -29,7 +26,6 @@ def put_streams(sheet: Sheet) -> None:
 
 
 def put_utility(sheet: Sheet, row: Utility) -> None:
-    from .grid import utility_reach
     y, colour = sheet.heights[row.name][0], FAULT if sheet.is_fault(row.name) else HOT if row.side is Side.HOT else COLD
     first, last = utility_reach(sheet, row)
     sheet.paper.dashed(((first, y), (last, y)), color=colour, linewidth=1.4, linestyle='--', zorder=3)

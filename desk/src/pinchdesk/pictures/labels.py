@@ -18,8 +18,9 @@ NEAR = 7.0
 SIDES = ((1, 1), (1, -1), (-1, 1), (-1, -1), (0, 1), (0, -1), (1, 0), (-1, 0))
 PLACES: tuple[Place, ...] = tuple((dx * far, dy * far, -dx, -dy) for far in (NEAR, 2 * NEAR, 4 * NEAR, 7 * NEAR)
                                   for dx, dy in SIDES)
-# Where none of these is free, all places of the diagram are tried, so many dots apart.
-STEP = 22
+# Where none of these is free, all places of the diagram are tried, so many dots apart; so many stay free between a
+# label and a line.
+STEP, PAD = 22, 7
 ACROSS = {-1: 'right', 0: 'center', 1: 'left'}
 UPRIGHT = {-1: 'top', 0: 'center', 1: 'bottom'}
 
@@ -128,9 +129,10 @@ class Labels:
         frame = self.axes.get_window_extent()
         outside = (box.x0 < frame.x0) + (box.x1 > frame.x1) + (box.y0 < frame.y0) + (box.y1 > frame.y1)
         on_labels = sum(box.overlaps(other) for other in self.taken)
-        on_leaders = sum(meets(box, *each) for each in self.leaders)
+        roomy = box.padded(PAD)
+        on_leaders = sum(meets(roomy, *each) for each in self.leaders)
         return float(8 * outside + 6 * on_labels + 3 * on_leaders
-                     + sum(self.on_curve(box, curve) for curve in self.curves))
+                     + sum(self.on_curve(roomy, curve) for curve in self.curves))
 
     def on_curve(self, box: Bbox, curve: Sequence[Xy]) -> int:
         points = self.axes.transData.transform(curve)

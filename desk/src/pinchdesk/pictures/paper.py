@@ -67,9 +67,9 @@ class Paper:
     def frame(self, x: float, y: float, wide: float, high: float, colour: str) -> None:
         self.add(Rectangle((x - wide / 2, y - high / 2), wide, high, fill=False, edgecolor=colour, zorder=7))
 
-    def band(self, left: float, right: float, colour: str) -> None:
-        """A band over the whole height, below all else."""
-        self.add(Rectangle((left, 0), right - left, self.high, facecolor=colour, linewidth=0, zorder=0.5))
+    def band(self, left: float, right: float, low: float, high: float, colour: str) -> None:
+        """An upright band below all else."""
+        self.add(Rectangle((left, low), right - left, high - low, facecolor=colour, linewidth=0, zorder=0.5))
 
     def points(self, points: Sequence[Point], marker: str, **style: Any) -> None:
         """Points of one look."""

@@ -10,6 +10,7 @@ from ..answers import Prices, Segment, SpanAnswer
 from ..case import Case
 from ..errors import WordsError
 from ..shown import Shown
+from .axes import entitled, fitted, plainly, spaced
 from .labels import Labels, Xy
 from .style import HOT, INK, blank, framed, said, styled
 
@@ -33,9 +34,9 @@ def prices_figure(case: Case, prices: Prices, utility: str | None = None) -> Fig
         figure = blank(7.2, 4.6 * len(spans))
         for axes, span in zip(figure.subplots(len(spans), squeeze=False)[:, 0], spans):
             put_span(axes, span, shown)
-        figure.subplots_adjust(left=0.14, right=0.97, top=1 - 0.42 / 4.6 / len(spans), bottom=0.55 / 4.6 / len(spans),
-                               hspace=0.32)
+        fitted(figure)
         for axes, span in zip(figure.axes, spans):
+            spaced(axes)
             put_labels(axes, span.segments, shown)
     return figure
 
@@ -47,9 +48,9 @@ def ends_of(segment: Segment, shown: Shown) -> list[Xy]:
 
 def put_span(axes: Axes, span: SpanAnswer, shown: Shown) -> None:
     name, unit = said(span.utility), said(shown.price_unit)
-    axes.set_title(f'Least cost over the price of {name}')
-    axes.set_xlabel(f'price of {name}, {unit}')
-    axes.set_ylabel(f'least cost, {said(shown.cost_unit)}')
+    entitled(axes, f'price of {name}, {unit}', f'least cost, {said(shown.cost_unit)}',
+             f'Least cost over the price of {name}')
+    plainly(axes)
     if not span.segments:
         axes.text(0.5, 0.5, 'no heat flow', transform=axes.transAxes, ha='center', fontsize=12)
     before: Xy | None = None

@@ -6,11 +6,11 @@ from collections.abc import Sequence
 
 from matplotlib.axes import Axes
 from matplotlib.figure import Figure
-from matplotlib.ticker import FuncFormatter
 
 from ..answers import SiteAnswer
 from ..shown import Shown
 from ..site import Site
+from .axes import entitled, fitted, legend_below, plain, spaced
 from .labels import Labels, Xy
 from .style import COLD, HOT, INK, blank, framed, said, styled
 
@@ -24,15 +24,13 @@ def site_figure(site: Site, answer: SiteAnswer) -> Figure:
     with styled():
         figure = blank(8.6, 5.8)
         axes = figure.subplots()
-        figure.subplots_adjust(left=0.085, right=0.97, top=0.91, bottom=0.19)
         source = [(-float(shown.in_kilowatts(each.source)), each.temperature / 10) for each in answer.profiles]
         sink = [(float(shown.in_kilowatts(each.sink)), each.temperature / 10) for each in answer.profiles]
-        axes.set_title(title_of(answer, shown))
         axes.plot(*zip(*source), color=HOT, marker='o', markersize=3, linewidth=1.5,
                   label=f'to give: {shown.kilowatts(answer.profiles[0].source)} kW in all')
         axes.plot(*zip(*sink), color=COLD, marker='o', markersize=3, linewidth=1.5,
                   label=f'to take: {shown.kilowatts(answer.profiles[-1].sink)} kW in all')
-        finish(axes, [*source, *sink])
+        finish(axes, [*source, *sink], title_of(answer, shown))
         put_mains(axes, site, [source, sink])
     return figure
 
@@ -43,15 +41,13 @@ def title_of(answer: SiteAnswer, shown: Shown) -> str:
     return f'Site profiles: boiler {shown.kilowatts(answer.boiler)} kW, cooling {shown.kilowatts(answer.cooling)} kW'
 
 
-def finish(axes: Axes, points: Sequence[Xy]) -> None:
+def finish(axes: Axes, points: Sequence[Xy], title: str) -> None:
     heats = [abs(point[0]) for point in points]
     most = max([*heats, 0.001]) * 1.08
     axes.set_xlim(-most, most)
     axes.margins(y=0.1)
     axes.axvline(0, color=INK, linewidth=0.8)
-    axes.xaxis.set_major_formatter(FuncFormatter(lambda value, _: f'{abs(value):g}'))
-    axes.set_xlabel('heat in kW: to give left, to take right')
-    axes.set_ylabel('shifted temperature in °C')
+    entitled(axes, 'heat in kW: to give left, to take right', 'shifted temperature in °C', title)
     framed(axes)
 
 
@@ -65,7 +61,9 @@ def put_mains(axes: Axes, site: Site, profiles: Sequence[list[Xy]]) -> None:
             axes.plot(*zip(*line), color=MAIN, linestyle='--', linewidth=1)
             lines.append((f'{said(main.name)} {shown.celsius(level)} °C', (edge * 0.72, level / 10), line))
     axes.plot([], [], color=MAIN, linestyle='--', linewidth=1, label='mains')
-    axes.legend(loc='upper center', bbox_to_anchor=(0.5, -0.11), ncol=3)
+    legend_below(axes)
+    fitted(axes.figure)
+    spaced(axes, shown=lambda value: plain(abs(value)))
     axes.set_ylim(*axes.get_ylim())
     labels = Labels(axes, [*profiles, *[line for _, _, line in lines]])
     for text, at, _ in lines:

@@ -8,6 +8,7 @@ from ..answers import Sweep
 from ..case import Case
 from ..shown import Shown
 from ..sweeps import own_contributions
+from .axes import entitled, fitted, legend_below, plainly, spaced, wrapped
 from .style import COLD, HOT, INK, blank, framed, said, styled
 
 COST = '#1e8449'
@@ -22,7 +23,6 @@ def sweep_figure(case: Case, sweep: Sweep) -> Figure:
     with styled():
         figure = blank(8, 5.4)
         axes = figure.subplots()
-        figure.subplots_adjust(left=0.1, right=0.89 if priced else 0.97, top=0.9, bottom=0.2)
         put_targets(axes, sweep, shown)
         if priced:
             put_cost(axes.twinx(), sweep, shown)
@@ -31,11 +31,11 @@ def sweep_figure(case: Case, sweep: Sweep) -> Figure:
             axes.plot(at, [0] * len(at), 'x', color=INK, markersize=7, label='no heat flow: no cost', clip_on=False)
         note = '' if gaps else ' (the least cost is the hot target)'
         own = '\ncontributions of their own are replaced' if own_contributions(case) else ''
-        axes.set_title('Targets and least cost over the least difference' + own if priced else
-                       f'Targets over the least difference{note}{own}')
-        handles = [line for each in figure.axes for line in each.get_lines()]
-        axes.legend(handles, [line.get_label() for line in handles], loc='upper center', bbox_to_anchor=(0.5, -0.11),
-                    ncol=4)
+        entitled(axes, 'least difference in K', 'heat in kW',
+                 f'Targets{" and least cost" if priced else ""} over the least difference{"" if priced else note}{own}')
+        legend_below(axes, [line for each in figure.axes for line in each.get_lines()])
+        fitted(figure)
+        spaced(axes)
     return figure
 
 
@@ -43,12 +43,12 @@ def put_targets(axes: Axes, sweep: Sweep, shown: Shown) -> None:
     across = [each.contribution / 5 for each in sweep.points]
     for name, colour, heats in (('hot target', HOT, [each.hot for each in sweep.points]),
                                 ('cold target', COLD, [each.cold for each in sweep.points])):
-        told = f'{name}: {shown.kilowatts(heats[0])} to {shown.kilowatts(heats[-1])} kW'
+        first, last = shown.kilowatts(heats[0]), shown.kilowatts(heats[-1])
+        told = f'{name}: {first} to {last} kW' if first != last else f'{name}: {first} kW'
         axes.plot(across, [float(shown.in_kilowatts(each)) for each in heats], color=colour, marker='o', markersize=3,
                   linewidth=1.4, label=told)
-    axes.set_xlabel('least difference in K')
-    axes.set_ylabel('heat in kW')
     axes.set_ylim(bottom=0)
+    plainly(axes)
     framed(axes)
 
 
@@ -56,7 +56,8 @@ def put_cost(axes: Axes, sweep: Sweep, shown: Shown) -> None:
     across = [each.contribution / 5 for each in sweep.points]
     costs = [float('nan') if each.cost is None else float(shown.in_cost(each.cost)) for each in sweep.points]
     axes.plot(across, costs, color=COST, marker='s', markersize=3, linewidth=1.4, label='least cost (right scale)')
-    axes.set_ylabel(f'least cost, {said(shown.cost_unit)}', color=COST)
+    axes.set_ylabel(wrapped(f'least cost, {said(shown.cost_unit)}', 4.0), color=COST)
+    plainly(axes)
     if not any(cost < 0 for cost in costs):
         axes.set_ylim(bottom=0)
     axes.grid(False)

@@ -9,6 +9,7 @@ from matplotlib.ticker import MaxNLocator
 
 from ..network import Exchanger
 from ..shown import Shown
+from .axes import entitled, fitted, legend_below, plainly
 from .labels import Labels, Xy
 from .style import HOT, INK, PALE, blank, framed, said, styled
 
@@ -27,13 +28,14 @@ def tradeoff_figure(traded: TradeOff) -> Figure:
     with styled():
         figure = blank(8, 5.4)
         axes = figure.subplots()
-        digits = max(len(shown.cost(each.cost)) for each in traded.rows)
-        figure.subplots_adjust(left=0.08 + 0.0105 * digits, right=0.97, top=0.91, bottom=0.13)
         points = [point_of(each, shown) for each in traded.rows]
         put_points(axes, traded, points, shown)
         framed(axes)
         axes.margins(0.12, 0.14)
+        fitted(figure)
         labels = Labels(axes, [points, floor_line(axes, float(shown.in_cost(traded.floor)))])
+        if traded.left_begun:
+            labels.keep_off([(traded.begun.count, float(shown.in_cost(traded.begun.cost)))] * 2)
         for row, point in zip(traded.rows, points):
             labels.put(label_of(row, shown, len(traded.rows) <= MOST_LABELS), point, fontsize=8)
     return figure
@@ -51,18 +53,18 @@ def floor_line(axes: Axes, floor: float) -> list[Xy]:
 def put_points(axes: Axes, traded: TradeOff, points: list[Xy], shown: Shown) -> None:
     floor, begun = traded.floor, traded.begun
     axes.axhline(float(shown.in_cost(floor)), color=PALE, linestyle='--', linewidth=1.2,
-                 label=f'floor, no network costs less: {shown.with_unit(floor)}')
+                 label=said(f'floor, no network costs less: {shown.with_unit(floor)}'))
     axes.plot(*zip(*points), color=HOT, linewidth=1.2, marker='o', markersize=5.5, markerfacecolor=INK,
               markeredgecolor=INK, label='networks, each accepted by the audit')
     if traded.left_begun:
         axes.plot([begun.count], [float(shown.in_cost(begun.cost))], 'o', color=PALE, markerfacecolor='white',
-                  markersize=6, label=f'the network at the beginning: {begun.count}, {shown.with_unit(begun.cost)}')
-    axes.set_title('Exchangers against cost')
-    axes.set_xlabel('exchangers, with heaters and coolers')
-    axes.set_ylabel(f'cost of utilities, {said(shown.cost_unit)}')
-    axes.ticklabel_format(axis='y', style='plain')
+                  markersize=6,
+                  label=said(f'the network at the beginning: {begun.count}, {shown.with_unit(begun.cost)}'))
+    entitled(axes, 'exchangers, with heaters and coolers', f'cost of utilities, {said(shown.cost_unit)}',
+             'Exchangers against cost')
+    plainly(axes)
     axes.xaxis.set_major_locator(MaxNLocator(integer=True))
-    axes.legend(loc='upper right')
+    legend_below(axes)
 
 
 def label_of(row: Row, shown: Shown, whole: bool) -> str:
