@@ -38,6 +38,10 @@ def workbook(rows: list[list[object]], **sheets: list[list[object]]) -> bytes:
         other = book.create_sheet(title)
         for row in more:
             other.append(row)
+    return saved(book)
+
+
+def saved(book: openpyxl.Workbook) -> bytes:
     held = io.BytesIO()
     book.save(held)
     return held.getvalue()

@@ -2,7 +2,6 @@
 known is told in the engineer's words, all at once."""
 from __future__ import annotations
 
-import io
 from dataclasses import replace
 from fractions import Fraction
 from pathlib import Path
@@ -10,7 +9,7 @@ from pathlib import Path
 import openpyxl
 import pytest
 from conftest import CASES, example, held, pinchdesk
-from tabled import TEN, made, refusal, streams, workbook
+from tabled import TEN, made, refusal, saved, streams, workbook
 
 from pinchdesk import Pinch, Refused, read_case, read_changes, what_if
 from pinchdesk.basis import Basis
@@ -150,12 +149,6 @@ def test_the_format_of_a_currency_agrees_with_its_heading() -> None:
     assert made(saved(book)).case.utilities[0].price == 30
     book.active['F3'].number_format = '[$$-409]#,##0.00'
     assert 'two moneys, `€/MWh` in the heading and `$` here' in refusal(saved(book))
-
-
-def saved(book: openpyxl.Workbook) -> bytes:
-    content = io.BytesIO()
-    book.save(content)
-    return content.getvalue()
 
 
 # How far roundings take the targets.

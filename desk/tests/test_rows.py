@@ -3,8 +3,9 @@ from __future__ import annotations
 
 import re
 
+import openpyxl
 import pytest
-from tabled import TEN, made, refusal, streams
+from tabled import TEN, made, refusal, saved, streams
 
 from pinchdesk import Pinch
 from pinchdesk.convert import Wanted, checked
@@ -124,17 +125,49 @@ def test_a_stream_above_the_headings_is_refused() -> None:
     assert len(streams(f'Rev.;3;;\ndTmin;10;K;\n{HEAD}H1;150;60;2\n')) == 1
 
 
+def test_a_remark_of_a_workbook_is_a_note() -> None:
+    book = openpyxl.Workbook()
+    for row in (['Stream', 'Supply', 'Target', 'CP (kW/K)'], ['H1', 150, 60, 2]):
+        book.active.append(row)
+    book.active['B1'].comment = openpyxl.comments.Comment('Author:\nat the battery limit', 'me')
+    assert 'sheet Sheet row 1 column B: passed over, a remark: `Author: at the battery limit`' in made(saved(book)).notes
+    book.active['B2'].comment = openpyxl.comments.Comment('all in °F', 'me')
+    assert 'names a unit, and the numbers have none' in refusal(saved(book))
+
+
+def test_the_column_of_notes_is_told() -> None:
+    assert 'passed over, the column `Remark`' in made(f'{HEAD[:-1]};Remark\nH1;150;60;2;top\n').notes
+
+
+@pytest.mark.parametrize('name', ['// H1', '-- H1', '%H1', '! H1', '~~H1~~', 'REM H1', '-', 'n/a', '#REF!'])
+def test_a_name_that_is_none_or_that_marks_a_row_as_left_out_is_refused(name: str) -> None:
+    assert 'row 2' in refusal(f'{HEAD}{name};150;60;2\nH2;150;60;2\n')
+
+
+def test_a_heading_in_letters_that_are_not_known_is_refused() -> None:
+    for heading in ('Supply (華氏)', 'Supply (°С)', 'Supply華氏', 'Supply ф'):
+        assert 'row 1' in refusal(f'Stream;{heading};Target;CP\nH1;302;140;2\n') or 'not known here' in refusal(
+            f'Stream;{heading};Target;CP\nH1;302;140;2\n')
+
+
 def test_words_among_the_headings_are_told() -> None:
     notes = made('Stream (of unit 7);Supply (°C);Target (°C);CP\nall of 2026;;;kW/K\nFeed;20;180;10\n').notes
     assert 'row 1 column 1: passed over, beside a heading: `of unit 7`' in notes
     assert 'row 2 column 1: passed over, beside a heading: `all of 2026`' in notes
 
 
-@pytest.mark.parametrize('title', ['Utilities', 'Hot utilities:', 'UTILITIES', 'Heizmittel', 'Cooling media'])
+@pytest.mark.parametrize('title', ['Utilities', 'Hot utilities:', 'UTILITIES', 'Heizmittel', 'Cooling media', 'B. Utilities',
+                                   'Betriebsmittel', 'Hot and cold utilities'])
 def test_rows_below_a_title_that_makes_utilities_of_them_are_refused(title: str) -> None:
     table = f'{HEAD}Feed;20;180;10\n{title};;;\nCooling water;20;30;50\n'
     assert 'a column `kind` has to say heater or cooler' in refusal(table)
     assert len(streams(f'Kind;{HEAD}cold;Feed;20;180;10\n{title};;;;\ncooler;Cooling water;20;;\n')) == 1
+
+
+def test_titles_with_utilities_that_make_none_of_them_are_passed_over() -> None:
+    for title in ('Streams without utilities;;;', 'no utilities;;;', 'Utilities are those of the whole site, of 2026;;;'):
+        assert len(streams(f'{HEAD}{title}\nFeed;20;180;10\n')) == 1
+    assert len(streams(f'Streams and utilities;;;\n{HEAD}Feed;20;180;10\n')) == 1
 
 
 def test_rows_below_a_title_that_names_the_other_side_are_refused() -> None:

@@ -203,7 +203,8 @@ class Maker:
         self.entries.check_signs()
         self.entries.check_scale()
         self.check_counts()
-        below_titles(body.lines, body.passed, {row: each.side for row, each, _ in self.streams}, self.told)
+        sides = {row: each.side for row, each, _ in self.streams}
+        below_titles(body.lines, body.passed, sides, self.layout.head, self.told)
         self.told.settle()
 
     def check_counts(self) -> None:

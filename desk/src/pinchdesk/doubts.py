@@ -17,11 +17,14 @@ from .mentions import names_other_unit
 from .quantities import Kind
 from .tables import Table, TableRow
 
-# A title below the headings that makes utilities of the rows below it, or streams of one side.
-UTILITIES = re.compile(r'(?:(?:hot|cold|heating|cooling|heiz|kühl|warme|kalte)?[\s-]*(?:utilit(?:y|ies)|media|medium|'
-                       r'heaters?|coolers?|heizmittel|kühlmittel|hilfsmittel)|heizmittel|kühlmittel)\b.*', re.I)
-SIDES = {'hot': re.compile(r'(?:hot|warme|heiße)(?:\s+(?:process\s+)?(?:streams?|ströme))?[\s:]*', re.I),
-         'cold': re.compile(r'(?:cold|kalte)(?:\s+(?:process\s+)?(?:streams?|ströme))?[\s:]*', re.I)}
+# A title that makes utilities of the rows below it, or streams of one side.
+UTILITY = r'utilit(?:y|ies)|(?:heating|cooling)\s+media|heaters|coolers|(?:heiz|kühl|hilfs|betriebs)mittel|energieträger'
+UTILITIES = re.compile(rf'(?:(?:hot|cold|warme|heiße|kalte)\s+)?(?:{UTILITY})[\s.:]*', re.I)
+WITH_UTILITIES = re.compile(rf'(?!.*\b(?:no|not|without|ohne|keine|excluding|process)\b)(?:\S+\s+){{0,3}}(?:{UTILITY})'
+                            r'(?:\W+\S+){0,2}\W*', re.I)
+STREAMS = r'(?:\s+(?:process\s+)?(?:streams?|sides?|ströme|seite))?[\s.:]*'
+SIDES = {'hot': re.compile(rf'(?:hot|warme|heiße){STREAMS}', re.I),
+         'cold': re.compile(rf'(?:cold|kalte){STREAMS}', re.I)}
 CASE_FIELDS = 7
 
 
@@ -78,22 +81,28 @@ def is_note(layout: Layout, column: int) -> bool:
     return column not in layout.columns.values() and is_note_column(layout.titles.get(column, 'note'))
 
 
-def below_titles(lines: Sequence[Line], passed: Sequence[Words], sides: Mapping[int, Side], told: Told) -> None:
+def below_titles(lines: Sequence[Line], passed: Sequence[Words], sides: Mapping[int, Side], head: int,
+                 told: Told) -> None:
     """Tells a fault for each row without a kind below a title that says that it is a utility, or of the other side;
     `sides` has the side of each stream by its row."""
-    titles = sorted(passed, key=lambda words: words.row)
+    titles = [words for words in sorted(passed, key=lambda words: words.row) if words.column is None]
     for line in lines:
-        above = [words.text for words in titles if words.row < line.row.number]
-        title = next((text for text in reversed(above) if UTILITIES.fullmatch(text) or side_of(text)), '')
+        above = [words for words in titles if words.row < line.row.number]
+        title = next((words for words in reversed(above) if of_utilities(words, head) or side_of(words.text)), None)
         side = sides.get(line.row.number)
         if line.kind or not title:
             continue
-        if UTILITIES.fullmatch(title):
-            told.fault(line.row.number, None, f'it stands below `{shortened(title)}`: a column `kind` has to say '
+        if of_utilities(title, head):
+            told.fault(line.row.number, None, f'it stands below `{shortened(title.text)}`: a column `kind` has to say '
                        'heater or cooler, or hot or cold')
-        elif side and side.value != side_of(title):
+        elif side and side.value != side_of(title.text):
             way = 'cools down' if side is Side.HOT else 'warms up'
-            told.fault(line.row.number, None, f'below `{shortened(title)}` stands a stream that {way}')
+            told.fault(line.row.number, None, f'below `{shortened(title.text)}` stands a stream that {way}')
+
+
+def of_utilities(words: Words, head: int) -> bool:
+    """Whether a title says that utilities follow; above the headings it has to be nothing else."""
+    return (WITH_UTILITIES if words.row > head else UTILITIES).fullmatch(words.text) is not None
 
 
 def side_of(text: str) -> str:

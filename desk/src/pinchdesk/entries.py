@@ -1,6 +1,7 @@
 """What a row of a table says: the stream or the utility that it is."""
 from __future__ import annotations
 
+import re
 from fractions import Fraction
 
 from .case import ANY_HEAT, Side, Stream, Utility
@@ -13,6 +14,8 @@ from .quantities import Kind, rounded
 from .roundings import Span, span_of
 from .shown import decimal
 
+# What marks a row as left out elsewhere.
+LEFT_OUT = re.compile(r'//|--|~~|[%!;]|/\*|<!|rem\b', re.I)
 # A duty and a CP may differ by what their last digits leave open, but by no more than this part.
 MOST_APART = Fraction(1, 20)
 
@@ -32,6 +35,9 @@ class Entries:
             self.told.fault(line.row.number, line.at(Heading.NAME), f'`{cell.text}`: {cell.fault}')
         elif not line.name():
             self.told.fault(line.row.number, line.at(Heading.NAME), 'a name is missing')
+        elif LEFT_OUT.match(line.name()):
+            cause = f'`{line.name()}` may be a row that is left out: take the row out, or those signs'
+            self.told.fault(line.row.number, line.at(Heading.NAME), cause)
         return self.names.get(line.name(), line.name())
 
     def given(self, line: Line, heading: Heading) -> bool:
@@ -66,7 +72,7 @@ class Entries:
         """Says which scale would do where a heat is outside its limits."""
         if self.too_large:
             said = fitting_scale(self.heats, self.scale)
-            self.told.faults.append(Refused(3, '', 'scale', said))
+            self.told.faults += [Refused(3, '', 'scale', said)] if said else []
 
     def none_of(self, line: Line, what: str, headings: tuple[Heading, ...]) -> None:
         """Tells a fault for each of these columns in which there is something."""

@@ -96,9 +96,9 @@ class Layout:
 
 
 def squeezed(text: str) -> str:
-    """A heading in small letters and digits alone; accents and marks are left out."""
+    """A heading in small letters and digits alone; accents and marks are left out, letters of other scripts stay."""
     plain = unicodedata.normalize('NFKD', text.replace('Δ', 'd').replace('∆', 'd').replace('ß', 'ss')).lower()
-    return ''.join(each for each in plain if each.isalnum() and each.isascii())
+    return ''.join(each for each in plain if each.isalnum())
 
 
 def meaning(text: str) -> Heading | None:

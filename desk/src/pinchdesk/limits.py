@@ -67,8 +67,10 @@ def outside_of_row(row: Sequence[str]) -> str:
 
 def fitting_scale(heats: Iterable[tuple[Limit, Fraction]], now: Fraction) -> str:
     """What is said of the scale that brings all these heats, before any is taken, within their limits: that which is
-    nearest to the present one."""
+    nearest to the present one. Empty where one is 0 or below that may not be."""
     held = list(heats)
+    if any(heat < 0 or heat == 0 and limit.least for limit, heat in held):
+        return ''
     for scale in sorted(SCALES, key=lambda each: (max(each / now, now / each), each)):
         if all(limit.holds(rounded(heat * scale)) for limit, heat in held):
             return f'--scale {decimal(scale, 3)} would do: all CPs and heats {PARTS[scale]}, and what the desk shows ' \

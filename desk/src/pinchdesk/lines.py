@@ -7,7 +7,7 @@ from collections.abc import Sequence
 from dataclasses import dataclass
 
 from .cells import Told
-from .layout import KINDS, Heading, Layout, Words, is_comment, is_number, squeezed
+from .layout import EMPTY, KINDS, Heading, Layout, Words, is_comment, is_number, squeezed
 from .numerals import NoNumber, numeral_of
 from .quantities import Kind
 from .tables import Cell, TableRow, letters
@@ -41,7 +41,9 @@ class Line:
         return Cell() if column is None else self.row.cell(column)
 
     def name(self) -> str:
-        return self.cell(Heading.NAME).text
+        """The name of the row; a dash is none."""
+        text = self.cell(Heading.NAME).text
+        return '' if text in EMPTY else text
 
     @property
     def is_stream(self) -> bool:
@@ -94,9 +96,20 @@ def body_of(layout: Layout, rows: Sequence[Line | None], told: Told) -> Body:
             others += units_beside(layout, row) if why == 'a sum' else []
         elif line:
             lines.append(line)
+    for words in remarks(told.table.rows):
+        told.note(words.row, words.column, f'passed over, a remark: `{shortened(words.text)}`')
+        passed.append(words)
+    for column, title in layout.titles.items():
+        if layout.headed and column not in layout.columns.values():
+            told.once(f'passed over, the column `{title}`')
     for words in layout.beside:
         told.note(words.row, words.column, f'passed over, beside a heading: `{shortened(words.text)}`')
     return Body(tuple(lines), (*layout.beside, *passed), tuple(comments), tuple(others))
+
+
+def remarks(rows: Sequence[TableRow]) -> list[Words]:
+    """What a spreadsheet has at its cells beside what stands in them."""
+    return [Words(row.number, column, cell.remark) for row in rows for column, cell in row.filled() if cell.remark]
 
 
 def words_of(row: TableRow) -> list[Words]:

@@ -29,13 +29,14 @@ THOUSANDTH = re.compile(r'[0#?],+(?![0#?,])')
 
 @dataclass(frozen=True)
 class Cell:
-    """A cell: its text, its number where the file has one as such, what is wrong with it, and the unit of its
-    format."""
+    """A cell: its text, its number where the file has one as such, what is wrong with it, the unit of its format, and
+    the remark that a spreadsheet has at it."""
 
     text: str = ''
     number: Decimal | None = None
     fault: str = ''
     unit: str = ''
+    remark: str = ''
 
     @property
     def empty(self) -> bool:
@@ -217,10 +218,14 @@ def opened(content: bytes, values: bool) -> Any:
 
 def rows_of(page: Any, formulas: Any) -> Iterable[TableRow]:
     for values, written in zip(page.iter_rows(), formulas.iter_rows()):
-        cells = tuple(cell_of(value, formula) for value, formula in zip(values, written))
+        cells = tuple(with_remark(cell_of(value, formula), value) for value, formula in zip(values, written))
         if any(not cell.empty for cell in cells):
             number = values[0].row
             yield TableRow(number, cells, bool(page.row_dimensions[number].hidden))
+
+
+def with_remark(cell: Cell, value: Any) -> Cell:
+    return replace(cell, remark=clean(str(value.comment.text))) if value.comment else cell
 
 
 def cell_of(value: Any, written: Any) -> Cell:
