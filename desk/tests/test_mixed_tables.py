@@ -25,8 +25,8 @@ UNITS: tuple[dict[str, Callable[[int], Fraction]], ...] = (
     {'°C': lambda tenths: Fraction(tenths, 10), 'K': lambda tenths: Fraction(tenths, 10) + Fraction('273.15'),
      '°F': lambda tenths: Fraction(tenths, 10) * Fraction(9, 5) + 32},
     {'K': lambda tenths: Fraction(tenths, 10), '°F': lambda tenths: Fraction(18 * tenths, 100)},
-    {'kW/K': lambda cp: Fraction(cp, 100), 'MW/K': lambda cp: Fraction(cp, 100_000), 'W/K': lambda cp: Fraction(10 * cp),
-     '10^3 kW/K': lambda cp: Fraction(cp, 100_000), '10 W/K': Fraction},
+    {'kW/K': lambda cp: Fraction(cp, 100), 'MW/K': lambda cp: Fraction(cp, 100_000),
+     'W/K': lambda cp: Fraction(10 * cp), '10^3 kW/K': lambda cp: Fraction(cp, 100_000), '10 W/K': Fraction},
     {'kW': lambda watts: Fraction(watts, 1000), 'MW': lambda watts: Fraction(watts, 10 ** 6), 'W': Fraction,
      'GJ/h': lambda watts: Fraction(36 * watts, 10 ** 7), '1000 kW': lambda watts: Fraction(watts, 10 ** 6),
      '100 kW': lambda watts: Fraction(watts, 10 ** 5)})
@@ -36,10 +36,12 @@ SAID = (('all temperatures in {}', 'Temperatures: {}', 'T [{}]', 'TEMPERATURE / 
         ('CP in {}', 'CP ({})', 'HEAT CAPACITY FLOWS IN {}', 'mcp = {}'),
         ('duties in {}', 'DUTIES IN {}', 'Q [{}]', 'all heats: {}', 'loads, {}'))
 CASED = ('as it is', 'upper', 'lower')
-SUMS = (['', '1780'], ['1780 kW'], ['', '1.5 MW'], ['12.5', '1780'], ['', '1000 kW'], ['', '', '', '10', '20'], ['', '-'])
-NOTES = ('Plant 7', 'revision 2 of 2026', 'Kemp, K. Smith (2007)', 'a furnace of 20 MW', 'at 66 bar', 'feed', 'heat', 'Sum',
-         'hot', 'cold streams', 'Stream data', '# a comment', '#2 of 3', 'total', '-', 'n/a', 'dTmin = 10 K', 'in', 'CP',
-         'supply', 'units', 'average', '10', '3.5', '1000', 'x', 'Utilities', 'checked by A. B.', 'US units', 'all in SI')
+SUMS = (['', '1780'], ['1780 kW'], ['', '1.5 MW'], ['12.5', '1780'], ['', '1000 kW'], ['', '', '', '10', '20'],
+        ['', '-'])
+NOTES = ('Plant 7', 'revision 2 of 2026', 'Kemp, K. Smith (2007)', 'a furnace of 20 MW', 'at 66 bar', 'feed', 'heat',
+         'Sum', 'hot', 'cold streams', 'Stream data', '# a comment', '#2 of 3', 'total', '-', 'n/a', 'in',
+         'dTmin = 10 K', 'CP', 'supply', 'units', 'average', '10', '3.5', '1000', 'x', 'Utilities', 'US units',
+         'checked by A. B.', 'all in SI')
 
 
 def written(value: Fraction) -> str:
@@ -64,7 +66,8 @@ def rows_of(case: Case, units: tuple[str, ...]) -> list[list[str]]:
         share = number(APART, each.contribution)
         if isinstance(each, Stream):
             size = ['', number(HEAT, each.load)] if each.latent else [number(FLOW, each.cp), '']
-            rows.append([each.side.value, each.name, number(WARM, each.supply), number(WARM, each.target), *size, share])
+            ends = [number(WARM, each.supply), number(WARM, each.target)]
+            rows.append([each.side.value, each.name, *ends, *size, share])
         else:
             kind = 'heater' if each.side is Side.HOT else 'cooler'
             rows.append([kind, each.name, number(WARM, each.level), '', '', '', share, number(HEAT, each.least),
@@ -87,10 +90,12 @@ def mixed(draw: Any) -> Mixed:
     for row in rows:
         for at, cell in enumerate(row):
             kind = KINDS.get(HEAD[at]) if at < len(HEAD) else None
-            if kind is not None and cell and row[0] != 'forbid' and styles[kind] == 'cell' and '1' not in units[kind][:1]:
-                row[at] = f'{cell} {units[kind]}'
-            elif kind is not None and styles[kind] == 'cell' and '1' in units[kind][:1]:
+            if kind is None or styles[kind] != 'cell':
+                continue
+            if units[kind].startswith('1'):
                 below[at] = units[kind]
+            elif cell and row[0] != 'forbid':
+                row[at] = f'{cell} {units[kind]}'
     said = [[cased(draw(some.sampled_from(SAID[kind])).format(units[kind]), draw(some.sampled_from(CASED)))]
             for kind in range(4) if styles[kind] == 'said']
     body = [head, *[below] * any(below), *rows]

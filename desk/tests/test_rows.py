@@ -130,7 +130,8 @@ def test_a_remark_of_a_workbook_is_a_note() -> None:
     for row in (['Stream', 'Supply', 'Target', 'CP (kW/K)'], ['H1', 150, 60, 2]):
         book.active.append(row)
     book.active['B1'].comment = openpyxl.comments.Comment('Author:\nat the battery limit', 'me')
-    assert 'sheet Sheet row 1 column B: passed over, a remark: `Author: at the battery limit`' in made(saved(book)).notes
+    said = 'sheet Sheet row 1 column B: passed over, a remark: `Author: at the battery limit`'
+    assert said in made(saved(book)).notes
     book.active['B2'].comment = openpyxl.comments.Comment('all in °F', 'me')
     assert 'names a unit, and the numbers have none' in refusal(saved(book))
 
@@ -156,8 +157,8 @@ def test_words_among_the_headings_are_told() -> None:
     assert 'row 2 column 1: passed over, beside a heading: `all of 2026`' in notes
 
 
-@pytest.mark.parametrize('title', ['Utilities', 'Hot utilities:', 'UTILITIES', 'Heizmittel', 'Cooling media', 'B. Utilities',
-                                   'Betriebsmittel', 'Hot and cold utilities'])
+@pytest.mark.parametrize('title', ['Utilities', 'Hot utilities:', 'UTILITIES', 'Heizmittel', 'Cooling media',
+                                   'B. Utilities', 'Betriebsmittel', 'Hot and cold utilities'])
 def test_rows_below_a_title_that_makes_utilities_of_them_are_refused(title: str) -> None:
     table = f'{HEAD}Feed;20;180;10\n{title};;;\nCooling water;20;30;50\n'
     assert 'a column `kind` has to say heater or cooler' in refusal(table)
@@ -165,7 +166,7 @@ def test_rows_below_a_title_that_makes_utilities_of_them_are_refused(title: str)
 
 
 def test_titles_with_utilities_that_make_none_of_them_are_passed_over() -> None:
-    for title in ('Streams without utilities;;;', 'no utilities;;;', 'Utilities are those of the whole site, of 2026;;;'):
+    for title in ('Streams without utilities;;;', 'no utilities;;;', 'Utilities are those of the site, of 2026;;;'):
         assert len(streams(f'{HEAD}{title}\nFeed;20;180;10\n')) == 1
     assert len(streams(f'Streams and utilities;;;\n{HEAD}Feed;20;180;10\n')) == 1
 

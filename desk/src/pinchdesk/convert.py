@@ -7,11 +7,12 @@ from collections.abc import Iterable, Sequence
 from dataclasses import dataclass, replace
 from fractions import Fraction
 
+from . import other_sheets
 from .basis import Basis, basis_rows
 from .case import Case, Forbid, Side, Stream, Utility, print_case, read_case
 from .causes import CAUSES
 from .cells import CellReader, Told, decimal_mark
-from .doubts import as_case, below_titles, doubts_of, units_in_words
+from .doubts import as_case, below_titles, doubts_of, note_words, units_in_words
 from .entries import Entries
 from .errors import Refused, WordsError
 from .layout import Heading, Layout, known, layout_of
@@ -30,8 +31,6 @@ from .tables import Cell, Table, TableRow, read_table
 from .unheaded import check_order, plain_line
 
 
-# So many sheets beside the first one are looked at for a table.
-MOST_SHEETS = 8
 # More rows of sources than this are none of a case, and are not looked at one by one.
 MOST_READ = 500
 
@@ -76,17 +75,8 @@ def case_of_table(content: bytes, name: str, wanted: Wanted) -> Converted:
         return tables_converted(tables, wanted)
     except Refused:
         if best < 2:
-            check_sheets(content, name, tables[0])
+            other_sheets.check(content, name, tables[0], 'streams', lambda table: headings(table) > 1)
         raise
-
-
-def check_sheets(content: bytes, name: str, first: Table) -> None:
-    """`Refused` where the sheet that is read has no table of streams, and other ones have."""
-    found = [each for each in first.others[:MOST_SHEETS] if headings(read_table(content, name, each)[0]) > 1]
-    if found:
-        has = 'has one' if len(found) == 1 else 'have one'
-        cause = f'sheet {first.sheet} has no table of streams, and {", ".join(found)} {has}: say --sheet {found[0]}'
-        raise Refused(3, f'sheet {first.sheet}', 'no table', cause)
 
 
 def is_case(content: bytes) -> bool:
@@ -140,9 +130,7 @@ def converted(table: Table, wanted: Wanted) -> Converted:
     for old, new in names.items():
         if old != new:
             told.notes.append(f'the name `{old}` becomes {new}')
-    if table.others:
-        others = ', '.join(table.others)
-        told.notes.append(f'of the sheets the first one, {table.sheet}, is read, not {others} (--sheet)')
+    told.notes += other_sheets.told(table)
     return Maker(told, reader, Entries(reader, told, names, wanted.scale), layout, wanted).made(body, names)
 
 
@@ -199,7 +187,7 @@ class Maker:
         for seen in body.others:
             self.reader.seen(*seen)
         self.reader.settle_units()
-        units_in_words(self.layout, body.lines, body.passed, self.told, self.reader.taken)
+        units_in_words((*body.passed, *note_words(self.layout, body.lines)), self.told, self.reader.taken)
         self.entries.check_signs()
         self.entries.check_scale()
         self.check_counts()

@@ -18,7 +18,8 @@ from .quantities import Kind
 from .tables import Table, TableRow
 
 # A title that makes utilities of the rows below it, or streams of one side.
-UTILITY = r'utilit(?:y|ies)|(?:heating|cooling)\s+media|heaters|coolers|(?:heiz|kühl|hilfs|betriebs)mittel|energieträger'
+UTILITY = r'utilit(?:y|ies)|(?:heating|cooling)\s+media|heaters|coolers|(?:heiz|kühl|hilfs|betriebs)mittel|' \
+          'energieträger'
 UTILITIES = re.compile(rf'(?:(?:hot|cold|warme|heiße|kalte)\s+)?(?:{UTILITY})[\s.:]*', re.I)
 WITH_UTILITIES = re.compile(rf'(?!.*\b(?:no|not|without|ohne|keine|excluding|process)\b)(?:\S+\s+){{0,3}}(?:{UTILITY})'
                             r'(?:\W+\S+){0,2}\W*', re.I)
@@ -59,14 +60,18 @@ def decimals_before(row: TableRow, column: int) -> bool:
     return row.cell(column - 1).text.isdigit()
 
 
-def units_in_words(layout: Layout, lines: Sequence[Line], passed: Sequence[Words], told: Told,
-                   taken: Iterable[Kind]) -> None:
+def note_words(layout: Layout, lines: Sequence[Line]) -> list[Words]:
+    """What stands in rows that are read, in columns of notes or under no heading."""
+    return [Words(line.row.number, column, cell.text) for line in lines for column, cell in line.row.filled()
+            if layout.headed and line.kind != 'forbid' and column not in layout.columns.values()
+            and is_note_column(layout.titles.get(column, 'note'))]
+
+
+def units_in_words(passed: Sequence[Words], told: Told, taken: Iterable[Kind]) -> None:
     """Tells a fault for each title, note or comment that names another unit than the one that is taken because none
     stands with the numbers."""
-    noted = [Words(line.row.number, column, cell.text) for line in lines for column, cell in line.row.filled()
-             if layout.headed and line.kind != 'forbid' and is_note(layout, column)]
     faults: set[int] = set()
-    for words in (*passed, *noted):
+    for words in passed:
         kinds = [kind for kind in taken if names_other_unit(words.text, kind)]
         if kinds and words.row not in faults:
             faults.add(words.row)
@@ -74,11 +79,6 @@ def units_in_words(layout: Layout, lines: Sequence[Line], passed: Sequence[Words
             cause = f'`{shortened(words.text)}` names a unit, and the numbers have none, so that {units} would be ' \
                     'taken: write the unit with the heading'
             told.fault(words.row, words.column, cause)
-
-
-def is_note(layout: Layout, column: int) -> bool:
-    """Whether a column of a row has words that nobody reads: those of notes, or under no heading."""
-    return column not in layout.columns.values() and is_note_column(layout.titles.get(column, 'note'))
 
 
 def below_titles(lines: Sequence[Line], passed: Sequence[Words], sides: Mapping[int, Side], head: int,

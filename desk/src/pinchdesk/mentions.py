@@ -43,4 +43,5 @@ def names_other_unit(text: str, kind: Kind) -> bool:
     except UnknownUnit:
         return False
     # A number with a unit is no unit where it is no power of ten.
-    return (not held[0].isdigit() or is_multiple(held, kind)) and (unit.factor, unit.offset) != (usual.factor, usual.offset)
+    whole = not held[0].isdigit() or is_multiple(held, kind)
+    return whole and (unit.factor, unit.offset) != (usual.factor, usual.offset)

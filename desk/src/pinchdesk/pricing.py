@@ -12,7 +12,7 @@ from fractions import Fraction
 from math import gcd, lcm
 
 from .case import Basis
-from .moneys import two_moneys
+from .moneys import money_of, two_moneys
 from .quantities import KILOWATT, OPEN, SIGNS, YEAR, UnknownUnit, parsed, registry, rounded
 
 MOST = 1_000_000
@@ -25,7 +25,8 @@ class PriceUnit:
     """A unit of prices: money per `amount` watt-hours, or watts for a year. Two are one however they are written."""
 
     text: str = field(compare=False)
-    money: str
+    money: str = field(compare=False)
+    code: str
     amount: Fraction
     yearly: bool
 
@@ -47,7 +48,7 @@ def price_unit_of(text: str) -> PriceUnit:
     rest = ' * '.join(each for each in words if each not in years)
     if len(years) > 1 or not rest:
         raise UnknownUnit(text)
-    return PriceUnit(text.strip(), money, amount_of(text, rest, bool(years)), bool(years))
+    return PriceUnit(text.strip(), money, money_of(money), amount_of(text, rest, bool(years)), bool(years))
 
 
 def same_price_unit(one: str, other: str) -> bool:

@@ -13,19 +13,24 @@ from collections.abc import Iterator
 from dataclasses import dataclass, replace
 from fractions import Fraction
 
+from . import other_sheets
 from .basis import Basis
 from .cells import CellReader, Told, decimal_mark
 from .changelayout import FIELDS, KINDS, ChangeLayout, Column, Field, headings, layout_of
+from .doubts import units_in_words
 from .errors import Refused
 from .harmless import printable
-from .layout import EMPTY, squeezed
+from .layout import EMPTY, Words, is_comment, squeezed
+from .lines import joined, remarks, shortened, words_of
 from .numerals import NoNumber, numeral_of
 from .pricing import price_unit_of
 from .quantities import Kind, UnknownUnit
-from .tables import Cell, TableRow, read_table
+from .tables import Cell, Table, TableRow, read_table
 
 WRITTEN = re.compile(r'(?:(?P<to>to\b|=)|(?P<by>by\b))?\s*(?P<number>.*)', re.I | re.S)
 SIGNED = '+-−'
+# A row with so many headings is that of the headings.
+LEAST_HEADINGS = 3
 SOURCES = frozenset(('case', 'all'))
 
 
@@ -71,26 +76,59 @@ def read_changes(content: bytes, name: str, basis: Basis, sheet: str | None = No
                  decimal: str | None = None) -> Variants:
     """The scenarios of a table's file, for a case of this basis; `Refused`, by row and column, where something is not
     understood, or is ambiguous."""
-    tables = read_table(content, name, sheet)
-    best = max(tables, key=lambda table: max((headings(row) for row in table.rows), default=0))
+    best = max(read_table(content, name, sheet), key=most_headings)
     told = Told(best)
+    if most_headings(best) < LEAST_HEADINGS:
+        other_sheets.check(content, name, best, 'scenarios', lambda table: most_headings(table) >= LEAST_HEADINGS)
     layout = layout_of(best)
-    rows = [row for row in best.rows if row.number > layout.head and not is_note(row)]
+    rows, passed = rows_of(layout, told)
     mark = decimal_mark(best, numbers_of(rows, layout), decimal)
     reader = ChangeReader(told, CellReader(told, mark, dict(layout.units), dict(layout.titles)), layout, basis)
     held: dict[str, list[Change]] = {}
     for row in rows:
         scenario, changes = reader.row(row)
         held.setdefault(scenario, []).extend(changes)
+    reader.cells.settle_units()
+    units_in_words(passed, told, reader.cells.taken)
     told.settle()
     if not held:
         raise Refused(3, '', 'no scenario', 'the table has no scenario')
+    told.notes += other_sheets.told(best)
     return Variants(tuple(Variant(printable(each), tuple(changes)) for each, changes in held.items()),
                     tuple(told.notes))
 
 
-def is_note(row: TableRow) -> bool:
-    return next(row.filled())[1].text.startswith('#')
+def most_headings(table: Table) -> int:
+    return max((headings(row) for row in table.rows), default=0)
+
+
+def rows_of(layout: ChangeLayout, told: Told) -> tuple[list[TableRow], list[Words]]:
+    """The rows that say something, and the words that are passed over, which are told. A row that begins with `#` is a
+    comment where it has no value, and a scenario where it has one; behind a blank it may be one that was to be left
+    out."""
+    rows: list[TableRow] = []
+    passed = remarks(told.table.rows)
+    valued = {*layout.fields, *([layout.columns[Column.VALUE]] if Column.VALUE in layout.columns else [])}
+    notes = [column for column in layout.titles if column not in {*layout.columns.values(), *layout.fields}]
+    for row in told.table.rows:
+        text, why = joined(row), ''
+        if is_comment(row) and not any(column in valued for column, _ in row.filled()):
+            why = 'a comment'
+        elif row.number < layout.head:
+            why = 'above the headings'
+        elif is_comment(row) and row.number > layout.head and not next(row.filled())[1].text[1:2].strip():
+            told.fault(row.number, None, f'`{shortened(text)}` may be a comment or a scenario: take the row out, or '
+                       'the `#`; a comment has no value')
+        elif row.number > layout.head:
+            if is_comment(row):
+                told.note(row.number, None, f'a scenario, since it has a value, and no comment: `{shortened(text)}`')
+            rows.append(row)
+            passed += [Words(row.number, column, row.cell(column).text) for column in notes]
+        if why:
+            told.note(row.number, None, f'passed over, {why}: `{shortened(text)}`')
+            passed += words_of(row)
+    told.notes += [f'passed over, the column `{layout.titles[column]}`' for column in notes]
+    return rows, passed
 
 
 def written_of(cell: Cell) -> tuple[str, str]:
@@ -192,6 +230,8 @@ class ChangeReader:
         if held is None:
             return None
         value, _, own = held
+        if not own and at not in self.layout.units and self.basis.price_unit:
+            self.told.once(f'no unit stands with the prices: {self.basis.price_unit} is taken, as in the case')
         for text in (own, self.layout.units.get(at, '')):
             try:
                 if text and (not self.basis.price_unit or price_unit_of(text) != price_unit_of(self.basis.price_unit)):
