@@ -7,20 +7,22 @@ from __future__ import annotations
 import csv
 import datetime
 import io
+import math
 import re
 import warnings
-import zipfile
 from collections.abc import Iterable, Iterator
 from dataclasses import dataclass, replace
 from decimal import Decimal
 from typing import Any
 
+from .amounts import MOST_ZEROS
 from .errors import Refused
 from .harmless import read_again
+from .workbook_bounds import (MOST_CELLS, MOST_COLUMNS, MOST_PLACES, MOST_ROWS, MOST_SIGNS, TooLarge,
+                              hidden_by_merging)
 
 SEPARATORS = {';': '`;`', '\t': 'a tab', ',': '`,`', '|': '`|`'}
-# What a table of streams never has: it keeps a hostile workbook from filling the memory.
-MOST_ROWS, MOST_COLUMNS, MOST_UNPACKED = 20_000, 200, 2 ** 25
+LONGEST_SHOWN = 40
 HINT = re.compile(r'sep=(.)(\r\n|\r|\n)')
 # What a format writes as it is: in quotes, behind `\`, as a currency; then what it leaves room for, and conditions.
 LITERAL = re.compile(r'"([^"]*)"|\\(.)|\[\$([^\]-]*)[^\]]*\]|[_*].|\[[^\]]*\]')
@@ -41,6 +43,9 @@ class Cell:
     @property
     def empty(self) -> bool:
         return not self.text and self.number is None and not self.fault
+
+
+NOTHING = Cell()
 
 
 @dataclass(frozen=True)
@@ -145,11 +150,16 @@ def text_of(content: bytes) -> str:
 def text_table(text: str, separator: str) -> Table:
     reader = csv.reader(io.StringIO(text, newline=''), delimiter=separator, strict=True)
     rows: list[TableRow] = []
-    at = 0
+    at = filled = 0
     try:
         for at, fields in enumerate(reader, 1):
-            cells = tuple(Cell(clean(read_again(field))) for field in fields)
-            if len(rows) >= MOST_ROWS or len(cells) > MOST_COLUMNS:
+            if len(rows) >= MOST_ROWS or len(fields) > MOST_COLUMNS:
+                raise too_large()
+            if any(len(field) > MOST_SIGNS for field in fields):
+                raise too_large(f'row {at} is too long: ')
+            cells = tuple(Cell(clean(read_again(field))) if field else NOTHING for field in fields)
+            filled += sum(not cell.empty for cell in cells)
+            if filled > MOST_CELLS:
                 raise too_large()
             if any(not cell.empty for cell in cells):
                 rows.append(TableRow(at, cells))
@@ -164,8 +174,9 @@ def moved(table: Table, rows: int) -> Table:
     return replace(table, rows=tuple(replace(each, number=each.number + rows) for each in table.rows))
 
 
-def too_large() -> Refused:
-    cause = f'a table has at most {MOST_ROWS} rows and {MOST_COLUMNS} columns'
+def too_large(what: str = '') -> Refused:
+    cause = f'{what}a table has at most {MOST_ROWS} rows and {MOST_COLUMNS} columns, {MOST_PLACES} cells from its ' \
+            f'first to its last, and {MOST_SIGNS} signs in each'
     return Refused(3, '', 'too large', cause)
 
 
@@ -176,7 +187,7 @@ def clean(text: str) -> str:
 
 def workbook_table(content: bytes, sheet: str | None) -> Table:
     """A sheet of a workbook: the first one that is shown, or the one of this name."""
-    check_size(content)
+    check_bounds(content)
     values, formulas = opened(content, True), opened(content, False)
     shown = [each.title for each in values.worksheets if each.sheet_state == 'visible']
     wanted = sheet if sheet is not None else shown[0] if shown else ''
@@ -194,14 +205,19 @@ def workbook_table(content: bytes, sheet: str | None) -> Table:
     return Table(wanted, tuple(rows_of(page, formulas[wanted])), merged, hidden=hidden, others=others)
 
 
-def check_size(content: bytes) -> None:
+def check_bounds(content: bytes) -> None:
+    """Refuses a workbook that unfolds to more than a table has, or in which a merged cell hides another."""
     try:
-        with zipfile.ZipFile(io.BytesIO(content)) as held:
-            unpacked = sum(each.file_size for each in held.infolist())
-    except (zipfile.BadZipFile, OSError, ValueError) as fault:
+        hidden = hidden_by_merging(content)
+    except TooLarge as fault:
+        raise too_large(f'this workbook is too large, {fault}: ') from fault
+    except ValueError as fault:
         raise Refused(3, '', 'no workbook', f'this workbook cannot be read: {fault}') from fault
-    if unpacked > MOST_UNPACKED:
-        raise too_large()
+    for part, places in hidden.items():
+        for row, column in places:
+            where = f'{letters(column - 1)}{row}'
+            cause = f'cell {where} of {part} lies under a merged cell, which hides it: unmerge it, or take it out'
+            raise Refused(3, '', 'merged', cause)
 
 
 def opened(content: bytes, values: bool) -> Any:
@@ -242,9 +258,18 @@ def cell_of(value: Any, written: Any) -> Cell:
     if isinstance(held, (datetime.date, datetime.time, datetime.timedelta)):
         return Cell(str(held), fault='a date: the spreadsheet took the number for one')
     if isinstance(held, (int, float)):
-        shown = format(held, '.15g') if isinstance(held, float) else str(held)
-        return number_cell(Decimal(shown), value.number_format or '')
+        return numbered(held, value.number_format or '')
     return Cell(clean(str(held))) if held is not None else Cell()
+
+
+def numbered(held: int | float, form: str) -> Cell:
+    """A number as a workbook has it, with the fifteen digits that are shown of it."""
+    if isinstance(held, float) and not math.isfinite(held):
+        return Cell(str(held), fault='no number of a workbook')
+    number = Decimal(format(held, '.15g') if isinstance(held, float) else str(held))
+    if number and abs(number.adjusted()) > MOST_ZEROS:
+        return Cell(str(held)[:LONGEST_SHOWN], fault=f'a number with more than {MOST_ZEROS} zeros')
+    return number_cell(number, form)
 
 
 def number_cell(number: Decimal, form: str) -> Cell:
