@@ -93,6 +93,7 @@ def sheet(**changes: object) -> bytes:
     ({'struck': 'A3'}, 'sheet Sheet row 3 column A: `B`: struck out'),
     ({'form': '0.0,'}, 'sheet Sheet row 3 column D: `300`: shown as a thousandth'),
     ({'form': '#,##0,,"MW/K"'}, 'sheet Sheet row 3 column D: `300`: shown as a thousandth'),
+    ({'form': '[>100]0.0" °F";0.0" °C"'}, 'sheet Sheet row 3 column D: `300`: its format'),
     ({'form': '0.0%'}, 'sheet Sheet row 3 column D: `300`: a percentage'),
     ({'form': '0 [$€-407]'}, 'sheet Sheet row 3 column D: the unit `€` is not known'),
 ])
@@ -102,7 +103,8 @@ def test_what_a_spreadsheet_shows_otherwise_is_refused(changes: dict[str, object
 
 @pytest.mark.parametrize('form, flow', [('0.0 "W/K"', 30), ('0\\ \\W\\/\\K', 30), ('0 [$W/K]', 30),
                                         ('#,##0.00_);(#,##0.00)', 30_000), ('_-* #,##0.0_-', 30_000),
-                                        ('0.0;[Red]-0.0', 30_000), ('#,##0.0\\ ', 30_000)])
+                                        ('0.0;[Red]-0.0', 30_000), ('0.0" kW/K";-0.0" kW/K";"-"', 30_000),
+                                        ('General" kW/K"', 30_000), ('#,##0.0\\ ', 30_000)])
 def test_the_unit_that_a_format_writes_is_seen(form: str, flow: int) -> None:
     units = 'the unit `W/K`' in refusal(sheet(form=form)) if flow == 30 else streams(sheet(form=form))[1][4] == flow
     assert units

@@ -33,7 +33,8 @@ UNKNOWN = [
     (Kind.TEMPERATURE, 'kW'), (Kind.TEMPERATURE, 'x'), (Kind.TEMPERATURE, '9**9**9'), (Kind.TEMPERATURE, 'K^2'),
     (Kind.TEMPERATURE, 'rad K'), (Kind.HEAT, 'kW grade'), (Kind.HEAT, 'percent kW'), (Kind.FLOW, 'kW/K/rad'),
     (Kind.FLOW, 'kW'), (Kind.FLOW, 'kJ/kg/K'), (Kind.FLOW, 'kWh/a/K'), (Kind.FLOW, 'MBtu/h/F'), (Kind.FLOW, ''),
-    (Kind.HEAT, 'mW'), (Kind.FLOW, 'mW/K'),
+    (Kind.HEAT, 'mW'), (Kind.FLOW, 'mW/K'), (Kind.HEAT, 'MWh/month'), (Kind.HEAT, 'mJ/h'), (Kind.HEAT, '10e3 kW'),
+    (Kind.HEAT, '1,000 kW'),
     (Kind.HEAT, 'kWh'), (Kind.HEAT, 'TJ/yr'), (Kind.HEAT, 'GJ/a'), (Kind.HEAT, 'MBtu/h'), (Kind.HEAT, 'EUR'),
     (Kind.HEAT, 'kW' * 30), (Kind.HEAT, '__import__("os")'), (Kind.HEAT, 'kW/K'), (Kind.DIFFERENCE, '%'),
 ]

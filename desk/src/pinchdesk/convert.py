@@ -12,7 +12,7 @@ from .basis import Basis, basis_rows
 from .case import Case, Forbid, Side, Stream, Utility, print_case, read_case
 from .causes import CAUSES
 from .cells import CellReader, Told, decimal_mark
-from .doubts import as_case, below_titles, doubts_of, note_words, units_in_words
+from .doubts import as_case, below_titles, doubts_of, note_words, two_units, units_in_words
 from .entries import Entries
 from .errors import Refused, WordsError
 from .layout import Heading, Layout, known, layout_of
@@ -186,6 +186,7 @@ class Maker:
         """Tells a fault for what stands beside the numbers and contradicts what was taken of them."""
         for seen in body.others:
             self.reader.seen(*seen)
+        two_units(self.layout, body, self.told)
         self.reader.settle_units()
         units_in_words((*body.passed, *note_words(self.layout, body.lines)), self.told, self.reader.taken)
         self.entries.check_signs()

@@ -10,11 +10,11 @@ import re
 from collections.abc import Iterable, Mapping, Sequence
 
 from .case import Side
-from .cells import Told
-from .layout import Layout, Words, is_note_column, is_number
-from .lines import Line, shortened
+from .cells import Told, same_unit
+from .layout import KINDS, Layout, Words, is_note_column, is_number
+from .lines import Body, Line, shortened
 from .mentions import names_other_unit
-from .quantities import Kind
+from .quantities import Kind, is_unit
 from .tables import Table, TableRow
 
 # A title that makes utilities of the rows below it, or streams of one side.
@@ -79,6 +79,20 @@ def units_in_words(passed: Sequence[Words], told: Told, taken: Iterable[Kind]) -
             cause = f'`{shortened(words.text)}` names a unit, and the numbers have none, so that {units} would be ' \
                     'taken: write the unit with the heading'
             told.fault(words.row, words.column, cause)
+
+
+def two_units(layout: Layout, body: Body, told: Told) -> None:
+    """Tells a fault for each sum, and each unit in a row of units that is passed over, that has another unit than its
+    column."""
+    kinds = {column: KINDS[heading] for heading, column in layout.columns.items() if heading in KINDS}
+    units = [(row, column, unit) for row, _, column, unit in body.others]
+    cells = [(words.row, words.column, words.text.strip('()[] ')) for words in body.passed if words.column is not None]
+    no_units = {row for row, column, text in cells if column not in kinds or not is_unit(text, kinds[column])}
+    units += [cell for cell in cells if cell[0] not in no_units]
+    for row, column, unit in units:
+        headed = layout.units.get(column, '')
+        if headed and not same_unit(unit, headed, kinds[column]):
+            told.fault(row, column, f'two units, `{headed}` in the heading and `{unit}` here')
 
 
 def below_titles(lines: Sequence[Line], passed: Sequence[Words], sides: Mapping[int, Side], head: int,

@@ -67,13 +67,15 @@ class Words:
 @dataclass(frozen=True)
 class Layout:
     """The columns of a headed table with the units that the table gives them, the numbers of the rows of its head, and
-    the words there that are neither headings nor units of a number."""
+    the words there that are neither headings nor units of a number; `named` is False where the numbers of the streams
+    stand in for names."""
 
     columns: Mapping[Heading, int] = field(default_factory=dict)
     units: Mapping[int, str] = field(default_factory=dict)
     titles: Mapping[int, str] = field(default_factory=dict)
     heads: tuple[int, ...] = ()
     beside: tuple[Words, ...] = ()
+    named: bool = True
 
     @property
     def headed(self) -> bool:
@@ -259,6 +261,7 @@ def complete(table: Table, layout: Layout, row: TableRow) -> Layout:
         names = ', '.join(each.name.lower() for each in Heading) + '; take the column out, or head it `note`'
         raise unknown_headings(table, row, titles, names)
     columns = dict(layout.columns)
+    named = Heading.NAME in columns
     if Heading.NUMBER in columns:
         columns.setdefault(Heading.NAME, columns[Heading.NUMBER])
     missing = [heading for heading in (Heading.NAME, Heading.SUPPLY) if heading not in columns]
@@ -267,7 +270,7 @@ def complete(table: Table, layout: Layout, row: TableRow) -> Layout:
         raise table.refusal(row.number, None, f'no column has the heading {names}')
     beside = [Words(row.number, column, unit) for column, unit in layout.units.items()
               if column in layout.titles and column not in layout.measured]
-    return replace(layout, columns=columns, beside=(*beside, *layout.beside))
+    return replace(layout, columns=columns, beside=(*beside, *layout.beside), named=named)
 
 
 def is_note_column(title: str) -> bool:

@@ -102,6 +102,8 @@ def body_of(layout: Layout, rows: Sequence[Line | None], told: Told) -> Body:
     for column, title in layout.titles.items():
         if layout.headed and column not in layout.columns.values():
             told.once(f'passed over, the column `{title}`')
+    if not layout.named:
+        told.once(f'no column has the heading name: {layout.titles[layout.columns[Heading.NUMBER]]} is taken')
     for words in layout.beside:
         told.note(words.row, words.column, f'passed over, beside a heading: `{shortened(words.text)}`')
     return Body(tuple(lines), (*layout.beside, *passed), tuple(comments), tuple(others))
@@ -144,6 +146,8 @@ def why_passed(line: Line, told: Told, below: bool) -> str:
     filled = [cell for _, cell in row.filled()]
     if is_comment(row):
         return why_comment(line, told)
+    if all(cell.text in EMPTY and cell.number is None and not cell.fault for cell in filled):
+        return 'a note'
     if len(filled) == 1 and filled[0].number is None and not filled[0].fault and not re.match('[0-9]', filled[0].text):
         return 'a note'
     if line.kind in ('contribution', 'forbid'):
@@ -179,11 +183,11 @@ def why_comment(line: Line, told: Told) -> str:
 
 
 def units_beside(layout: Layout, row: TableRow) -> list[tuple[int, Kind, int, str]]:
-    """The numbers of a sum that have a unit of their own where their column has none."""
+    """The numbers of a sum that have a unit of their own."""
     made = []
     for heading, column in layout.columns.items():
         cell = row.cell(column)
-        if heading in KINDS and column not in layout.units and is_number(cell):
+        if heading in KINDS and is_number(cell):
             unit = cell.unit or unit_behind(cell.text)
             made += [(row.number, KINDS[heading], column, unit)] if unit else []
     return made

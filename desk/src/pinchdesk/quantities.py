@@ -65,6 +65,8 @@ RAISED = re.compile('[⁰¹²³⁴-⁹]+')
 # `KW` can be nothing else; MBtu is a thousand of them to some and a million to others, and mW was meant to be MW.
 KILOWATT = re.compile(r'\b(?:KW|Kw|kw)(?![A-Za-z_])')
 OPEN = re.compile(r'\b(?:(?i:mbtu)|m(?:W|J|cal))')
+# Who gives a heat per month does not say how many hours it is running.
+MONTH = re.compile(r'\b(?:months?|weeks?|fortnights?|quarters?|decades?|centur(?:y|ies))\b', re.I)
 YEAR = re.compile(r'(?<![A-Za-z_])(a|y|yr|years?|annum|anno)(?![A-Za-z_])', re.I)
 DIMENSIONS = {Kind.TEMPERATURE: 'kelvin', Kind.DIFFERENCE: 'kelvin', Kind.FLOW: 'watt / kelvin', Kind.HEAT: 'watt'}
 # How much of the program's unit is in the SI unit above.
@@ -110,10 +112,11 @@ def normal(text: str) -> str:
 
 @lru_cache(maxsize=None)
 def unit_of(text: str, kind: Kind) -> Unit:
-    """The unit that a text names; `UnknownUnit` where it names none of this kind. A heat over a year is no power."""
+    """The unit that a text names; `UnknownUnit` where it names none of this kind. A heat over a year or a month is no
+    power."""
     times, single = multiple_of(text)
     held = normal(single)
-    if kind in (Kind.HEAT, Kind.FLOW) and YEAR.search(held):
+    if kind in (Kind.HEAT, Kind.FLOW) and (YEAR.search(held) or MONTH.search(held)):
         raise UnknownUnit(text)
     if kind is not Kind.TEMPERATURE:
         held = held.replace('°C', 'delta_degC').replace('°F', 'delta_degF')

@@ -27,6 +27,7 @@ HINT = re.compile(r'sep=(.)(\r\n|\r|\n)')
 # What a format writes as it is: in quotes, behind `\`, as a currency; then what it leaves room for, and conditions.
 LITERAL = re.compile(r'"([^"]*)"|\\(.)|\[\$([^\]-]*)[^\]]*\]|[_*].|\[[^\]]*\]')
 THOUSANDTH = re.compile(r'[0#?],+(?![0#?,])')
+PLACE = re.compile('[0#?]|General')
 
 
 @dataclass(frozen=True)
@@ -274,16 +275,21 @@ def numbered(held: int | float, form: str) -> Cell:
 
 def number_cell(number: Decimal, form: str) -> Cell:
     """A number with the unit that its format writes beside it."""
-    text, first = f'{number:f}', sections(form)
+    text, first = f'{number:f}', sections(form)[0]
     plain = LITERAL.sub('', first)
     if '%' in plain:
         return Cell(text, number, 'a percentage')
     if THOUSANDTH.search(plain):
         return Cell(text, number, f'shown as a thousandth or less of what it is, by its format {form}')
-    unit = ''.join(quoted or escaped or money for quoted, escaped, money in LITERAL.findall(first)).strip()
-    return Cell(text, number, unit=unit)
+    units = list(dict.fromkeys(unit_of_format(each) for each in sections(form) if PLACE.search(LITERAL.sub('', each))))
+    fault = f'its format {form} writes one unit or another' if len(units) > 1 else ''
+    return Cell(text, number, fault, units[0] if units else unit_of_format(first))
 
 
-def sections(form: str) -> str:
-    """The first section of a format: that of positive numbers."""
-    return re.match(r'(?:"[^"]*"|\\.|[^;])*', form)[0]  # type: ignore[index]
+def unit_of_format(section: str) -> str:
+    return ''.join(quoted or escaped or money for quoted, escaped, money in LITERAL.findall(section)).strip('- ')
+
+
+def sections(form: str) -> list[str]:
+    """The sections of a format: that of positive numbers, or of the first condition, and those behind it."""
+    return re.findall(r'(?:"[^"]*"|\\.|\[[^\]]*\]|[^;])+', form) or ['']
