@@ -1,7 +1,10 @@
 """Each row of a table of scenarios is read, or refused, or told with its text; what it leaves open is told."""
 from __future__ import annotations
 
+from pathlib import Path
+
 import pytest
+from conftest import pinchdesk
 from tabled import workbook
 
 from pinchdesk import Refused, read_changes
@@ -62,3 +65,16 @@ def test_which_sheet_of_scenarios_is_read_is_told() -> None:
     with pytest.raises(Refused) as fault:
         read_changes(workbook([['Cover']], Later=rows), 't.xlsx', Basis())
     assert fault.value.text == 'sheet Streams has no table of scenarios, and Later has one: say --sheet Later'
+
+
+def test_many_cases_in_scenarios_tell_what_their_table_passes_over(tmp_path: Path) -> None:
+    table = ('kind;name;supply °C;target °C;CP kW/K;price\ncold;C;20;135;2;\nhot;H;170;60;3;\n'
+             'heater;HP;270;;;30 EUR/MWh\ncooler;W;9;;;1 EUR/MWh\n')
+    (tmp_path / 'table.csv').write_text(table)
+    assert pinchdesk('case', '-d', '10', 'table.csv', '-o', 'a.csv', cwd=tmp_path).status == 0
+    (tmp_path / 'list').write_text('case\na.csv\n')
+    (tmp_path / 's.csv').write_text(f'{HEAD}#1 dear;HP;price;35 €/MWh\n# agreed\n')
+    done = pinchdesk('many', 'flow', 'list', '--scenarios', 's.csv', '--form', 'csv', cwd=tmp_path)
+    assert done.status == 0 and [row.split(',')[1:3] for row in done.out.split('\r\n')[1:3]] == [
+        ['base', 'good'], ['#1 dear', 'good']]
+    assert 's.csv: row 3: passed over, a comment: `# agreed`' in done.err

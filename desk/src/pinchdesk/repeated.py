@@ -65,10 +65,11 @@ class Work:
     def __init__(self, order: Order, rows: Sequence[Listed]) -> None:
         self.table = read_bytes(order.scenarios) if order.scenarios is not None else None
         self.order, self.rows = order, rows
-        if self.table is not None and order.scenarios is not None:
-            self.rows = with_scenarios(rows, self.table, order.scenarios)
-        self.outcomes: dict[int, Outcome] = {}
         self.notes: list[str] = []
+        if self.table is not None and order.scenarios is not None:
+            self.rows, notes = with_scenarios(rows, self.table, order.scenarios)
+            self.notes += notes
+        self.outcomes: dict[int, Outcome] = {}
         self.names = order.kept(self.rows) if order.into is not None else None
         self.stopped = False
 

@@ -72,10 +72,10 @@ class Variants:
     notes: tuple[str, ...] = ()
 
 
-def read_changes(content: bytes, name: str, basis: Basis, sheet: str | None = None,
+def read_changes(content: bytes, name: str, basis: Basis | None, sheet: str | None = None,
                  decimal: str | None = None) -> Variants:
-    """The scenarios of a table's file, for a case of this basis; `Refused`, by row and column, where something is not
-    understood, or is ambiguous."""
+    """The scenarios of a table's file, for a case of this basis, or for cases whose units of prices are not known yet;
+    `Refused`, by row and column, where something is not understood, or is ambiguous."""
     best = max(read_table(content, name, sheet), key=most_headings)
     told = Told(best)
     if most_headings(best) < LEAST_HEADINGS:
@@ -154,7 +154,7 @@ class ChangeReader:
     told: Told
     cells: CellReader
     layout: ChangeLayout
-    basis: Basis
+    basis: Basis | None
 
     def text(self, row: TableRow, column: Column) -> str:
         text = row.cell(self.layout.columns[column]).text
@@ -222,13 +222,13 @@ class ChangeReader:
         held = self.cells.measured(row, at, Kind.DIFFERENCE if kind is Kind.TEMPERATURE and way is Way.BY else kind)
         if held is None:
             return None
-        return held.value * self.basis.scale if kind in (Kind.FLOW, Kind.HEAT) else held.value
+        return held.value * self.basis.scale if self.basis and kind in (Kind.FLOW, Kind.HEAT) else held.value
 
     def price(self, row: TableRow, at: int) -> Fraction | None:
         """A price in the unit of the case's prices, which it may name and no other."""
         held = self.cells.number(row, at)
-        if held is None:
-            return None
+        if held is None or self.basis is None:
+            return held[0] if held else None
         value, _, own = held
         if not own and at not in self.layout.units and self.basis.price_unit:
             self.told.once(f'no unit stands with the prices: {self.basis.price_unit} is taken, as in the case')

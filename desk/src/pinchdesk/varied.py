@@ -5,11 +5,11 @@ from collections.abc import Iterable, Iterator
 from contextlib import contextmanager
 from dataclasses import replace
 
-from .case import Basis, print_case, read_case
+from .case import print_case, read_case
 from .changes import changed
 from .errors import Refused
 from .lists import Listed
-from .scenarios import Variant, read_changes
+from .scenarios import read_changes
 
 SCENARIO, BASE = 'scenario', 'base'
 
@@ -24,15 +24,14 @@ def of_file(path: str) -> Iterator[None]:
         raise
 
 
-def scenarios_of(table: bytes, path: str, basis: Basis) -> tuple[Variant, ...]:
-    return read_changes(table, path, basis).variants
-
-
-def with_scenarios(rows: Iterable[Listed], table: bytes, path: str) -> tuple[Listed, ...]:
-    """Each case as it is and in each scenario, as rows. `Refused` where the table cannot be read."""
+def with_scenarios(rows: Iterable[Listed], table: bytes, path: str) -> tuple[tuple[Listed, ...], tuple[str, ...]]:
+    """Each case as it is and in each scenario, as rows, and what is told of the table. `Refused` where the table cannot
+    be read; whether its prices are in the unit of a case is for each case to say."""
     with of_file(path):
-        names = (BASE, *(each.name for each in scenarios_of(table, path, Basis())))
-    return tuple(replace(row, names={**row.names, SCENARIO: name}) for row in rows for name in names)
+        made = read_changes(table, path, None)
+    names = (BASE, *(each.name for each in made.variants))
+    named = tuple(replace(row, names={**row.names, SCENARIO: name}) for row in rows for name in names)
+    return named, tuple(f'{path}: {each}' for each in made.notes)
 
 
 def varied(case: bytes, table: bytes, path: str, name: str) -> bytes:
@@ -41,5 +40,5 @@ def varied(case: bytes, table: bytes, path: str, name: str) -> bytes:
         return case
     held = read_case(case)
     with of_file(path):
-        scenario = next(each for each in scenarios_of(table, path, held.basis) if each.name == name)
+        scenario = next(each for each in read_changes(table, path, held.basis).variants if each.name == name)
         return print_case(changed(held, scenario).case).encode()
