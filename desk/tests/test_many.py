@@ -132,6 +132,19 @@ def test_one_study_may_be_that_of_all_cases(desk: Desk, tmp_path: Path) -> None:
     assert [row['scenario'] for row in rows if row['case'] == 'two.csv' and row['scenario']] == ['Today', 'Winter']
 
 
+def test_what_an_answer_says_stands_in_no_column_of_the_case(desk: Desk, tmp_path: Path) -> None:
+    (tmp_path / 'list').write_text(f'case;network;table\n{EXAMPLES}/tc3.csv;{EXAMPLES}/tc3-network.txt;x\n')
+    rows = rows_of(desk('units', str(tmp_path / 'list'), '--form', 'csv'))
+    assert {row['network'] for row in rows} == {f'{EXAMPLES}/tc3-network.txt'}
+    assert [row['in the network'] for row in rows][:3] == ['7', '3', '4']
+    changes = tmp_path / 'changes.csv'
+    changes.write_text('scenario;source;field;value\nhotter;HP;level;+10 K\n')
+    (tmp_path / 'list').write_text(f'case;study\n{EXAMPLES}/two-steam-levels.csv;{EXAMPLES}/steam-prices.csv\n')
+    rows = rows_of(desk('prices', str(tmp_path / 'list'), '--scenarios', str(changes), '--form', 'csv'))
+    assert [(row['scenario'], row['its scenario']) for row in rows if row['its scenario']] == [
+        ('base', 'Today'), ('base', 'Winter'), ('hotter', 'Today'), ('hotter', 'Winter')]
+
+
 def test_remarks_stand_beside_the_rows_of_tables() -> None:
     one = Sheet('One', ('pinch', 'kW'), (('80', Decimal(5)), ('90', Decimal(6))))
     facts = facts_of(Answer('', sheets=(one, Sheet('', (), (('a remark',),)))))

@@ -190,13 +190,14 @@ def test_plus_and_minus_are_what_pinch_says_of_a_little_more(pinch: Pinch) -> No
     latent = {each.stream.name: each for each in what_if(COLUMN, (), pinch).plus_minus}
     assert (latent['reboiler'].size, latent['reboiler'].supply, latent['condenser'].size) == (1000, 30_000, 0)
     sheet = what_if_sheets(what_if(COLUMN, (), pinch))[0]
-    assert sheet.headings[2:] == ('CP +0.01 kW/K', 'load +1 kW', 'supply +1 K', 'target +1 K', 'level +1 K')
+    assert sheet.headings[2:] == (
+        'CP +0.01 kW/K: kW', 'load +1 kW: kW', 'supply +1 K: kW', 'target +1 K: kW', 'level +1 K: kW')
 
 
 def test_the_word_without_changes_has_plus_and_minus_alone(capsys: pytest.CaptureFixture[str]) -> None:
     assert main(['whatif', str(EXAMPLES / 'tc3.csv'), '--form', 'csv']) == 0
     rows = capsys.readouterr().out.split('\r\n')
-    assert rows[0] == 'stream,side,CP +0.01 kW/K,supply +1 K,target +1 K' and len(rows) == 6
+    assert rows[0] == 'stream,side,CP +0.01 kW/K: kW,supply +1 K: kW,target +1 K: kW' and len(rows) == 6
 
 
 @given(st.sampled_from(('supply', 'target', 'CP', 'contribution')), st.integers(-400, 400),

@@ -16,6 +16,7 @@ from .output import read_bytes
 from .program import Pinch
 from .reports import audit_sheets, flow_sheets, prices_sheets, site_sheets, sweep_sheets, targets_sheets
 from .sheets import FORMS, Sheet, form_of, rendered
+from .site import read_site
 from .states import follow
 from .studied import studied
 from .sweeps import as_it_is, asked_range, check_workers
@@ -59,7 +60,8 @@ def takes_study(parser: ArgumentParser) -> None:
 
 
 def takes_site(parser: ArgumentParser) -> None:
-    parser.add_argument('site', metavar='SITE', help='a site file (docs/FORMATS.md)')
+    parser.add_argument('site', metavar='SITE', help='a site file (docs/FORMATS.md), in tenths of °C and 10 W/K, '
+                        'times its #scale')
     takes_form(parser)
 
 
@@ -133,7 +135,7 @@ def site(options: Namespace) -> Answer:
     content = read_bytes(options.site)
     with about(site=options.site):
         answer = Pinch().site(content)
-        return answer_of(site_sheets(answer), options, answer.cut is None)
+        return answer_of(site_sheets(answer, read_site(content).basis), options, answer.cut is None)
 
 
 WORDS = (

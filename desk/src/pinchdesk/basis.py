@@ -31,15 +31,24 @@ class Basis:
 
 def noted(basis: Basis, row: Sequence[str]) -> Basis:
     """The basis with what a comment row of the desk says; any other comment says nothing. A `ValueError` where its
-    number is none that there can be."""
+    number is none that there can be, or another one than a row above says."""
     word, first, second = row[0], read_again(row[1]), row[2]
+    if word == '#name':
+        return replace(basis, names=(*basis.names, (first, second)))
     if word == '#scale':
-        return replace(basis, scale=between(first, LEAST_SCALE))
-    if word == '#price':
-        return replace(basis, price_unit=first, price_divisor=between(second, LEAST_DIVISOR))
-    if word == '#cost':
-        return replace(basis, cost_unit=first, cost_divisor=between(second, LEAST_DIVISOR))
-    return replace(basis, names=(*basis.names, (first, second))) if word == '#name' else basis
+        made = replace(basis, scale=between(first, LEAST_SCALE))
+        is_first = basis.scale == 1
+    elif word == '#price':
+        made = replace(basis, price_unit=first, price_divisor=between(second, LEAST_DIVISOR))
+        is_first = not basis.price_unit
+    elif word == '#cost':
+        made = replace(basis, cost_unit=first, cost_divisor=between(second, LEAST_DIVISOR))
+        is_first = not basis.cost_unit
+    else:
+        return basis
+    if made != basis and not is_first:
+        raise ValueError('a row above says another one')
+    return made
 
 
 def between(text: str, least: Fraction) -> Fraction:

@@ -12,7 +12,7 @@ from math import ceil
 from typing import TypeVar
 
 from .answers import Cut, HeatFlow, Targets
-from .basis import basis_rows
+from .basis import Basis, basis_rows
 from .case import ANY_HEAT, Case, Source, Stream, Utility, case_rows, completed, read_case
 from .causes import CAUSES
 from .changelayout import Field
@@ -59,8 +59,8 @@ class Outcome:
 
 @dataclass(frozen=True)
 class PlusMinus:
-    """How many W the hot target rises by with one more unit (10 W/K) of a stream's CP, or one more kW of the load of a
-    latent one, and with its supply and its target (its level) one K higher. None where there is no such case."""
+    """How many W the hot target rises by with a little more (`little`) of a stream's CP, or of the load of a latent
+    one, and with its supply and its target (its level) one K higher. None where there is no such case."""
 
     stream: Stream
     size: int | None
@@ -243,12 +243,19 @@ def plus_minus(case: Case, base: Targets, pinch: Pinch, workers: int = 0) -> tup
     return tuple(PlusMinus(stream, *rises[3 * at:3 * at + 3]) for at, stream in enumerate(case.streams))
 
 
+def little(basis: Basis) -> tuple[int, int]:
+    """How much a CP and a load are made larger: 0.01 kW/K and 1 kW of the plant, or what a case can hold that is not
+    less."""
+    return max(1, ceil(basis.scale)), max(1, ceil(1000 * basis.scale))
+
+
 def little_more(stream: Stream, case: Case) -> tuple[Stream, Stream, Stream]:
     """The stream with a larger size, with a warmer supply, with a warmer target; a latent one has one level."""
+    more_cp, more_load = little(case.basis)
     if stream.latent:
         warmer = replace(stream, supply=stream.supply + ONE_KELVIN, target=stream.target + ONE_KELVIN)
-        return replace(stream, load=stream.load + ceil(1000 * case.basis.scale)), warmer, warmer
-    return (replace(stream, cp=stream.cp + 1), replace(stream, supply=stream.supply + ONE_KELVIN),
+        return replace(stream, load=stream.load + more_load), warmer, warmer
+    return (replace(stream, cp=stream.cp + more_cp), replace(stream, supply=stream.supply + ONE_KELVIN),
             replace(stream, target=stream.target + ONE_KELVIN))
 
 

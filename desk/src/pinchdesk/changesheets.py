@@ -9,7 +9,7 @@ from fractions import Fraction
 from .answers import Cut
 from .case import ANY_HEAT
 from .changelayout import Field
-from .changes import Outcome, PlusMinus, Step, WhatIf
+from .changes import Outcome, PlusMinus, Step, WhatIf, little
 from .sheets import Cell, Sheet
 from .shown import Shown, decimal
 
@@ -69,7 +69,7 @@ def steps_sheet(made: WhatIf) -> Sheet:
                   number(step.before, step.change.field, shown),
                   number(step.behind, step.change.field, shown), unit_of(step.change.field, shown))
                  for each in made.outcomes for at, step in enumerate(each.steps))
-    return Sheet('What is changed', ('scenario', 'source', 'field', 'from', 'to', ''), rows)
+    return Sheet('What is changed', ('scenario', 'source', 'field', 'from', 'to', 'unit'), rows)
 
 
 def number(value: int | Fraction, field: Field, shown: Shown) -> Cell:
@@ -110,8 +110,9 @@ def plus_minus_sheet(made: WhatIf) -> Sheet:
     """By how much the hot target rises with a little more of each stream: what makes it smaller is worth trying."""
     shown = Shown(made.base.case.basis)
     rows = tuple(plus_minus_row(each, shown) for each in made.plus_minus)
-    headings = ('stream', 'side', f'CP +{shown.kilowatts_per_kelvin(1, 6)} kW/K', 'load +1 kW', 'supply +1 K',
-                'target +1 K', 'level +1 K')
+    cp, load = little(shown.basis)
+    headings = ('stream', 'side', f'CP +{shown.kilowatts_per_kelvin(cp, 6)} kW/K: kW',
+                f'load +{shown.kilowatts(load, 6)} kW: kW', 'supply +1 K: kW', 'target +1 K: kW', 'level +1 K: kW')
     width = 7 if any(each.stream.latent for each in made.plus_minus) else 6
     keep = [at for at in range(width) if at != 3 or width == 7]
     return Sheet('Plus and minus: more hot kW', tuple(headings[at] for at in keep),

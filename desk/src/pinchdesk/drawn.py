@@ -37,7 +37,8 @@ def takes_network(parser: ArgumentParser) -> None:
 
 
 def takes_site(parser: ArgumentParser) -> None:
-    parser.add_argument('site', metavar='SITE', help='a site file (docs/FORMATS.md)')
+    parser.add_argument('site', metavar='SITE', help='a site file (docs/FORMATS.md), in tenths of °C and 10 W/K, '
+                        'times its #scale')
 
 
 def takes_sweep(parser: ArgumentParser) -> None:

@@ -4,7 +4,7 @@ from __future__ import annotations
 from decimal import Decimal
 
 from .answers import Cut, HeatFlow, Prices, ScenarioAnswer, SiteAnswer, SpanAnswer, Sweep, SweepRow, Targets
-from .case import Case, Side
+from .case import Basis, Case, Side
 from .findings import finding_of
 from .pinchplaces import temperatures_at
 from .sheets import Cell, Sheet
@@ -67,9 +67,10 @@ def flow_sheets(case: Case, flow: HeatFlow | Cut) -> list[Sheet]:
     prices = tuple((word, each.part.name, celsius(shown, each.part.high), celsius(shown, each.part.low),
                     Decimal(shown.price(each.price)))
                    for word, parts in (('gives', flow.gives), ('takes', flow.takes)) for each in parts)
-    headings = ('hot', 'from', 'to', 'cold', 'from', 'to', 'kW')
+    headings = ('hot', 'hot from °C', 'hot to °C', 'cold', 'cold from °C', 'cold to °C', 'kW')
     return [uses_sheet(case, flow, shown), Sheet('Heat flow, shifted °C', headings, moves),
-            Sheet('Prices that prove it, shifted °C', ('', 'part', 'from', 'to', shown.price_unit), prices)]
+            Sheet('Prices that prove it, shifted °C', ('', 'part', 'from °C', 'to °C', f'price {shown.price_unit}'),
+                  prices)]
 
 
 def cut_sheet(cut: Cut, shown: Shown) -> Sheet:
@@ -78,7 +79,7 @@ def cut_sheet(cut: Cut, shown: Shown) -> Sheet:
     told = f'have to give {need} kW, and all that they reach can take {offer} kW at most' if cut.side is Side.HOT \
         else f'have to take {need} kW, and all that reaches them can give {offer} kW at most'
     rows = tuple((each.name, celsius(shown, each.high), celsius(shown, each.low)) for each in cut.parts)
-    return Sheet(f'No heat flow: these parts {told}', ('part', 'from', 'to'), rows)
+    return Sheet(f'No heat flow: these parts {told}', ('part', 'from °C', 'to °C'), rows)
 
 
 def audit_sheets(followed: Followed, verdict: Verdict) -> list[Sheet]:
@@ -141,8 +142,8 @@ def prices_sheets(case: Case, prices: Prices) -> list[Sheet]:
             segments.extend(span_rows(each, shown) or [(each.utility, 'no heat flow')])
     unit = shown.price_unit
     return [Sheet('Scenarios', ('scenario', f'least cost {shown.cost_unit}'), tuple(scenarios))] * bool(scenarios) + [
-        Sheet('Spans', ('utility', f'from {unit}', f'to {unit}', 'cost there', f'cost there {shown.cost_unit}',
-                        'slope kW'), tuple(segments))] * bool(segments)
+        Sheet('Spans', ('utility', f'from {unit}', f'to {unit}', f'cost at the first {shown.cost_unit}',
+                        f'cost at the last {shown.cost_unit}', 'slope kW'), tuple(segments))] * bool(segments)
 
 
 def span_rows(span: SpanAnswer, shown: Shown) -> list[tuple[Cell, ...]]:
@@ -154,9 +155,9 @@ def span_rows(span: SpanAnswer, shown: Shown) -> list[tuple[Cell, ...]]:
     return rows
 
 
-def site_sheets(answer: SiteAnswer) -> list[Sheet]:
-    """What a site needs, and its profiles."""
-    shown = Shown()
+def site_sheets(answer: SiteAnswer, basis: Basis = Basis()) -> list[Sheet]:
+    """What a site of this basis needs, and its profiles."""
+    shown = Shown(basis)
     rows = tuple((celsius(shown, each.temperature), kilowatts(shown, each.source), kilowatts(shown, each.sink))
                  for each in answer.profiles)
     profiles = Sheet('Profiles', ('shifted °C', 'to give below it kW', 'to take above it kW'), rows)

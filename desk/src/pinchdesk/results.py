@@ -38,7 +38,12 @@ class Done:
     def rows(self) -> Iterator[Facts]:
         for facts in self.outcome.facts:
             said = '; '.join(each for each in (str(facts.get(SAID) or ''), self.outcome.told) if each)
-            yield {**self.names, ANSWER: self.answer, **facts, SAID: said or None}
+            yield {**self.names, ANSWER: self.answer, **self.apart(facts), SAID: said or None}
+
+    def apart(self, facts: Facts) -> Facts:
+        """What an answer says, with no heading that is one of the case's own."""
+        return {f'its {heading}' if heading in (*self.names, ANSWER) else heading: cell
+                for heading, cell in facts.items()}
 
 
 @dataclass(frozen=True)

@@ -1,10 +1,13 @@
 """The site file: the only reader of it in the desk (docs/FORMATS.md, *The site file*). Tenths of °C and 10 W/K."""
 from __future__ import annotations
 
+from collections.abc import Sequence
 from dataclasses import dataclass
+from fractions import Fraction
 
+from .basis import Basis, noted
 from .case import Side, Stream, is_passed_over, number, records
-from .errors import refused_row
+from .errors import Refused, refused_row
 
 
 @dataclass(frozen=True)
@@ -26,11 +29,13 @@ class Plant:
 
 @dataclass(frozen=True)
 class Site:
-    """Plants that share steam mains; one contribution holds for all."""
+    """Plants that share steam mains; one contribution holds for all. All its CPs are the basis's scale times those of
+    the plants, as those of cases that were put together to a site may be."""
 
     contribution: int
     mains: tuple[Main, ...]
     plants: tuple[Plant, ...]
+    basis: Basis = Basis()
 
 
 def read_site(text: str | bytes) -> Site:
@@ -59,7 +64,32 @@ def read_site(text: str | bytes) -> Site:
             plants[-1][1].append((Side(row[0]), row[1], [number('site', at, text) for text in row[2:5]]))
     if contribution is None:
         raise refused_row('site', at + 1, 'NoContribution')
-    return Site(contribution, tuple(mains), tuple(Plant(name, streams_of(rows, contribution)) for name, rows in plants))
+    made = tuple(Plant(name, streams_of(rows, contribution)) for name, rows in plants)
+    return Site(contribution, tuple(mains), made, Basis(scale=scale_of(list(records(text)))))
+
+
+def scale_of(rows: Sequence[tuple[int, Sequence[str]]]) -> Fraction:
+    """What the CPs of a site are taken times, by its rows `#scale`: one above the plants, or the same in each;
+    `Refused` where they are not the same."""
+    # That of the head, and that of each plant.
+    found: list[Fraction | None] = [None]
+    last = 0
+    for at, row in rows:
+        if row[0] == 'plant':
+            found.append(None)
+        elif row[0] == '#scale':
+            last = at
+            try:
+                found[-1] = noted(Basis(scale=found[-1] or Fraction(1)), row).scale
+            except ValueError as fault:
+                raise Refused(3, f'site row {at}', 'comment', f'site row {at} {row[0]}: {fault}') from fault
+    head, *plants = found
+    held = {each or head or Fraction(1) for each in plants} | ({head} if head else set())
+    if len(held) > 1:
+        scales = ' and '.join(str(each) for each in sorted(held))
+        cause = f'the plants are taken {scales} times, and one scale has to hold for all'
+        raise Refused(3, f'site row {last}', 'scale', f'site row {last}: {cause}')
+    return next(iter(held), Fraction(1))
 
 
 def streams_of(rows: list[tuple[Side, str, list[int]]], contribution: int) -> tuple[Stream, ...]:

@@ -51,7 +51,7 @@ def tradeoff_sheets(traded: TradeOff) -> list[Sheet]:
     headings = ('exchangers', f'cost {unit}', f'above the floor {unit}', 'excess kW', 'splits', 'gone', 'new')
     moved = tuple((Decimal(row.exchangers), Decimal(shown.kilowatts(each.heat)), 'loop' if each.loop else 'path',
                    each.told) for row in traded.rows for each in row.shifts)
-    changes = Sheet('Heat moved from one network to the next', ('to', 'kW', 'along', 'way'), moved)
+    changes = Sheet('Heat moved from one network to the next', ('exchangers', 'kW', 'along', 'way'), moved)
     return [Sheet('Exchangers against cost', headings, tuple(rows)), *[changes] * bool(moved),
             Sheet('What is proved', (), ((said_of(traded),),))]
 

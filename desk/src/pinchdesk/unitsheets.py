@@ -109,7 +109,7 @@ def numbers_sheet(units: Units, followed: Followed | None = None) -> Sheet:
         title = 'all, utility pinches too' if utility else 'all sides of the pinch'
         rows.append((title, *summed(level), *joined_number(level, parted)))
     headings = ('shifted', 'sources', 'sets', 'exchangers', *(('that can be joined',) if parted else ()),
-                *(('network', 'partly') if followed else ()))
+                *(('in the network', 'partly') if followed else ()))
     return Sheet('Least number of exchangers', headings, tuple(rows))
 
 

@@ -20,7 +20,7 @@ MAIN = '#7d3c98'
 def site_figure(site: Site, answer: SiteAnswer) -> Figure:
     """What can be given below each temperature to the left, what can be taken above it to the right, and each main
     where it takes and where it gives heat."""
-    shown = Shown()
+    shown = Shown(site.basis)
     with styled():
         figure = blank(8.6, 5.8)
         axes = figure.subplots()
