@@ -2,7 +2,6 @@
 from __future__ import annotations
 
 import argparse
-import hashlib
 import os
 import shutil
 import subprocess
@@ -10,22 +9,24 @@ import sys
 import time
 from pathlib import Path
 
-import archived
 import checked
-from archived import Member
+import debian_package
+import members
+import wheel_file
 from checked import Commit, Finding, State
 
 ROOT = Path(__file__).resolve().parents[1]
 
 
 def options_of(words: list[str] | None) -> argparse.Namespace:
-    made = argparse.ArgumentParser(prog='release/pack', description='Packs a release of pinch in one archive.')
+    made = argparse.ArgumentParser(prog='release/pack',
+                                   description='Packs a release of pinch: a wheel and a package of Debian.')
     made.add_argument('--gate', metavar='LOG', required=True, help='the log of `rt ci`, or its last line')
     made.add_argument('--program', metavar='FILE', type=Path, default=ROOT / 'crates' / 'pinch' / 'out' / 'pinch',
                       help='the proved program; crates/pinch/out/pinch unless it is given')
     made.add_argument('--kit', metavar='LINE', help='the line of `rt version`; asked of rt unless it is given')
     made.add_argument('-o', '--output', metavar='FOLDER', type=Path, default=Path(),
-                      help='where the archive is written; here unless it is given')
+                      help='where both files are written; here unless it is given')
     made.add_argument('--trial', action='store_true', help='pack what is not in order, under a name that says so')
     return made.parse_args(words)
 
@@ -43,12 +44,11 @@ def release_text(version: str, commit: Commit, gate: str, kit: str, program: Pat
                  findings: list[Finding]) -> str:
     """What stands in the file RELEASE."""
     when = time.strftime('%Y-%m-%d %H:%M:%S UTC', time.gmtime(commit.seconds))
-    licences = [each.name for each in ROOT.iterdir() if archived.LICENCE.fullmatch(each.name)]
+    licences = [path.name for path in ROOT.iterdir() if members.LICENCE.fullmatch(path.name)]
     rows = [('version', version), ('commit', f'{commit.name}, {when}'), ('gate', gate), ('kit', kit),
             ('program', f'bin/pinch, SHA-256 {checked.sum_of(program)}'),
             ('wants', f'Linux on x86-64 with the C library (glibc) {checked.library_of(program)} or later'),
-            ('desk', 'Python 3.11 or later, and the libraries that desk/libraries names'),
-            ('licence', ', '.join(sorted(licences)) or 'none is named in the repository')]
+            ('licence', ', '.join(sorted(licences)) or 'none is given yet')]
     text = ''.join(f'{name:<9}{held}\n' for name, held in rows)
     heads = {State.WRONG: 'NO RELEASE, FOR A TRIAL ALONE, since', State.CHECKED: 'Checked when it was packed',
              State.OPEN: 'Not checked'}
@@ -58,13 +58,8 @@ def release_text(version: str, commit: Commit, gate: str, kit: str, program: Pat
     return text
 
 
-def top_of(version: str, is_trial: bool) -> str:
-    """The top folder of the archive, by which it is named."""
-    return f'pinch-{version}{"-trial" if is_trial else ""}-x86_64-linux'
-
-
-def pack(options: argparse.Namespace) -> Path:
-    """Packs, and gives the archive. `OSError` with all causes where the release is not in order."""
+def pack(options: argparse.Namespace) -> list[Path]:
+    """Packs, and gives both files. `OSError` with all causes where the release is not in order."""
     program: Path = options.program.absolute()
     if not checked.is_program(program):
         raise OSError(f'there is no program at {program}: build it first, or give it with --program')
@@ -72,17 +67,18 @@ def pack(options: argparse.Namespace) -> Path:
     gate, of_gate = checked.on_gate(ROOT, options.gate)
     findings = [*checked.on_checkout(ROOT), *checked.on_version(ROOT), *of_gate,
                 *checked.on_kit(ROOT, kit, options.gate), *checked.on_program(ROOT, program)]
-    wrong = [each.text for each in findings if each.state is State.WRONG]
+    wrong = [finding.text for finding in findings if finding.state is State.WRONG]
     if wrong and not options.trial:
-        raise OSError('no release:\n' + '\n'.join(f'- {each}' for each in wrong))
+        raise OSError('no release:\n' + '\n'.join(f'- {text}' for text in wrong))
     if options.trial and not wrong:
         raise OSError('all is in order: pack it without --trial')
-    text = release_text(version, commit, gate, kit, program, findings)
-    members = [*archived.documents(ROOT, commit), archived.wheel(ROOT, commit), Member('RELEASE', text.encode()),
-               Member('desk/libraries', archived.libraries(ROOT).encode()),
-               Member('bin/pinch', program.read_bytes(), True)]
-    top = top_of(version, bool(wrong))
-    return written(options.output / f'{top}.tar.xz', archived.packed(top, [*members, archived.sums(members)], commit))
+    shared = members.shared(ROOT, commit, version, release_text(version, commit, gate, kit, program, findings))
+    desk, content, is_trial = wheel_file.desk_files(ROOT, commit), program.read_bytes(), bool(wrong)
+    of_debian = debian_package.version_of(version, is_trial)
+    files = {wheel_file.name_of(version, is_trial): wheel_file.wheel(version, desk, shared, content, commit, is_trial),
+             debian_package.name_of(version, is_trial): debian_package.package(
+                 ROOT, commit, of_debian, debian_package.installed(desk, shared, content))}
+    return [written(options.output / name, packed) for name, packed in files.items()]
 
 
 def written(path: Path, content: bytes) -> Path:
@@ -97,9 +93,10 @@ def written(path: Path, content: bytes) -> Path:
 
 def main(words: list[str] | None = None) -> int:
     try:
-        path = pack(options_of(words))
+        paths = pack(options_of(words))
     except (OSError, subprocess.CalledProcessError) as fault:
         print(f'release/pack: {fault}', file=sys.stderr)
         return 1
-    print(f'{hashlib.sha256(path.read_bytes()).hexdigest()}  {path.name}')
+    for path in paths:
+        print(f'{checked.sum_of(path)}  {path.name}')
     return 0

@@ -135,6 +135,7 @@ CLOSED = [
     ('$D case -d 10 t.csv > out.csv 2>&-', 2, ''), ('$D case -d 10 t.csv > out.csv 2> /dev/full', 2, ''),
     ('$D targets nowhere 2> /dev/full', 3, ''), ('$D targets nowhere 2>&-', 3, ''), ('$D targets 2>&-', 2, ''),
     ('$D --help > /dev/full', 2, 'No space'), ('$D --help >&-', 2, 'closed'),
+    ('$D --version > /dev/full', 2, 'No space'),
     ('$D targets nowhere >&-', 3, 'nowhere: cannot be read'),
     ('$D draw curves $1/tc3.csv -o out.svg >&- 2>&-', 0, ''), ('$D many targets $1/list.txt >&-', 2, 'it is closed'),
     ('$D network $1/tc3.csv --seconds 2 -o out.txt <&- >&- 2>&-', 0, ''),

@@ -33,6 +33,7 @@ from .traded import tradeoff_sheets
 from .units import IndependentSet, RegionUnits, Units, least_units
 from .unitsheets import units_sheets
 from .verdicts import Accepted, Penalty, Place, PlaceKind, Rejected, TooFine, Verdict
+from .version import __version__
 
 if TYPE_CHECKING:
     from .matches.simpler import simpler
@@ -58,7 +59,7 @@ __all__ = [
     'Results', 'Rows', 'Scenario', 'ScenarioAnswer', 'Segment', 'Sheet', 'Shown', 'Side', 'SideState', 'Site',
     'SiteAnswer', 'Span', 'SpanAnswer', 'Split', 'Step', 'Stream', 'StreamEnd', 'Study', 'Sweep', 'SweepRow', 'Targets',
     'TooFine', 'TradeOff', 'Units', 'Use', 'Utility', 'Variant', 'Variants', 'Verdict', 'Wanted', 'Way', 'WhatIf',
-    'WordsError', 'actual', 'audit_sheets', 'case_of_table', 'checked', 'completed', 'exchangers_sheet', 'find_network',
+    'WordsError', '__version__', 'actual', 'audit_sheets', 'case_of_table', 'checked', 'completed', 'exchangers_sheet', 'find_network',
     'flow_sheets', 'follow', 'least_units', 'many', 'partition', 'pinches_of', 'prices_sheets', 'print_case',
     'print_network', 'print_study', 'read_case', 'read_changes', 'read_network', 'read_site', 'read_study', 'remaining',
     'rendered', 'rest_sheets', 'shifted', 'simpler', 'site_sheets', 'streams_sheet', 'sums_sheet', 'sweep_sheets',

@@ -14,6 +14,7 @@ from .failures import failure_of
 from .output import check_place, write_whole
 from .progress import progress
 from .standard import fill, put, say
+from .version import __version__
 from .word import Word
 
 WORDS: tuple[Word, ...] = words.WORDS
@@ -29,9 +30,18 @@ class Parser(argparse.ArgumentParser):
         put(self.format_help())
 
 
+class Version(argparse.Action):
+    """Prints the version, and ends."""
+
+    def __call__(self, parser: argparse.ArgumentParser, *_: Any) -> None:
+        put(f'pinchdesk {__version__}\n')
+        parser.exit()
+
+
 def parser() -> argparse.ArgumentParser:
     made = Parser(prog='pinchdesk', description='From an engineer\'s spreadsheet to a page for the reviewer, around '
                                                 'the proved program pinch.')
+    made.add_argument('--version', action=Version, nargs=0, help='print the version, and end')
     add_words(made.add_subparsers(dest='word', metavar='WORD', required=True), WORDS)
     return made
 

@@ -21,7 +21,7 @@ from .network import Network, print_network
 from .study import Study, print_study, read_study
 from .verdicts import Verdict
 
-CHECKOUT = Path(__file__).resolve().parents[3] / 'crates' / 'pinch' / 'out' / 'pinch'
+PACKAGE = next(folder for folder in Path(__file__).resolve().parents if folder.name == 'pinchdesk')
 Answer = TypeVar('Answer')
 CaseText = Case | str | bytes
 NetworkText = Network | str | bytes
@@ -31,20 +31,32 @@ WORDS, REFUSED, UNREADABLE = 2, (3, 4, 5), 6
 
 
 def found() -> str:
-    """The path of the program: `$PINCH`, else the one of this checkout, else the one on the path. `ProgramError` where
-    there is none."""
+    """The path of the program: `$PINCH`, else the one of this checkout or of this installation, else the one on the
+    path. `ProgramError` where there is none."""
     told = os.environ.get('PINCH')
     if told:
         path = shutil.which(told)
         if not path:
             raise ProgramError(f'$PINCH is {told}, and that is no program')
         return os.path.abspath(path)
-    if os.access(CHECKOUT, os.X_OK):
-        return str(CHECKOUT)
+    own = own_program(PACKAGE)
+    if own.is_file() and os.access(own, os.X_OK):
+        return str(own)
     path = shutil.which('pinch')
     if not path:
-        raise ProgramError(f'there is no `pinch`: no $PINCH, no {CHECKOUT}, none on the path (see the README)')
+        raise ProgramError(f'there is no `pinch`: no $PINCH, no {own}, none on the path (see the README)')
     return os.path.abspath(path)
+
+
+def own_program(package: Path) -> Path:
+    """Where the program of this package lies: in a checkout the one that is built there, else the one that came with
+    the package, below PREFIX/bin for PREFIX/lib/python3.N/site-packages, as environments, homes and Debian have it, or
+    in the folder `bin` beside it, as `pip install --target` has it."""
+    packages = package.parent
+    if packages.name == 'src':
+        return packages.parents[1] / 'crates' / 'pinch' / 'out' / 'pinch'
+    prefix = packages.parents[2] if packages.name in ('site-packages', 'dist-packages') else packages
+    return prefix / 'bin' / 'pinch'
 
 
 class Pinch:
