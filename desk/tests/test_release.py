@@ -1,44 +1,53 @@
-"""A release: what is refused, the archive's bytes, one version, and what is installed and taken away again."""
+"""A release: what is refused, the bytes of both files, one version, and what is installed and taken away again."""
 from __future__ import annotations
 
+import csv
 import io
 import os
 import shutil
 import subprocess
 import sys
-import tarfile
+import tomllib
 import zipfile
 from pathlib import Path
 
-import archived
 import checked
-import lacking
-import packing
+import debian_package
+import members
 import pytest
-from archived import Member
+import wheel_file
 from checked import Commit, State
 from conftest import DESK
 from hypothesis import given, settings
 from hypothesis import strategies as st
+from members import Member
 
+import pinchdesk
 from pinchdesk import Pinch
+from pinchdesk.program import found, own_program
 
 ROOT = DESK.parent
 COMMIT = Commit('0' * 40, 1_700_000_000)
-PATHS = st.text('abcAB01._-', min_size=1, max_size=6).filter(lambda each: each.strip('.'))
-MEMBERS = st.lists(st.builds(Member, PATHS, st.binary(max_size=30), st.booleans()), unique_by=lambda each: each.path)
+PATHS = st.text('abcAB01._-', min_size=1, max_size=6).filter(lambda path: path.strip('.'))
+SHARED = st.lists(st.builds(Member, PATHS, st.binary(max_size=30)), unique_by=lambda member: member.path)
 
 
 def wrong(findings: list[checked.Finding]) -> list[str]:
     return [each.text for each in findings if each.state is State.WRONG]
 
 
-def test_the_version_stands_in_one_place_and_the_archive_and_the_change_log_have_it() -> None:
+def test_the_version_stands_in_one_place_and_both_files_and_the_change_log_have_it() -> None:
     version = checked.version_of(ROOT)
-    assert not wrong(checked.on_version(ROOT))
-    assert packing.top_of(version, False) == f'pinch-{version}-x86_64-linux'
-    texts = [each for each in ROOT.glob('desk/src/**/*.py') if '__version__' in each.read_text(encoding='utf-8')]
-    assert not texts
+    assert pinchdesk.__version__ == version and not wrong(checked.on_version(ROOT))
+    assert wheel_file.name_of(version, False) == f'pinchdesk-{version}-py3-none-manylinux_2_34_x86_64.whl'
+    assert debian_package.name_of(version, False) == f'pinch_{version}_amd64.deb'
+    assert [path.name for path in ROOT.glob('desk/src/**/*.py') if version in path.read_text()] == ['version.py']
+    assert version not in (DESK / 'pyproject.toml').read_text()
+
+
+def test_files_for_a_trial_say_so_in_their_names() -> None:
+    assert wheel_file.name_of('1.2.3', True) == 'pinchdesk-1.2.3-0trial-py3-none-manylinux_2_34_x86_64.whl'
+    assert debian_package.name_of('1.2.3', True) == 'pinch_1.2.3~trial_amd64.deb'
 
 
 def test_the_gate_of_this_commit_is_taken() -> None:
@@ -103,87 +112,147 @@ def test_a_stamp_of_another_program_is_refused(tmp_path: Path) -> None:
     assert wrong(checked.on_stamp(program))
 
 
-@given(MEMBERS)
+@pytest.mark.parametrize('symbols, least', [
+    ('(GLIBC_2.2.5) free\n(GLIBC_2.14) memcpy\n', '2.14'), ('(GLIBC_2.34) __libc_start_main\n', '2.34'),
+    ('(GLIBC_2.35) x\n(GLIBC_2.4) y\n', ''), ('(GLIBC_PRIVATE) x\n(GLIBC_2.4) y\n', ''), ('(GLIBC_ABI_DT_RELR)', ''),
+    ('', '')])
+def test_a_program_for_a_newer_c_library_is_refused(symbols: str, least: str) -> None:
+    if least:
+        assert checked.least_library(symbols) == least
+    else:
+        with pytest.raises(OSError, match='C library'):
+            checked.least_library(symbols)
+
+
+@pytest.mark.skipif(not shutil.which('objdump'), reason='there is no objdump, of Debian\'s binutils')
+def test_the_program_wants_no_newer_c_library_than_the_name_says(pinch: Pinch) -> None:
+    assert checked.library_of(Path(pinch.path)) <= checked.C_LIBRARY == '2.34'
+
+
+def desk() -> list[Member]:
+    """The desk as a pure wheel has it, made without setuptools."""
+    source = DESK / 'src'
+    files = [Member(str(path.relative_to(source)), path.read_bytes()) for path in (source / 'pinchdesk').rglob('*')
+             if path.is_file() and '__pycache__' not in path.parts]
+    with open(DESK / 'pyproject.toml', 'rb') as handle:
+        command = tomllib.load(handle)['project']['scripts']['pinchdesk']
+    about = {'METADATA': 'Metadata-Version: 2.1\nName: pinchdesk\nVersion: 9.9.9\n',
+             'WHEEL': 'Wheel-Version: 1.0\nGenerator: test\nRoot-Is-Purelib: true\nTag: py3-none-any\n',
+             'entry_points.txt': f'[console_scripts]\npinchdesk = {command}\n'}
+    return files + [Member(f'pinchdesk-9.9.9.dist-info/{name}', text.encode()) for name, text in about.items()]
+
+
+@given(SHARED, st.binary(max_size=30))
 @settings(max_examples=15)
-def test_the_same_members_in_any_order_are_the_same_archive(members: list[Member]) -> None:
-    turned = sorted(members, key=lambda each: each.content)
-    first = archived.packed('top', members, COMMIT)
-    assert first == archived.packed('top', turned, COMMIT)
-    with tarfile.open(fileobj=io.BytesIO(first)) as tar:
-        held = tar.getmembers()
-    assert [each.name for each in held] == [f'top/{each.path}' for each in archived.ordered(members)]
-    assert all((each.uid, each.gid, each.mtime, each.uname) == (0, 0, COMMIT.seconds, 'root') for each in held)
+def test_a_wheel_is_the_same_bytes_each_time_and_its_record_has_each_file(shared: list[Member], program: bytes) -> None:
+    few = [file for file in desk() if file.path.startswith('pinchdesk-')]
+    first = wheel_file.wheel('9.9.9', few, shared, program, COMMIT, False)
+    assert first == wheel_file.wheel('9.9.9', few[::-1], shared[::-1], program, COMMIT, False)
+    with zipfile.ZipFile(io.BytesIO(first)) as held:
+        names = held.namelist()
+        rows = list(csv.reader(io.StringIO(held.read('pinchdesk-9.9.9.dist-info/RECORD').decode())))
+        assert [row[0] for row in rows] == names and rows[-1][1:] == ['', '']
+        for name, total, size in rows[:-1]:
+            content = held.read(name)
+            assert (total, size) == (f'sha256={wheel_file.sum_of(Member(name, content))}', str(len(content)))
+        modes = {name: held.getinfo(name).external_attr >> 16 for name in names}
+        about = held.read('pinchdesk-9.9.9.dist-info/WHEEL').decode().splitlines()
+    assert {name for name, mode in modes.items() if mode & 0o111} == {'pinchdesk-9.9.9.data/scripts/pinch'}
+    assert about[2:] == ['Root-Is-Purelib: false', 'Tag: py3-none-manylinux_2_34_x86_64']
 
 
 @pytest.mark.parametrize('paths', [['a b'], ['a', 'a'], ['a\nb'], ["a'b"]])
 def test_names_that_a_shell_takes_apart_are_refused(paths: list[str]) -> None:
-    with pytest.raises(OSError, match='cannot stand in an archive'):
-        archived.ordered([Member(each, b'') for each in paths])
+    with pytest.raises(OSError, match='cannot stand in a release'):
+        members.ordered([Member(path, b'') for path in paths])
 
 
-def test_libraries_that_are_lacking_are_told(tmp_path: Path, capsys: pytest.CaptureFixture[str]) -> None:
-    listed = tmp_path / 'libraries'
-    listed.write_text('no-such-library 1 needed\npytest 1.0 needed\npytest 999 wished\n')
-    assert lacking.main(str(listed), 'needed') == 1 and capsys.readouterr().out == 'no-such-library\n'
-    assert lacking.main(str(listed), 'wished') == 1 and capsys.readouterr().out == 'pytest\n'
-    assert archived.library_line('jinja2>=3.0') == 'jinja2 3.0' and archived.library_line('pandas') == 'pandas 0'
-    assert 'openpyxl 3.0 needed\n' in archived.libraries(ROOT)
+def test_debian_is_asked_for_the_libraries_of_the_desk() -> None:
+    assert debian_package.library('jinja2>=3.0') == 'python3-jinja2 (>= 3.0)'
+    assert debian_package.library('pandas') == 'python3-pandas'
+    with pytest.raises(OSError, match='not of the form'):
+        debian_package.library('pint~=0.19')
+    told = dict(line.split(': ', 1) for line in debian_package.control_of(ROOT, '9.9.9', []).splitlines()[:10])
+    assert told['Depends'].startswith('libc6 (>= 2.34), python3 (>= 3.11), python3-openpyxl (>= 3.0), ')
+    assert told['Recommends'] == 'python3-scipy (>= 1.10), python3-distributed (>= 2022.12)'
 
 
-def unpacked(folder: Path, program: str) -> Path:
-    """A small archive, laid out: the desk as a wheel that is zipped here."""
-    wheel = io.BytesIO()
-    with zipfile.ZipFile(wheel, 'w') as made:
-        for path in (DESK / 'src' / 'pinchdesk').rglob('*'):
-            if path.is_file() and '__pycache__' not in path.parts:
-                made.write(path, path.relative_to(DESK / 'src'))
-    members = [Member(name, (ROOT / name).read_bytes()) for name in ('README.md', 'desk/README.md', 'CHANGELOG.md',
-                                                                     'examples/four-stream.csv')]
-    members += [Member(place, (ROOT / name).read_bytes(), True) for name, place in archived.SCRIPTS.items()]
-    members += [Member('RELEASE', b'version  9.9.9\n'), Member('bin/pinch', Path(program).read_bytes(), True),
-                Member('desk/pinchdesk-9.9.9-py3-none-any.whl', wheel.getvalue()),
-                Member('desk/libraries', archived.libraries(ROOT).encode())]
-    for each in [*members, archived.sums(members)]:
-        archived.lay(folder, each)
-    return folder
-
-
-def ran(*words: str) -> tuple[int, str]:
-    done = subprocess.run(words, capture_output=True, text=True, check=False, stdin=subprocess.DEVNULL)
+def ran(*words: str, **environment: str) -> tuple[int, str]:
+    own = {name: value for name, value in os.environ.items() if name not in ('PINCH', 'PYTHONPATH')}
+    done = subprocess.run(words, capture_output=True, text=True, check=False, stdin=subprocess.DEVNULL,
+                          env={**own, **environment})
     return done.returncode, done.stdout + done.stderr
 
 
-def files_of(folder: Path) -> set[str]:
-    return {str(each.relative_to(folder)) for each in folder.rglob('*')}
+@pytest.mark.skipif(not shutil.which('dpkg-deb'), reason='there is no dpkg-deb')
+def test_a_package_of_debian_is_the_same_bytes_each_time_and_runs_where_it_is_unpacked(
+        pinch: Pinch, tmp_path: Path) -> None:
+    shared = [Member('share/man/man1/pinch.1', b'.TH'), Member('share/doc/pinch/RELEASE', b'version  9.9.9\n')]
+    files = debian_package.installed(desk(), shared, Path(pinch.path).read_bytes())
+    commit = checked.commit_of(ROOT)
+    package = tmp_path / 'pinch.deb'
+    package.write_bytes(debian_package.package(ROOT, commit, '9.9.9', files))
+    assert package.read_bytes() == debian_package.package(ROOT, commit, '9.9.9', files)
+    assert {'root/root'} == {line.split()[1] for line in ran('dpkg-deb', '-c', str(package))[1].splitlines()}
+    assert ran('dpkg-deb', '-x', str(package), str(tmp_path / 'root'))[0] == 0
+    usr = tmp_path / 'root' / 'usr'
+    assert {path.name for path in usr.glob('bin/*') if os.access(path, os.X_OK)} == {'pinch', 'pinchdesk'}
+    assert (usr / 'share/man/man1/pinch.1.gz').exists() and not list(usr.rglob('RECORD'))
+    place = str(usr / 'lib/python3/dist-packages')
+    asked = 'import pinchdesk; print(pinchdesk.Pinch().path)'
+    assert ran(sys.executable, '-B', '-c', asked, PYTHONPATH=place) == (0, f'{usr}/bin/pinch\n')
+    status, told = ran(sys.executable, '-B', str(usr / 'bin/pinchdesk'), '--version', PYTHONPATH=place)
+    assert (status, told) == (0, f'pinchdesk {pinchdesk.__version__}\n')
 
 
-@pytest.mark.skipif(sys.platform != 'linux', reason='a release is for Linux')
-def test_what_is_installed_is_taken_away_without_a_trace(pinch: Pinch, tmp_path: Path) -> None:
-    here, prefix = unpacked(tmp_path / 'here', pinch.path), tmp_path / 'a place' / 'of its own'
-    install = str(here / 'install')
-    status, told = ran(install, '--no-packages', str(prefix))
-    assert (status, 'is installed below' in told) == (0, True), told
-    assert ran(str(prefix / 'bin/pinch'), 'targets', str(here / 'examples/four-stream.csv'))[0] == 0
-    share = prefix / 'share' / 'pinch'
-    assert all((share / each).is_file() for each in ('RELEASE', 'MANIFEST', 'CHANGELOG.md', 'uninstall'))
-    if (prefix / 'bin/pinchdesk').exists():
-        assert '20' in ran(str(prefix / 'bin/pinchdesk'), 'targets', str(here / 'examples/four-stream.csv'))[1]
-    (share / 'README.md').write_text('mine')
-    held = files_of(prefix)
-    status, told = ran(install, '--no-packages', str(prefix))
-    assert (status, 'README.md' in told, files_of(prefix)) == (1, True, held)
-    (share / 'README.md').write_bytes((ROOT / 'README.md').read_bytes())
-    assert ran(str(share / 'uninstall'))[0] == 0
-    assert files_of(tmp_path) - files_of(here) and not (tmp_path / 'a place').exists()
+def has_pip() -> bool:
+    return ran(sys.executable, '-m', 'pip', '--version')[0] == 0
 
 
-@pytest.mark.skipif(sys.platform != 'linux', reason='a release is for Linux')
-def test_what_is_not_its_own_is_left(pinch: Pinch, tmp_path: Path) -> None:
-    here, prefix = unpacked(tmp_path / 'here', pinch.path), tmp_path / 'prefix'
-    (prefix / 'bin').mkdir(parents=True)
-    (prefix / 'bin/pinch').write_text('of somebody else')
-    status, told = ran(str(here / 'install'), '--no-packages', str(prefix))
-    assert (status, str(prefix / 'bin/pinch') in told, files_of(prefix)) == (1, True, {'bin', 'bin/pinch'})
-    (here / 'README.md').write_text('changed')
-    assert 'damaged' in ran(str(here / 'install'), '--no-packages', str(tmp_path / 'new'))[1]
-    assert 'none of pinch' in ran(str(here / 'uninstall'), str(prefix))[1]
+@pytest.mark.skipif(not has_pip(), reason='this Python has no pip')
+def test_a_wheel_brings_the_program_which_its_desk_asks_before_another_one(pinch: Pinch, tmp_path: Path) -> None:
+    name = wheel_file.name_of('9.9.9', False)
+    program = Path(pinch.path).read_bytes()
+    shared = [Member('share/doc/pinch/RELEASE', b'version  9.9.9\n')]
+    (tmp_path / name).write_bytes(wheel_file.wheel('9.9.9', desk(), shared, program, COMMIT, False))
+    place, path = tmp_path / 'environment', f'{tmp_path}:{os.environ["PATH"]}'
+    assert ran(sys.executable, '-m', 'venv', '--without-pip', '--system-site-packages', str(place))[0] == 0
+    pip = [sys.executable, '-m', 'pip', '--python', str(place), '--disable-pip-version-check']
+    status, told = ran(*pip, 'install', '--no-index', '--no-compile', str(tmp_path / name))
+    assert status == 0, told
+    shutil.copy(shutil.which('true') or '/bin/true', tmp_path / 'pinch')
+    case = str(ROOT / 'examples' / 'tc3.csv')
+    assert '107.5' in ran(str(place / 'bin/pinchdesk'), 'targets', case, PATH=path)[1]
+    assert ran(str(place / 'bin/pinch'), 'targets', case)[1] == 'hot 107500\ncold 40000\npinch 800\n'
+    assert 'no program' in ran(str(place / 'bin/pinchdesk'), 'targets', case, PINCH='/nowhere')[1]
+    assert (place / 'share/doc/pinch/RELEASE').is_file()
+    assert ran(*pip, 'uninstall', '-y', 'pinchdesk')[0] == 0
+    assert not [path for path in place.rglob('*pinch*')]
+
+
+@pytest.mark.parametrize('package, program', [
+    ('/home/a/checkout/desk/src', '/home/a/checkout/crates/pinch/out/pinch'),
+    ('/opt/venv/lib/python3.11/site-packages', '/opt/venv/bin/pinch'),
+    ('/home/a/.local/lib/python3.12/site-packages', '/home/a/.local/bin/pinch'),
+    ('/usr/lib/python3/dist-packages', '/usr/bin/pinch'), ('/srv/modules', '/srv/modules/bin/pinch')])
+def test_where_the_program_of_an_installation_lies(package: str, program: str) -> None:
+    assert own_program(Path(package) / 'pinchdesk') == Path(program)
+
+
+def test_the_program_is_that_of_pinch_then_its_own_then_that_on_the_path(
+        tmp_path: Path, monkeypatch: pytest.MonkeyPatch) -> None:
+    places = [tmp_path / name / 'bin' / 'pinch' for name in ('told', 'own', 'path')]
+    for place in places:
+        place.parent.mkdir(parents=True)
+        shutil.copy(shutil.which('true') or '/bin/true', place)
+    monkeypatch.setattr('pinchdesk.program.PACKAGE', tmp_path / 'own/lib/python3.11/site-packages/pinchdesk')
+    monkeypatch.setenv('PATH', str(places[2].parent))
+    monkeypatch.setenv('PINCH', str(places[0]))
+    assert found() == str(places[0])
+    monkeypatch.delenv('PINCH')
+    assert found() == str(places[1])
+    places[1].unlink()
+    assert found() == str(places[2])
+    places[2].unlink()
+    with pytest.raises(pinchdesk.ProgramError, match=f'no {places[1]}, none on the path'):
+        found()
