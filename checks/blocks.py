@@ -16,7 +16,7 @@ COMPARED = ('README.md', 'docs/USER_GUIDE.md')
 LINE = re.compile(r'((hot|cold|pinch|cost|excess) -?[0-9/]+|accepted)\Z')
 CODE = re.compile(r'```sh\n(.*?)```', re.S)
 # What builds, proves, installs or reaches other machines is not run here.
-OUTSIDE = re.compile(r'\brt\b|ssh|dask-|checks/|\.ci/|\bpip\b|desk/test|\./install')
+OUTSIDE = re.compile(r'\brt\b|ssh|dask-|checks/|\.ci/|\bpip\b|pipx|apt-get|desk/test')
 DESK = '/usr/bin/python3'
 
 

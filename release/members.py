@@ -1,5 +1,5 @@
-"""What lies in a release: files of the commit, with fixed rights, in a fixed order, so that the same commit, program and
-words give the same bytes."""
+"""What lies in a release: files of the commit, with fixed rights, in a fixed order, so that the same commit, program
+and words give the same bytes."""
 from __future__ import annotations
 
 import io

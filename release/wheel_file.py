@@ -77,7 +77,8 @@ def wheel(version: str, desk: list[Member], shared: list[Member], program: bytes
 def about_wheel(desk: list[Member], is_trial: bool) -> bytes:
     """The file WHEEL: that of the pure wheel, for a package with a program for this kind of machine."""
     pure, = (file.content.decode() for file in desk if file.path.endswith('.dist-info/WHEEL'))
-    own = re.sub(r'^Tag: .*$', f'Tag: {TAG}', pure.replace('Root-Is-Purelib: true', 'Root-Is-Purelib: false'), flags=re.M)
+    own = re.sub(r'^Tag: .*$', f'Tag: {TAG}', pure, flags=re.M)
+    own = own.replace('Root-Is-Purelib: true', 'Root-Is-Purelib: false')
     return (own.rstrip('\n') + (f'\nBuild: {TRIAL}' if is_trial else '') + '\n').encode()
 
 

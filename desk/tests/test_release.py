@@ -43,6 +43,8 @@ def test_the_version_stands_in_one_place_and_both_files_and_the_change_log_have_
     assert debian_package.name_of(version, False) == f'pinch_{version}_amd64.deb'
     assert [path.name for path in ROOT.glob('desk/src/**/*.py') if version in path.read_text()] == ['version.py']
     assert version not in (DESK / 'pyproject.toml').read_text()
+    readme = (ROOT / 'README.md').read_text(encoding='utf-8')
+    assert wheel_file.name_of(version, False) in readme and debian_package.name_of(version, False) in readme
 
 
 def test_files_for_a_trial_say_so_in_their_names() -> None:
