@@ -38,7 +38,9 @@ def wrong(findings: list[checked.Finding]) -> list[str]:
 
 def test_the_version_stands_in_one_place_and_both_files_and_the_change_log_have_it() -> None:
     version = checked.version_of(ROOT)
-    assert pinchdesk.__version__ == version and not wrong(checked.on_version(ROOT))
+    entries = checked.ENTRY.findall((ROOT / 'CHANGELOG.md').read_text(encoding='utf-8'))
+    assert [entry for entry in entries if entry != 'Unreleased'][0] == version == pinchdesk.__version__
+    assert wrong(checked.on_version(ROOT)) == [] or entries[0] == 'Unreleased'
     assert wheel_file.name_of(version, False) == f'pinchdesk-{version}-py3-none-manylinux_2_34_x86_64.whl'
     assert debian_package.name_of(version, False) == f'pinch_{version}_amd64.deb'
     assert [path.name for path in ROOT.glob('desk/src/**/*.py') if version in path.read_text()] == ['version.py']
