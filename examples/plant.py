@@ -41,7 +41,7 @@ assert targets.hot == 20_000 and targets.pinches == (850,)
 show(*pinchdesk.flow_sheets(case, flow))
 
 # %% The curves as a picture: `curves_figure` is a figure of matplotlib, which a notebook shows by itself.
-from pinchdesk.pictures import curves_figure, grid_figure, rendered, sweep_figure  # noqa: E402
+from pinchdesk.figures import curves_figure, grid_figure, rendered, sweep_figure  # noqa: E402
 
 (FOLDER / 'curves.svg').write_bytes(rendered(curves_figure(case, targets, pinch.curves(text), flow), 'svg'))
 
@@ -74,7 +74,7 @@ show(pinchdesk.exchangers_sheet(followed, pinches, verdict), pinchdesk.streams_s
 (FOLDER / 'grid.svg').write_bytes(rendered(grid_figure(followed, pinches, verdict), 'svg'))
 
 # %% Exchangers against cost: what each exchanger less costs, and the paths that pay for it.
-from pinchdesk.pictures import tradeoff_figure  # noqa: E402
+from pinchdesk.figures import tradeoff_figure  # noqa: E402
 
 traded = pinchdesk.tradeoff(text, networks['found'], seconds=3)
 show(*pinchdesk.tradeoff_sheets(traded))
@@ -98,10 +98,10 @@ show(pinchdesk.many('targets', scenarios).sheet())
 show(pinchdesk.many('audit', {name: (each, by_hand) for name, each in scenarios.items()}).sheet())
 
 # %% All of it on one page for the reviewer, which needs no other file.
-from pinchdesk.page import Given, page_of  # noqa: E402
+from pinchdesk.report.page import Given, page_of  # noqa: E402
 
-page, good = page_of(Given('case.csv', 'case.csv', text.encode()),
-                     [Given(f'{name}.txt', name, network.encode()) for name, network in networks.items()])
-assert good
+page, status, _ = page_of(Given('case.csv', 'case.csv', text.encode()),
+                         [Given(f'{name}.txt', name, network.encode()) for name, network in networks.items()])
+assert status == 0
 (FOLDER / 'page.html').write_text(page, encoding='utf-8')
 print('written:', ', '.join(sorted(each.name for each in FOLDER.iterdir())))

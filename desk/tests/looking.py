@@ -16,9 +16,9 @@ from matplotlib.path import Path
 from matplotlib.text import Text
 from matplotlib.transforms import Bbox
 
-from pinchdesk.pictures import rendered
-from pinchdesk.pictures.grid import BARS
-from pinchdesk.pictures.style import styled
+from pinchdesk.figures import rendered
+from pinchdesk.figures.grid.diagram import BARS
+from pinchdesk.figures.style import styled
 
 
 def undrawn(figure: Figure) -> set[int]:

@@ -13,10 +13,10 @@ from html.parser import HTMLParser
 from pathlib import Path
 
 from pinchdesk import Case, Exchanger, Network, Pinch, Split, case_of_table, print_case, print_network, read_network
-from pinchdesk.cli import parser
-from pinchdesk.convert import Wanted
-from pinchdesk.shown import decimal
-from pinchdesk.word import Answer
+from pinchdesk.cli.main import parser
+from pinchdesk.tables.convert import Wanted
+from pinchdesk.formats.shown import decimal
+from pinchdesk.cli.word import Answer
 
 # The plant in °C, kW/K and kW, with prices per W.
 SOURCES = '''hot H1 170 60 30 - - - -

@@ -7,7 +7,7 @@ import openpyxl
 import pytest
 
 from pinchdesk import Refused
-from pinchdesk.convert import Converted, Wanted, case_of_table
+from pinchdesk.tables.convert import Converted, Wanted, case_of_table
 
 TEN = Wanted(difference='10')
 

@@ -15,7 +15,7 @@ from tabled import made, workbook
 from test_texts import shares, streams, utilities
 
 from pinchdesk import Basis, Case, Refused, Side, Stream, read_case
-from pinchdesk.convert import Wanted
+from pinchdesk.tables.convert import Wanted
 
 UNITS: dict[str, Callable[[int], Fraction]] = {
     '°C': lambda tenths: Fraction(tenths, 10),

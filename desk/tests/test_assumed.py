@@ -6,8 +6,8 @@ from hypothesis import assume, given
 from hypothesis import strategies as some
 from tabled import TEN, made, refusal, streams
 
-from pinchdesk.convert import Wanted
-from pinchdesk.naming import FIT, fit_names
+from pinchdesk.tables.convert import Wanted
+from pinchdesk.tables.names import FIT, fit_names
 
 
 # The columns of a table without headings.

@@ -12,8 +12,8 @@ from hypothesis import strategies as st
 from tabled import refusal
 
 from pinchdesk import Basis, Refused, print_case, read_case
-from pinchdesk.amounts import LONGEST, exact
-from pinchdesk.cli import main
+from pinchdesk.formats.amounts import LONGEST, exact
+from pinchdesk.cli.main import main
 
 TC3, TABLE = str(EXAMPLES / 'tc3.csv'), str(EXAMPLES / 'table.csv')
 Desk = Callable[..., Done]
@@ -48,7 +48,8 @@ def test_a_number_is_exact_or_none(value: object) -> None:
 @pytest.mark.parametrize('words', [
     ['network', TC3, '--cost=#'], ['network', TC3, '--above=#'], ['network', TC3, '--seconds=#'],
     ['tradeoff', TC3, '--seconds=#'], ['sweep', '--', TC3, '#', '10', '1'], ['sweep', '--', TC3, '0', '#', '1'],
-    ['sweep', '--', TC3, '0', '10', '#'], ['case', TABLE, '-d#'], ['case', TABLE, '--scale=#'], ['case', TABLE, '--hours=#'],
+    ['sweep', '--', TC3, '0', '10', '#'], ['case', TABLE, '-d#'], ['case', TABLE, '--scale=#'],
+    ['case', TABLE, '--hours=#'],
     ['sweep', TC3, '0', '10', '1', '--workers=#'], ['whatif', TC3, '--workers=#'],
     ['many', 'targets', TC3, '--processes=#'], ['draw', 'grid', TC3, TC3, '--most=#', '-o', 'x.svg']])
 def test_no_number_of_the_words_fills_the_memory(words: list[str], text: str, desk: Desk) -> None:

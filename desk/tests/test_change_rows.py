@@ -8,8 +8,8 @@ from conftest import pinchdesk
 from tabled import workbook
 
 from pinchdesk import Refused, read_changes
-from pinchdesk.basis import Basis
-from pinchdesk.scenarios import Variants
+from pinchdesk.formats.comments import Basis
+from pinchdesk.analysis.change_table import Variants
 
 HEAD = 'scenario;source;field;value\n'
 

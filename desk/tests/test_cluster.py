@@ -8,9 +8,9 @@ import pytest
 from conftest import example
 
 from pinchdesk import WordsError
-from pinchdesk.cluster import Cluster
-from pinchdesk.digests import digests
-from pinchdesk.jobs import File, Job, Outcome
+from pinchdesk.batch.cluster import Cluster
+from pinchdesk.program.digests import digests
+from pinchdesk.batch.job import File, Job, Outcome
 
 
 class KilledWorker(Exception):
@@ -73,8 +73,8 @@ def good() -> tuple[str, str]:
 
 @pytest.fixture(autouse=True)
 def quick(monkeypatch: pytest.MonkeyPatch) -> None:
-    monkeypatch.setattr('pinchdesk.cluster.LOOK', 0.0)
-    monkeypatch.setattr('pinchdesk.cluster.PAUSE', 0.0)
+    monkeypatch.setattr('pinchdesk.batch.cluster.LOOK', 0.0)
+    monkeypatch.setattr('pinchdesk.batch.cluster.PAUSE', 0.0)
 
 
 def answers(client: Client, count: int, *steps: Callable[[list[Future]], None]) -> tuple[list[Outcome], Cluster]:
@@ -90,7 +90,7 @@ def answers(client: Client, count: int, *steps: Callable[[list[Future]], None]) 
             for each in held:
                 each.ends('finished', Outcome(each.job.number, 0))
     with pytest.MonkeyPatch.context() as patch:
-        patch.setattr('pinchdesk.cluster.wait_for_one', wait)
+        patch.setattr('pinchdesk.batch.cluster.wait_for_one', wait)
         return list(cluster.outcomes(jobs(count))), cluster
 
 
@@ -144,6 +144,6 @@ def test_without_a_worker_it_ends_with_what_is_done(good: tuple[str, str], monke
     def gone(held: list[Future]) -> None:
         held[0].ends('finished', Outcome(0, 0))
         client.workers = {}
-        monkeypatch.setattr('pinchdesk.cluster.PATIENCE', -1.0)
+        monkeypatch.setattr('pinchdesk.batch.cluster.PATIENCE', -1.0)
     outcomes, cluster = answers(client, 3, gone)
     assert ([each.number for each in outcomes], cluster.notes) == ([0], ['no worker is left at tcp://there'])

@@ -13,8 +13,8 @@ from conftest import example
 from tabled import TEN, made, refusal, streams, workbook
 
 from pinchdesk import Pinch, Refused, WordsError, read_case
-from pinchdesk.case import print_comments
-from pinchdesk.convert import Wanted, case_of_table, checked
+from pinchdesk.formats.case import print_comments
+from pinchdesk.tables.convert import Wanted, case_of_table, checked
 
 REACTORS = '''Stream;Supply [°C];Target [°C];CP (MW/K);Duty (MW)
 Feed-1;20;180;0,2;32,0

@@ -15,12 +15,12 @@ from matplotlib.figure import Figure
 
 from pinchdesk import (Case, Curves, Cut, HeatFlow, Pinch, Side, Stream, Targets, Utility, completed, print_case,
                        read_case)
-from pinchdesk.pictures import balanced_figure, composite_figure, curves_figure, grand_figure
-from pinchdesk.pictures.labels import meets
-from pinchdesk.pictures.uses import Drawn, balanced, drawn_of, on_curve, stairs
-from pinchdesk.pinchplaces import temperatures_at
-from pinchdesk.reports import targets_sheets
-from pinchdesk.shown import Shown
+from pinchdesk.figures import balanced_figure, composite_figure, curves_figure, grand_figure
+from pinchdesk.figures.labels import meets
+from pinchdesk.figures.utilities_used import Drawn, balanced, drawn_of, on_curve, stairs
+from pinchdesk.analysis.pinch_places import temperatures_at
+from pinchdesk.report.answer_sheets import targets_sheets
+from pinchdesk.formats.shown import Shown
 
 FURNACE = b"""contribution,,50,,,,
 cold,C1,200,1350,200,,

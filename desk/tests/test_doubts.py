@@ -8,7 +8,7 @@ import openpyxl
 import pytest
 from tabled import TEN, made, refusal, streams, workbook
 
-from pinchdesk.convert import Wanted
+from pinchdesk.tables.convert import Wanted
 
 HEAD = 'name,supply,target,CP\n'
 UNITS = 'name,supply °C,target °C,CP kW/K\n'

@@ -6,11 +6,11 @@ from pathlib import Path
 import pytest
 
 from pinchdesk import Pinch, Rejected, TooFine, completed, follow, read_case, read_network
-from pinchdesk.exchangers import exchangers_sheet, streams_sheet
-from pinchdesk.findings import finding_of
-from pinchdesk.reports import audit_sheets
-from pinchdesk.sheets import as_text
-from pinchdesk.shown import Shown
+from pinchdesk.report.exchangers import exchangers_sheet, streams_sheet
+from pinchdesk.analysis.findings import finding_of
+from pinchdesk.report.answer_sheets import audit_sheets
+from pinchdesk.report.sheet import as_text
+from pinchdesk.formats.shown import Shown
 
 PLAIN = 'contribution,,50,,,,\nhot,H,1000,500,10,,\ncold,C,300,700,10,,\n'
 LATENT = 'contribution,,50,,,,\nhot,H,1500,700,10,,\ncold,B,900,900,0,8000,\n'
@@ -54,7 +54,7 @@ def test_a_rejection_is_told_in_units_and_marked(case: str, network: str, place:
 
 def test_a_network_that_is_too_fine_is_no_good_answer(pinch: Pinch, tmp_path: Path,
                                                       capsys: pytest.CaptureFixture[str]) -> None:
-    from pinchdesk.cli import main
+    from pinchdesk.cli.main import main
     case = 'contribution,,50,,,,\nhot,H,1000,500,2,,\n'
     network = 'exchanger E1 H COLD 1/281474976710655\npass H E1 a\nend a\n'
     assert isinstance(pinch.audit(case, network), TooFine)

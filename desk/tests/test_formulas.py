@@ -16,10 +16,10 @@ from hypothesis import strategies as some
 from tabled import made, streams
 
 from pinchdesk import Sheet, rendered
-from pinchdesk.cli import main
-from pinchdesk.harmless import plain, read_again
-from pinchdesk.sheets import Cell
-from pinchdesk.tables import read_table
+from pinchdesk.cli.main import main
+from pinchdesk.text import plain, read_again
+from pinchdesk.report.sheet import Cell
+from pinchdesk.tables.spreadsheet import read_table
 
 BEGINNINGS = ('=', '+', '-', '@', '\t')
 texts = some.text(some.sampled_from("=+-@'\taZ1, ;\"\r\n＝"), max_size=6)

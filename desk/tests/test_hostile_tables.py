@@ -5,7 +5,7 @@ from __future__ import annotations
 import pytest
 from tabled import TEN, made, refusal
 
-from pinchdesk.convert import Wanted
+from pinchdesk.tables.convert import Wanted
 
 HEAD = 'Stream;Supply (°C);Target (°C);CP (kW/K)\n'
 BARE = 'Stream;Supply;Target;CP\n'

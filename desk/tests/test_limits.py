@@ -12,9 +12,9 @@ from conftest import CASES, example, held, pinchdesk
 from tabled import TEN, made, refusal, saved, streams, workbook
 
 from pinchdesk import Pinch, Refused, read_case, read_changes, what_if
-from pinchdesk.basis import Basis
-from pinchdesk.convert import Wanted, checked
-from pinchdesk.roundings import exact_targets, span_of
+from pinchdesk.formats.comments import Basis
+from pinchdesk.tables.convert import Wanted, checked
+from pinchdesk.tables.roundings import exact_targets, span_of
 
 HEAD = 'Kind;Name;Supply (°C);Target (°C);CP (kW/K);Duty (MW);Contribution (K);Least (MW);Most (MW)\n'
 

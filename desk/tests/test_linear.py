@@ -7,9 +7,9 @@ import pytest
 from hypothesis import given, settings
 from hypothesis import strategies as some
 
-from pinchdesk.matches import linear
-from pinchdesk.matches.elimination import Elimination, Inconsistent
-from pinchdesk.matches.linear import Program, Row, Terms
+from pinchdesk.search.solver import linear
+from pinchdesk.search.solver.elimination import Elimination, Inconsistent
+from pinchdesk.search.solver.linear import Program, Row, Terms
 
 ONE = Fraction(1)
 

@@ -20,13 +20,13 @@ from tabled import workbook
 
 import pinchdesk
 from pinchdesk import Pinch, Refused, WordsError, read_case
-from pinchdesk.cli import main
-from pinchdesk.digests import digests
-from pinchdesk.facts import facts_of
-from pinchdesk.jobs import TRIES, File, Job, done
-from pinchdesk.sheets import Sheet
-from pinchdesk.taking import options_of
-from pinchdesk.word import Answer, Word
+from pinchdesk.cli.main import main
+from pinchdesk.program.digests import digests
+from pinchdesk.batch.facts import facts_of
+from pinchdesk.batch.job import TRIES, File, Job, done
+from pinchdesk.report.sheet import Sheet
+from pinchdesk.batch.taking import options_of
+from pinchdesk.cli.word import Answer, Word
 
 LIST = str(EXAMPLES / 'list.txt')
 Desk = Callable[..., Done]
@@ -348,7 +348,7 @@ def test_a_case_at_which_each_process_dies_is_given_up(folder: Path, tmp_path: P
 def test_an_error_of_the_desk_is_an_outcome(monkeypatch: pytest.MonkeyPatch) -> None:
     def broken(*_: object) -> Answer:
         raise ZeroDivisionError('here')
-    monkeypatch.setattr('pinchdesk.asked.targets_sheets', broken)
+    monkeypatch.setattr('pinchdesk.cli.commands.asked.targets_sheets', broken)
     job = Job(0, ('targets',), {'form': None}, {'case': (File('tc3.csv', example('tc3.csv')),)})
     outcome = done(job)
     assert outcome.status == 70 and outcome.told.startswith('the desk failed, please report this line: ZeroDivisionErr')
@@ -368,7 +368,7 @@ def test_what_was_done_is_kept_when_it_is_stopped(desk: Desk, folder: Path, monk
     def stop(text: str) -> None:
         if text.startswith('2 of 3'):
             raise KeyboardInterrupt
-    monkeypatch.setattr('pinchdesk.repeated.tell', stop)
+    monkeypatch.setattr('pinchdesk.batch.order.tell', stop)
     done = desk('targets', str(folder), '--form', 'csv')
     assert done.status == 130
     assert sorted(row['answer'] for row in rows_of(done)) in (['good', 'good', 'not done'],
@@ -405,7 +405,7 @@ def test_a_worker_of_another_version_is_told(scheduler: str, folder: Path, desk:
     own = digests()
     for other, said in ((replace(own, desk='0' * 64), 'it has another pinchdesk'),
                         (replace(own, program='1' * 64), 'it has another pinch (digest ')):
-        monkeypatch.setattr('pinchdesk.cluster.digests', lambda held=other: held)
+        monkeypatch.setattr('pinchdesk.batch.cluster.digests', lambda held=other: held)
         done = desk('targets', str(folder), '--scheduler', scheduler)
         assert (done.status, done.out) == (2, '')
         assert f'no worker at {scheduler} can be asked; tcp://' in done.err and said in done.err
@@ -414,7 +414,7 @@ def test_a_worker_of_another_version_is_told(scheduler: str, folder: Path, desk:
 @CLUSTER
 def test_without_a_scheduler_or_the_package_it_is_told(desk: Desk, monkeypatch: pytest.MonkeyPatch) -> None:
     pytest.importorskip('distributed')
-    monkeypatch.setattr('pinchdesk.cluster.ANSWERS', 0.2)
+    monkeypatch.setattr('pinchdesk.batch.cluster.ANSWERS', 0.2)
     for address in ('tcp://127.0.0.1:1', 'nothing://x'):
         done = desk('targets', LIST, '--scheduler', address)
         assert done.status == 2 and done.err.startswith(f'pinchdesk: {address}: there is no scheduler')

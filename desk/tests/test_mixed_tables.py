@@ -16,7 +16,7 @@ from hypothesis import strategies as some
 from tabled import made, workbook
 
 from pinchdesk import Basis, Case, Refused, Side, Stream, read_case
-from pinchdesk.convert import Wanted
+from pinchdesk.tables.convert import Wanted
 
 HEAD = ['kind', 'name', 'supply', 'target', 'CP', 'duty', 'contribution', 'least', 'most', 'price']
 WARM, APART, FLOW, HEAT = range(4)

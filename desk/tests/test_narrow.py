@@ -10,9 +10,9 @@ from typing import Any
 import pytest
 from conftest import EXAMPLES, example
 
-from pinchdesk.page import Given, page_of
-from pinchdesk.pictures import grid_figure
-from pinchdesk.pictures.style import READABLE
+from pinchdesk.report.page import Given, page_of
+from pinchdesk.figures import grid_figure
+from pinchdesk.figures.style import READABLE
 
 webdriver = pytest.importorskip('selenium.webdriver', reason='no selenium to look at the page with')
 CHROMIUM, DRIVER = which('chromium'), which('chromedriver')
@@ -82,7 +82,7 @@ def smallest(name: str) -> float:
     """The size of the smallest letters of a picture of the page, in points, where it is not scaled."""
     from matplotlib.text import Text
     from pinchdesk import Pinch, completed, follow, pinches_of, read_case, read_network
-    from pinchdesk.pictures import balanced_figure, composite_figure, grand_figure
+    from pinchdesk.figures import balanced_figure, composite_figure, grand_figure
     pinch, content, text = Pinch(), example('crude.csv'), example('crude-network.txt')
     case = completed(read_case(content))
     answers = pinch.targets(content), pinch.curves(content)

@@ -10,14 +10,13 @@ from pathlib import Path
 import pytest
 from conftest import EXAMPLES, example, pinchdesk
 
-from pinchdesk import (Accepted, Basis, Cut, Pinch, Shown, completed, find_network, read_case, read_network,
-                       tradeoff)
-from pinchdesk.matches import windows
-from pinchdesk.matches.found import NoNetwork
-from pinchdesk.matches.joined import joined
-from pinchdesk.matches.judged import NotAccepted
-from pinchdesk.matches.plan import Match, Plan
-from pinchdesk.matches.written import written
+from pinchdesk import Accepted, Basis, Cut, Pinch, Shown, completed, find_network, read_case, read_network, tradeoff
+from pinchdesk.search.staged import windows
+from pinchdesk.search.find import NoNetwork
+from pinchdesk.search.staged.merge import joined
+from pinchdesk.search.accepted import NotAccepted
+from pinchdesk.search.staged.plan import Match, Plan
+from pinchdesk.search.staged.write import written
 
 FEW = {'four-stream': 6, 'tc3': 7, 'two-reactors': 7, 'own-contributions': 7, 'column': 7, 'preheater': 3,
        'two-steam-levels': 10, 'two-reactors-steam': 10, 'three-levels': 11}

@@ -12,7 +12,7 @@ from conftest import DESK, example
 
 import pinchdesk
 from pinchdesk import Pinch, WordsError
-from pinchdesk.progress import progress, tell
+from pinchdesk.cli.progress import progress, tell
 
 
 def test_the_readme_runs_as_it_is_shown(monkeypatch: pytest.MonkeyPatch) -> None:
@@ -61,7 +61,7 @@ def test_a_sign_of_life_is_for_terminals_alone(capsys: pytest.CaptureFixture[str
     with progress('sweep'):
         pass
     assert capsys.readouterr().err == ''
-    monkeypatch.setattr('pinchdesk.progress.PATIENCE', 0.0)
+    monkeypatch.setattr('pinchdesk.cli.progress.PATIENCE', 0.0)
     monkeypatch.setattr(sys.stderr, 'isatty', lambda: True)
     shown, until = '', time.monotonic() + 60
     with progress('sweep'):
@@ -76,7 +76,7 @@ def test_a_sign_of_life_is_for_terminals_alone(capsys: pytest.CaptureFixture[str
 def test_the_program_is_started_in_one_place_and_no_shell_is() -> None:
     """The browser that makes a PDF, and this Python for the solver, are the only other programs."""
     sources = {each.name: each.read_text() for each in (DESK / 'src').rglob('*.py')}
-    assert {name for name, text in sources.items() if 'subprocess' in text} == {'program.py', 'browser.py', 'apart.py'}
+    assert {name for name, text in sources.items() if 'subprocess' in text} == {'run.py', 'pdf.py', 'process.py'}
     assert not [name for name, text in sources.items() if re.search(r'shell=|os\.(system|popen|exec|spawn)', text)]
 
 

@@ -11,14 +11,14 @@ from conftest import NETWORKS, example
 from looking import bars_of, cut_off, dashed_of, overlapping, svg_texts, texts_of
 from matplotlib.figure import Figure
 
-from pinchdesk import (Accepted, Pinch, Rejected, WordsError, completed, follow, pinches_of, read_case,
-                       read_network, read_site)
-from pinchdesk.answers import Prices, Segment, SpanAnswer
-from pinchdesk.pictures import grid_figure, prices_figure, rendered, site_figure, sweep_figure
-from pinchdesk.pictures.gridplan import plan_of
-from pinchdesk.pictures.labels import meets
-from pinchdesk.pictures.style import ACROSS, FAULT
-from pinchdesk.shown import Shown
+from pinchdesk import (Accepted, Pinch, Rejected, WordsError, completed, follow, pinches_of, read_case, read_network,
+                       read_site)
+from pinchdesk.program.answers import Prices, Segment, SpanAnswer
+from pinchdesk.figures import grid_figure, prices_figure, rendered, site_figure, sweep_figure
+from pinchdesk.figures.grid.layout import plan_of
+from pinchdesk.figures.labels import meets
+from pinchdesk.figures.style import ACROSS, FAULT
+from pinchdesk.formats.shown import Shown
 
 # Three branches of 50, 30 and 20 %; two pinches; a stream that begins at the lower one.
 THREE = b"""contribution,,0,,,,

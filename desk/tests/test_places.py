@@ -14,10 +14,10 @@ from hypothesis import given
 from hypothesis import strategies as st
 
 import pinchdesk
-from pinchdesk.cli import main
-from pinchdesk.kept import names_of
-from pinchdesk.lists import Listed
-from pinchdesk.varied import SCENARIO
+from pinchdesk.cli.main import main
+from pinchdesk.batch.kept_files import names_of
+from pinchdesk.batch.inputs import Listed
+from pinchdesk.batch.scenarios import SCENARIO
 
 Desk = Callable[..., Done]
 CHANGES = 'scenario;source;field;value\nhotter;S1;supply;+1 K\n'

@@ -24,7 +24,7 @@ from members import Member
 
 import pinchdesk
 from pinchdesk import Pinch
-from pinchdesk.program import found, own_program
+from pinchdesk.program.run import found, own_program
 
 ROOT = DESK.parent
 COMMIT = Commit('0' * 40, 1_700_000_000)
@@ -249,7 +249,7 @@ def test_the_program_is_that_of_pinch_then_its_own_then_that_on_the_path(
     for place in places:
         place.parent.mkdir(parents=True)
         shutil.copy(shutil.which('true') or '/bin/true', place)
-    monkeypatch.setattr('pinchdesk.program.PACKAGE', tmp_path / 'own/lib/python3.11/site-packages/pinchdesk')
+    monkeypatch.setattr('pinchdesk.program.run.PACKAGE', tmp_path / 'own/lib/python3.11/site-packages/pinchdesk')
     monkeypatch.setenv('PATH', str(places[2].parent))
     monkeypatch.setenv('PINCH', str(places[0]))
     assert found() == str(places[0])

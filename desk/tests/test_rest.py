@@ -13,9 +13,9 @@ from hypothesis import strategies as st
 from pinchdesk import (Accepted, Case, Cut, End, Exchanger, HeatFlow, Mix, Network, Pass, Pinch, Refused, Rejected,
                        Rest, Split, Stream, completed, print_case, read_case, read_network, remaining, rest_sheets,
                        written_case)
-from pinchdesk.cli import main
-from pinchdesk.leftover import Rounding, rest_case, scale_of
-from pinchdesk.restsheets import file_notes, rounding_notes
+from pinchdesk.cli.main import main
+from pinchdesk.analysis.open_branches import Rounding, rest_case, scale_of
+from pinchdesk.report.rest_sheets import file_notes, rounding_notes
 
 FOUR = example('four-stream.csv')
 AHEAD = 'exchanger E1 H2 C3 240000\npass H2 E1 a\npass C3 E1 b\nend b\n'

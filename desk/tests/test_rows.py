@@ -8,7 +8,7 @@ import pytest
 from tabled import TEN, made, refusal, saved, streams
 
 from pinchdesk import Pinch
-from pinchdesk.convert import Wanted, checked
+from pinchdesk.tables.convert import Wanted, checked
 
 HEAD = 'Stream;Supply (°C);Target (°C);CP (kW/K)\n'
 DUTY = 'Stream;Supply (°C);Target (°C);Duty\n'

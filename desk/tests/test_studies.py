@@ -16,8 +16,8 @@ from test_words import Captured
 import pinchdesk
 from pinchdesk import (Basis, Pinch, Refused, Scenario, ScenarioAnswer, Span, SpanAnswer, Study, print_study,
                        read_case, read_study)
-from pinchdesk.pictures import prices_figure
-from pinchdesk.studied import studied
+from pinchdesk.figures import prices_figure
+from pinchdesk.tables.study_prices import studied
 
 PLANT = ('Stream;Kind;Supply (°C);Target (°C);CP (kW/K);Price (EUR/MWh)\n'
          'H1;;150;60;2;\nC1;;20;125;2,5;\nLP;heater;180;;;30,05\n')

@@ -12,9 +12,8 @@ from hypothesis import given
 from hypothesis import strategies as some
 
 from pinchdesk import (Basis, Case, Cut, End, Exchanger, Forbid, Mix, Network, Pass, Pinch, Refused, Scenario, Side,
-                       Span,
-                       Split, Stream, Study, Utility, completed, print_case, print_network, print_study, read_case,
-                       read_network, read_site, read_study, shifted)
+                       Span, Split, Stream, Study, Utility, completed, print_case, print_network, print_study,
+                       read_case, read_network, read_site, read_study, shifted)
 
 names = some.from_regex(r'[A-Za-z0-9][A-Za-z0-9_-]{0,15}', fullmatch=True)
 shares = some.integers(0, 1000)

@@ -18,17 +18,17 @@ from test_words import Captured
 
 from pinchdesk import (Accepted, Case, Exchanger, Network, Pinch, Refused, completed, print_network, read_case,
                        read_network, simpler, tradeoff)
-from pinchdesk.matches.changes import later, structures, unsplit, with_ends
-from pinchdesk.matches.costed import Costed, cheapest, cheapest_of
-from pinchdesk.matches.found import NoNetwork
-from pinchdesk.matches.judged import Judge, Judged, NotAccepted
-from pinchdesk.matches.paths import Shift, shifts
-from pinchdesk.matches.shares import reshared
-from pinchdesk.matches.silent import silent
-from pinchdesk.matches.structure import Parting, levelled, splits
-from pinchdesk.matches.texts import duties_of, network_of, structure_of
-from pinchdesk.matches.tradeoff import TradeOff
-from pinchdesk.pictures import tradeoff_figure
+from pinchdesk.search.reduce.moves import later, structures, unsplit, with_ends
+from pinchdesk.search.reduce.least_cost import Costed, cheapest, cheapest_of
+from pinchdesk.search.find import NoNetwork
+from pinchdesk.search.accepted import Judge, Judged, NotAccepted
+from pinchdesk.search.reduce.paths import Shift, shifts
+from pinchdesk.search.reduce.shares import reshared
+from pinchdesk.search.solver.quiet_output import silent
+from pinchdesk.search.reduce.structure import Parting, levelled, splits
+from pinchdesk.search.reduce.network_structure import duties_of, network_of, structure_of
+from pinchdesk.search.reduce.tradeoff import TradeOff
+from pinchdesk.figures import tradeoff_figure
 
 TC3 = [str(EXAMPLES / 'tc3.csv'), str(EXAMPLES / 'tc3-network.txt')]
 

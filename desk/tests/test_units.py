@@ -11,8 +11,8 @@ from hypothesis import strategies as st
 
 from pinchdesk import Cut, Member, Pinch, Units, completed, follow, least_units, partition, read_case, read_network
 from pinchdesk import units_sheets
-from pinchdesk.cli import main
-from pinchdesk.sets import is_joined, joinable_partition
+from pinchdesk.cli.main import main
+from pinchdesk.analysis.independent_sets import is_joined, joinable_partition
 
 # Sources less sets on all sides of the pinches, and the exchangers of the published network or of that by hand.
 BOOKS = {'four-stream': ((5, 6), 6), 'tc3': ((5, 7), 7), 'two-reactors': ((5, 7), 7), 'own-contributions': ((5, 7), 7),

@@ -12,9 +12,9 @@ from hypothesis import strategies as st
 from tabled import workbook
 
 from pinchdesk import Case, Pinch, Refused, WhatIf, print_case, read_case, read_changes, what_if, what_if_sheets
-from pinchdesk.basis import Basis
-from pinchdesk.changesheets import rounding_notes
-from pinchdesk.cli import main
+from pinchdesk.formats.comments import Basis
+from pinchdesk.report.what_if_sheets import rounding_notes
+from pinchdesk.cli.main import main
 
 FOUR, STEAM, COLUMN = (example(f'{each}.csv') for each in ('four-stream', 'two-steam-levels', 'column'))
 HEAD = 'scenario;source;field;value\n'

@@ -13,8 +13,8 @@ import pytest
 from conftest import CASES, EXAMPLES, NETWORKS, Done, example, pinchdesk
 
 from pinchdesk import Accepted, Pinch
-from pinchdesk.cli import WORDS, main
-from pinchdesk.output import write_whole
+from pinchdesk.cli.main import WORDS, main
+from pinchdesk.cli.output import write_whole
 
 FOUR, FOUR_NETWORK = str(EXAMPLES / 'four-stream.csv'), str(EXAMPLES / 'four-stream-network.txt')
 PREHEATER = [str(EXAMPLES / 'preheater.csv'), str(EXAMPLES / 'preheater-network.txt')]

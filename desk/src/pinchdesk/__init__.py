@@ -2,52 +2,51 @@
 truth inside: each number that decides is what `pinch` printed in this run."""
 from typing import TYPE_CHECKING, Any
 
-from .answers import (Curves, Cut, Design, HeatFlow, Move, Part, Point, Price, PriceAnswer, Prices, Profile, Rows,
-                      ScenarioAnswer, Segment, SiteAnswer, SpanAnswer, Sweep, SweepRow, Targets, Use)
-from .case import (Basis, Case, Forbid, Side, Stream, Utility, actual, completed, print_case, read_case, shifted)
-from .changelayout import Field
-from .changes import Outcome, PlusMinus, Step, WhatIf, what_if
-from .changesheets import what_if_sheets
-from .convert import Converted, Wanted, case_of_table, checked
+from .analysis.change_columns import Field
+from .analysis.change_table import Change, Variant, Variants, Way, read_changes
+from .analysis.cuts import Piece, Region
+from .analysis.follow import Branch, Followed, Passage, PinchPoint, PinchSide, SideState, StreamEnd, follow, pinches_of
+from .analysis.independent_sets import Member, Partition, partition
+from .analysis.least_units import IndependentSet, RegionUnits, Units, least_units
+from .analysis.open_branches import Left
+from .analysis.rest import Posed, Rest, remaining, written_case
+from .analysis.what_if import Outcome, PlusMinus, Step, WhatIf, what_if
+from .batch.order import many
+from .batch.results import Done, Results
 from .errors import DeskError, OutputError, ProgramError, Refused, WordsError
-from .exchangers import exchangers_sheet, streams_sheet, sums_sheet
-from .leftover import Left
-from .matches.found import FewExchangers, NoNetwork, find_network
-from .network import End, Exchanger, Mix, Network, Pass, Split, print_network, read_network
-from .program import Pinch
-from .regions import Piece, Region
-from .remaining import Posed, Rest, remaining, written_case
-from .repeated import many
-from .reports import (audit_sheets, flow_sheets, prices_sheets, site_sheets, sweep_sheets, targets_sheets)
-from .restsheets import rest_sheets
-from .results import Done, Results
-from .scenarios import Change, Variant, Variants, Way, read_changes
-from .sets import Member, Partition, partition
-from .sheets import Sheet, rendered
-from .shown import Shown
-from .site import Main, Plant, Site, read_site
-from .states import (Branch, Followed, Passage, PinchPoint, PinchSide, SideState, StreamEnd, follow,
-                     pinches_of)
-from .study import Scenario, Span, Study, print_study, read_study
-from .traded import tradeoff_sheets
-from .units import IndependentSet, RegionUnits, Units, least_units
-from .unitsheets import units_sheets
-from .verdicts import Accepted, Penalty, Place, PlaceKind, Rejected, TooFine, Verdict
+from .formats.case import Basis, Case, Forbid, Side, Stream, Utility, actual, completed, print_case, read_case, shifted
+from .formats.network import End, Exchanger, Mix, Network, Pass, Split, print_network, read_network
+from .formats.shown import Shown
+from .formats.site import Main, Plant, Site, read_site
+from .formats.study import Scenario, Span, Study, print_study, read_study
+from .program.answers import (Curves, Cut, Design, HeatFlow, Move, Part, Point, Price, PriceAnswer, Prices, Profile,
+                              Rows, ScenarioAnswer, Segment, SiteAnswer, SpanAnswer, Sweep, SweepRow, Targets, Use)
+from .program.run import Pinch
+from .program.verdicts import Accepted, Penalty, Place, PlaceKind, Rejected, TooFine, Verdict
+from .report.answer_sheets import audit_sheets, flow_sheets, prices_sheets, site_sheets, sweep_sheets, targets_sheets
+from .report.exchangers import exchangers_sheet, streams_sheet, sums_sheet
+from .report.rest_sheets import rest_sheets
+from .report.sheet import Sheet, rendered
+from .report.tradeoff_sheets import tradeoff_sheets
+from .report.unit_sheets import units_sheets
+from .report.what_if_sheets import what_if_sheets
+from .search.find import FewExchangers, NoNetwork, find_network
+from .tables.convert import Converted, Wanted, case_of_table, checked
 from .version import __version__
 
 if TYPE_CHECKING:
-    from .matches.simpler import simpler
-    from .matches.tradeoff import TradeOff, tradeoff
+    from .search.reduce.simplify import simpler
+    from .search.reduce.tradeoff import TradeOff, tradeoff
 
 # What searches wants scipy, which is slow to load: it is loaded when it is asked for.
-SEARCHES = {'simpler': 'simpler', 'tradeoff': 'tradeoff', 'TradeOff': 'tradeoff'}
+SEARCHES = {'simpler': 'simplify', 'tradeoff': 'tradeoff', 'TradeOff': 'tradeoff'}
 
 
 def __getattr__(name: str) -> Any:
     if name not in SEARCHES:
         raise AttributeError(f'module {__name__!r} has no attribute {name!r}')
     from importlib import import_module
-    return getattr(import_module(f'.matches.{SEARCHES[name]}', __name__), name)
+    return getattr(import_module(f'.search.reduce.{SEARCHES[name]}', __name__), name)
 
 
 __all__ = [
@@ -59,7 +58,8 @@ __all__ = [
     'Results', 'Rows', 'Scenario', 'ScenarioAnswer', 'Segment', 'Sheet', 'Shown', 'Side', 'SideState', 'Site',
     'SiteAnswer', 'Span', 'SpanAnswer', 'Split', 'Step', 'Stream', 'StreamEnd', 'Study', 'Sweep', 'SweepRow', 'Targets',
     'TooFine', 'TradeOff', 'Units', 'Use', 'Utility', 'Variant', 'Variants', 'Verdict', 'Wanted', 'Way', 'WhatIf',
-    'WordsError', '__version__', 'actual', 'audit_sheets', 'case_of_table', 'checked', 'completed', 'exchangers_sheet', 'find_network',
+    'WordsError', '__version__', 'actual', 'audit_sheets', 'case_of_table', 'checked', 'completed', 'exchangers_sheet',
+    'find_network',
     'flow_sheets', 'follow', 'least_units', 'many', 'partition', 'pinches_of', 'prices_sheets', 'print_case',
     'print_network', 'print_study', 'read_case', 'read_changes', 'read_network', 'read_site', 'read_study', 'remaining',
     'rendered', 'rest_sheets', 'shifted', 'simpler', 'site_sheets', 'streams_sheet', 'sums_sheet', 'sweep_sheets',

@@ -1,0 +1,221 @@
+"""Open branches as streams: what is left of each, and the case that they make.
+
+A branch is open where it is never passed, mixed, split or ended. A case has whole numbers, so sizes are taken times a
+common whole number, and temperatures too where some are fractions: targets only know differences of shifted
+temperatures, so that these may be moved as well. What is then no whole number is rounded, to the side that is harder
+for the hot target or to the easier one. Sizes are in 10 W/K or W, temperatures in tenths of °C, heats in W."""
+from __future__ import annotations
+
+import enum
+from collections.abc import Iterable, Mapping, Sequence
+from dataclasses import dataclass, replace
+from fractions import Fraction
+from math import ceil, floor, lcm
+
+from ..formats.case import ANY_HEAT, Case, Forbid, Side, Source, Stream, Utility, shifted
+from ..formats.network import End, Mix, Network, Pass, Split
+from ..tables.names import apart, fitted
+from .follow import Branch, Followed
+
+# The limits of a case (docs/FORMATS.md, Limits).
+LARGEST_CP, LARGEST_LOAD, COLDEST, WARMEST = 100_000, 10 ** 10, -2731, 30_000
+
+
+class Rounding(enum.Enum):
+    """To which side numbers are rounded: so that the rest needs more hot utility, or less."""
+
+    HARDER = 'harder'
+    EASIER = 'easier'
+
+
+@dataclass(frozen=True)
+class Left:
+    """An open branch, with the name that its stream has in the rest. Its state is known."""
+
+    name: str
+    branch: Branch
+
+    @property
+    def stream(self) -> Stream:
+        return self.branch.stream
+
+    @property
+    def state(self) -> Fraction:
+        assert self.branch.state is not None
+        return self.branch.state
+
+    @property
+    def share(self) -> Fraction:
+        """Of a latent stream the part of its load that is left, from 1 down to 0; of another one 1."""
+        if not self.stream.latent:
+            return Fraction(1)
+        return self.state if self.stream.side is Side.HOT else 1 - self.state
+
+    @property
+    def size(self) -> Fraction:
+        """The CP of what is left, or the load of it."""
+        return self.branch.size * self.share
+
+    @property
+    def step(self) -> Fraction:
+        """How far it is to the target, above 0 in the direction of the stream; of a latent stream the part of its
+        load."""
+        if self.stream.latent:
+            return self.share
+        way = self.state - self.stream.target
+        return way if self.stream.side is Side.HOT else -way
+
+    @property
+    def heat(self) -> Fraction:
+        """What it has still to give or to take."""
+        return self.branch.size * self.step
+
+
+def open_branches(followed: Followed) -> tuple[Branch, ...]:
+    """The branches that no statement uses, by the order of the streams and then of the statements."""
+    used = {each for statement in followed.network.statements for each in used_by(statement)}
+    held = [each for name, each in followed.branches.items() if name not in used]
+    order = {each.name: at for at, each in enumerate(followed.case.streams)}
+    return tuple(sorted(held, key=lambda each: (order[each.stream.name], each.statement)))
+
+
+def used_by(statement: object) -> tuple[str, ...]:
+    match statement:
+        case Split(branch) | Pass(branch) | End(branch):
+            return (branch,)
+        case Mix(first, second):
+            return (first, second)
+    return ()
+
+
+def left_of(case: Case, branches: Sequence[Branch]) -> tuple[Left, ...]:
+    """The branches with their names in the rest: that of the stream where it has one open branch, else their own."""
+    taken = {each.name for each in case.sources} | {'HOT', 'COLD'}
+    made: list[Left] = []
+    for each in branches:
+        alone = sum(other.stream.name == each.stream.name for other in branches) == 1
+        name = each.stream.name if alone else apart(fitted(each.name.lstrip('.')) or 'B', taken)
+        taken.add(name)
+        made.append(Left(name, each))
+    return tuple(made)
+
+
+@dataclass(frozen=True)
+class Scale:
+    """How a case holds the rest: CPs are taken `sizes` times; temperatures `degrees` times and then with the offset, on
+    the shifted scale with no contributions, or as they are where `degrees` is 1."""
+
+    sizes: int
+    degrees: int = 1
+    offset: int = 0
+
+    @property
+    def factor(self) -> int:
+        """What heats are taken times."""
+        return self.sizes * self.degrees
+
+    def place(self, source: Source, temperature: Fraction) -> Fraction:
+        """A temperature of a source as the case has it."""
+        if self.degrees == 1:
+            return temperature
+        return (temperature + shifted(source, 0)) * self.degrees + self.offset
+
+    def back(self, place: int) -> Fraction:
+        """A shifted temperature of the case on the scale of the whole."""
+        return Fraction(place - self.offset, self.degrees)
+
+
+def scale_of(lefts: Iterable[Left], case: Case, used: Mapping[str, Fraction]) -> Scale:
+    """The numbers by which sizes and temperatures are taken: they make all of them whole, and the heats that utilities
+    have given, as far as the limits of a case allow; else they are as large as these do, and sizes a power of ten."""
+    held = list(lefts)
+    sensible, latent = ([each for each in held if each.stream.latent is kind] for kind in (False, True))
+    most = min((int(LARGEST_LOAD / each.size) for each in latent), default=LARGEST_LOAD)
+    degrees, offset = degrees_of(sensible, [*(each.stream for each in held), *case.utilities], most)
+    limit = min((int(LARGEST_CP / each.size) for each in sensible), default=LARGEST_CP)
+    limit = max(1, min(limit, most // degrees))
+    sizes = lcm(*(each.size.denominator for each in held))
+    for factor in (lcm(sizes, *(each.denominator for each in used.values())), sizes):
+        if factor <= limit:
+            return Scale(factor, degrees, offset)
+    return Scale(int('1'.ljust(len(str(limit)), '0')), degrees, offset)
+
+
+def degrees_of(lefts: Sequence[Left], sources: Iterable[Source], most: int) -> tuple[int, int]:
+    """What temperatures are taken times, so that they are whole, or as large as the limits allow, and the offset that
+    keeps them within these."""
+    wanted = lcm(*(each.state.denominator for each in lefts))
+    if wanted == 1:
+        return 1, 0
+    ends = [end for each in sources for end in
+            ((each.low, each.high) if isinstance(each, Stream) else (shifted(each, each.level),) * 2)]
+    width = max(1, max(ends) - min(ends))
+    degrees = min(wanted, (WARMEST - COLDEST) // width, most)
+    return (degrees, COLDEST - degrees * min(ends)) if degrees > 1 else (1, 0)
+
+
+def rounded(value: Fraction, up: bool) -> int:
+    return ceil(value) if up else floor(value)
+
+
+def rest_stream(left: Left, scale: Scale, rounding: Rounding) -> Stream | None:
+    """What is left of a branch as a stream; None where nothing is, or nothing that a case can hold. It is harder where
+    a hot stream is smaller and a cold one larger, and where both begin at a lower temperature."""
+    stream, harder = left.stream, rounding is Rounding.HARDER
+    up = (stream.side is Side.HOT) is not harder
+    share = stream.contribution if scale.degrees == 1 else 0
+    target = rounded(scale.place(stream, Fraction(stream.target)), False)
+    if stream.latent:
+        load = rounded(left.size * scale.factor, up)
+        return Stream(left.name, stream.side, target, target, 0, load, share) if load else None
+    size, supply = rounded(left.size * scale.sizes, up), rounded(scale.place(stream, left.state), not harder)
+    if size == 0 or supply == target:
+        return None
+    return Stream(left.name, stream.side, supply, target, size, 0, share)
+
+
+def rest_utility(utility: Utility, used: Fraction, scale: Scale, rounding: Rounding) -> Utility:
+    """A utility with its range less what it gives or takes already; a range is harder where it is narrower."""
+    harder = rounding is Rounding.HARDER
+    least, most = (max(Fraction(0), each - used) * scale.factor for each in (utility.least, utility.most))
+    high = ANY_HEAT if utility.most == ANY_HEAT else min(ANY_HEAT, rounded(most, not harder))
+    level = rounded(scale.place(utility, Fraction(utility.level)), False)
+    return replace(utility, level=level, least=min(high, rounded(least, harder)), most=high,
+                   contribution=utility.contribution if scale.degrees == 1 else 0)
+
+
+def rest_case(case: Case, lefts: Sequence[Left], used: Mapping[str, Fraction], scale: Scale,
+              rounding: Rounding) -> Case:
+    """The case of what is left of a completed case: its streams, its utilities with what is left of their ranges, and
+    its forbidden matches. All its heats are the scale's `factor` times those of the case."""
+    made = {each.name: rest_stream(each, scale, rounding) for each in lefts}
+    streams = tuple(each for each in made.values() if each)
+    names: dict[str, list[str]] = {each.name: [each.name] for each in case.utilities}
+    for left in lefts:
+        if made[left.name]:
+            names.setdefault(left.stream.name, []).append(left.name)
+    forbids = tuple(Forbid(hot, cold) for each in case.forbids
+                    for hot in names.get(each.hot, []) for cold in names.get(each.cold, []))
+    utilities = tuple(rest_utility(each, used[each.name], scale, rounding)
+                      for each in case.utilities if not each.invented)
+    kept = {each.name for each in streams} | {each.name for each in utilities}
+    basis = replace(case.basis, scale=case.basis.scale * scale.factor,
+                    names=tuple(each for each in case.basis.names if each[1] in kept))
+    return Case(case.contribution if scale.degrees == 1 else 0, streams, utilities, forbids, basis)
+
+
+def is_exact(lefts: Iterable[Left], case: Case, used: Mapping[str, Fraction], scale: Scale) -> bool:
+    """Whether nothing is rounded at this scale."""
+    numbers = [number for each in lefts for number in ([each.size * scale.factor] if each.stream.latent else
+                                                       [each.size * scale.sizes, each.state * scale.degrees])]
+    ranged = [used[each.name] * scale.factor for each in case.utilities if (each.least, each.most) != (0, ANY_HEAT)]
+    return all(each.denominator == 1 for each in (*numbers, *ranged))
+
+
+def used_heats(case: Case, network: Network) -> dict[str, Fraction]:
+    """What each utility gives or takes already."""
+    heats = {each.name: Fraction(0) for each in case.utilities}
+    for one in network.exchangers:
+        for name in {one.hot, one.cold} & set(heats):
+            heats[name] += one.duty
+    return heats

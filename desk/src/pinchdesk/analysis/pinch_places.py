@@ -1,0 +1,50 @@
+"""Where a pinch lies: the actual temperatures of the streams that stand at it, and the heat of each side below it."""
+from __future__ import annotations
+
+from dataclasses import dataclass
+
+from ..formats.case import Case, Side, Stream, Utility, shifted
+from ..formats.shown import Shown
+from .follow import PinchPoint
+
+
+@dataclass(frozen=True)
+class Temperatures:
+    """The lowest and the highest actual temperature at which the streams of a side stand at a pinch, in tenths of
+    °C."""
+
+    low: int
+    high: int
+
+    def told(self, shown: Shown) -> str:
+        low, high = shown.celsius(self.low), shown.celsius(self.high)
+        return low if low == high else f'{low} to {high}'
+
+
+def temperatures_at(case: Case, side: Side, pinch: int) -> Temperatures:
+    """Where the streams of a side stand that a pinch touches; of a side without one, where a stream with the
+    contribution of the case would stand."""
+    sign = 1 if side is Side.HOT else -1
+    shares = [each.contribution for each in case.streams if each.side is side and each.low <= pinch <= each.high]
+    held = [pinch + sign * share for share in shares or [case.contribution]]
+    return Temperatures(min(held), max(held))
+
+
+def heat_below(stream: Stream, pinch: PinchPoint) -> int:
+    """The heat of a stream below a pinch: of a latent one at the pinch all or nothing."""
+    if stream.latent:
+        below = stream.low < pinch.temperature or stream.low == pinch.temperature and not pinch.takes_level
+        return stream.load if below else 0
+    return stream.cp * (max(stream.low, min(stream.high, pinch.temperature)) - stream.low)
+
+
+def side_below(case: Case, side: Side, pinch: PinchPoint) -> int:
+    """The heat of all streams of a side below a pinch. Where the targets are used both sides have there the same, the
+    cold one with the cold target."""
+    return sum(heat_below(each, pinch) for each in case.streams if each.side is side)
+
+
+def is_below(utility: Utility, pinch: PinchPoint) -> bool:
+    """Whether a utility stands below a pinch: at the pinch a heater stands above it, a cooler below."""
+    level = shifted(utility, utility.level)
+    return level < pinch.temperature or level == pinch.temperature and utility.side is Side.COLD

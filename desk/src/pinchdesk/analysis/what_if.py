@@ -1,0 +1,267 @@
+"""What a case would need if something of it were otherwise: scenarios, each a changed case with the answers of `pinch`
+beside those of the case as it is; and what a little more of each stream would do (the plus-minus principle: Linnhoff
+and Vredeveld 1984), by asking `pinch` for each of these cases too."""
+from __future__ import annotations
+
+import os
+from collections.abc import Callable, Iterable, Sequence
+from concurrent.futures import ThreadPoolExecutor
+from dataclasses import dataclass, replace
+from fractions import Fraction
+from math import ceil
+from typing import TypeVar
+
+from ..errors import Refused
+from ..formats.case import ANY_HEAT, Case, Source, Stream, Utility, case_rows, completed, read_case
+from ..formats.comments import Basis, basis_rows
+from ..program.answers import Cut, HeatFlow, Targets
+from ..program.causes import CAUSES
+from ..program.run import CaseText, Pinch, case_bytes
+from ..tables.limits import outside_of_row
+from ..tables.units import rounded
+from .change_columns import Field
+from .change_table import SOURCES, Change, Variant, Way
+
+LATENT, SENSIBLE = ('level', 'load', 'contribution'), ('supply', 'target', 'CP', 'load', 'contribution')
+OF_UTILITY = ('level', 'supply', 'least', 'most', 'price', 'contribution')
+ONE_KELVIN = 10
+Asked = TypeVar('Asked')
+Given = TypeVar('Given')
+
+
+@dataclass(frozen=True)
+class Step:
+    """A change as it was made: the number before and behind it, in the program's units; `exact` is what it would be
+    without rounding to whole ones."""
+
+    change: Change
+    before: int
+    behind: int
+    exact: Fraction
+
+
+@dataclass(frozen=True)
+class Outcome:
+    """A scenario with its changed case, completed, and its answers. `fault` is why it is refused: then there are
+    none."""
+
+    variant: Variant
+    steps: tuple[Step, ...]
+    case: Case
+    targets: Targets | None = None
+    flow: HeatFlow | Cut | None = None
+    fault: str = ''
+
+    @property
+    def cost(self) -> int | None:
+        return self.flow.cost if isinstance(self.flow, HeatFlow) else None
+
+
+@dataclass(frozen=True)
+class PlusMinus:
+    """How many W the hot target rises by with a little more (`little`) of a stream's CP, or of the load of a latent
+    one, and with its supply and its target (its level) one K higher. None where there is no such case."""
+
+    stream: Stream
+    size: int | None
+    supply: int | None
+    target: int | None
+
+
+@dataclass(frozen=True)
+class WhatIf:
+    """The case as it is, its scenarios, and its plus-minus numbers."""
+
+    base: Outcome
+    outcomes: tuple[Outcome, ...]
+    plus_minus: tuple[PlusMinus, ...]
+
+    @property
+    def refused(self) -> bool:
+        return any(each.fault for each in self.outcomes)
+
+    @property
+    def infeasible(self) -> bool:
+        return any(isinstance(each.flow, Cut) for each in (self.base, *self.outcomes))
+
+
+def what_if(case: CaseText, scenarios: Iterable[Variant], pinch: Pinch | None = None, workers: int = 0) -> WhatIf:
+    """The scenarios of a case. `Refused` where the program refuses the case as it is, or a change names what is not
+    there; a scenario that the program refuses says so in its outcome. `workers` of the program run side by side."""
+    asked = pinch or Pinch()
+    content = case_bytes(case)
+    asked.targets(content)
+    held = read_case(content)
+    made = [changed(held, each) for each in scenarios]
+    base, *outcomes = side_by_side(lambda each: answered(asked, each), [unchanged(held), *made], workers)
+    assert base.targets is not None
+    return WhatIf(base, tuple(outcomes), plus_minus(held, base.targets, asked, workers))
+
+
+def side_by_side(run: Callable[[Asked], Given], items: Sequence[Asked], workers: int) -> list[Given]:
+    """Runs in threads, each of which waits for its program; where one fails the others are not begun."""
+    pool = ThreadPoolExecutor(workers or min(16, os.cpu_count() or 1))
+    try:
+        return list(pool.map(run, items))
+    finally:
+        pool.shutdown(cancel_futures=True)
+
+
+def unchanged(case: Case) -> Outcome:
+    return Outcome(Variant('base', ()), (), completed(case))
+
+
+def answered(pinch: Pinch, outcome: Outcome) -> Outcome:
+    """An outcome with its answers, or with the cause for which the program refuses it."""
+    try:
+        return replace(outcome, targets=pinch.targets(outcome.case), flow=pinch.flow(outcome.case))
+    except Refused as fault:
+        return replace(outcome, fault=told(outcome.case, fault))
+
+
+def told(case: Case, fault: Refused) -> str:
+    """The cause of a refusal with the source that it is about."""
+    rows = [*basis_rows(case.basis), *case_rows(case)]
+    number = fault.place.split()[-1]
+    at = int(number) - 1 if number.isdigit() else len(rows)
+    where = f'{rows[at][1]}: ' if at < len(rows) and rows[at][1] else ''
+    said = outside_of_row(rows[at]) if at < len(rows) and fault.cause == 'OutOfRange' else ''
+    return f'{where}{said or CAUSES.get(fault.cause, "refused")} ({fault.cause})'
+
+
+def changed(case: Case, scenario: Variant) -> Outcome:
+    """The case with the changes of a scenario; `Refused` where a change names what is not there."""
+    held, steps = case, []
+    seen: set[tuple[str, Field]] = set()
+    for change in scenario.changes:
+        source = found(case, change)
+        key = (source.name if source else '', canonical(source, change.field))
+        if key in seen:
+            raise refusal(change, f'scenario {scenario.name} changes this twice')
+        seen.add(key)
+    # A load of a sensible stream is over the span that its temperatures have in the end.
+    for change in sorted(scenario.changes, key=lambda each: each.field is Field.LOAD):
+        held, step = applied(case, held, change)
+        steps.append(step)
+    order = {id(each): at for at, each in enumerate(scenario.changes)}
+    steps.sort(key=lambda each: order[id(each.change)])
+    return Outcome(scenario, tuple(steps), completed(held))
+
+
+def refusal(change: Change, cause: str) -> Refused:
+    return Refused(3, change.place, 'change', f'{change.place}: {cause}')
+
+
+def found(case: Case, change: Change) -> Source | None:
+    """The source that a change names; None where it is the contribution of the case. `Refused` where there is no such
+    source, or it has no such field."""
+    source = next((each for each in case.sources if each.name == in_case(case, change.source)), None)
+    if source is None and change.source.lower() in SOURCES and change.field is Field.CONTRIBUTION:
+        return None
+    if source is None:
+        invented = change.source in ('HOT', 'COLD')
+        why = 'stands in where the case has no such utility: give it a row there' if invented else 'is no source of it'
+        raise refusal(change, f'`{change.source}` {why}')
+    fields = OF_UTILITY if isinstance(source, Utility) else LATENT if source.latent else SENSIBLE
+    if change.field.word not in fields:
+        raise refusal(change, f'{source.name} has no {change.field.word}: it has {", ".join(fields)}')
+    return source
+
+
+def in_case(case: Case, name: str) -> str:
+    """A name of the table that the case came from, as the case has it."""
+    return next((new for old, new in case.basis.names if old == name), name)
+
+
+def canonical(source: Source | None, field: Field) -> Field:
+    """The field that is changed: the supply of a utility is its level, and the load of a sensible stream its CP."""
+    if isinstance(source, Utility) and field is Field.SUPPLY:
+        return Field.LEVEL
+    sensible = isinstance(source, Stream) and not source.latent
+    return Field.CP if sensible and field is Field.LOAD else field
+
+
+def applied(base: Case, case: Case, change: Change) -> tuple[Case, Step]:
+    """A case with one more change; changes are of what the base has."""
+    source = found(base, change)
+    if source is None:
+        behind, exact = moved(base.contribution, change)
+        shares = {each.name for each in base.sources if each.contribution == base.contribution}
+        streams = tuple(replace(each, contribution=behind) if each.name in shares else each for each in case.streams)
+        utilities = tuple(replace(each, contribution=behind) if each.name in shares else each
+                          for each in case.utilities)
+        made = replace(case, contribution=behind, streams=streams, utilities=utilities)
+        return made, Step(change, base.contribution, behind, exact)
+    now = case.source(source.name)
+    if isinstance(source, Stream):
+        assert isinstance(now, Stream)
+        stream, step = of_stream(source, now, change)
+        return replace(case, streams=tuple(stream if each is now else each for each in case.streams)), step
+    assert isinstance(now, Utility)
+    utility, step = of_utility(source, now, change, case)
+    return replace(case, utilities=tuple(utility if each is now else each for each in case.utilities)), step
+
+
+def moved(before: int, change: Change, divisor: Fraction = Fraction(1)) -> tuple[int, Fraction]:
+    """The number behind a change, rounded, and exact; what is added or set is taken times the divisor."""
+    if change.way is Way.PERCENT:
+        exact = before * (1 + change.value / 100)
+    else:
+        exact = change.value * divisor + (before if change.way is Way.BY else 0)
+    return rounded(exact), exact
+
+
+def of_stream(base: Stream, now: Stream, change: Change) -> tuple[Stream, Step]:
+    if change.field is Field.LEVEL:
+        behind, exact = moved(base.supply, change)
+        return replace(now, supply=behind, target=behind), Step(change, base.supply, behind, exact)
+    if change.field is Field.LOAD and not base.latent:
+        span = abs(now.supply - now.target) or 1
+        _, heat = moved(base.heat, change)
+        return replace(now, cp=rounded(heat / span)), Step(change, base.heat, rounded(heat / span) * span, heat)
+    name = change.field.name.lower()
+    before: int = getattr(base, name)
+    behind, exact = moved(before, change)
+    return replace(now, **{name: behind}), Step(change, before, behind, exact)
+
+
+def of_utility(base: Utility, now: Utility, change: Change, case: Case) -> tuple[Utility, Step]:
+    field = canonical(base, change.field)
+    name = field.name.lower()
+    before: int = getattr(base, name)
+    if field is Field.MOST and before == ANY_HEAT and change.way is not Way.TO:
+        raise refusal(change, f'{base.name} has no most that could be changed: say the new one')
+    behind, exact = moved(before, change, case.basis.price_divisor if field is Field.PRICE else Fraction(1))
+    return replace(now, **{name: behind}), Step(change, before, behind, exact)
+
+
+def plus_minus(case: Case, base: Targets, pinch: Pinch, workers: int = 0) -> tuple[PlusMinus, ...]:
+    """What a little more of each stream of a case would do to its hot target."""
+    cases = [replace(case, streams=tuple(made if each is stream else each for each in case.streams))
+             for stream in case.streams for made in little_more(stream, case)]
+    rises = side_by_side(lambda each: rise(pinch, each, base), cases, workers)
+    return tuple(PlusMinus(stream, *rises[3 * at:3 * at + 3]) for at, stream in enumerate(case.streams))
+
+
+def little(basis: Basis) -> tuple[int, int]:
+    """How much a CP and a load are made larger: 0.01 kW/K and 1 kW of the plant, or what a case can hold that is not
+    less."""
+    return max(1, ceil(basis.scale)), max(1, ceil(1000 * basis.scale))
+
+
+def little_more(stream: Stream, case: Case) -> tuple[Stream, Stream, Stream]:
+    """The stream with a larger size, with a warmer supply, with a warmer target; a latent one has one level."""
+    more_cp, more_load = little(case.basis)
+    if stream.latent:
+        warmer = replace(stream, supply=stream.supply + ONE_KELVIN, target=stream.target + ONE_KELVIN)
+        return replace(stream, load=stream.load + more_load), warmer, warmer
+    return (replace(stream, cp=stream.cp + more_cp), replace(stream, supply=stream.supply + ONE_KELVIN),
+            replace(stream, target=stream.target + ONE_KELVIN))
+
+
+def rise(pinch: Pinch, case: Case, base: Targets) -> int | None:
+    """By how much the hot target is above that of the base; None where the program refuses the case."""
+    try:
+        return pinch.targets(case).hot - base.hot
+    except Refused:
+        return None

@@ -1,0 +1,1 @@
+"""One word over many cases, here or on other machines."""

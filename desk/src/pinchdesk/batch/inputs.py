@@ -1,0 +1,218 @@
+"""Many cases: a folder of them, or a list in a file, with the further files that a word wants for each.
+
+A list is text with separators or a workbook, one case a row. Its columns go by their headings, which are `name` and
+what the files of words are called (`case`, `network`, `study` ..); what this word does not take is passed over, so that
+one list serves several words. Without headings the columns are the word's files in order."""
+from __future__ import annotations
+
+import os
+import re
+from collections.abc import Mapping, Sequence
+from dataclasses import dataclass
+from pathlib import Path
+
+from ..cli.output import read_bytes
+from ..errors import Refused, WordsError
+from ..tables.convert import is_case
+from ..tables.headings import unknown_headings
+from ..tables.spreadsheet import Table, TableRow, read_table
+
+NAME = 'name'
+# What the files of a folder end with: of tables, and of all else.
+ENDINGS = {'table': ('.csv', '.tsv', '.txt', '.xlsx', '.xlsm')}
+CASES = ('.csv',)
+# What a list may have for other words, or for a reader.
+OTHERS = ('case', 'network', 'study', 'site', 'table', 'changes', 'start', 'note', 'notes')
+
+
+@dataclass(frozen=True)
+class Role:
+    """A file that a word reads: the name of its option, how it is called, and whether there may be several of it or
+    none."""
+
+    option: str
+    several: bool = False
+    needed: bool = True
+
+    @property
+    def name(self) -> str:
+        return self.option[:-1] if self.several and self.option.endswith('s') else self.option
+
+
+@dataclass(frozen=True)
+class Listed:
+    """A row: its names in the table by their headings, and the paths of its files by the option of their role."""
+
+    names: Mapping[str, str]
+    paths: Mapping[str, tuple[str, ...]]
+
+    @property
+    def name(self) -> str:
+        return next(iter(self.names.values()))
+
+
+def listed(place: str, roles: Sequence[Role], common: Mapping[str, tuple[str, ...]]) -> tuple[Listed, ...]:
+    """The rows of a folder or of a list, each with the files that are common to all. `Refused` where the list cannot
+    be read, `WordsError` where a row has no file that the word wants."""
+    rows = in_folder(place, roles, common) if os.path.isdir(place) else in_list(place, roles, common)
+    if not rows:
+        raise Refused(3, '', 'empty', 'there is no case in it', place)
+    for row in rows:
+        for role in roles:
+            if role.needed and role.option not in row.paths:
+                raise WordsError(f'{row.name} has no {role.name}: give the list a column `{role.name}`, lay '
+                                 f'{Path(row.name).stem}-{role.name}.txt beside it, or say --{role.option} FILE')
+    return rows
+
+
+def natural(name: str) -> list[tuple[bool, int, str]]:
+    """Names in the order that a person expects: c2 before c10."""
+    return [(each.isdecimal(), int(each) if each.isdecimal() else 0, each.lower())
+            for each in re.split(r'(\d+)', name)]
+
+
+def in_folder(place: str, roles: Sequence[Role], common: Mapping[str, tuple[str, ...]]) -> tuple[Listed, ...]:
+    """The cases of a folder by their names; further files stand beside them, as `NAME-network.txt`."""
+    first, *further = roles
+    names = [each for each in os.listdir(place) if os.path.isfile(os.path.join(place, each)) and each[0] != '.']
+    cases = [each for each in names if each.lower().endswith(ENDINGS.get(first.option, CASES))]
+    stems = {Path(each).stem for each in cases}
+    beside = {f'{stem}-{role.name}' for stem in stems for role in further}
+    rows = []
+    for name in sorted(cases, key=natural):
+        if Path(name).stem in beside:
+            continue
+        paths: dict[str, tuple[str, ...]] = {first.option: (os.path.join(place, name),), **common}
+        for role in further:
+            found = [each for each in names if Path(each).stem == f'{Path(name).stem}-{role.name}']
+            if len(found) > 1:
+                raise WordsError(f'{name} has more than one {role.name} beside it: {", ".join(sorted(found))}')
+            if found and role.option not in common:
+                paths[role.option] = (os.path.join(place, found[0]),)
+        rows.append(Listed({role.name: ', '.join(map(os.path.basename, paths[role.option])) for role in roles
+                            if role.option in paths and role.option not in common}, paths))
+    return tuple(rows)
+
+
+def in_list(place: str, roles: Sequence[Role], common: Mapping[str, tuple[str, ...]]) -> tuple[Listed, ...]:
+    """The rows of a list."""
+    content = read_bytes(place)
+    if is_case(content):
+        raise Refused(3, '', 'a case', f'this is one {roles[0].name}, and a folder or a list of them is wanted', place)
+    try:
+        return rows_of(fitting(read_table(content, place), roles), roles, place, common)
+    except Refused as fault:
+        fault.file = fault.file or place
+        raise
+
+
+def fitting(tables: Sequence[Table], roles: Sequence[Role]) -> Table:
+    """Of the readings of a text the one that has the headings, else the one with as many columns as there are
+    files."""
+    check_headings(tables, roles)
+    headed = [each for each in tables if head_of(each, roles)]
+    plain = [each for each in tables if width(each) <= len(roles) or roles[-1].several]
+    held = headed or plain
+    if len(held) > 1:
+        widest = max(width(each) for each in held)
+        held = [each for each in held if width(each) == widest]
+    if len(held) != 1:
+        wanted = ', '.join(each.name for each in roles)
+        raise Refused(3, '', 'columns', f'its columns are not clear: give it the headings {wanted} (and name)')
+    return held[0]
+
+
+def width(table: Table) -> int:
+    return max((column + 1 for row in table.rows if not remark(row) for column, _ in row.filled()), default=0)
+
+
+def remark(row: TableRow) -> bool:
+    return row.cell(0).text.startswith('#')
+
+
+def known_headings(roles: Sequence[Role]) -> dict[str, str]:
+    """The option that each heading stands for; nothing for what this word does not take."""
+    known = dict.fromkeys(OTHERS, '') | {NAME: NAME}
+    return known | {each.name: each.option for each in roles} | {each.option: each.option for each in roles}
+
+
+def headings(row: TableRow, roles: Sequence[Role]) -> dict[int, str]:
+    """What the columns are, where this is a row of headings."""
+    known = known_headings(roles)
+    cells = [(column, cell.text.lower().lstrip('# ')) for column, cell in row.filled()]
+    return {column: known[text] for column, text in cells} if all(text in known for _, text in cells) else {}
+
+
+def check_headings(tables: Sequence[Table], roles: Sequence[Role]) -> None:
+    """`Refused` where the first row has two headings at least, and some that are not known."""
+    known = known_headings(roles)
+    for table in tables:
+        for row in table.rows[:1]:
+            cells = [(column, cell.text) for column, cell in row.filled()]
+            strange = [(column, text) for column, text in cells if text.lower().lstrip('# ') not in known]
+            if strange and len(cells) - len(strange) > 1:
+                raise unknown_headings(table, row, strange, ', '.join(known))
+
+
+def head_of(table: Table, roles: Sequence[Role]) -> TableRow | None:
+    """The row of headings: the first row, or one that remarks alone stand above."""
+    for row in table.rows:
+        if headings(row, roles):
+            return row
+        if not remark(row):
+            break
+    return None
+
+
+def rows_of(table: Table, roles: Sequence[Role], place: str,
+            common: Mapping[str, tuple[str, ...]]) -> tuple[Listed, ...]:
+    head, last = head_of(table, roles), len(roles) - 1
+    body = [each for each in table.rows if each is not head and not remark(each)]
+    columns = headings(head, roles) if head else {column: roles[min(column, last)].option
+                                                  for column in range(width(table))}
+    check_remarks(table, head, columns, place)
+    if body and roles[0].option not in columns.values():
+        raise Refused(3, '', 'columns', f'it has no column `{roles[0].name}`')
+    return tuple(row_of(table, row, columns, roles, place, common) for row in body)
+
+
+def check_remarks(table: Table, head: TableRow | None, columns: Mapping[int, str], place: str) -> None:
+    """`Refused` where a row that begins with `#` may be a remark, or a row whose file or name begins so."""
+    for row in table.rows:
+        if row is head or not remark(row):
+            continue
+        texts = [cell.text for _, cell in row.filled()]
+        named = columns.get(0) == NAME and texts[0][1:2].strip()
+        for text in texts if named else texts[:1]:
+            if os.path.isfile(text) or os.path.isfile(os.path.join(os.path.dirname(place), text)):
+                raise table.refusal(row.number, 0, f'`{texts[0]}` may be a remark, or a row with the file {text}: take '
+                                    'it out, or write ./ before the file')
+
+
+def row_of(table: Table, row: TableRow, columns: Mapping[int, str], roles: Sequence[Role], place: str,
+           common: Mapping[str, tuple[str, ...]]) -> Listed:
+    names: dict[str, str] = {}
+    held: dict[str, tuple[str, ...]] = {}
+    titles = {each.option: each.name for each in roles} | {NAME: NAME}
+    for column, cell in row.filled():
+        if column not in columns or cell.fault and columns[column]:
+            raise table.refusal(row.number, column, cell.fault or 'a cell below no heading')
+        option = columns[column]
+        if not option:
+            continue
+        title = titles[option]
+        names[title] = f'{names[title]}, {cell.text}' if title in names else cell.text
+        if option != NAME:
+            held[option] = (*held.get(option, ()), seen(cell.text, place))
+    if roles[0].option not in held:
+        raise table.refusal(row.number, None, f'there is no {roles[0].name}')
+    return Listed(names, {**common, **held})
+
+
+def seen(path: str, place: str) -> str:
+    """A path of a list, as seen from the list's folder or from here; `Refused` where these are two files."""
+    there = os.path.join(os.path.dirname(place), path)
+    if os.path.exists(path) and os.path.exists(there) and not os.path.samefile(path, there):
+        raise Refused(3, '', 'ambiguous', f'{path} is there twice, as seen from here and from the list: write it whole',
+                      place)
+    return there if os.path.exists(there) else path

@@ -1,0 +1,118 @@
+"""Files, read and written. An output is written whole or not at all: into a temporary file beside the place, which is
+then given its name."""
+from __future__ import annotations
+
+import os
+import stat
+import tempfile
+from collections.abc import Iterable
+from contextlib import suppress
+from pathlib import Path
+
+from ..errors import OutputError, Refused
+
+LONGEST = 8_388_608
+# What tells a file from every other: device and inode; of one that is not there those of its folder, and its name.
+FileKey = tuple[int, int, str]
+
+
+def read_bytes(path: str) -> bytes:
+    """What a file holds; `Refused` where it cannot be read, is no plain file, or is longer than any file may be."""
+    try:
+        with open(path, 'rb', opener=at_once) as handle:
+            if not stat.S_ISREG(os.fstat(handle.fileno()).st_mode):
+                cause = 'is no plain file, but a pipe or a device: write it to a file'
+                raise Refused(6, '', 'no plain file', cause, path)
+            content = handle.read(LONGEST + 1)
+    except (OSError, ValueError) as fault:
+        cause = fault.strerror if isinstance(fault, OSError) and fault.strerror else str(fault)
+        raise Refused(6, '', cause, f'cannot be read: {cause}', path) from fault
+    if len(content) > LONGEST:
+        raise Refused(5, '', 'too long', f'too long: a file has at most {LONGEST} bytes', path)
+    return content
+
+
+def at_once(path: str, flags: int) -> int:
+    """Opens a file; for a pipe it does not wait until somebody writes to it."""
+    return os.open(path, flags | os.O_NONBLOCK | os.O_NOCTTY)
+
+
+def write_whole(path: str, content: str | bytes, inputs: Iterable[str] = ()) -> None:
+    """Writes a file, or leaves what was there. `OutputError` where the place is an input, a folder, no plain file, or
+    cannot be written. A link is followed."""
+    check_place(path, inputs)
+    place = Path(os.path.realpath(path))
+    held = content.encode() if isinstance(content, str) else content
+    try:
+        handle, name = tempfile.mkstemp(prefix='.pinchdesk-', dir=place.parent)
+    except (OSError, ValueError) as fault:
+        raise OutputError(f'{path}: cannot be written: {reason(fault)}') from fault
+    try:
+        with os.fdopen(handle, 'wb') as opened:
+            opened.write(held)
+        os.chmod(name, mode_of(place))
+        os.replace(name, place)
+    except OSError as fault:
+        raise OutputError(f'{path}: cannot be written: {reason(fault)}') from fault
+    finally:
+        with suppress(OSError):
+            os.unlink(name)
+
+
+def check_place(path: str, inputs: Iterable[str]) -> None:
+    """`OutputError` where a file may not be written to this place."""
+    if not path or path.endswith(os.sep) or os.path.isdir(path):
+        raise OutputError(f'{path or "(no name)"}: is a folder, and a file is wanted')
+    if os.path.lexists(path) and not os.path.isfile(path):
+        raise OutputError(f'{path}: is no plain file, and is left alone')
+    key = key_of(path)
+    if any(key_of(each) == key for each in inputs):
+        raise OutputError(f'{path}: is an input, and is left alone')
+    if not os.path.isdir(Path(path).parent):
+        raise OutputError(f'{path}: cannot be written: there is no folder {Path(path).parent}')
+
+
+def check_apart(outputs: Iterable[str], inputs: Iterable[str]) -> None:
+    """`OutputError` where one of many outputs is an input, or two of them are one file."""
+    read = {key_of(each) for each in inputs}
+    taken: dict[FileKey, str] = {}
+    for path in outputs:
+        key = key_of(path)
+        if key in read:
+            raise OutputError(f'{path}: is an input, and is left alone')
+        if key in taken:
+            raise OutputError(f'{path}: two answers would go there, since it is {taken[key]} too')
+        taken[key] = path
+
+
+def key_of(path: str) -> FileKey:
+    place = os.path.realpath(path)
+    for each, name in ((place, ''), (os.path.dirname(place), os.path.basename(place))):
+        with suppress(OSError, ValueError):
+            held = os.stat(each)
+            return held.st_dev, held.st_ino, name
+    return 0, 0, place
+
+
+def made_folder(folder: str, parents: bool = False) -> None:
+    """Makes a folder where there is none; `OutputError` where nothing can be written there."""
+    try:
+        Path(folder).mkdir(parents=parents, exist_ok=True)
+    except (OSError, ValueError) as fault:
+        raise OutputError(f'{folder}: cannot be made a folder: {reason(fault)}') from fault
+    if not os.access(folder, os.W_OK | os.X_OK):
+        raise OutputError(f'{folder}: nothing can be written there')
+
+
+def mode_of(place: Path) -> int:
+    """The mode of the file that is there, or that of a new one."""
+    try:
+        return stat.S_IMODE(place.stat().st_mode)
+    except OSError:
+        mask = os.umask(0)
+        os.umask(mask)
+        return 0o666 & ~mask
+
+
+def reason(fault: Exception) -> str:
+    return (fault.strerror if isinstance(fault, OSError) else None) or str(fault)

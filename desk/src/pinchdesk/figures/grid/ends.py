@@ -1,0 +1,72 @@
+"""What stands at the ends of a stream in a grid diagram: its supply, and what the network really reaches there."""
+from __future__ import annotations
+
+from dataclasses import dataclass
+from fractions import Fraction
+
+from ...formats.case import Side, Stream, Utility
+from ...formats.shown import Shown
+from .layout import Plan, percent
+
+
+@dataclass(frozen=True)
+class End:
+    """The texts of a row: at its left and right end, its CP, its load; `missed` where the network misses the target."""
+
+    left: str
+    right: str
+    flow: str
+    load: str
+    missed: bool = False
+
+
+def end_of(plan: Plan, row: Stream | Utility) -> End:
+    shown = plan.shown
+    if isinstance(row, Utility):
+        duties = [each.duty for each in plan.followed.network.exchangers if row.name in (each.hot, each.cold)]
+        level = '' if row.invented else shown.celsius(row.level)
+        ends = (level, '') if row.side is Side.HOT else ('', level)
+        return End(*ends, '', shown.kilowatts(sum(duties, Fraction(0))))
+    reached, missed = reached_by(plan, row)
+    supply = shown.celsius(row.supply)
+    flow = 'latent' if row.latent else shown.kilowatts_per_kelvin(row.cp)
+    ends = (supply, reached) if row.side is Side.HOT else (reached, supply)
+    return End(ends[0], ends[1], flow, shown.kilowatts(row.heat), missed)
+
+
+def reached_by(plan: Plan, stream: Stream) -> tuple[str, bool]:
+    """What the network does at the end of a stream, and whether that is not what is wanted."""
+    shown, target = plan.shown, plan.shown.celsius(stream.target)
+    ends = plan.followed.ends[stream.name]
+    if len(ends) != 1:
+        return f'{len(ends) or "no"} end{"s" if len(ends) else ""}, target {target}', True
+    branch = ends[0].branch
+    if branch.state is None:
+        return f'?, target {target}', True
+    if branch.size != stream.size:
+        return f'{shown.celsius(branch.temperature or 0)} of {percent(branch.size / stream.size)}', True
+    wanted = Fraction(stream.target) if not stream.latent else Fraction(stream.side is Side.COLD)
+    if branch.state == wanted:
+        return target, False
+    if stream.latent:
+        done = branch.state if stream.side is Side.COLD else 1 - branch.state
+        return f'{target}, {percent(done)} of its load', True
+    return f'{away(branch.state, stream.target, shown)}, target {target}', True
+
+
+def away(state: Fraction, target: int, shown: Shown) -> str:
+    """A temperature with as many decimals as tell it from the target, up to six."""
+    wanted = shown.celsius(target)
+    return next((text for text in (shown.celsius(state, places) for places in range(3, 7)) if text != wanted),
+                f'near {wanted}')
+
+
+def reading(row: Stream | Utility, side: str) -> bool:
+    """Whether a row ends on this side: `right` is the alignment of what stands left of it."""
+    return (row.side is Side.COLD) == (side == 'right')
+
+
+def end_texts(plan: Plan) -> str:
+    told = 'temperatures in °C, duties in kW; at a split the part of the stream that each branch has'
+    invented = any(isinstance(each, Utility) and each.invented for each in plan.rows)
+    return told + ('; HOT and COLD stand for a heater and a cooler of any level' if invented else '')

@@ -1,0 +1,63 @@
+"""The lanes of a stream in a grid diagram: its branches run side by side where it is split; nothing is drawn here."""
+from __future__ import annotations
+
+from collections.abc import Iterable, Mapping
+from fractions import Fraction
+
+from ...analysis.follow import Followed
+from ...formats.case import Side, Stream
+from .columns import Columns
+from .courses import Course, Key, Node
+
+
+def branches_of(followed: Followed, stream: Stream) -> list[str]:
+    return [name for name, each in followed.branches.items() if each.stream.name == stream.name]
+
+
+def lanes_of(followed: Followed, course: Course, columns: Columns, stream: Stream) -> dict[str, int]:
+    """The lane of each branch of a stream: the first one of a split goes on in its lane, the others take the lowest
+    that are free there."""
+    nodes = [each for each in course.nodes.values() if each.stream.name == stream.name]
+    nodes.sort(key=lambda each: columns.of[each.key], reverse=stream.side is Side.COLD)
+    own = branches_of(followed, stream)
+    ending, beginning = at_nodes(course.used, own), at_nodes(course.made, own)
+    lanes, taken = {stream.name: 0}, {0}
+    for node in nodes:
+        inputs, outputs = ending.get(node.key, []), beginning.get(node.key, [])
+        held = sorted({lanes[each] for each in inputs if each in lanes}) or [0]
+        taken -= set(held)
+        # Branches that begin and end at one place are not drawn.
+        for name in (each for each in outputs if each not in inputs):
+            lane = held.pop(0) if held else next(at for at in range(len(own) + 1) if at not in taken)
+            lanes[name] = lane
+            taken.add(lane)
+    return lanes
+
+
+def at_nodes(nodes: Mapping[str, Node], branches: Iterable[str]) -> dict[Key, list[str]]:
+    """The branches at each node."""
+    held: dict[Key, list[str]] = {}
+    for each in branches:
+        if each in nodes:
+            held.setdefault(nodes[each].key, []).append(each)
+    return held
+
+
+def share_of(followed: Followed, branch: str) -> Fraction:
+    """The part of its stream that a branch is."""
+    held = followed.branches[branch]
+    return held.size / held.stream.size
+
+
+def drawn_branches(course: Course, names: Iterable[str]) -> list[str]:
+    """Those that do not end where they begin."""
+    return [each for each in names if course.made.get(each) is None or course.made[each] is not course.used.get(each)]
+
+
+def count_of(lanes: Mapping[str, int]) -> int:
+    return 1 + max(lanes.values(), default=0)
+
+
+def node_at(course: Course, branch: str) -> tuple[Node | None, Node | None]:
+    """Where a branch begins and where it ends; None at the ends of the stream."""
+    return course.made.get(branch), course.used.get(branch)

@@ -1,0 +1,70 @@
+"""The profiles of a site: what its plants can give to mains, and what they can take from them (Dhole and Linnhoff
+1993), with its boiler and its cooling."""
+from __future__ import annotations
+
+from collections.abc import Sequence
+
+from matplotlib.axes import Axes
+from matplotlib.figure import Figure
+
+from ..formats.shown import Shown
+from ..formats.site import Site
+from ..program.answers import SiteAnswer
+from .axes import entitled, fitted, legend_below, plain, spaced
+from .labels import Labels, Xy
+from .style import COLD, HOT, INK, blank, framed, said, styled
+
+MAIN = '#7d3c98'
+
+
+def site_figure(site: Site, answer: SiteAnswer) -> Figure:
+    """What can be given below each temperature to the left, what can be taken above it to the right, and each main
+    where it takes and where it gives heat."""
+    shown = Shown(site.basis)
+    with styled():
+        figure = blank(8.6, 5.8)
+        axes = figure.subplots()
+        source = [(-float(shown.in_kilowatts(each.source)), each.temperature / 10) for each in answer.profiles]
+        sink = [(float(shown.in_kilowatts(each.sink)), each.temperature / 10) for each in answer.profiles]
+        axes.plot(*zip(*source), color=HOT, marker='o', markersize=3, linewidth=1.5,
+                  label=f'to give: {shown.kilowatts(answer.profiles[0].source)} kW in all')
+        axes.plot(*zip(*sink), color=COLD, marker='o', markersize=3, linewidth=1.5,
+                  label=f'to take: {shown.kilowatts(answer.profiles[-1].sink)} kW in all')
+        finish(axes, [*source, *sink], title_of(answer, shown))
+        put_mains(axes, site, [source, sink])
+    return figure
+
+
+def title_of(answer: SiteAnswer, shown: Shown) -> str:
+    if answer.boiler is None or answer.cooling is None:
+        return 'Site profiles: no heat flow'
+    return f'Site profiles: boiler {shown.kilowatts(answer.boiler)} kW, cooling {shown.kilowatts(answer.cooling)} kW'
+
+
+def finish(axes: Axes, points: Sequence[Xy], title: str) -> None:
+    heats = [abs(point[0]) for point in points]
+    most = max([*heats, 0.001]) * 1.08
+    axes.set_xlim(-most, most)
+    axes.margins(y=0.1)
+    axes.axvline(0, color=INK, linewidth=0.8)
+    entitled(axes, 'heat in kW: to give left, to take right', 'shifted temperature in °C', title)
+    framed(axes)
+
+
+def put_mains(axes: Axes, site: Site, profiles: Sequence[list[Xy]]) -> None:
+    """Each main, left where it takes heat and right where it gives it."""
+    shown, (low, high) = Shown(), axes.get_xlim()
+    lines: list[tuple[str, Xy, list[Xy]]] = []
+    for main in site.mains:
+        for edge, level in ((low, main.level + site.contribution), (high, main.level - site.contribution)):
+            line = [(edge, level / 10), (0.0, level / 10)]
+            axes.plot(*zip(*line), color=MAIN, linestyle='--', linewidth=1)
+            lines.append((f'{said(main.name)} {shown.celsius(level)} °C', (edge * 0.72, level / 10), line))
+    axes.plot([], [], color=MAIN, linestyle='--', linewidth=1, label='mains')
+    legend_below(axes)
+    fitted(axes.figure)
+    spaced(axes, shown=lambda value: plain(abs(value)))
+    axes.set_ylim(*axes.get_ylim())
+    labels = Labels(axes, [*profiles, *[line for _, _, line in lines]])
+    for text, at, _ in lines:
+        labels.put(text, at, color=MAIN, fontsize=8)

@@ -1,0 +1,64 @@
+"""Targets and least cost over the least difference."""
+from __future__ import annotations
+
+from matplotlib.axes import Axes
+from matplotlib.figure import Figure
+
+from ..analysis.sweep_request import own_contributions
+from ..formats.case import Case
+from ..formats.shown import Shown
+from ..program.answers import Sweep
+from .axes import entitled, fitted, legend_below, plainly, spaced, wrapped
+from .style import COLD, HOT, INK, blank, framed, said, styled
+
+COST = '#1e8449'
+
+
+def sweep_figure(case: Case, sweep: Sweep) -> Figure:
+    """Both targets of each row, and the cost where it is not the hot target. A row without a heat flow is a gap in the
+    cost alone."""
+    shown = Shown(case.basis)
+    priced = any(each.cost not in (None, each.hot) for each in sweep.points)
+    gaps = [each for each in sweep.points if each.cost is None]
+    with styled():
+        figure = blank(8, 5.4)
+        axes = figure.subplots()
+        put_targets(axes, sweep, shown)
+        if priced:
+            put_cost(axes.twinx(), sweep, shown)
+        if gaps:
+            at = [each.contribution / 5 for each in gaps]
+            axes.plot(at, [0] * len(at), 'x', color=INK, markersize=7, label='no heat flow: no cost', clip_on=False)
+        note = '' if gaps else ' (the least cost is the hot target)'
+        own = '\ncontributions of their own are replaced' if own_contributions(case) else ''
+        entitled(axes, 'least difference in K', 'heat in kW',
+                 f'Targets{" and least cost" if priced else ""} over the least difference{"" if priced else note}{own}')
+        legend_below(axes, [line for each in figure.axes for line in each.get_lines()])
+        fitted(figure)
+        spaced(axes)
+    return figure
+
+
+def put_targets(axes: Axes, sweep: Sweep, shown: Shown) -> None:
+    across = [each.contribution / 5 for each in sweep.points]
+    for name, colour, heats in (('hot target', HOT, [each.hot for each in sweep.points]),
+                                ('cold target', COLD, [each.cold for each in sweep.points])):
+        first, last = shown.kilowatts(heats[0]), shown.kilowatts(heats[-1])
+        told = f'{name}: {first} to {last} kW' if first != last else f'{name}: {first} kW'
+        axes.plot(across, [float(shown.in_kilowatts(each)) for each in heats], color=colour, marker='o', markersize=3,
+                  linewidth=1.4, label=told)
+    axes.set_ylim(bottom=0)
+    plainly(axes)
+    framed(axes)
+
+
+def put_cost(axes: Axes, sweep: Sweep, shown: Shown) -> None:
+    across = [each.contribution / 5 for each in sweep.points]
+    costs = [float('nan') if each.cost is None else float(shown.in_cost(each.cost)) for each in sweep.points]
+    axes.plot(across, costs, color=COST, marker='s', markersize=3, linewidth=1.4, label='least cost (right scale)')
+    axes.set_ylabel(wrapped(f'least cost, {said(shown.cost_unit)}', 4.0), color=COST)
+    plainly(axes)
+    if not any(cost < 0 for cost in costs):
+        axes.set_ylim(bottom=0)
+    axes.grid(False)
+    axes.spines['top'].set_visible(False)

@@ -1,0 +1,1 @@
+"""The files as plain data, read and printed: the only readers of them."""

@@ -1,0 +1,43 @@
+"""Numbers of words and of comments: exact, and of so few digits that none fills the memory."""
+from __future__ import annotations
+
+import re
+from fractions import Fraction
+
+from ..errors import WordsError
+
+# So many signs a number has at most, and so many zeros by its exponent.
+LONGEST, MOST_ZEROS = 40, 30
+DAY = 86_400
+SHAPE = re.compile(r'[+-]?(?:[0-9]+(?:\.[0-9]*)?|\.[0-9]+)(?:[eE](?P<exponent>[+-]?[0-9]+))?|[+-]?[0-9]+/0*[1-9][0-9]*')
+
+
+def exact(text: str, longest: int = LONGEST) -> Fraction:
+    """The number of a text, as `12.5`, `1e3` or `1/3`; a `ValueError` where it is none, or a longer one."""
+    held = text.strip()
+    match = SHAPE.fullmatch(held) if len(held) <= longest else None
+    if not match or abs(int(match['exponent'] or '0')) > MOST_ZEROS:
+        raise ValueError(f'{shortened(text)} is no number of at most {longest} signs')
+    return Fraction(held)
+
+
+def shortened(text: str) -> str:
+    return text if len(text) <= LONGEST else text[:LONGEST] + '..'
+
+
+def whole(text: str) -> int:
+    """A whole number of the words, in digits alone; a `ValueError` where it is none."""
+    if not re.fullmatch('-?[0-9]{1,9}', text):
+        raise ValueError(text)
+    return int(text)
+
+
+def seconds_of(text: str) -> Fraction:
+    """How long a search may take; `WordsError` where that is none, or more than a day."""
+    try:
+        held = exact(text.replace(',', '.'))
+    except ValueError:
+        held = Fraction(0)
+    if not 0 < held <= DAY:
+        raise WordsError(f'--seconds {shortened(text)}: a number of seconds above 0 is wanted, at most a day')
+    return held

@@ -1,0 +1,257 @@
+"""The case file: the only reader of it in the desk, and its printer (docs/FORMATS.md, *The case file*).
+
+Numbers are whole, in the program's units: temperatures and contributions in tenths of °C, CPs in 10 W/K, heats in W,
+prices per W. What a case cannot say for the program, it says for the desk in rows that begin with `#` and that the
+program passes over: the scale, the units of prices and costs, and the names that a table had (`Basis`)."""
+from __future__ import annotations
+
+import csv
+import enum
+import io
+import re
+from collections.abc import Iterable, Iterator, Sequence
+from dataclasses import dataclass, field, replace
+
+from ..errors import Refused, refused_row
+from .comments import Basis as Basis
+from .comments import basis_rows, noted
+
+ANY_HEAT = 10 ** 12
+NUMBER = re.compile(r'-?[0-9]{1,13}')
+csv.field_size_limit(2 ** 24)
+
+
+class Side(enum.Enum):
+    """Whether a source gives heat or takes it."""
+
+    HOT = 'hot'
+    COLD = 'cold'
+
+
+@dataclass(frozen=True)
+class Stream:
+    """A stream; it is latent where it has a load, and then its CP is 0 and its target its supply."""
+
+    name: str
+    side: Side
+    supply: int
+    target: int
+    cp: int
+    load: int
+    contribution: int
+
+    @property
+    def latent(self) -> bool:
+        return self.load > 0
+
+    @property
+    def heat(self) -> int:
+        """What it gives or takes in all, in W."""
+        return self.load or self.cp * abs(self.supply - self.target)
+
+    @property
+    def size(self) -> int:
+        """What all its branches carry together: its CP, or its load where it is latent."""
+        return self.load or self.cp
+
+    @property
+    def high(self) -> int:
+        """The shifted temperature of its warmer end."""
+        return shifted(self, max(self.supply, self.target))
+
+    @property
+    def low(self) -> int:
+        """The shifted temperature of its colder end."""
+        return shifted(self, min(self.supply, self.target))
+
+
+@dataclass(frozen=True)
+class Utility:
+    """A heater (hot) or a cooler (cold) at one level; `invented` where the case has none of its side and `HOT` or
+    `COLD` stands in."""
+
+    name: str
+    side: Side
+    level: int
+    least: int
+    most: int
+    price: int
+    contribution: int
+    invented: bool = False
+
+
+Source = Stream | Utility
+
+
+@dataclass(frozen=True)
+class Forbid:
+    """A hot and a cold source that may not exchange heat."""
+
+    hot: str
+    cold: str
+
+
+@dataclass(frozen=True)
+class Case:
+    """A case as its file has it, each source with the contribution that it has in the end."""
+
+    contribution: int
+    streams: tuple[Stream, ...]
+    utilities: tuple[Utility, ...] = ()
+    forbids: tuple[Forbid, ...] = ()
+    basis: Basis = field(default=Basis())
+
+    @property
+    def sources(self) -> tuple[Source, ...]:
+        return (*self.streams, *self.utilities)
+
+    def source(self, name: str) -> Source:
+        """The stream or utility of this name; `KeyError` where there is none."""
+        for each in self.sources:
+            if each.name == name:
+                return each
+        raise KeyError(name)
+
+
+def shifted(source: Source, temperature: int) -> int:
+    """An actual temperature of a source on the shifted scale."""
+    return temperature - source.contribution if source.side is Side.HOT else temperature + source.contribution
+
+
+def actual(source: Source, temperature: int) -> int:
+    """A shifted temperature as the source has it."""
+    return temperature + source.contribution if source.side is Side.HOT else temperature - source.contribution
+
+
+def decoded(text: str | bytes) -> str:
+    """A text without its byte order mark; bytes that are no UTF-8 can stand in comments alone."""
+    held = text.decode('utf-8', 'replace') if isinstance(text, bytes) else text
+    return held[1:] if held.startswith('\ufeff') else held
+
+
+def records(text: str | bytes) -> Iterator[tuple[int, list[str]]]:
+    """The rows of a case, a site or a study, counted from 1; empty lines give none."""
+    rows = csv.reader(io.StringIO(decoded(text), newline=''))
+    yield from enumerate((row for row in rows if row), 1)
+
+
+def is_passed_over(row: Sequence[str]) -> bool:
+    return row[0].startswith('#') or not any(row)
+
+
+def number(role: str, row: int, text: str) -> int:
+    """A whole number of a file; `Refused` where it is none."""
+    if not NUMBER.fullmatch(text):
+        raise refused_row(role, row, 'BadNumber')
+    return int(text)
+
+
+def own_contribution(row: int, text: str) -> int | None:
+    return number('case', row, text) if text else None
+
+
+class CaseReader:
+    """Reads the rows of a case one by one."""
+
+    def __init__(self) -> None:
+        self.contribution: int | None = None
+        self.streams: list[tuple[Stream, int | None]] = []
+        self.utilities: list[tuple[Utility, int | None]] = []
+        self.forbids: list[Forbid] = []
+        self.basis = Basis()
+
+    def take(self, at: int, row: Sequence[str]) -> None:
+        """Reads a row; `Refused` where it can be no row of a case."""
+        if len(row) != 7:
+            raise refused_row('case', at, 'FieldCount')
+        if is_passed_over(row):
+            self.note(at, row)
+        elif row[0] in ('hot', 'cold'):
+            self.take_stream(at, row)
+        elif row[0] in ('heater', 'cooler'):
+            self.take_utility(at, row)
+        elif row[0] == 'forbid':
+            self.forbids.append(Forbid(row[1], row[2]))
+        elif row[0] == 'contribution':
+            self.contribution = number('case', at, row[2])
+        else:
+            raise refused_row('case', at, 'UnknownKind')
+
+    def note(self, at: int, row: Sequence[str]) -> None:
+        """Reads a comment of the desk; `Refused` where it says what cannot be."""
+        try:
+            self.basis = noted(self.basis, row)
+        except ValueError as fault:
+            place = f'case row {at}'
+            raise Refused(3, place, 'comment', f'{place} {row[0]}: {fault}') from fault
+
+    def take_stream(self, at: int, row: Sequence[str]) -> None:
+        supply, target, cp = (number('case', at, text) for text in row[2:5])
+        load = number('case', at, row[5]) if row[5] else 0
+        self.streams.append((Stream(row[1], Side(row[0]), supply, target, cp, load, 0), own_contribution(at, row[6])))
+
+    def take_utility(self, at: int, row: Sequence[str]) -> None:
+        level, least, most, price = (number('case', at, text) for text in row[2:6])
+        side = Side.HOT if row[0] == 'heater' else Side.COLD
+        self.utilities.append((Utility(row[1], side, level, least, most, price, 0), own_contribution(at, row[6])))
+
+    def made(self, rows: int) -> Case:
+        """The case of the rows that were read."""
+        if self.contribution is None:
+            raise refused_row('case', rows + 1, 'NoContribution')
+        share = self.contribution
+        streams = tuple(replace(each, contribution=share if own is None else own) for each, own in self.streams)
+        utilities = tuple(replace(each, contribution=share if own is None else own) for each, own in self.utilities)
+        return Case(share, streams, utilities, tuple(self.forbids), self.basis)
+
+
+def read_case(text: str | bytes) -> Case:
+    """The case of a file's text. `Refused` where it is none as far as this reader sees; all limits are for the program
+    to check."""
+    reader, at = CaseReader(), 0
+    for at, row in records(text):
+        reader.take(at, row)
+    return reader.made(at)
+
+
+def case_rows(case: Case) -> Iterator[list[str]]:
+    """The rows of a case file, without the desk's comments."""
+    yield ['contribution', '', str(case.contribution), '', '', '', '']
+    for each in case.sources:
+        own = '' if each.contribution == case.contribution else str(each.contribution)
+        if isinstance(each, Stream):
+            load = str(each.load) if each.latent else ''
+            yield [each.side.value, each.name, str(each.supply), str(each.target), str(each.cp), load, own]
+        elif not each.invented:
+            kind = 'heater' if each.side is Side.HOT else 'cooler'
+            yield [kind, each.name, str(each.level), str(each.least), str(each.most), str(each.price), own]
+    for pair in case.forbids:
+        yield ['forbid', pair.hot, pair.cold, '', '', '', '']
+
+
+def print_case(case: Case) -> str:
+    """The case as a file; reading it gives the same case, but for utilities that are invented."""
+    held = io.StringIO(newline='')
+    csv.writer(held, lineterminator='\n').writerows([*basis_rows(case.basis), *case_rows(case)])
+    return held.getvalue()
+
+
+def print_comments(texts: Iterable[str]) -> str:
+    """Comments as rows of a case file, which the program passes over."""
+    held = io.StringIO(newline='')
+    csv.writer(held, lineterminator='\n').writerows([f'# {text.lstrip("# ")}', *[''] * 6] for text in texts)
+    return held.getvalue()
+
+
+def completed(case: Case) -> Case:
+    """The case with `HOT`, as hot as the highest shifted stream end, where it has no heater, and with `COLD`, as cold
+    as the lowest, where it has no cooler: price 1 and 0, the contribution of the case (docs/FORMATS.md, *The text of
+    `flow`*)."""
+    added: list[Utility] = []
+    if not any(each.side is Side.HOT for each in case.utilities):
+        level = max(each.high for each in case.streams) + case.contribution
+        added.append(Utility('HOT', Side.HOT, level, 0, ANY_HEAT, 1, case.contribution, True))
+    if not any(each.side is Side.COLD for each in case.utilities):
+        level = min(each.low for each in case.streams) - case.contribution
+        added.append(Utility('COLD', Side.COLD, level, 0, ANY_HEAT, 0, case.contribution, True))
+    return replace(case, utilities=(*case.utilities, *added))

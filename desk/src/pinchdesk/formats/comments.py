@@ -1,0 +1,73 @@
+"""What a case says for the desk in rows that begin with `#` and that the program passes over: its scale, the units of
+its prices and costs, and the names that its table had."""
+from __future__ import annotations
+
+from collections.abc import Iterator, Sequence
+from dataclasses import dataclass, replace
+from fractions import Fraction
+
+from ..text import plain, read_again
+from .amounts import exact, shortened
+
+# What a scale and a divisor are at least; at most they are one over it. Prices in odd units have long divisors.
+LEAST_SCALE, LEAST_DIVISOR, LONGEST = Fraction(1, 10 ** 6), Fraction(1, 10 ** 30), 400
+
+
+@dataclass(frozen=True)
+class Basis:
+    """How the numbers of a case are those of its engineer.
+
+    All heats, CPs and loads of the case are `scale` times the plant's. A price of the case divided by `price_divisor`
+    is in `price_unit`; a cost divided by `cost_divisor` (and by the scale) is in `cost_unit`. `names` has each name
+    that was made fit, as (name in the table, name in the case)."""
+
+    scale: Fraction = Fraction(1)
+    price_unit: str = ''
+    price_divisor: Fraction = Fraction(1)
+    cost_unit: str = ''
+    cost_divisor: Fraction = Fraction(1)
+    names: tuple[tuple[str, str], ...] = ()
+
+
+def noted(basis: Basis, row: Sequence[str]) -> Basis:
+    """The basis with what a comment row of the desk says; any other comment says nothing. A `ValueError` where its
+    number is none that there can be, or another one than a row above says."""
+    word, first, second = row[0], read_again(row[1]), row[2]
+    if word == '#name':
+        return replace(basis, names=(*basis.names, (first, second)))
+    if word == '#scale':
+        made = replace(basis, scale=between(first, LEAST_SCALE))
+        is_first = basis.scale == 1
+    elif word == '#price':
+        made = replace(basis, price_unit=first, price_divisor=between(second, LEAST_DIVISOR))
+        is_first = not basis.price_unit
+    elif word == '#cost':
+        made = replace(basis, cost_unit=first, cost_divisor=between(second, LEAST_DIVISOR))
+        is_first = not basis.cost_unit
+    else:
+        return basis
+    if made != basis and not is_first:
+        raise ValueError('a row above says another one')
+    return made
+
+
+def between(text: str, least: Fraction) -> Fraction:
+    """A number of at least this and at most one over it; a `ValueError` where it is none."""
+    try:
+        held = exact(text, LONGEST)
+    except ValueError:
+        held = Fraction(0)
+    if not least <= held <= 1 / least:
+        raise ValueError(f'`{shortened(text)}` is no number from {least} to {1 / least}')
+    return held
+
+
+def basis_rows(basis: Basis) -> Iterator[list[str]]:
+    if basis.scale != 1:
+        yield ['#scale', str(basis.scale), '', '', '', '', '']
+    if basis.price_unit:
+        yield ['#price', plain(basis.price_unit), str(basis.price_divisor), '', '', '', '']
+    if basis.cost_unit:
+        yield ['#cost', plain(basis.cost_unit), str(basis.cost_divisor), '', '', '', '']
+    for old, new in basis.names:
+        yield ['#name', plain(old), new, '', '', '', '']

@@ -1,0 +1,95 @@
+"""Numbers as an engineer reads them: °C, K, kW, kW/K, prices and costs in the units of the table that the case came
+from.
+
+The program's numbers are exact, and are rounded here alone, half away from 0. A case whose basis has a scale holds
+that many times the heats of the plant: they are divided again."""
+from __future__ import annotations
+
+from dataclasses import dataclass
+from fractions import Fraction
+from math import ceil
+
+from ..text import printable
+from .case import Basis
+
+Number = int | Fraction
+
+
+def decimal(value: Number, places: int) -> str:
+    """A number with at most so many decimals, rounded half away from 0, without zeros at its end: 5/3 in 2 places is
+    1.67."""
+    held = Fraction(value)
+    whole = (abs(held) * 10 ** places * 2 + 1) // 2
+    digits = str(whole).rjust(places + 1, '0')
+    text = digits[:len(digits) - places] + ('.' + digits[len(digits) - places:] if places else '')
+    text = text.rstrip('0').rstrip('.') if places else text
+    return '-' + text if held < 0 and text != '0' else text
+
+
+def decimal_up(value: Number, places: int) -> str:
+    """A number with at most so many decimals, rounded up: what is at least this is at least the number."""
+    return decimal(Fraction(ceil(Fraction(value) * 10 ** places), 10 ** places), places)
+
+
+def is_rounded(value: Number, places: int) -> bool:
+    """Whether so many decimals do not hold the number."""
+    held: Fraction = Fraction(value) * 10 ** places
+    return held.denominator != 1
+
+
+@dataclass(frozen=True)
+class Shown:
+    """Shows the numbers of a case with this basis. All arguments are in the program's units."""
+
+    basis: Basis = Basis()
+
+    def celsius(self, tenths: Number, places: int = 2) -> str:
+        """A temperature in °C; a difference in K is shown by the same."""
+        return decimal(Fraction(tenths) / 10, places)
+
+    def kilowatts(self, watts: Number, places: int = 3) -> str:
+        """A heat in kW, divided by the scale."""
+        return decimal(self.in_kilowatts(watts), places)
+
+    def in_kilowatts(self, watts: Number) -> Fraction:
+        return Fraction(watts) / self.basis.scale / 1000
+
+    def kilowatts_per_kelvin(self, cp: Number, places: int = 4) -> str:
+        """A CP in kW/K, divided by the scale."""
+        return decimal(self.in_kilowatts_per_kelvin(cp), places)
+
+    def in_kilowatts_per_kelvin(self, cp: Number) -> Fraction:
+        return Fraction(cp) / self.basis.scale / 100
+
+    def price(self, price: Number) -> str:
+        """A price in the unit of `price_unit`."""
+        return decimal(Fraction(price) / self.basis.price_divisor, 6)
+
+    def cost(self, cost: Number) -> str:
+        """A cost in the unit of `cost_unit`."""
+        return decimal(self.in_cost(cost), 3)
+
+    def in_cost(self, cost: Number) -> Fraction:
+        return Fraction(cost) / self.basis.cost_divisor / self.basis.scale
+
+    def with_unit(self, cost: Number) -> str:
+        """A cost with its unit beside it."""
+        return f'{self.cost(cost)} {self.cost_unit}'
+
+    def in_program(self, cost: Fraction) -> Fraction:
+        """A cost in the unit of `cost_unit`, as the program has it."""
+        return cost * self.basis.cost_divisor * self.basis.scale
+
+    def scale_remarks(self) -> list[str]:
+        """What stands with numbers of the case as the program has them, where these are not the plant's."""
+        return [f'duties and sizes are {self.basis.scale} times the plant\'s, as in the case'] \
+            if self.basis.scale != 1 else []
+
+    @property
+    def price_unit(self) -> str:
+        return printable(self.basis.price_unit) or 'per W'
+
+    @property
+    def cost_unit(self) -> str:
+        """The unit of costs; that of a case without one is price times W."""
+        return printable(self.basis.cost_unit) or 'price times W'

@@ -1,0 +1,1 @@
+"""The program `pinch`: run, its texts read, and what they say as plain data."""

@@ -1,0 +1,45 @@
+"""The causes of refusals in words (docs/FORMATS.md has an example of each), and the lines that an error has."""
+from __future__ import annotations
+
+from ..errors import DeskError, Refused
+
+CAUSES = {
+    'FieldCount': 'a row or a statement has not its number of fields, or a field that has to be empty is not; of a '
+                  'table `pinchdesk case` makes a case',
+    'UnknownKind': 'the first field is no kind of a row; of a table `pinchdesk case` makes a case',
+    'UnknownWord': 'the first field is no word of a statement',
+    'TooMany': 'there are more of these than there may be (docs/FORMATS.md, Limits)',
+    'Repeated': 'this stands above already',
+    'BadName': 'a name has 1 to 16 letters, digits, _ and -, and begins with one of the first two; HOT and COLD are '
+               'those of utilities',
+    'SameName': 'the name stands above already',
+    'UnknownName': 'nothing above has this name',
+    'BadNumber': 'a field that has to be a number is none',
+    'OutOfRange': 'a number is outside its limits (docs/FORMATS.md, Limits)',
+    'NotLatent': 'with a load the supply has to be the target, and the CP 0',
+    'NoLoad': 'supply and target are one, and there is no load',
+    'WrongWay': 'a hot stream has to cool down, and a cold one to warm up',
+    'BadRange': 'the first number is above the second',
+    'NoContribution': 'there is no contribution',
+    'NoStream': 'there is no stream',
+    'NoPlant': 'there is no plant above the stream',
+    'NoMain': 'there is no main',
+    'WrongSide': 'the first source has to be hot, and the second cold',
+    'UnknownBranch': 'the branch was not made before',
+    'SpentBranch': 'the branch was used before',
+    'WrongPass': "the branch's stream is no side of the exchanger, or passed it before",
+    'OtherStream': 'two branches of different streams',
+    'NotPositive': 'a duty and a size are above 0',
+    'MissingPass': 'a stream of the exchanger never passes it',
+    'NoScenario': 'there is no scenario above the price',
+    'TooWide': 'a span has at most 100,000 prices',
+    'NoItem': 'there is no scenario and no span',
+}
+
+
+def lines_of(fault: DeskError) -> list[str]:
+    """What an error says; a refusal may have a line for each fault of its file."""
+    if not isinstance(fault, Refused):
+        return [str(fault)]
+    words = f': {CAUSES[fault.cause]}' if fault.cause in CAUSES and fault.text.endswith(fault.cause) else ''
+    return [(f'{fault.file}: {line}' if fault.file else line) + words for line in fault.text.split('\n')]

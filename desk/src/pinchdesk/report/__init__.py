@@ -1,0 +1,1 @@
+"""Answers as tables, texts, workbooks and pages."""

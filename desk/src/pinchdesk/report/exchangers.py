@@ -1,0 +1,186 @@
+"""The exchangers of a network as a table: both sides in and out, differences, duties, the side of the pinch,
+penalties.
+
+Duties, balance and penalties are the program's. Temperatures are worked out along the network in fractions (`states`),
+and rounded here. A duty over the logarithmic mean of its differences is for the eye: it is given where both levels are
+known."""
+from __future__ import annotations
+
+from argparse import Namespace
+from dataclasses import replace
+from decimal import Decimal, localcontext
+from fractions import Fraction
+
+from ..analysis.findings import Finding, finding_of, headline, stream_at
+from ..analysis.follow import Followed, Passage, PinchPoint, StreamEnd, follow, pinches_of
+from ..cli.commands.asked import held_case, judged, takes_network
+from ..cli.output import read_bytes
+from ..cli.word import Answer, Word
+from ..errors import about
+from ..formats.case import Side, Stream, Utility
+from ..formats.network import read_network
+from ..formats.shown import Shown
+from ..program.run import Pinch
+from ..program.verdicts import Accepted, Place, PlaceKind, Rejected, Verdict
+from .sheet import Cell, Sheet
+
+HEADINGS = ('exchanger', 'hot', 'hot branch', 'cold', 'cold branch', 'duty kW', 'hot in °C', 'hot out °C', 'cold in °C',
+            'cold out °C', 'least K', 'wanted K', 'kW/K', 'pinch', 'across kW', 'penalty kW')
+
+
+def mean_difference(passage: Passage) -> Decimal | None:
+    """The logarithmic mean of the differences at both ends, in K; None where an end has none, or a level is
+    invented."""
+    invented = any(isinstance(each.source, Utility) and each.source.invented for each in (passage.hot, passage.cold))
+    first, second = passage.hot_end, passage.cold_end
+    if invented or first is None or second is None or first <= 0 or second <= 0:
+        return None
+    with localcontext() as context:
+        context.prec = 50
+        one, other = (Decimal(each.numerator) / Decimal(each.denominator) / 10 for each in (first, second))
+        # Where both are nearly one the quotient of differences says nothing.
+        if abs(one - other) <= one * Decimal('1e-12'):
+            return one
+        return (one - other) / (one / other).ln()
+
+
+def conductance(passage: Passage, shown: Shown) -> Decimal | None:
+    """Duty over mean difference, in kW/K: the overall coefficient times the area."""
+    mean = mean_difference(passage)
+    duty = shown.in_kilowatts(passage.exchanger.duty)
+    return None if mean is None else Decimal(duty.numerator) / Decimal(duty.denominator) / mean
+
+
+def branch_of(side: object, passage: Passage) -> str:
+    """The branch that a side leads through, where it is not the whole stream."""
+    held = passage.hot if side == 'hot' else passage.cold
+    return held.before.name if held.before and held.before.name != held.source.name else ''
+
+
+def temperatures(passage: Passage, shown: Shown) -> list[Cell]:
+    ends = (passage.hot.inlet, passage.hot.outlet, passage.cold.inlet, passage.cold.outlet)
+    invented = [isinstance(each.source, Utility) and each.source.invented
+                for each in (passage.hot, passage.hot, passage.cold, passage.cold)]
+    return [None if end is None or made else Decimal(shown.celsius(end)) for end, made in zip(ends, invented)]
+
+
+def sides(passage: Passage, pinches: tuple[PinchPoint, ...]) -> str:
+    """The side of the pinch, of several pinches each."""
+    held = [passage.side_of(each) for each in pinches]
+    return ' '.join(each.value if each else '?' for each in held)
+
+
+def crossing(passage: Passage, pinches: tuple[PinchPoint, ...], shown: Shown) -> Cell:
+    """What is carried down across the pinches, of the one across which it is most."""
+    held = [each for each in (passage.crossing(pinch) for pinch in pinches) if each]
+    return Decimal(shown.kilowatts(max(held, key=abs))) if held else None
+
+
+def row_of(passage: Passage, pinches: tuple[PinchPoint, ...], verdict: Verdict, shown: Shown) -> tuple[Cell, ...]:
+    least, made = passage.least_difference, conductance(passage, shown)
+    invented = any(isinstance(each.source, Utility) and each.source.invented for each in (passage.hot, passage.cold))
+    place = Place(PlaceKind.EXCHANGER, passage.exchanger.name)
+    lost = verdict.penalty(place) if isinstance(verdict, Accepted) else None
+    return (passage.exchanger.name, passage.hot.source.name, branch_of('hot', passage), passage.cold.source.name,
+            branch_of('cold', passage), Decimal(shown.kilowatts(passage.exchanger.duty)), *temperatures(passage, shown),
+            None if least is None or invented else Decimal(shown.celsius(least)),
+            Decimal(shown.celsius(passage.approach)),
+            made.quantize(Decimal('0.001')) if made is not None else None, sides(passage, pinches),
+            crossing(passage, pinches, shown), Decimal(shown.kilowatts(lost)) if lost is not None else None)
+
+
+def exchangers_sheet(followed: Followed, pinches: tuple[PinchPoint, ...], verdict: Verdict) -> Sheet:
+    """One row for each exchanger; of a rejected network the row of the fault is marked."""
+    shown = Shown(followed.case.basis)
+    rows = tuple(row_of(each, pinches, verdict, shown) for each in followed.passages)
+    finding = finding_of(followed, verdict, shown) if isinstance(verdict, Rejected) else None
+    marked = frozenset(at for at, each in enumerate(followed.passages) if finding and is_at(each, finding, verdict))
+    return with_fault(Sheet('Exchangers', HEADINGS, rows, marked), finding)
+
+
+def with_fault(sheet: Sheet, finding: Finding | None) -> Sheet:
+    """The sheet with a column that says the fault in the rows that are marked."""
+    if finding is None:
+        return sheet
+    rows = tuple((*row, finding.told) if at in sheet.marked else row for at, row in enumerate(sheet.rows))
+    return replace(sheet, headings=(*sheet.headings, 'fault'), rows=rows)
+
+
+def is_at(passage: Passage, finding: Finding, verdict: Verdict) -> bool:
+    """Whether a finding is about an exchanger: itself, or its utility."""
+    if isinstance(verdict, Rejected) and verdict.place.kind is PlaceKind.UTILITY:
+        return verdict.place.name in (passage.hot.source.name, passage.cold.source.name)
+    return finding.exchanger == passage.exchanger.name
+
+
+def streams_sheet(followed: Followed, verdict: Verdict) -> Sheet:
+    """Where each stream ends: its target, what is reached there, and how much heat it exchanged."""
+    shown = Shown(followed.case.basis)
+    finding = finding_of(followed, verdict, shown) if isinstance(verdict, Rejected) else None
+    rows = tuple(stream_row(each, followed.ends[each.name], shown) for each in followed.case.streams)
+    marked = frozenset(at for at, each in enumerate(followed.case.streams) if finding and finding.stream == each.name)
+    headings = ('stream', 'side', 'supply °C', 'target °C', 'reached °C', 'CP kW/K', 'load kW', 'exchanged kW')
+    return with_fault(Sheet('Streams', headings, rows, marked), finding)
+
+
+def stream_row(stream: Stream, ends: tuple[StreamEnd, ...], shown: Shown) -> tuple[Cell, ...]:
+    end = ends[0].branch if len(ends) == 1 else None
+    reached = end.temperature if end else None
+    exchanged = None
+    if end and end.state is not None:
+        part = end.state if stream.side is Side.COLD else 1 - end.state
+        exchanged = end.size * part if stream.latent else abs(end.state - stream.supply) * end.size
+    size = None if stream.latent else Decimal(shown.kilowatts_per_kelvin(stream.cp))
+    return (stream.name, stream.side.value, Decimal(shown.celsius(stream.supply)),
+            Decimal(shown.celsius(stream.target)),
+            None if reached is None else Decimal(shown.celsius(reached)), size, Decimal(shown.kilowatts(stream.heat)),
+            None if exchanged is None else Decimal(shown.kilowatts(exchanged)))
+
+
+def sums_sheet(followed: Followed) -> Sheet:
+    """The heat of each utility, of all exchangers, and the duty over mean difference of those of which it is known."""
+    shown = Shown(followed.case.basis)
+    rows: list[tuple[Cell, ...]] = []
+    exchangers = followed.network.exchangers
+    for each in followed.case.utilities:
+        duties = [one.duty for one in exchangers if each.name in (one.hot, one.cold)]
+        rows.append((each.name, each.side.value, Decimal(shown.kilowatts(sum(duties, Fraction(0)))), 'kW'))
+    duty = sum((each.duty for each in exchangers), Fraction(0))
+    rows.append((f'{len(exchangers)} exchangers', '', Decimal(shown.kilowatts(duty)), 'kW'))
+    sizes = [conductance(each, shown) for each in followed.passages]
+    known = [each for each in sizes if each is not None]
+    size = sum(known, Decimal(0)).quantize(Decimal('0.001'))
+    rows.append((f'duty over mean difference of {len(known)} of them', '', size, 'kW/K'))
+    return Sheet('Utilities', ('', '', '', ''), tuple(rows))
+
+
+def verdict_sheet(followed: Followed, verdict: Verdict) -> Sheet:
+    return Sheet('', (), ((headline(followed, verdict),),))
+
+
+def mixes_sheets(followed: Followed, verdict: Verdict) -> list[Sheet]:
+    """The mixes that lose heat, by their statements; no sheet where none does."""
+    shown = Shown(followed.case.basis)
+    held = verdict.penalties if isinstance(verdict, Accepted) else ()
+    lost = [each for each in held if each.place.kind is PlaceKind.LINE and each.heat]
+    rows = tuple((str(each.place), stream_at(followed, each.place.line), Decimal(shown.kilowatts(each.heat)))
+                 for each in lost)
+    return [Sheet('Mixes that lose heat', ('statement', 'stream', 'penalty kW'), rows)] if rows else []
+
+
+def table(options: Namespace) -> Answer:
+    content, text = read_bytes(options.case), read_bytes(options.network)
+    with about(case=options.case, network=options.network):
+        pinch = Pinch()
+        verdict = pinch.audit(content, text)
+        followed = follow(held_case(content), read_network(text))
+        pinches = pinches_of(pinch.targets(content), pinch.curves(content))
+    sheets = [verdict_sheet(followed, verdict), exchangers_sheet(followed, pinches, verdict),
+              *mixes_sheets(followed, verdict), streams_sheet(followed, verdict), sums_sheet(followed)]
+    return judged(sheets, options, verdict)
+
+
+WORDS = (
+    Word('table', 'the exchangers of a network: temperatures, differences, duties, side of the pinch, penalties',
+         'pinchdesk table examples/tc3.csv examples/tc3-network.txt', takes_network, table, ('case', 'network')),
+)

@@ -1,0 +1,256 @@
+"""The page for the reviewer: one HTML file that needs no other.
+
+Every target, cost, price, verdict, excess, penalty and floor on it is what `pinch` printed in this run; the printed
+texts stand at its end. Pictures are images inside the page, so that neither style reaches the other."""
+from __future__ import annotations
+
+import base64
+from collections.abc import Sequence
+from concurrent.futures import ThreadPoolExecutor
+from dataclasses import dataclass, replace
+from decimal import Decimal
+from fractions import Fraction
+from typing import TYPE_CHECKING, Any
+
+from ..analysis.follow import Followed, PinchPoint, follow, pinches_of
+from ..errors import Status, WordsError, about
+from ..formats.case import ANY_HEAT, Case, Side, completed, read_case
+from ..formats.network import read_network
+from ..formats.shown import Shown
+from ..program.answers import Curves, Cut, HeatFlow, Targets
+from ..program.run import Pinch
+from ..program.verdicts import Accepted, Rejected, Verdict, ending
+from .answer_sheets import audit_sheets, flow_sheets, targets_sheets
+from .exchangers import exchangers_sheet, mixes_sheets, streams_sheet, sums_sheet, verdict_sheet
+from .sheet import Cell, Sheet
+
+if TYPE_CHECKING:
+    from matplotlib.figure import Figure
+
+
+@dataclass(frozen=True)
+class Given:
+    """A file of the page: its name as it is shown, its path, its content."""
+
+    name: str
+    path: str
+    content: bytes
+
+    @property
+    def text(self) -> str:
+        """What is shown of it: signs that would steer a terminal or a page are `?`."""
+        held = self.content.decode('utf-8', 'replace').replace('\r\n', '\n').replace('\r', '\n')
+        return ''.join(each if each.isprintable() or each in '\n\t' else '?' for each in held)
+
+
+@dataclass(frozen=True)
+class Answered:
+    """What `pinch` answered of a case."""
+
+    case: Case
+    targets: Targets
+    curves: Curves
+    flow: HeatFlow | Cut
+
+    @property
+    def pinches(self) -> tuple[PinchPoint, ...]:
+        return pinches_of(self.targets, self.curves)
+
+
+@dataclass(frozen=True)
+class Picture:
+    """A picture on the page: what it shows, its address, and how wide it is at least, in dots of a screen, so that it
+    can be read: where there is less room it scrolls in its own box."""
+
+    name: str
+    address: str
+    width: int
+
+
+@dataclass(frozen=True)
+class Reviewed:
+    """A network on the page: its verdict, tables, and picture, or why there is none."""
+
+    given: Given
+    followed: Followed
+    verdict: Verdict
+    sheets: list[Sheet]
+    more: list[Sheet]
+    picture: Picture | None
+    note: str
+
+    @property
+    def good(self) -> bool:
+        return isinstance(self.verdict, Accepted)
+
+    @property
+    def headline(self) -> str:
+        return str(verdict_sheet(self.followed, self.verdict).rows[0][0])
+
+
+def imaged(figure: Figure) -> tuple[str, int]:
+    """A picture as an address that holds it, and its width in dots of a screen."""
+    from ..figures import readable_width, rendered
+    content = rendered(figure, 'svg', letters_as_shapes=True)
+    return 'data:image/svg+xml;base64,' + base64.b64encode(content).decode('ascii'), readable_width(figure)
+
+
+def answers_of(pinch: Pinch, case: Given, networks: Sequence[Given]) -> tuple[Answered, list[Verdict]]:
+    """Asks all at once."""
+    content = case.content
+    with ThreadPoolExecutor(4) as pool:
+        targets, curves = pool.submit(pinch.targets, content), pool.submit(pinch.curves, content)
+        flow = pool.submit(pinch.flow, content)
+        audits = [pool.submit(pinch.audit, content, each.content) for each in networks]
+        with about(case=case.path):
+            answered = Answered(completed(read_case(content)), targets.result(), curves.result(), flow.result())
+        verdicts = []
+        for each, audit in zip(networks, audits):
+            with about(case=case.path, network=each.path):
+                verdicts.append(audit.result())
+    return answered, verdicts
+
+
+def reviewed(answered: Answered, given: Given, verdict: Verdict) -> Reviewed:
+    """A network with its tables and its picture."""
+    followed = follow(answered.case, read_network(given.content))
+    pinches = answered.pinches
+    more = [streams_sheet(followed, verdict), sums_sheet(followed)]
+    sheets = [exchangers_sheet(followed, pinches, verdict), *mixes_sheets(followed, verdict)]
+    picture, note = grid_of(given.name, followed, pinches, verdict)
+    balance = audit_sheets(followed, verdict)[:1]
+    return Reviewed(given, followed, verdict, [*balance, *sheets], more, picture, note)
+
+
+def curves_of(answered: Answered) -> list[Picture]:
+    """The diagrams of the curves; without a heat flow nothing is balanced."""
+    from ..figures import balanced_figure, composite_figure, grand_figure
+    chosen = [('Composite curves', composite_figure), ('Balanced composite curves', balanced_figure),
+              ('Grand composite curve', grand_figure)]
+    if isinstance(answered.flow, Cut):
+        del chosen[1]
+    return [Picture(name, *imaged(drawing(answered.case, answered.targets, answered.curves, answered.flow)))
+            for name, drawing in chosen]
+
+
+def grid_of(name: str, followed: Followed, pinches: tuple[PinchPoint, ...],
+            verdict: Verdict) -> tuple[Picture | None, str]:
+    """The grid diagram, or why there is none."""
+    from ..figures import grid_figure
+    try:
+        return Picture(f'Grid diagram of {name}', *imaged(grid_figure(followed, pinches, verdict))), ''
+    except WordsError as fault:
+        return None, str(fault)
+
+
+def case_streams(case: Case) -> Sheet:
+    """The streams in engineers' units, with the names that their table had."""
+    shown = Shown(case.basis)
+    rows: list[tuple[Cell, ...]] = []
+    for each in case.streams:
+        size = None if each.latent else Decimal(shown.kilowatts_per_kelvin(each.cp))
+        rows.append((each.name, each.side.value, Decimal(shown.celsius(each.supply)),
+                     Decimal(shown.celsius(each.target)), size, Decimal(shown.kilowatts(each.heat)),
+                     Decimal(shown.celsius(each.contribution)), 'latent' if each.latent else ''))
+    headings = ('stream', 'side', 'supply °C', 'target °C', 'CP kW/K', 'load kW', 'contribution K', '')
+    return with_names(Sheet('Streams', headings, tuple(rows)), case)
+
+
+def with_names(sheet: Sheet, case: Case) -> Sheet:
+    """A sheet of sources with the names that their table had, where one of them had another."""
+    old = {new: each for each, new in case.basis.names}
+    if not any(row[0] in old for row in sheet.rows):
+        return sheet
+    rows = tuple((*row, old.get(str(row[0]), '')) for row in sheet.rows)
+    return replace(sheet, headings=(*sheet.headings, 'in the table'), rows=rows)
+
+
+def case_utilities(case: Case, flow: HeatFlow | Cut) -> Sheet:
+    """The utilities, with what the heat flow of least cost uses of each and what that costs."""
+    shown = Shown(case.basis)
+    rows: list[tuple[Cell, ...]] = []
+    for each in case.utilities:
+        used = None if isinstance(flow, Cut) else flow.use(each.name)
+        most: Cell = 'any' if each.most >= ANY_HEAT else Decimal(shown.kilowatts(each.most))
+        rows.append((each.name, 'heater' if each.side is Side.HOT else 'cooler',
+                     None if each.invented else Decimal(shown.celsius(each.level)),
+                     Decimal(shown.kilowatts(each.least)), most, Decimal(shown.price(each.price)),
+                     Decimal(shown.celsius(each.contribution)),
+                     None if used is None else Decimal(shown.kilowatts(used)),
+                     None if used is None else Decimal(shown.cost(used * each.price))))
+    if not isinstance(flow, Cut):
+        rows.append(('least cost', '', None, None, None, None, None, None, Decimal(shown.cost(flow.cost))))
+    headings = ('utility', '', 'level °C', 'least kW', 'most kW', f'price, {shown.price_unit}', 'contribution K',
+                'used kW', f'cost, {shown.cost_unit}')
+    return with_names(Sheet('Utilities, and what a heat flow of least cost uses', headings, tuple(rows)), case)
+
+
+def case_sheets(answered: Answered) -> list[Sheet]:
+    case = answered.case
+    forbids = tuple((each.hot, each.cold) for each in case.forbids)
+    return [case_streams(case), case_utilities(case, answered.flow),
+            *([Sheet('May not exchange heat', ('hot', 'cold'), forbids)] if forbids else [])]
+
+
+COMPARED = ('verdict', 'exchangers', 'hot utility kW', 'cold utility kW', 'excess over the hot target kW', 'cost',
+            'floor: no network costs less', 'cost above the floor', 'sum of the penalties kW')
+
+
+def compared(networks: Sequence[Reviewed], shown: Shown) -> Sheet:
+    """The networks side by side, each in a column."""
+    columns: list[list[Cell]] = []
+    for each in networks:
+        verdict, count = each.verdict, Decimal(len(each.followed.passages))
+        word = 'accepted' if each.good else 'rejected' if isinstance(verdict, Rejected) else 'too fine'
+        held: list[Cell] = [word, count]
+        if isinstance(verdict, Accepted):
+            lost = sum((one.heat for one in verdict.penalties), start=verdict.excess * 0)
+            held += [Decimal(shown.kilowatts(heat)) for heat in (verdict.hot, verdict.cold, verdict.excess)]
+            costs: tuple[Fraction | int, ...] = (verdict.cost, verdict.floor, verdict.cost - verdict.floor)
+            held += [Decimal(shown.cost(cost)) for cost in costs]
+            held.append('too fine' if verdict.too_fine else Decimal(shown.kilowatts(lost)))
+        columns.append([*held, *[None] * (len(COMPARED) - len(held))])
+    unit = shown.cost_unit
+    names = [f'{each}, {unit}' if 'cost' in each else each for each in COMPARED]
+    rows = tuple((name, *(column[at] for column in columns)) for at, name in enumerate(names))
+    return Sheet('Networks side by side', ('', *(each.given.name for each in networks)), rows)
+
+
+def page_of(case: Given, networks: Sequence[Given], unfolded: bool = False) -> tuple[str, Status, str]:
+    """The page, and how the word ends: by its heat flow and its networks. `unfolded` where what is folded shall be
+    seen, as on paper."""
+    answered, verdicts = answers_of(Pinch(), case, networks)
+    held = [reviewed(answered, given, verdict) for given, verdict in zip(networks, verdicts)]
+    shown = Shown(answered.case.basis)
+    values = {
+        'case': case, 'answered': answered, 'networks': held, 'shown': shown, 'unfolded': unfolded,
+        'targets': targets_sheets(answered.case, answered.targets), 'tables': case_sheets(answered),
+        'flow': flow_sheets(answered.case, answered.flow), 'cut': isinstance(answered.flow, Cut),
+        'curves': curves_of(answered),
+        'compared': compared(held, shown) if held else None, 'bars': bars,
+    }
+    return template().render(values), *ending(verdicts, [answered.flow])
+
+
+def bars(network: Reviewed) -> list[tuple[str, str, str]]:
+    """The penalties of a network that are not 0: place, kW, and the length of its bar in percent."""
+    if not isinstance(network.verdict, Accepted):
+        return []
+    shown = Shown(network.followed.case.basis)
+    held = [each for each in network.verdict.penalties if each.heat]
+    most = max((abs(each.heat) for each in held), default=network.verdict.excess)
+    return [(str(each.place), shown.kilowatts(each.heat), Shown().celsius(abs(each.heat) / most * 1000, 1))
+            for each in held]
+
+
+def is_number(cell: Cell) -> bool:
+    return isinstance(cell, Decimal)
+
+
+def template() -> Any:
+    """The page's template; what is written into it is escaped."""
+    from jinja2 import Environment, PackageLoader, StrictUndefined
+    made = Environment(loader=PackageLoader('pinchdesk.report'), autoescape=True, undefined=StrictUndefined,
+                       trim_blocks=True, lstrip_blocks=True)
+    made.tests['number'] = is_number
+    return made.get_template('page.html')

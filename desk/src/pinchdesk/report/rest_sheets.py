@@ -1,0 +1,213 @@
+"""What is left of a network as tables: what the choice so far costs, the open branches, those at the pinch of the rest,
+and where the network loses heat already. What is rounded is told."""
+from __future__ import annotations
+
+from collections.abc import Callable, Iterator
+from dataclasses import replace
+from decimal import Decimal
+from fractions import Fraction
+
+from ..analysis.findings import exact, finding_of
+from ..analysis.follow import PinchPoint
+from ..analysis.open_branches import Left, rounded
+from ..analysis.rest import Posed, Rest
+from ..formats.case import Side, Stream, shifted
+from ..formats.shown import Shown, decimal
+from ..program.answers import Cut
+from ..program.verdicts import Accepted, Rejected
+from .answer_sheets import cut_sheet
+from .sheet import Cell, Sheet
+
+SIDES = ('above', 'below')
+SPLITS = {('above', True): 'split a cold one', ('below', True): 'split a hot one'}
+
+
+def between(low: Fraction, high: Fraction, show: Callable[[Fraction], str]) -> Cell:
+    """A number, or both bounds of one that lies between."""
+    first, last = show(low), show(high)
+    return Decimal(first) if low == high or first == last else f'{first} to {last}'
+
+
+def numbers_sheet(rest: Rest) -> Sheet:
+    """What stands, what is left, and what it costs above the targets of the whole."""
+    shown = Shown(rest.followed.case.basis)
+    hots, colds = ([each.hot if side is Side.HOT else each.cold for each in (rest.easier, rest.harder) if each] or
+                   [Fraction(0)] for side in (Side.HOT, Side.COLD))
+    used, least, most = rest.hot_used, min(hots), max(hots)
+
+    def heat(low: Fraction, high: Fraction) -> Cell:
+        return between(low, high, lambda each: shown.kilowatts(each, 6))
+    rows: list[tuple[Cell, ...]] = [
+        ('exchangers so far', Decimal(len(rest.followed.passages)), ''),
+        ('hot utility that they use', heat(used, used), 'kW'), ('hot target of the rest', heat(least, most), 'kW'),
+        ('hot target of the whole', heat(Fraction(rest.whole.hot), Fraction(rest.whole.hot)), 'kW'),
+        ('the choice costs above it', heat(*rest.excess), f'kW{excess_words(rest)}'),
+        ('cold utility that they use', heat(rest.cold_used, rest.cold_used), 'kW'),
+        ('cold target of the rest', heat(min(colds), max(colds)), 'kW'),
+        ('cold target of the whole', heat(Fraction(rest.whole.cold), Fraction(rest.whole.cold)), 'kW')]
+    return Sheet('The choice so far', ('', '', ''), (*rows, *cost_rows(rest, shown)))
+
+
+def excess_words(rest: Rest) -> str:
+    least, most = rest.excess
+    return ', no more than the rounding' if least == 0 < most else ''
+
+
+def cost_rows(rest: Rest, shown: Shown) -> Iterator[tuple[Cell, ...]]:
+    """Costs, by the least-cost heat flows of the rest and of the whole; none where one of them has none."""
+    posed = [each for each in (rest.easier, rest.harder) if each]
+    costs = [each.cost for each in posed if each.cost is not None]
+    if isinstance(rest.whole_flow, Cut) or len(costs) < len(posed):
+        return
+    floor, unit = rest.whole_flow.cost, shown.cost_unit
+    low, high = (rest.cost_used + each for each in (min(costs, default=Fraction(0)), max(costs, default=Fraction(0))))
+    yield 'cost of the utilities used', Decimal(shown.cost(rest.cost_used)), unit
+    yield 'least cost of the rest', between(low - rest.cost_used, high - rest.cost_used, shown.cost), unit
+    yield 'floor of the whole', Decimal(shown.cost(floor)), unit
+    yield 'the choice costs above it', between(low - floor, high - floor, shown.cost), unit
+
+
+def open_sheet(rest: Rest) -> Sheet:
+    """Each open branch: where it stands, where it has to go, and what is left of it."""
+    shown = Shown(rest.followed.case.basis)
+    rows = tuple(open_row(each, shown) for each in rest.left)
+    title = 'Open branches' if rows else 'No open branch: every stream is ended'
+    headings = ('stream', 'branch', 'in the rest', 'side', 'CP kW/K', 'from °C', 'to °C', 'left kW')
+    return Sheet(title, headings if rows else (), rows)
+
+
+def open_row(left: Left, shown: Shown) -> tuple[Cell, ...]:
+    stream = left.stream
+    size = None if stream.latent else Decimal(shown.kilowatts_per_kelvin(left.size, 6))
+    begins = Fraction(stream.supply) if stream.latent else left.state
+    named = left.name if left.heat else 'at its target'
+    return (stream.name, left.branch.name, named, stream.side.value, size, Decimal(shown.celsius(begins, 3)),
+            Decimal(shown.celsius(stream.target)), Decimal(shown.kilowatts(left.heat)))
+
+
+def stands(stream: Stream, pinch: PinchPoint) -> tuple[bool, bool]:
+    """Whether a stream is just above a pinch, and just below it."""
+    at = pinch.temperature
+    if stream.latent:
+        return stream.high == at and pinch.takes_level, stream.high == at and not pinch.takes_level
+    return stream.low <= at < stream.high, stream.low < at <= stream.high
+
+
+def pinch_sheets(posed: Posed, rest: Rest) -> list[Sheet]:
+    """The open branches that meet at each pinch of the rest, and their numbers and CPs on both sides of it."""
+    # The case of the rest has its own scale, which the CPs are divided by again.
+    basis = rest.followed.case.basis
+    shown = Shown(replace(basis, scale=basis.scale * posed.scale.sizes))
+    lefts = {each.name: each for each in rest.left}
+    rows = tuple(pinch_row(posed, pinch, stream, lefts[stream.name], shown) for pinch in posed.pinches
+                 for stream in posed.case.streams if any(stands(stream, pinch)))
+    if not rows:
+        return [Sheet('No pinch is left' if not posed.pinches else 'No open branch is at the pinch', (), ())]
+    headings = ('pinch, shifted °C', 'in the rest', 'branch', 'side', 'at °C', 'CP kW/K', 'stands')
+    return [Sheet('Branches at the pinch', headings, rows), counts_sheet(posed, shown)]
+
+
+def pinch_row(posed: Posed, pinch: PinchPoint, stream: Stream, left: Left, shown: Shown) -> tuple[Cell, ...]:
+    place = posed.scale.back(pinch.temperature)
+    at = place - shifted(left.stream, 0)
+    size = None if stream.latent else Decimal(shown.kilowatts_per_kelvin(stream.cp, 6))
+    words = ' '.join(word for word, is_there in zip(SIDES, stands(stream, pinch)) if is_there)
+    return (Decimal(shown.celsius(place)), stream.name, left.branch.name, stream.side.value,
+            Decimal(shown.celsius(at)), size, words)
+
+
+def counts_sheet(posed: Posed, shown: Shown) -> Sheet:
+    """How many streams meet on each side of each pinch, and the sums of their CPs: above it each hot one wants a cold
+    one of its own, below it each cold one a hot one (Linnhoff and Hindmarsh 1983)."""
+    rows: list[tuple[Cell, ...]] = []
+    for pinch in posed.pinches:
+        for at, word in enumerate(SIDES):
+            there = [each for each in posed.case.streams if stands(each, pinch)[at]]
+            hot, cold = ([each for each in there if each.side is side] for side in (Side.HOT, Side.COLD))
+            few = len(hot) > len(cold) if word == 'above' else len(cold) > len(hot)
+            if there:
+                place = Decimal(shown.celsius(posed.scale.back(pinch.temperature)))
+                rows.append((place, word, Decimal(len(hot)), Decimal(len(cold)),
+                             *(Decimal(shown.kilowatts_per_kelvin(sum(each.cp for each in side), 6))
+                               for side in (hot, cold)), SPLITS.get((word, few), '')))
+    headings = ('pinch, shifted °C', 'side', 'hot', 'cold', 'hot CP kW/K', 'cold CP kW/K', 'to pair each')
+    return Sheet('Numbers at the pinch', headings, tuple(rows))
+
+
+def lost_sheets(rest: Rest) -> list[Sheet]:
+    """Where the network loses heat already, by the audit's penalties of its exchangers and mixes."""
+    if not isinstance(rest.verdict, Accepted):
+        return []
+    shown = Shown(rest.followed.case.basis)
+    names = {each.exchanger.name for each in rest.followed.passages}
+    lines = len(rest.followed.network.statements)
+    rows = tuple((str(each.place), Decimal(shown.kilowatts(each.heat))) for each in rest.verdict.penalties
+                 if each.heat and (each.place.name in names or 0 < each.place.line <= lines))
+    return [Sheet('Penalties so far', ('', 'kW'), rows)] if rows else []
+
+
+def fault_sheets(rest: Rest) -> list[Sheet]:
+    """Why what stands is no beginning of a network."""
+    shown = Shown(rest.followed.case.basis)
+    if isinstance(rest.verdict, Rejected):
+        found = finding_of(rest.finished, rest.verdict, shown)
+        return [Sheet('Rejected', (), ((found.place, rest.verdict.reason), ('', found.sentence)))]
+    told = 'its numbers are too fine to be audited: write duties and sizes with fewer digits'
+    return [Sheet('Too fine: nothing is said of the network', (), ((told,),))]
+
+
+def rest_sheets(rest: Rest) -> list[Sheet]:
+    """What is left of a network, or why it is rejected."""
+    if not isinstance(rest.verdict, Accepted):
+        return fault_sheets(rest)
+    sheets = [numbers_sheet(rest), open_sheet(rest)]
+    if rest.harder:
+        sheets += pinch_sheets(rest.harder, rest)
+        if isinstance(rest.harder.flow, Cut):
+            sheets.append(unserved_sheet(rest.harder, rest.harder.flow))
+    return [*sheets, *lost_sheets(rest)]
+
+
+def unserved_sheet(posed: Posed, cut: Cut) -> Sheet:
+    """The parts of the rest that cannot be served, in the temperatures of the whole."""
+    shown = Shown(posed.case.basis)
+    rows = tuple((each.name, *(Decimal(shown.celsius(posed.scale.back(end))) for end in (each.high, each.low)))
+                 for each in cut.parts)
+    return replace(cut_sheet(cut, shown), rows=rows)
+
+
+def rounding_notes(rest: Rest) -> Iterator[str]:
+    """What is rounded in the rest, each number with both that are taken for it."""
+    if rest.exact:
+        return
+    shown = Shown(rest.followed.case.basis)
+    scale = next(each.scale for each in (rest.harder, rest.easier) if each)
+    for left in (each for each in rest.left if each.heat):
+        where, latent = f'branch {left.branch.name} of {left.stream.name}', left.stream.latent
+        times = scale.factor if latent else scale.sizes
+        if (left.size * times).denominator != 1:
+            show = shown.in_kilowatts if latent else shown.in_kilowatts_per_kelvin
+            yield f'{where}: {both(left.size, times, show, "kW" if latent else "kW/K")}'
+        if not latent and (left.state * scale.degrees).denominator != 1:
+            yield f'{where}: {both(left.state, scale.degrees, lambda each: each / 10, "°C")}'
+    yield 'the exact targets of the rest lie between those of both'
+
+
+def both(value: Fraction, times: int, show: Callable[[Fraction], Fraction], unit: str) -> str:
+    """A number with the two that are taken for it: the nearest ones that are whole, taken so many times."""
+    low, high = (Fraction(rounded(value * times, up), times) for up in (False, True))
+    return f'{exact(show(value), 6)} {unit} is taken as {decimal(show(low), 6)} and {decimal(show(high), 6)}'
+
+
+def file_notes(rest: Rest) -> Iterator[str]:
+    """What the case of the rest as a file has rounded, to the side on which it needs more hot utility."""
+    scale = next((each.scale for each in (rest.harder, rest.easier) if each), None)
+    if scale is None:
+        return
+    if scale.sizes > 1:
+        yield f'in the case of the rest all heats and CPs are taken {scale.sizes} times (#scale)'
+    for left in (each for each in rest.left if each.heat and not each.stream.latent):
+        if left.state.denominator != 1:
+            low = decimal(Fraction(rounded(left.state, False), 10), 1)
+            yield (f'in the case of the rest branch {left.branch.name} of {left.stream.name} begins at {low} °C, '
+                   f'rounded from {exact(left.state / 10, 6)}')

@@ -1,0 +1,172 @@
+"""The least number of exchangers as tables: the regions with their numbers and those of a network, each independent set
+as a sum that a person can add up, and what the rule leaves out."""
+from __future__ import annotations
+
+from collections.abc import Iterable, Sequence
+from decimal import Decimal
+from fractions import Fraction
+
+from ..analysis.cuts import Piece, Place, Region
+from ..analysis.follow import Followed, Passage, SideState, heat_above
+from ..analysis.independent_sets import MOST_SOURCES, MOST_SUBSETS
+from ..analysis.least_units import IndependentSet, RegionUnits, Units
+from ..formats.case import Side, Utility, shifted
+from ..formats.shown import Shown
+from .sheet import Cell, Sheet
+
+LEFT_OUT = ('the number is that of sources less independent sets: it counts heats, and a network may want more where '
+            'temperatures or forbidden matches bar it')
+
+
+def title_of(region: Region, shown: Shown) -> str:
+    """`above 85 °C`, `85 to 60 °C`, `below 60 °C`, shifted."""
+    upper, lower = (shown.celsius(each.temperature) if each else '' for each in (region.upper, region.lower))
+    if upper and lower:
+        return f'{upper} to {lower} °C'
+    return f'above {lower} °C' if lower else f'below {upper} °C' if upper else 'the whole, without a cut'
+
+
+def number_of(counted: RegionUnits) -> Cell:
+    """The least number, or both bounds of it where the sources are too many."""
+    held = counted.partition
+    return Decimal(held.least_exchangers) if held.exact else f'{held.least_exchangers} to {held.found_exchangers}'
+
+
+def sets_of(counted: RegionUnits) -> Cell:
+    held = counted.partition
+    return Decimal(len(held.sets)) if held.exact else f'{len(held.sets)} to {held.most_sets}'
+
+
+def joined_number(counted: Sequence[RegionUnits], wanted: bool) -> tuple[Cell, ...]:
+    """The least number with sets that can be joined; empty where it is not known."""
+    held = [each.least_joined for each in counted]
+    known = [each for each in held if each is not None]
+    return ((Decimal(sum(known)) if len(known) == len(held) else '',) if wanted else ())
+
+
+def summed(counted: Sequence[RegionUnits]) -> tuple[Cell, ...]:
+    """Sources, sets and exchangers of all regions together."""
+    partitions = [each.partition for each in counted]
+    least, found = sum(each.least_exchangers for each in partitions), sum(each.found_exchangers for each in partitions)
+    sets, most = sum(len(each.sets) for each in partitions), sum(each.most_sets for each in partitions)
+    exact = all(each.exact for each in partitions)
+    return (Decimal(sum(each.members for each in partitions)), Decimal(sets) if exact else f'{sets} to {most}',
+            Decimal(least) if exact else f'{least} to {found}')
+
+
+def heat_above_place(side: SideState, duty: Fraction, place: Place | None) -> Fraction | None:
+    """How much of a duty a side gives or takes above a place; all of it above none."""
+    if place is None:
+        return duty
+    if not isinstance(side.source, Utility):
+        return heat_above(side, duty, place.point)
+    level = shifted(side.source, side.source.level)
+    above = level > place.temperature or level == place.temperature and place.takes_level
+    return duty if above else Fraction(0)
+
+
+def heat_in(side: SideState, duty: Fraction, region: Region) -> Fraction:
+    """How much of a duty a side gives or takes in a region."""
+    to_lower = heat_above_place(side, duty, region.lower)
+    to_upper = heat_above_place(side, duty, region.upper) if region.upper else Fraction(0)
+    return Fraction(0) if to_lower is None or to_upper is None else to_lower - to_upper
+
+
+def exchangers_in(passages: Sequence[Passage], region: Region) -> tuple[int, int]:
+    """How many exchangers work in a region alone, and how many partly."""
+    whole = partly = 0
+    for each in passages:
+        duty = each.exchanger.duty
+        heats = [heat_in(side, duty, region) for side in (each.hot, each.cold)]
+        if heats == [duty, duty]:
+            whole += 1
+        elif any(heats):
+            partly += 1
+    return whole, partly
+
+
+def all_counted(units: Units) -> Sequence[RegionUnits]:
+    return [units.whole, *(each for level in units.levels for each in level)]
+
+
+def found_in(followed: Followed | None, region: Region) -> tuple[Cell, ...]:
+    if followed is None:
+        return ()
+    whole, partly = exchangers_in(followed.passages, region)
+    return Decimal(whole), Decimal(partly)
+
+
+def numbers_sheet(units: Units, followed: Followed | None = None) -> Sheet:
+    """A row for each region, the sum of each way to cut, and the exchangers of a network in each."""
+    shown = Shown(units.case.basis)
+    parted = not all(one.joinable for each in all_counted(units) for one in each.sets)
+    rows: list[tuple[Cell, ...]] = [(title_of(units.whole.region, shown), *summed([units.whole]),
+                                     *joined_number([units.whole], parted), *found_in(followed, units.whole.region))]
+    for level in units.levels:
+        utility = any(not each.region.lower.process for each in level if each.region.lower)
+        rows.extend((title_of(each.region, shown), Decimal(each.sources), sets_of(each), number_of(each),
+                     *joined_number([each], parted), *found_in(followed, each.region)) for each in level)
+        title = 'all, utility pinches too' if utility else 'all sides of the pinch'
+        rows.append((title, *summed(level), *joined_number(level, parted)))
+    headings = ('shifted', 'sources', 'sets', 'exchangers', *(('that can be joined',) if parted else ()),
+                *(('in the network', 'partly') if followed else ()))
+    return Sheet('Least number of exchangers', headings, tuple(rows))
+
+
+def sum_of(pieces: Iterable[Piece], shown: Shown) -> str:
+    return ' + '.join(f'{each.source.name} {shown.kilowatts(each.heat, 9)}' for each in pieces)
+
+
+def sum_text(one: IndependentSet, shown: Shown) -> str:
+    """`hot: H2 90 + H4 60 = cold: C1 150`, in kW."""
+    hot, cold = ([each for each in one.pieces if each.source.side is side] for side in (Side.HOT, Side.COLD))
+    return f'hot: {sum_of(hot, shown)} = cold: {sum_of(cold, shown)}'
+
+
+def sets_sheet(units: Units) -> Sheet:
+    """Each independent set; one that balances and cannot be joined is marked."""
+    shown = Shown(units.case.basis)
+    rows: list[tuple[Cell, ...]] = []
+    marked: list[int] = []
+    for counted in all_counted(units):
+        for title, sets in (('', counted.sets), (', with sets that can be joined', counted.joined or ())):
+            for at, one in enumerate(sets):
+                if not one.joinable:
+                    marked.append(len(rows))
+                rows.append((title_of(counted.region, shown) + title if at == 0 else '', Decimal(len(one.pieces) - 1),
+                             sum_text(one, shown), '' if one.joinable else parted_text(one)))
+    headings = ('shifted', 'exchangers', 'kW', *(('cannot be joined',) if marked else ()))
+    width = len(headings)
+    return Sheet('Independent sets', headings, tuple(row[:width] for row in rows), frozenset(marked))
+
+
+def parted_text(one: IndependentSet) -> str:
+    groups = ' | '.join(' '.join(each) for each in one.parts)
+    return f'forbidden matches or temperatures part it: {groups}'
+
+
+def notes_sheet(units: Units, followed: Followed | None = None) -> Sheet:
+    """What the rule leaves out, and what was not cut or not counted to the end."""
+    shown = Shown(units.case.basis)
+    told = [LEFT_OUT]
+    counted = all_counted(units)
+    for each in counted:
+        if not each.exact:
+            told.append(f'{title_of(each.region, shown)}: the rule\'s number is from {each.least} to '
+                        f'{each.partition.found_exchangers}: there are more than {MOST_SOURCES} sources or '
+                        f'{MOST_SUBSETS} sums that balance, too many for the most sets to be known')
+    if any(not one.joinable for each in counted for one in each.sets):
+        told.append('a set that is marked balances and cannot be joined: the rule\'s number cannot be reached; beside '
+                    'it is the number with sets that can, where it is known')
+    for cross in units.crossed:
+        told.append(f'{shown.kilowatts(cross.heat)} kW cross the pinch at {shown.celsius(cross.temperature)} °C at the '
+                    'uses of least cost: there is no cut at it')
+    if followed is not None:
+        told.append(f'the network has {len(followed.passages)} exchangers; `partly` are those that work in other '
+                    'regions too')
+    return Sheet('What the rule leaves out', (), tuple((each,) for each in told))
+
+
+def units_sheets(units: Units, followed: Followed | None = None) -> list[Sheet]:
+    """The rule's numbers, beside them those of a network of the same completed case, the sets, and notes."""
+    return [numbers_sheet(units, followed), sets_sheet(units), notes_sheet(units, followed)]

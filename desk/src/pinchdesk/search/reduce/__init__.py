@@ -1,0 +1,1 @@
+"""Networks made smaller, and exchangers against cost."""

@@ -1,0 +1,1 @@
+"""Linear programs with whole-number variables: solved in floats, made exact in fractions."""

@@ -1,0 +1,1 @@
+"""The staged model of networks, window by window."""

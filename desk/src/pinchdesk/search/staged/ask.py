@@ -1,0 +1,92 @@
+"""Models asked of the solver, in slices of the time that a search has."""
+from __future__ import annotations
+
+from collections.abc import Sequence
+from dataclasses import dataclass, replace
+from fractions import Fraction
+
+from ..budget import Effort, rounded_up
+from ..solver.interior_point import roomy
+from ..solver.linear import OutOfTime, exact
+from ..solver.process import Apart
+from .model import Model
+from .slots import Asked, Slot
+from .stages import model_of
+
+# A denominator above this makes sizes of branches that are too fine for `pinch audit`.
+LONG = 10 ** 9
+
+
+@dataclass(frozen=True)
+class Answer:
+    """An exact point of a model, with the slots that are used in it, and its number of exchangers."""
+
+    model: Model
+    point: tuple[Fraction, ...]
+
+    @property
+    def asked(self) -> Asked:
+        return self.model.asked
+
+    @property
+    def used(self) -> frozenset[Slot]:
+        return frozenset(slot for slot, at in self.model.duties.items() if self.point[at] > 0)
+
+    @property
+    def count(self) -> int:
+        joined = {(joint.upper, joint.lower) for joint, at in self.model.joints.items() if self.point[at] == 1}
+        return len(self.used) - len(joined)
+
+
+@dataclass(frozen=True)
+class Outcome:
+    """What came of a question: an answer, or none; what the solver says that no answer goes below; whether it is
+    settled, so that there is no better one, or none at all."""
+
+    answer: Answer | None
+    bound: int
+    settled: bool
+
+
+class Solver:
+    """Asks the solver; each question has a slice of the time. `TimeOver` is raised where none is left."""
+
+    def __init__(self, effort: Effort) -> None:
+        self.effort = effort
+        self.apart = Apart()
+
+    def ask(self, asked: Asked, seconds: float, least: int | None = None, most: int | None = None) -> Outcome:
+        """As few exchangers as there may be, between two numbers."""
+        slice = self.effort.slice(seconds)
+        model = model_of(asked)
+        none = Outcome(None, 0 if most is None else most + 1, True)
+        if least is not None and most is not None and least > most:
+            return none
+        try:
+            solved = self.apart.solve(model.program(least, most), slice)
+        except OutOfTime as fault:
+            return Outcome(None, rounded_up(fault.bound), False)
+        if solved is None:
+            return none
+        point = point_at(model, solved.values)
+        answer = None if point is None else Answer(model, point)
+        return Outcome(answer, rounded_up(solved.bound), solved.optimal and answer is not None)
+
+
+def point_at(model: Model, values: Sequence[float]) -> tuple[Fraction, ...] | None:
+    """An exact point with the exchangers of these values: a vertex, or one with room where the vertex has long
+    fractions."""
+    program = replace(model.program(), aim=())
+    point = exact(program, values)
+    if point is None or max((each.denominator for each in point), default=1) > LONG:
+        grains = {at: 1 / model.unit for at in model.duties.values()}
+        return roomy(program, values, grains) or point
+    return point
+
+
+def answer_with(asked: Asked) -> Answer | None:
+    """An answer in which each slot that is asked for has its exchanger, and none is joined."""
+    model = model_of(asked)
+    used = set(model.uses.values())
+    point = point_at(model, [1.0 if at in used else 0.0 for at in range(len(model.lows))])
+    return None if point is None else Answer(model, point)

@@ -1,0 +1,119 @@
+"""Which pairs exchange heat, as few as there may be: the transshipment model (Papoulias and Grossmann 1983).
+
+Heat only goes down, whatever shape a network has, so the number of these pairs is a bound for every network."""
+from __future__ import annotations
+
+from dataclasses import dataclass, field
+from fractions import Fraction
+
+from ...formats.case import Side
+from ..solver.linear import Program
+from .model import ONE, ZERO, Model, unit_of
+from .slots import Asked, capacity, may_meet
+from .windows import Piece, Window
+
+Pair = tuple[str, str]
+Band = tuple[int, int]
+
+
+def bands_of(window: Window) -> list[Band]:
+    """Bands of temperature from the hottest down; a level has one of its own."""
+    ends = sorted({end for each in window.pieces for end in (each.high, each.low)}, reverse=True)
+    levels = {each.high for each in window.pieces if each.is_level}
+    made: list[Band] = []
+    for at, end in enumerate(ends):
+        if end in levels:
+            made.append((end, end))
+        if at + 1 < len(ends):
+            made.append((end, ends[at + 1]))
+    return made
+
+
+def is_in(piece: Piece, band: Band) -> bool:
+    high, low = band
+    if piece.is_level or high == low:
+        return piece.is_level and high == low == piece.high
+    return piece.low < high <= piece.high
+
+
+def heat_in(piece: Piece, band: Band) -> int:
+    """What of a piece is in a band, at most."""
+    if not is_in(piece, band):
+        return 0
+    return piece.most if piece.is_level else piece.cp * (band[0] - band[1])
+
+
+@dataclass
+class Transshipment:
+    """The model as it is built: `used` is whether a pair exchanges heat, `duties` what it exchanges, by the band of
+    the cold side."""
+
+    window: Window
+    model: Model
+    bands: list[Band]
+    used: dict[Pair, int] = field(default_factory=dict)
+    duties: dict[tuple[Pair, Band], int] = field(default_factory=dict)
+
+    def add_pair(self, hot: Piece, cold: Piece) -> None:
+        pair = (hot.name, cold.name)
+        limit = Fraction(min(capacity(hot, cold), self.window.total)) / self.model.unit
+        self.used[pair] = self.model.variable(ZERO, ONE, True)
+        for band in self.bands:
+            if is_in(cold, band) and (band[0] <= hot.high):
+                heat = Fraction(heat_in(cold, band)) / self.model.unit
+                self.duties[pair, band] = self.model.variable(ZERO, min(heat, limit))
+        held = [(at, ONE) for (each, _), at in self.duties.items() if each == pair]
+        self.model.row([*held, (self.used[pair], -limit)], None, ZERO)
+
+    def taken(self, piece: Piece, band: Band | None = None) -> list[tuple[int, Fraction]]:
+        """The duties of a piece, in a band or in all."""
+        return [(at, ONE) for (pair, each), at in self.duties.items() if piece.name in pair and band in (None, each)]
+
+    def add_level(self, piece: Piece) -> None:
+        unit = self.model.unit
+        self.model.row(self.taken(piece), Fraction(piece.least) / unit, Fraction(piece.most) / unit)
+
+    def add_cold(self, piece: Piece) -> None:
+        for band in self.bands:
+            if is_in(piece, band):
+                heat = Fraction(heat_in(piece, band)) / self.model.unit
+                self.model.row(self.taken(piece, band), heat, heat)
+
+    def add_hot(self, piece: Piece) -> None:
+        """What a hot stream has in a band it gives there or further down."""
+        rest: int | None = None
+        for band in self.bands:
+            if band[0] > piece.high:
+                continue
+            heat = Fraction(heat_in(piece, band)) / self.model.unit
+            terms = self.taken(piece, band) + ([] if rest is None else [(rest, -ONE)])
+            rest = None if band == self.bands[-1] else self.model.variable(ZERO, None)
+            self.model.row(terms + ([] if rest is None else [(rest, ONE)]), heat, heat)
+
+    def add_cost(self, most: Fraction) -> None:
+        prices = {each.name: each.price for each in self.window.pieces}
+        terms = [(at, Fraction(prices[pair[0]] + prices[pair[1]])) for (pair, _), at in self.duties.items()]
+        self.model.row([each for each in terms if each[1]], None, most / self.model.unit)
+
+
+def transshipment(window: Window, most_cost: Fraction | None = None) -> tuple[Program, dict[Pair, int]]:
+    """The program of a window and the variables of its pairs; with a cost that is not to be passed where the heat of
+    the utilities is open."""
+    held = Transshipment(window, Model(Asked((window,), (0,)), unit_of((window,))), bands_of(window))
+    for hot in window.hots:
+        for cold in window.colds:
+            if may_meet(hot, cold, window):
+                held.add_pair(hot, cold)
+    for piece in window.pieces:
+        if piece.is_level:
+            held.add_level(piece)
+        elif piece.side is Side.HOT:
+            held.add_hot(piece)
+        else:
+            held.add_cold(piece)
+        if piece.least:
+            held.model.row([(at, ONE) for pair, at in held.used.items() if piece.name in pair], ONE, None)
+    if most_cost is not None:
+        held.add_cost(most_cost)
+    model, aim = held.model, tuple((at, ONE) for at in held.used.values())
+    return (Program(tuple(model.lows), tuple(model.highs), frozenset(model.wholes), tuple(model.rows), aim), held.used)

@@ -1,0 +1,128 @@
+"""A case cut into windows where no heat crosses.
+
+With the uses of the utilities given, the cascade at a place is what streams and utilities above it give less what
+they take (Linnhoff and Flower 1978). Heat only goes down, so where the cascade is 0 no heat flow with these uses moves
+any heat across: what is above and what is below are problems of their own. There are two cascades at each place, of
+what is above it and of what is from it on; utilities and latent streams that stand at the place count in the second
+alone. Temperatures are shifted, in tenths of °C; heats in W."""
+from __future__ import annotations
+
+from collections.abc import Iterator, Mapping
+from dataclasses import dataclass
+
+from ...formats.case import Case, Side, Source, Stream, shifted
+
+
+@dataclass(frozen=True)
+class Piece:
+    """What of a source is in a window: a range of a sensible stream with its CP, or a level with heat from `least` to
+    `most`. The price is that of a utility."""
+
+    name: str
+    side: Side
+    high: int
+    low: int
+    cp: int
+    least: int
+    most: int
+    price: int = 0
+
+    @property
+    def is_level(self) -> bool:
+        return self.cp == 0
+
+    @property
+    def is_loose(self) -> bool:
+        """Whether it is a utility whose heat is open."""
+        return self.least != self.most
+
+
+@dataclass(frozen=True)
+class Window:
+    """A problem of its own: the pieces of the sources, and the pairs that may not exchange heat."""
+
+    pieces: tuple[Piece, ...]
+    forbids: frozenset[tuple[str, str]]
+
+    @property
+    def hots(self) -> tuple[Piece, ...]:
+        return tuple(each for each in self.pieces if each.side is Side.HOT)
+
+    @property
+    def colds(self) -> tuple[Piece, ...]:
+        return tuple(each for each in self.pieces if each.side is Side.COLD)
+
+    @property
+    def total(self) -> int:
+        """What is exchanged at most where no more utility is used than has to be."""
+        return max(sum(each.least if each.is_loose else each.most for each in held) for held in (self.hots, self.colds))
+
+
+# A place of a cut: a temperature, and whether what stands at it is above the cut.
+Cut = tuple[int, bool]
+
+
+def piece_of(source: Source, uses: Mapping[str, int] | None) -> Piece:
+    """The whole of a source. A utility has the heat that it is used for, or its range where no uses are given."""
+    if isinstance(source, Stream):
+        return Piece(source.name, source.side, source.high, source.low, source.cp, source.heat, source.heat)
+    level = shifted(source, source.level)
+    least, most = (source.least, source.most) if uses is None else (uses[source.name],) * 2
+    return Piece(source.name, source.side, level, level, 0, least, most, source.price)
+
+
+def whole(case: Case, uses: Mapping[str, int] | None) -> Window:
+    """The case as one window. A utility that gives nothing is left out."""
+    pieces = [piece_of(each, uses) for each in case.sources]
+    forbids = frozenset((each.hot, each.cold) for each in case.forbids)
+    return Window(tuple(each for each in pieces if each.most), forbids)
+
+
+def windows(case: Case, uses: Mapping[str, int]) -> tuple[Window, ...]:
+    """The windows of a completed case with these uses, from the hottest down."""
+    window = whole(case, uses)
+    cuts = [cut for cut in cuts_of(window) if cascade(window, cut) == 0]
+    made = [between(window, above, below) for above, below in zip([None, *cuts], [*cuts, None])]
+    return tuple(each for each in made if each.pieces)
+
+
+def cuts_of(window: Window) -> Iterator[Cut]:
+    """All places where a cut may be, from the hottest down."""
+    for place in sorted({end for each in window.pieces for end in (each.high, each.low)}, reverse=True):
+        yield (place, False)
+        yield (place, True)
+
+
+def is_above(piece: Piece, cut: Cut) -> bool:
+    """Whether a level is above a cut."""
+    return piece.high > cut[0] or piece.high == cut[0] and cut[1]
+
+
+def heat_above(piece: Piece, cut: Cut) -> int:
+    if piece.is_level:
+        return piece.most if is_above(piece, cut) else 0
+    return piece.cp * max(0, piece.high - max(piece.low, cut[0]))
+
+
+def cascade(window: Window, cut: Cut) -> int:
+    """What is above a cut gives less what it takes."""
+    return (sum(heat_above(each, cut) for each in window.hots) - sum(heat_above(each, cut) for each in window.colds))
+
+
+def between(window: Window, upper: Cut | None, lower: Cut | None) -> Window:
+    """What is below one cut and above another."""
+    held = (part(each, upper, lower) for each in window.pieces)
+    return Window(tuple(each for each in held if each), window.forbids)
+
+
+def part(piece: Piece, upper: Cut | None, lower: Cut | None) -> Piece | None:
+    """What of a piece is between two cuts; None where that is nothing."""
+    if piece.is_level:
+        outside = upper is not None and is_above(piece, upper) or lower is not None and not is_above(piece, lower)
+        return None if outside else piece
+    high = piece.high if upper is None else min(piece.high, upper[0])
+    low = piece.low if lower is None else max(piece.low, lower[0])
+    if high <= low:
+        return None
+    heat = piece.cp * (high - low)
+    return Piece(piece.name, piece.side, high, low, piece.cp, heat, heat)

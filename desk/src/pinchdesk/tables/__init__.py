@@ -1,0 +1,1 @@
+"""From a table of a plant to a case."""

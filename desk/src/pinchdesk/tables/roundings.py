@@ -1,0 +1,60 @@
+"""How far roundings take the targets of a case from those of its table, whose numbers are exact."""
+from __future__ import annotations
+
+from collections.abc import Iterator, Sequence
+from dataclasses import dataclass
+from fractions import Fraction
+
+from ..formats.case import Side
+from ..formats.shown import decimal
+
+
+@dataclass(frozen=True)
+class Span:
+    """A stream as the problem table sees it: what it gives or takes in W, evenly between two shifted temperatures, or
+    at one."""
+
+    side: Side
+    low: Fraction
+    high: Fraction
+    heat: Fraction
+
+    def above(self, place: Fraction, with_place: bool) -> Fraction:
+        """Its heat above a place, or from the place on."""
+        if self.low == self.high:
+            return self.heat if self.low > place or with_place and self.low == place else Fraction(0)
+        part = (self.high - place) / (self.high - self.low)
+        return self.heat * min(max(part, Fraction(0)), Fraction(1))
+
+
+def span_of(side: Side, ends: tuple[Fraction, Fraction], heat: Fraction, contribution: Fraction) -> Span:
+    shift = -contribution if side is Side.HOT else contribution
+    return Span(side, min(ends) + shift, max(ends) + shift, heat)
+
+
+def deficits(spans: Sequence[Span]) -> Iterator[Fraction]:
+    """What the cold streams need above each place more than the hot ones give there; it is the most at one of these."""
+    for place in sorted({end for each in spans for end in (each.low, each.high)}):
+        for with_place in (False, True):
+            yield sum((each.above(place, with_place) * (1 if each.side is Side.COLD else -1) for each in spans),
+                      Fraction(0))
+
+
+def exact_targets(spans: Sequence[Span]) -> tuple[Fraction, Fraction]:
+    """The least hot and cold utility in W of streams whose numbers are exact."""
+    hot = max([Fraction(0), *deficits(spans)])
+    surplus = sum((each.heat * (1 if each.side is Side.HOT else -1) for each in spans), Fraction(0))
+    return hot, hot + surplus
+
+
+def told(spans: Sequence[Span], hot: int, cold: int, scale: Fraction) -> str:
+    """How far the targets of a rounded case are from those of the table; empty where they are the same. The heats of
+    the case are the table's so many times."""
+    exact = exact_targets(spans)
+    parts = []
+    for name, rounded, true in (('hot', hot, exact[0]), ('cold', cold, exact[1])):
+        off = (rounded / scale - true) / 1000
+        shown = decimal(abs(off), 6 if abs(off) < Fraction(1, 100) else 3)
+        parts.append(f'the {name} target is {shown} kW too {"high" if off > 0 else "low"}' if off else
+                     f'the {name} target stays')
+    return '' if (hot / scale, cold / scale) == exact else f'by what is rounded {", and ".join(parts)}'

@@ -1,0 +1,226 @@
+"""What a row of a table says: the stream or the utility that it is."""
+from __future__ import annotations
+
+import re
+from fractions import Fraction
+
+from ..errors import Refused
+from ..formats.case import ANY_HEAT, Side, Stream, Utility
+from ..formats.shown import decimal
+from .cells import CellReader, Entered, Told
+from .headings import Heading
+from .limits import CONTRIBUTION, CP, HEAT, LOAD, TEMPERATURE, Limit, fitting_scale, outside
+from .roundings import Span, span_of
+from .rows import Line
+from .units import Kind, rounded
+
+# What marks a row as left out elsewhere.
+LEFT_OUT = re.compile(r'//|--|~~|[%!;]|/\*|<!|rem\b', re.I)
+# A duty and a CP may differ by what their last digits leave open, but by no more than this part.
+MOST_APART = Fraction(1, 20)
+
+
+class Entries:
+    """Makes streams and utilities of lines; what is wrong is told as a fault, and then there is none."""
+
+    def __init__(self, reader: CellReader, told: Told, names: dict[str, str], scale: Fraction) -> None:
+        self.reader, self.told, self.names, self.scale = reader, told, names, scale
+        self.duties: list[tuple[Line, Side, Entered]] = []
+        self.heats: list[tuple[Limit, Fraction]] = []
+        self.too_large = False
+
+    def name(self, line: Line) -> str:
+        cell = line.row.cell(line.columns[Heading.NAME])
+        if cell.fault:
+            self.told.fault(line.row.number, line.at(Heading.NAME), f'`{cell.text}`: {cell.fault}')
+        elif not line.name():
+            self.told.fault(line.row.number, line.at(Heading.NAME), 'a name is missing')
+        elif LEFT_OUT.match(line.name()):
+            cause = f'`{line.name()}` may be a row that is left out: take the row out, or those signs'
+            self.told.fault(line.row.number, line.at(Heading.NAME), cause)
+        return self.names.get(line.name(), line.name())
+
+    def given(self, line: Line, heading: Heading) -> bool:
+        return self.reader.given(line.row, line.at(heading))
+
+    def share(self, line: Line) -> int | None:
+        """The contribution of a row's own; None where it has none."""
+        if not self.given(line, Heading.CONTRIBUTION):
+            return None
+        return self.limited(line, Heading.CONTRIBUTION, Kind.DIFFERENCE, CONTRIBUTION)
+
+    def limited(self, line: Line, heading: Heading, kind: Kind, limit: Limit) -> int | None:
+        """A number of a row as a whole one of the program's unit; a fault where it is outside its limits."""
+        column = line.at(heading)
+        held = self.reader.measured(line.row, column, kind)
+        if held is None:
+            return None
+        scale = self.scale if limit.scaled else Fraction(1)
+        name = 'duty' if limit is LOAD else heading.name.lower()
+        self.check(line, heading, limit, held.value, f'the {name} {held.text}')
+        return self.reader.rounded(line.row, column, kind, held, scale)
+
+    def check(self, line: Line, heading: Heading, limit: Limit, exact: Fraction, what: str) -> None:
+        """Tells a fault where a number, before all heats are taken so many times, is outside its limits."""
+        if limit.scaled:
+            self.heats.append((limit, exact))
+        if not limit.holds(rounded(exact * self.scale if limit.scaled else exact)):
+            self.too_large |= limit.scaled
+            self.told.fault(line.row.number, line.at(heading), outside(what, limit, self.scale))
+
+    def check_scale(self) -> None:
+        """Says which scale would do where a heat is outside its limits."""
+        if self.too_large:
+            said = fitting_scale(self.heats, self.scale)
+            self.told.faults += [Refused(3, '', 'scale', said)] if said else []
+
+    def none_of(self, line: Line, what: str, headings: tuple[Heading, ...]) -> None:
+        """Tells a fault for each of these columns in which there is something."""
+        for each in headings:
+            if line.at(each) is not None and self.given(line, each):
+                self.told.fault(line.row.number, line.at(each), f'{what} has no {each.name.lower()}')
+
+    def temperature(self, line: Line, heading: Heading) -> int | None:
+        if not self.given(line, heading):
+            self.told.fault(line.row.number, line.at(heading), f'the {heading.name.lower()} temperature is missing')
+            return None
+        return self.limited(line, heading, Kind.TEMPERATURE, TEMPERATURE)
+
+    def stream(self, line: Line) -> tuple[Stream, int | None] | None:
+        """A stream with the contribution of its own."""
+        name, share = self.name(line), self.share(line)
+        self.none_of(line, 'a stream', (Heading.LEAST, Heading.MOST, Heading.PRICE))
+        supply, target = self.temperature(line, Heading.SUPPLY), self.temperature(line, Heading.TARGET)
+        if supply is None or target is None:
+            return None
+        side = self.side(line, supply, target)
+        size = self.load(line) if supply == target else self.flow(line, abs(supply - target), side)
+        if side is None or size is None:
+            return None
+        cp, load = (0, size) if supply == target else (size, 0)
+        return Stream(name, side, supply, target, cp, load, 0), share
+
+    def exact(self, line: Line, side: Side, share: Fraction) -> Span:
+        """A stream that was made of a line, as the table has it; `share` is the contribution of the case."""
+        def entered(heading: Heading) -> Fraction | None:
+            held = self.reader.entered.get((line.row.number, line.columns.get(heading, -1)))
+            return held.value if held and self.given(line, heading) else None
+        supply, target, cp = (entered(each) for each in (Heading.SUPPLY, Heading.TARGET, Heading.CP))
+        load, own = entered(Heading.LOAD), entered(Heading.CONTRIBUTION)
+        assert supply is not None and target is not None
+        heat = cp * abs(supply - target) if cp else abs(load or Fraction(0))
+        return span_of(side, (supply, target), heat, share if own is None else own)
+
+    def side(self, line: Line, supply: int, target: int) -> Side | None:
+        row = line.row.number
+        if supply == target and not line.kind:
+            self.told.fault(row, None, 'supply and target are one: a column `kind` has to say hot or cold')
+            return None
+        runs = Side.HOT if supply > target else Side.COLD
+        if line.kind and supply != target and runs.value != line.kind:
+            self.told.fault(row, line.at(Heading.TARGET), f'a {line.kind} stream runs the other way')
+            return None
+        return Side(line.kind) if line.kind else runs
+
+    def load(self, line: Line) -> int | None:
+        """The load of a latent stream, in W."""
+        column, flow = line.at(Heading.LOAD), line.at(Heading.CP)
+        if self.given(line, Heading.CP):
+            held = self.reader.measured(line.row, flow, Kind.FLOW)
+            if held is None or held.value != 0:
+                self.told.fault(line.row.number, flow, 'supply and target are one: such a stream has a duty and no CP')
+                return None
+        if not self.given(line, Heading.LOAD):
+            self.told.fault(line.row.number, column, 'supply and target are one: the duty is missing')
+            return None
+        held = self.reader.measured(line.row, column, Kind.HEAT)
+        if held is not None and held.value <= 0:
+            self.told.fault(line.row.number, column, 'a duty is above 0 (in W): hot or cold says which way it goes')
+            return None
+        return self.limited(line, Heading.LOAD, Kind.HEAT, LOAD)
+
+    def check_signs(self) -> None:
+        """Tells a fault for each duty whose sign contradicts its temperatures: below 0 is what a hot stream gives, and
+        then no hot one of the table is above 0."""
+        signed = any(duty.value < 0 for _, _, duty in self.duties)
+        for line, side, duty in self.duties:
+            if signed and duty.value and (duty.value < 0) != (side is Side.HOT):
+                way = 'cools down' if side is Side.HOT else 'warms up'
+                sign = 'above' if duty.value > 0 else 'below'
+                what = f'the duty {duty.text} is {sign} 0, and the stream {way}: a duty below 0 is what a stream gives'
+                self.told.fault(line.row.number, line.at(Heading.LOAD), what)
+
+    def flow(self, line: Line, span: int, side: Side | None) -> int | None:
+        """The CP of a sensible stream in 10 W/K: that of its row, or its duty over its span."""
+        column, load = line.at(Heading.CP), line.at(Heading.LOAD)
+        duty = self.reader.measured(line.row, load, Kind.HEAT) if self.given(line, Heading.LOAD) else None
+        if duty and side:
+            self.duties.append((line, side, duty))
+        if self.given(line, Heading.CP):
+            held = self.reader.measured(line.row, column, Kind.FLOW)
+            if held is None or duty and not self.agree(line, held, duty, span):
+                return None
+            made = self.reader.rounded(line.row, column, Kind.FLOW, held, self.scale)
+            exact, what = held.value, f'the CP {held.text}'
+        elif duty:
+            column, made, exact = load, self.flow_of(line, duty, span), abs(duty.value) / span
+            what = f'the CP of the duty {duty.text}, {decimal(exact / 100, 6)} kW/K,'
+        else:
+            if not self.given(line, Heading.LOAD):
+                self.told.fault(line.row.number, column, 'a CP or a duty is missing')
+            return None
+        heading = Heading.CP if column == line.at(Heading.CP) else Heading.LOAD
+        self.check(line, heading, CP, exact, what if made else f'the CP is 0 in 10 W/K: {what}')
+        return made
+
+    def flow_of(self, line: Line, duty: Entered, span: int) -> int:
+        """A CP from the duty between both temperatures."""
+        heat = abs(duty.value) * self.scale
+        made = rounded(heat / span)
+        if made * span != heat:
+            what = f'from {duty.text} the CP is rounded to {Kind.FLOW.shown(made, self.scale)}, which makes ' \
+                   f'{Kind.HEAT.shown(made * span, self.scale)}'
+            self.told.note(line.row.number, line.at(Heading.LOAD), what)
+        return made
+
+    def agree(self, line: Line, flow: Entered, duty: Entered, span: int) -> bool:
+        """Whether a CP and a duty say the same, as far as their last digits tell."""
+        made, said = flow.value * span, abs(duty.value)
+        apart = abs(made - said)
+        # Each temperature may be half a tenth of a degree away.
+        open_part = flow.slack * span + duty.slack + abs(flow.value)
+        if apart <= open_part and apart <= MOST_APART * max(abs(made), said):
+            if apart:
+                what = f'the CP {flow.text} counts, which makes {Kind.HEAT.shown(made)}, and not the duty {duty.text}'
+                self.told.note(line.row.number, line.at(Heading.LOAD), what)
+            return True
+        what = f'the CP {flow.text} makes {Kind.HEAT.shown(made)} between both temperatures, and the duty is ' \
+               f'{duty.text}'
+        self.told.fault(line.row.number, line.at(Heading.LOAD), what)
+        return False
+
+    def utility(self, line: Line) -> tuple[Utility, int | None] | None:
+        """A heater or a cooler, without its price, with the contribution of its own."""
+        name, level, share = self.name(line), self.temperature(line, Heading.SUPPLY), self.share(line)
+        self.none_of(line, 'a utility', (Heading.CP, Heading.LOAD))
+        if self.given(line, Heading.TARGET):
+            end = self.temperature(line, Heading.TARGET)
+            if level is not None and end is not None and end != level:
+                what = 'a utility has one temperature: enter the one that is worth less (docs/HOW_TO_ENTER.md)'
+                self.told.fault(line.row.number, line.at(Heading.TARGET), what)
+        if level is None:
+            return None
+        least, most = self.bound(line, Heading.LEAST, 0), self.bound(line, Heading.MOST, ANY_HEAT)
+        if least is None or most is None:
+            return None
+        if least > most:
+            low, high = (self.reader.entered[line.row.number, line.columns[each]].text
+                         for each in (Heading.LEAST, Heading.MOST))
+            self.told.fault(line.row.number, line.at(Heading.LEAST), f'the least {low} is above the most {high}')
+        side = Side.HOT if line.kind == 'heater' else Side.COLD
+        return Utility(name, side, level, least, most, 0, 0), share
+
+    def bound(self, line: Line, heading: Heading, usual: int) -> int | None:
+        if not self.given(line, heading):
+            return usual
+        return self.limited(line, heading, Kind.HEAT, HEAT)

@@ -1,0 +1,294 @@
+"""Tables as spreadsheets write them: `.xlsx`, or text with separators, become one list of rows.
+
+Rows and columns are counted as the spreadsheet shows them. A number of a workbook is taken with the fifteen digits
+that a spreadsheet shows of it; a formula has the value that was saved with it."""
+from __future__ import annotations
+
+import csv
+import datetime
+import io
+import math
+import re
+import warnings
+from collections.abc import Iterable, Iterator
+from dataclasses import dataclass, replace
+from decimal import Decimal
+from typing import Any
+
+from ..errors import Refused
+from ..formats.amounts import MOST_ZEROS
+from ..text import read_again
+from .workbook_bounds import MOST_CELLS, MOST_COLUMNS, MOST_PLACES, MOST_ROWS, MOST_SIGNS, TooLarge, hidden_by_merging
+
+SEPARATORS = {';': '`;`', '\t': 'a tab', ',': '`,`', '|': '`|`'}
+LONGEST_SHOWN = 40
+HINT = re.compile(r'sep=(.)(\r\n|\r|\n)')
+# What a format writes as it is: in quotes, behind `\`, as a currency; then what it leaves room for, and conditions.
+LITERAL = re.compile(r'"([^"]*)"|\\(.)|\[\$([^\]-]*)[^\]]*\]|[_*].|\[[^\]]*\]')
+THOUSANDTH = re.compile(r'[0#?],+(?![0#?,])')
+PLACE = re.compile('[0#?]|General')
+
+
+@dataclass(frozen=True)
+class Cell:
+    """A cell: its text, its number where the file has one as such, what is wrong with it, the unit of its format, and
+    the remark that a spreadsheet has at it."""
+
+    text: str = ''
+    number: Decimal | None = None
+    fault: str = ''
+    unit: str = ''
+    remark: str = ''
+
+    @property
+    def empty(self) -> bool:
+        return not self.text and self.number is None and not self.fault
+
+
+NOTHING = Cell()
+
+
+@dataclass(frozen=True)
+class TableRow:
+    """A row with its number; cells behind the last one are empty. `hidden` where the spreadsheet does not show it."""
+
+    number: int
+    cells: tuple[Cell, ...]
+    hidden: bool = False
+
+    def cell(self, column: int) -> Cell:
+        return self.cells[column] if 0 <= column < len(self.cells) else Cell()
+
+    def filled(self) -> Iterator[tuple[int, Cell]]:
+        return ((column, cell) for column, cell in enumerate(self.cells) if not cell.empty)
+
+
+@dataclass(frozen=True)
+class Table:
+    """The rows of a table that are not empty. `sheet` is the name of the sheet, and empty of a text, which has a
+    `separator`; `merged` has the columns that a merged cell covers, by its row and its first column, `hidden` those
+    that are not shown, `others` the sheets that are shown beside it."""
+
+    sheet: str
+    rows: tuple[TableRow, ...]
+    merged: tuple[tuple[int, int, int], ...] = ()
+    separator: str = ''
+    hidden: tuple[int, ...] = ()
+    others: tuple[str, ...] = ()
+
+    def place(self, row: int, column: int | None = None) -> str:
+        """A place in words: `sheet Streams row 4 column C`."""
+        where = f'sheet {self.sheet} row {row}' if self.sheet else f'row {row}'
+        if column is None:
+            return where
+        return f'{where} column {letters(column)}' if self.sheet else f'{where} column {column + 1}'
+
+    def refusal(self, row: int, column: int | None, cause: str) -> Refused:
+        place = self.place(row, column)
+        return Refused(3, place, cause, f'{place}: {cause}')
+
+
+def letters(column: int) -> str:
+    """The letters of a column of a spreadsheet, counted from 0."""
+    held = ''
+    column += 1
+    while column:
+        column, rest = divmod(column - 1, 26)
+        held = chr(ord('A') + rest) + held
+    return held
+
+
+def read_table(content: bytes, name: str, sheet: str | None = None, separator: str | None = None) -> tuple[Table, ...]:
+    """The table of a file: a workbook by what it begins with, else a text. Of a text there is one reading for each
+    separator that it may have. `Refused` where it is neither."""
+    if content.startswith(b'PK\x03\x04'):
+        return (workbook_table(content, sheet),)
+    if content.startswith(b'\xd0\xcf\x11\xe0') or name.lower().endswith(('.xlsx', '.xlsm')):
+        raise Refused(3, '', 'no workbook', 'this is no .xlsx workbook: save it as .xlsx, or as text (.csv)')
+    if sheet is not None:
+        raise Refused(3, '', 'no sheets', 'this is a text, and has no sheets')
+    text = text_of(content)
+    hint = HINT.match(text)
+    if hint:
+        # A spreadsheet's own line on what separates; it counts as a row.
+        text, separator = text[hint.end():], separator or hint[1]
+        return tuple(moved(each, 1) for each in text_tables(text, [separator]))
+    separators = [separator] if separator else [each for each in SEPARATORS if each in text] or [',']
+    return text_tables(text, separators)
+
+
+def text_tables(text: str, separators: list[str]) -> tuple[Table, ...]:
+    """The readings of a text; `Refused` where no separator gives one."""
+    made: list[Table] = []
+    faults: list[Refused] = []
+    for each in separators:
+        try:
+            made.append(text_table(text, each))
+        except Refused as fault:
+            faults.append(fault)
+    if not made:
+        raise faults[0]
+    return tuple(made)
+
+
+def text_of(content: bytes) -> str:
+    """A text in UTF-8, in UTF-16 with its mark, or in Latin-1 (Windows-1252)."""
+    if content.startswith((b'\xff\xfe', b'\xfe\xff')):
+        encodings = ['utf-16']
+    else:
+        encodings = ['utf-8-sig', 'cp1252', 'latin-1']
+    for each in encodings:
+        try:
+            text = content.decode(each)
+        except UnicodeDecodeError:
+            continue
+        if '\0' not in text:
+            return text
+    raise Refused(3, '', 'no text', 'this is neither a workbook nor a text')
+
+
+def text_table(text: str, separator: str) -> Table:
+    reader = csv.reader(io.StringIO(text, newline=''), delimiter=separator, strict=True)
+    rows: list[TableRow] = []
+    at = filled = 0
+    try:
+        for at, fields in enumerate(reader, 1):
+            if len(rows) >= MOST_ROWS or len(fields) > MOST_COLUMNS:
+                raise too_large()
+            if any(len(field) > MOST_SIGNS for field in fields):
+                raise too_large(f'row {at} is too long: ')
+            cells = tuple(Cell(clean(read_again(field))) if field else NOTHING for field in fields)
+            filled += sum(not cell.empty for cell in cells)
+            if filled > MOST_CELLS:
+                raise too_large()
+            if any(not cell.empty for cell in cells):
+                rows.append(TableRow(at, cells))
+    except csv.Error as fault:
+        place = f'row {at + 1}'
+        raise Refused(3, place, 'quotes', f'{place}: the quotes of a field do not close ({fault})') from fault
+    return Table('', tuple(rows), separator=separator)
+
+
+def moved(table: Table, rows: int) -> Table:
+    """The table as it stands below so many rows."""
+    return replace(table, rows=tuple(replace(each, number=each.number + rows) for each in table.rows))
+
+
+def too_large(what: str = '') -> Refused:
+    cause = f'{what}a table has at most {MOST_ROWS} rows and {MOST_COLUMNS} columns, {MOST_PLACES} cells from its ' \
+            f'first to its last, and {MOST_SIGNS} signs in each'
+    return Refused(3, '', 'too large', cause)
+
+
+def clean(text: str) -> str:
+    """A text without blanks around it, on one line."""
+    return ' '.join(text.replace('\u00a0', ' ').split())
+
+
+def workbook_table(content: bytes, sheet: str | None) -> Table:
+    """A sheet of a workbook: the first one that is shown, or the one of this name."""
+    check_bounds(content)
+    values, formulas = opened(content, True), opened(content, False)
+    shown = [each.title for each in values.worksheets if each.sheet_state == 'visible']
+    wanted = sheet if sheet is not None else shown[0] if shown else ''
+    if wanted not in [each.title for each in values.worksheets]:
+        names = ', '.join(each.title for each in values.worksheets)
+        raise Refused(3, f'sheet {wanted}', 'no such sheet', f'there is no sheet {wanted}: the workbook has {names}')
+    page = values[wanted]
+    if page.max_row > MOST_ROWS or page.max_column > MOST_COLUMNS:
+        raise too_large()
+    merged = tuple((each.min_row, each.min_col - 1, each.max_col) for each in page.merged_cells.ranges)
+    columns = [each for each in page.column_dimensions.values() if each.hidden and each.min and each.max]
+    hidden = tuple(column - 1 for each in columns for column in range(each.min, min(each.max, MOST_COLUMNS) + 1))
+    others = tuple(each for each in shown if each != wanted and values[each].dimensions != 'A1:A1'
+                   or each != wanted and values[each]['A1'].value is not None) if sheet is None else ()
+    return Table(wanted, tuple(rows_of(page, formulas[wanted])), merged, hidden=hidden, others=others)
+
+
+def check_bounds(content: bytes) -> None:
+    """Refuses a workbook that unfolds to more than a table has, or in which a merged cell hides another."""
+    try:
+        hidden = hidden_by_merging(content)
+    except TooLarge as fault:
+        raise too_large(f'this workbook is too large, {fault}: ') from fault
+    except ValueError as fault:
+        raise Refused(3, '', 'no workbook', f'this workbook cannot be read: {fault}') from fault
+    for part, places in hidden.items():
+        for row, column in places:
+            where = f'{letters(column - 1)}{row}'
+            cause = f'cell {where} of {part} lies under a merged cell, which hides it: unmerge it, or take it out'
+            raise Refused(3, '', 'merged', cause)
+
+
+def opened(content: bytes, values: bool) -> Any:
+    import openpyxl
+    try:
+        with warnings.catch_warnings():
+            # What it leaves out of a workbook (pictures, validation) is no part of a table.
+            warnings.simplefilter('ignore')
+            return openpyxl.load_workbook(io.BytesIO(content), data_only=values)
+    except Exception as fault:
+        # openpyxl has no error of its own for what is no workbook.
+        raise Refused(3, '', 'no workbook', f'this workbook cannot be read: {fault}') from fault
+
+
+def rows_of(page: Any, formulas: Any) -> Iterable[TableRow]:
+    for values, written in zip(page.iter_rows(), formulas.iter_rows()):
+        cells = tuple(with_remark(cell_of(value, formula), value) for value, formula in zip(values, written))
+        if any(not cell.empty for cell in cells):
+            number = values[0].row
+            yield TableRow(number, cells, bool(page.row_dimensions[number].hidden))
+
+
+def with_remark(cell: Cell, value: Any) -> Cell:
+    return replace(cell, remark=clean(str(value.comment.text))) if value.comment else cell
+
+
+def cell_of(value: Any, written: Any) -> Cell:
+    """A cell of a workbook, by its value and by what is written there."""
+    held = value.value
+    if held is not None and value.font is not None and value.font.strike:
+        return Cell(str(held), fault='struck out: take it out, or show it as it is meant')
+    if written.data_type == 'f' and held is None:
+        return Cell(str(written.value), fault='a formula without a saved value: open and save the workbook')
+    if value.data_type == 'e':
+        return Cell(str(held), fault=f'the error {held}')
+    if isinstance(held, bool):
+        return Cell(str(held), fault='a truth value')
+    if isinstance(held, (datetime.date, datetime.time, datetime.timedelta)):
+        return Cell(str(held), fault='a date: the spreadsheet took the number for one')
+    if isinstance(held, (int, float)):
+        return numbered(held, value.number_format or '')
+    return Cell(clean(str(held))) if held is not None else Cell()
+
+
+def numbered(held: int | float, form: str) -> Cell:
+    """A number as a workbook has it, with the fifteen digits that are shown of it."""
+    if isinstance(held, float) and not math.isfinite(held):
+        return Cell(str(held), fault='no number of a workbook')
+    number = Decimal(format(held, '.15g') if isinstance(held, float) else str(held))
+    if number and abs(number.adjusted()) > MOST_ZEROS:
+        return Cell(str(held)[:LONGEST_SHOWN], fault=f'a number with more than {MOST_ZEROS} zeros')
+    return number_cell(number, form)
+
+
+def number_cell(number: Decimal, form: str) -> Cell:
+    """A number with the unit that its format writes beside it."""
+    text, first = f'{number:f}', sections(form)[0]
+    plain = LITERAL.sub('', first)
+    if '%' in plain:
+        return Cell(text, number, 'a percentage')
+    if THOUSANDTH.search(plain):
+        return Cell(text, number, f'shown as a thousandth or less of what it is, by its format {form}')
+    units = list(dict.fromkeys(unit_of_format(each) for each in sections(form) if PLACE.search(LITERAL.sub('', each))))
+    fault = f'its format {form} writes one unit or another' if len(units) > 1 else ''
+    return Cell(text, number, fault, units[0] if units else unit_of_format(first))
+
+
+def unit_of_format(section: str) -> str:
+    return ''.join(quoted or escaped or money for quoted, escaped, money in LITERAL.findall(section)).strip('- ')
+
+
+def sections(form: str) -> list[str]:
+    """The sections of a format: that of positive numbers, or of the first condition, and those behind it."""
+    return re.findall(r'(?:"[^"]*"|\\.|\[[^\]]*\]|[^;])+', form) or ['']

@@ -1,0 +1,125 @@
+"""A price study in the unit of its case's prices. Where the case came from a table whose prices have a unit, the prices
+of a study are in it too, as `price,LP,30.5,` in EUR/MWh. A row `#price,EUR/MWh,,` of the study says its unit, which is
+checked; with `#price,per W,,` it has whole prices, as the rows of the case file have them."""
+from __future__ import annotations
+
+import csv
+import io
+from collections.abc import Iterable, Sequence
+from dataclasses import dataclass, replace
+from fractions import Fraction
+from math import lcm
+
+from ..errors import Refused
+from ..formats.case import Case, Side, is_passed_over, records
+from ..formats.shown import Shown
+from ..formats.study import PER_WATT, unit_of_rows
+from .numbers import NoNumber, Says, numeral_of, readings
+from .prices import MOST, same_price_unit, times_ten
+
+WIDEST = 100_000
+# Which fields of a row are prices.
+PRICED = {'price': (2,), 'span': (2, 3)}
+
+
+@dataclass(frozen=True)
+class Studied:
+    """A case and its study as the program has them, and what is told of the unit of the prices."""
+
+    case: Case
+    content: bytes
+    notes: tuple[str, ...] = ()
+
+
+@dataclass(frozen=True)
+class Row:
+    """A row of a study, with its prices in the program's unit, exact, by their fields."""
+
+    at: int
+    fields: tuple[str, ...]
+    prices: dict[int, Fraction]
+
+
+def studied(content: bytes, case: Case) -> Studied:
+    """A study of a case. Where its prices are finer than the case's, all of the case are taken as many times as it
+    needs. `Refused`, by its row, where a price is none, or none that the case can hold; all else is for the program to
+    check."""
+    rows, shown = list(records(content)), Shown(case.basis)
+    at, told = unit_of_rows(rows)
+    if told not in ('', PER_WATT) and not same_price_unit(told, shown.price_unit):
+        raise refusal(at, f'the prices are in {told}, and those of the case {shown.price_unit}')
+    if not case.basis.price_unit or told == PER_WATT:
+        return Studied(case, content)
+    held = [read_row(at, row, shown) for at, row in rows]
+    times = times_of(held, case)
+    finer, text = with_finer(case, times), io.StringIO(newline='')
+    csv.writer(text, lineterminator='\n').writerows(in_program(each, times, Shown(finer.basis)) for each in held)
+    note = f'its prices are taken in {shown.price_unit}, as those of the case'
+    return Studied(finer, text.getvalue().encode(), () if told else (note,))
+
+
+def read_row(at: int, row: Sequence[str], shown: Shown) -> Row:
+    if row[0] == '#price':
+        return Row(at, (row[0], PER_WATT, *row[2:]), {})
+    asked = PRICED.get(row[0], ()) if len(row) == 4 and not is_passed_over(row) else ()
+    return Row(at, tuple(row), {field: price(at, row[field], shown) for field in asked})
+
+
+def price(at: int, text: str, shown: Shown) -> Fraction:
+    """A price in the program's unit, exact."""
+    try:
+        numeral = numeral_of(text)
+        if numeral.says is Says.EITHER or numeral.sign == '+':
+            either = 'a change, and a study has prices' if numeral.sign == '+' else readings(numeral)
+            raise refusal(at, f'`{text}` may be {either}')
+        value = Fraction(numeral.value(numeral.says.value or '.'))
+    except NoNumber as fault:
+        raise refusal(at, f'`{text}`: {fault}') from fault
+    if numeral.unit and not same_price_unit(numeral.unit, shown.price_unit):
+        raise refusal(at, f'the prices of the case are in {shown.price_unit}, and `{numeral.unit}` is another unit')
+    return value * shown.basis.price_divisor
+
+
+def times_of(rows: Iterable[Row], case: Case) -> int:
+    """What the prices of a case are taken times, so that those of its study are whole too."""
+    # HOT stands in at the price 1, whatever the others are taken times.
+    fixed = all(each.side is not Side.HOT for each in case.utilities)
+    largest, times = max((abs(Fraction(each.price)) for each in case.utilities), default=Fraction(0)), 1
+    for row in rows:
+        for field, exact in row.prices.items():
+            largest, times = max(largest, abs(exact)), times_ten(lcm(times, exact.denominator))
+            if largest * times > MOST or times > 1 and fixed:
+                raise refusal(row.at, cause_of(row.fields[field], times, Shown(case.basis), fixed))
+    return times
+
+
+def cause_of(text: str, times: int, shown: Shown, fixed: bool) -> str:
+    """Why a price of a study cannot be held."""
+    if times > 1 and fixed:
+        return f'{text} {shown.price_unit} is too fine: without a heater of its own the case has multiples of ' \
+               f'{shown.price(1)}'
+    step = Fraction(1, times)
+    return f'{text} {shown.price_unit} is too large or too fine: in steps of {shown.price(step)}, which the prices ' \
+           f'want, a case has at most {shown.price(step * MOST)}'
+
+
+def with_finer(case: Case, times: int) -> Case:
+    """A case with all its prices taken so many times, and its basis, so that they are shown as they were."""
+    basis = replace(case.basis, price_divisor=case.basis.price_divisor * times,
+                    cost_divisor=case.basis.cost_divisor * times)
+    return replace(case, utilities=tuple(replace(each, price=each.price * times) for each in case.utilities),
+                   basis=basis)
+
+
+def in_program(row: Row, times: int, shown: Shown) -> list[str]:
+    """A row of a study with whole prices."""
+    held = {field: int(exact * times) for field, exact in row.prices.items()}
+    if row.fields[0] == 'span' and len(held) == 2 and held[3] - held[2] >= WIDEST:
+        raise refusal(row.at, f'from {row.fields[2]} to {row.fields[3]} {shown.price_unit} there are '
+                      f'{held[3] - held[2] + 1} prices in steps of {shown.price(1)}, and a span has at most {WIDEST}')
+    return [str(held.get(field, text)) for field, text in enumerate(row.fields)]
+
+
+def refusal(at: int, cause: str) -> Refused:
+    place = f'study row {at}'
+    return Refused(4, place, 'price', f'{place}: {cause}')

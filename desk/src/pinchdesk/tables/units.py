@@ -1,0 +1,183 @@
+"""Units: a number with its unit becomes an exact number of the program's units.
+
+`pint` knows the units and converts them, in fractions. A temperature and a difference of temperatures are different
+things: 50 °F are 10 °C, and 50 K of difference are 50 K; a CP has a difference below its line. A calorie is pint's
+(4.184 J, thermochemical), a Btu too (1055.056 J, ISO)."""
+from __future__ import annotations
+
+import enum
+import re
+from dataclasses import dataclass
+from fractions import Fraction
+from functools import lru_cache
+from typing import Any
+
+from ..formats.shown import decimal
+
+
+class Kind(enum.Enum):
+    """What is measured: with the unit that is taken where none is given, and how many of the program's that is."""
+
+    TEMPERATURE = ('°C', 10)
+    DIFFERENCE = ('K', 10)
+    FLOW = ('kW/K', 100)
+    HEAT = ('kW', 1000)
+
+    @property
+    def default(self) -> str:
+        return self.value[0]
+
+    def shown(self, value: int | Fraction, scale: Fraction = Fraction(1)) -> str:
+        """A number of the program as an engineer reads it, with its unit: of a case with a scale that of the plant."""
+        return f'{decimal(value / scale / self.value[1], 6)} {self.default}'
+
+
+class UnknownUnit(ValueError):
+    """A text that is no unit of what is measured."""
+
+
+@dataclass(frozen=True)
+class Unit:
+    """A unit: `number` of it is `(number + offset) * factor` of the program's."""
+
+    text: str
+    factor: Fraction
+    offset: Fraction = Fraction(0)
+
+    def exact(self, number: Fraction) -> Fraction:
+        return (number + self.offset) * self.factor
+
+
+LONGEST = 40
+SIGNS = {'º': '°', '˚': '°', '℃': '°C', '℉': '°F', '\u212a': 'K', '·': '*', '⋅': '*', '×': '*', '−': '-',
+         '⁻¹': '^-1', 'µ': 'micro', 'μ': 'micro'}
+ALLOWED = re.compile(r'[A-Za-z°_/*^() .-]*(?:(?:\^|\*\*)-?1[A-Za-z°_/*^() .-]*)*')
+DEGREES = re.compile(r'(?:\b(?:deg(?:ree)?s?|grad)\b\.?|\bdeg(?=[CFKR]\b)|°|\bo(?=[CF]\b))\s*'
+                     r'(?:([CFKR])\b|(celsius|fahrenheit|kelvin)\b)', re.I)
+LETTER = re.compile(r'(?<![A-Za-z_°])([CF])(?![A-Za-z_])')
+NAMED = re.compile(r'\b(celsius|fahrenheit)\b', re.I)
+KELVIN = re.compile(r'\bkelvins?\b', re.I)
+# `1000 kcal/h`, `x 10^6 Btu/h`, `1e6 W`; but `10e3` is 10,000 to some and 1,000 to others.
+TIMES = re.compile(r'(?:[x*]\s*)?(?:10\s*(?:\^|\*\*)\s*(?P<power>[0-9]{1,2})|'
+                   r'1[eE]\+?(?P<exponent>[0-9]{1,2})|(?P<number>[1-9][0-9]{0,6}))\s*(?:[x*]\s*)?'
+                   r'(?P<unit>[^0-9\s.,\'^*].*)')
+RAISED = re.compile('[⁰¹²³⁴-⁹]+')
+# `KW` can be nothing else; MBtu is a thousand of them to some and a million to others, and mW was meant to be MW.
+KILOWATT = re.compile(r'\b(?:KW|Kw|kw)(?![A-Za-z_])')
+OPEN = re.compile(r'\b(?:(?i:mbtu)|m(?:W|J|cal))')
+# Who gives a heat per month does not say how many hours it is running.
+MONTH = re.compile(r'\b(?:months?|weeks?|fortnights?|quarters?|decades?|centur(?:y|ies))\b', re.I)
+YEAR = re.compile(r'(?<![A-Za-z_])(a|y|yr|years?|annum|anno)(?![A-Za-z_])', re.I)
+DIMENSIONS = {Kind.TEMPERATURE: 'kelvin', Kind.DIFFERENCE: 'kelvin', Kind.FLOW: 'watt / kelvin', Kind.HEAT: 'watt'}
+# How much of the program's unit is in the SI unit above.
+IN_PROGRAM = {Kind.TEMPERATURE: Fraction(10), Kind.DIFFERENCE: Fraction(10), Kind.FLOW: Fraction(1, 10),
+              Kind.HEAT: Fraction(1)}
+ZERO_CELSIUS = Fraction('273.15')
+
+
+@lru_cache(maxsize=1)
+def registry() -> Any:
+    """pint's units, in fractions; it takes a second to make."""
+    import pint
+    made = pint.UnitRegistry(non_int_type=Fraction)
+    made.define('MMBtu = 1000000 * Btu = MMBTU')
+    made.define('MMkcal = 1000000000 * calorie')
+    return made
+
+
+def multiple_of(text: str) -> tuple[int, str]:
+    """How many of a unit a text names, and the unit: 1000 and `kcal/h` of `1000 kcal/h`, else 1."""
+    held = RAISED.sub(lambda match: '^' + ''.join(str('⁰¹²³⁴⁵⁶⁷⁸⁹'.index(each)) for each in match[0]), text.strip())
+    match = TIMES.fullmatch(held.replace('×', 'x').replace('·', '*').replace('⋅', '*'))
+    if not match:
+        return 1, text
+    tens = match['power'] or match['exponent']
+    return 10 ** int(tens) if tens else int(match['number']), match['unit']
+
+
+def normal(text: str) -> str:
+    """A unit as it is written, in the letters that pint reads; `UnknownUnit` where it cannot be one."""
+    held = text.strip()
+    for sign, plain in SIGNS.items():
+        held = held.replace(sign, plain)
+    held = KILOWATT.sub('kW', re.sub(r'\bper\b', '/', held))
+    held = re.sub(r'/\s*h(?:ou)?rs?\b', '/hour', held)
+    held = DEGREES.sub(lambda match: '°' + (match[1] or match[2][0]).upper(), held)
+    held = NAMED.sub(lambda match: '°' + match[1][0].upper(), LETTER.sub(r'°\1', KELVIN.sub('K', held)))
+    held = held.replace('°K', 'K').replace('°R', 'degR')
+    if not held or len(held) > LONGEST or not ALLOWED.fullmatch(held) or OPEN.search(held):
+        raise UnknownUnit(text)
+    return held
+
+
+@lru_cache(maxsize=None)
+def unit_of(text: str, kind: Kind) -> Unit:
+    """The unit that a text names; `UnknownUnit` where it names none of this kind. A heat over a year or a month is no
+    power."""
+    times, single = multiple_of(text)
+    held = normal(single)
+    if kind in (Kind.HEAT, Kind.FLOW) and (YEAR.search(held) or MONTH.search(held)):
+        raise UnknownUnit(text)
+    if kind is not Kind.TEMPERATURE:
+        held = held.replace('°C', 'delta_degC').replace('°F', 'delta_degF')
+    known = registry()
+    try:
+        if kind is Kind.TEMPERATURE:
+            return temperature_unit(text, '' if times > 1 else held)
+        one = known.Quantity(Fraction(times), parsed(held)).to(DIMENSIONS[kind])
+        return Unit(text, Fraction(one.magnitude) * IN_PROGRAM[kind])
+    except Exception as fault:
+        # pint has no error of its own for each text that it cannot read.
+        raise UnknownUnit(text) from fault
+
+
+def parsed(text: str) -> Any:
+    """What pint reads; `UnknownUnit` where an angle or a part is in it, which would be taken for a mere number."""
+    known = registry()
+    made = known.Unit(text)
+    if any(known.Unit(name).dimensionless for name, _ in known.Quantity(1, made).to_tuple()[1]):
+        raise UnknownUnit(text)
+    return made
+
+
+def temperature_unit(text: str, held: str) -> Unit:
+    known = registry()
+    unit = parsed(held.replace('°C', 'degC').replace('°F', 'degF'))
+    zero, one = (Fraction(known.Quantity(Fraction(each), unit).to('kelvin').magnitude) for each in (0, 1))
+    factor = one - zero
+    return Unit(text, factor * IN_PROGRAM[Kind.TEMPERATURE], (zero - ZERO_CELSIUS) / factor)
+
+
+def is_unit(text: str, kind: Kind) -> bool:
+    try:
+        unit_of(text, kind)
+    except UnknownUnit:
+        return False
+    return True
+
+
+def names_fahrenheit(unit: Unit, kind: Kind) -> bool:
+    """Whether a unit has degrees of Fahrenheit's size, alone or below its line."""
+    if kind in (Kind.TEMPERATURE, Kind.DIFFERENCE):
+        return unit.factor != IN_PROGRAM[kind]
+    return kind is Kind.FLOW and re.search('°F|degR|°R|rankine', normal(multiple_of(unit.text)[1]), re.I) is not None
+
+
+def of_kilowatts(unit: Unit, kind: Kind) -> bool:
+    """Whether a unit of heats or CPs counts in kW."""
+    degree = Fraction(9, 5) if names_fahrenheit(unit, kind) else Fraction(1)
+    usual: Unit = unit_of(kind.default, kind)
+    return unit.factor == usual.factor * degree
+
+
+def is_multiple(text: str, kind: Kind) -> bool:
+    """Whether a text is a power of ten of a unit of heat, as `1000 kcal/h` and `10 W/K`."""
+    times, _ = multiple_of(text)
+    return kind in (Kind.HEAT, Kind.FLOW) and times > 1 and set(str(times)[1:]) <= {'0'} and str(times)[0] == '1' \
+        and is_unit(text, kind)
+
+
+def rounded(value: Fraction) -> int:
+    """The nearest whole number, half away from 0."""
+    whole = (abs(value) * 2 + 1) // 2
+    return int(-whole if value < 0 else whole)

@@ -1,0 +1,52 @@
+"""The house: a package uses only packages below it, and no two modules have one name."""
+from __future__ import annotations
+
+import ast
+from collections import Counter
+from collections.abc import Iterator
+from pathlib import Path
+
+from conftest import DESK
+
+SOURCE = DESK / 'src' / 'pinchdesk'
+# From the lowest to the highest; those of one line do not know one another.
+ORDER = (('errors', 'text', 'version'), ('failures', 'formats'), ('program',), ('tables',), ('analysis',), ('search',),
+         ('figures',), ('report',), ('batch',), ('cli',))
+LEVEL = {name: level for level, names in enumerate(ORDER) for name in names}
+# What still reaches up, each to go: a word is to be a function of its data.
+OPEN = {('batch', 'cli'), ('program', 'tables'), ('report', 'cli')}
+
+
+def modules() -> Iterator[tuple[str, ...]]:
+    for path in sorted(SOURCE.rglob('*.py')):
+        parts = path.relative_to(SOURCE).with_suffix('').parts
+        yield parts[:-1] if parts[-1] == '__init__' else parts
+
+
+def file_of(module: tuple[str, ...]) -> Path:
+    path = SOURCE.joinpath(*module)
+    return path / '__init__.py' if path.is_dir() else path.with_suffix('.py')
+
+
+def used_by(module: tuple[str, ...]) -> Iterator[str]:
+    """The packages that a module names in an import, wherever it stands."""
+    here = module if SOURCE.joinpath(*module).is_dir() else module[:-1]
+    for node in ast.walk(ast.parse(file_of(module).read_text(encoding='utf-8'))):
+        if isinstance(node, ast.ImportFrom) and node.level:
+            base = here[:len(here) - node.level + 1]
+            named = [*base, *(node.module or '').split('.')] if node.module else list(base)
+            yield from [named[0]] if named else (each.name for each in node.names)
+        elif isinstance(node, (ast.Import, ast.ImportFrom)):
+            names = [node.module or ''] if isinstance(node, ast.ImportFrom) else [each.name for each in node.names]
+            yield from (name.split('.')[1] for name in names if name.startswith('pinchdesk.'))
+
+
+def test_a_package_uses_only_packages_below_it() -> None:
+    wrong = {(module[0], used) for module in modules() if module for used in used_by(module)
+             if used in LEVEL and used != module[0] and LEVEL[used] >= LEVEL[module[0]]}
+    assert wrong == OPEN
+
+
+def test_no_two_modules_have_one_name() -> None:
+    counts = Counter(module[-1] for module in modules() if module and file_of(module).name != '__init__.py')
+    assert not [name for name, count in counts.items() if count > 1]
