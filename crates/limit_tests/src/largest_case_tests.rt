@@ -1,6 +1,6 @@
 //! A case with as many streams and utilities as a case may have: its grid, its parts, their table
 //! and its net of chains are not too large, and it has its least cost.
-ghost use Rattle.std.specs.Prelude.{◌<◌, IfOk};
+ghost use Rattle.std.specs.Prelude.{◌<◌, ◌≤◌, IfOk};
 ghost use Rattle.stream_case.specs.Case.{IsComplete};
 
 use crate::compare::assert_same;

@@ -1,5 +1,6 @@
 //! Cases of the most parts and of the most links: their nets of chains, their least costs, and a cut
 //! of hundreds of parts.
+ghost use Rattle.std.specs.Prelude.{IfOk};
 ghost use Rattle.stream_case.specs.Case.{IsComplete};
 
 use crate::compare::assert_same;
