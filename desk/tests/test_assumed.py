@@ -2,10 +2,13 @@
 from __future__ import annotations
 
 import pytest
+from conftest import example
 from hypothesis import assume, given
 from hypothesis import strategies as some
 from tabled import TEN, made, refusal, streams
 
+from pinchdesk import Pinch, read_case
+from pinchdesk.figures import sweep_figure
 from pinchdesk.tables.convert import Wanted
 from pinchdesk.tables.names import FIT, fit_names
 
@@ -16,7 +19,8 @@ from pinchdesk.tables.names import FIT, fit_names
     'H1;2;150;60\nH2;8;90;60\nC1;2.5;20;125\n', 'A;2;150;60\nB;8;90;60\nC;2.5;20;125\n',
     'H1;150;60;180\nC1;20;125;262.5\n',
     'A;200;150;60\nB;180;20;125\n', 'A;300;150;60\nB;250;20;125\n', 'hot;A;2;150;60\ncold;B;2.5;20;125\n',
-    '1;60;150;2\n2;20;125;3\n3;30;40;900\n', 'H1;60;150;2\nC1;20;125;3\n', 'C1;150;60;2\nC2;20;125;3\n',
+    '1;60;150;2\n2;20;125;3\n3;30;40;900\n', 'H1;60;150;2\nC1;20;125;3\n',
+    'H;60;150;2\nC;20;125;3\n', 'C1;150;60;2\nC2;20;125;3\n',
     '150;60;2;180\n20;125;2.5;262.5\n', 'hot;150;60;2;180\ncold;20;125;2.5;262.5\n',
     'hot;A;150;60;2\nheater;HP;250;35\n', 'A;2;150;40\nB;8;90;30\n'])
 def test_columns_without_headings_that_may_be_others_are_refused(text: str) -> None:
@@ -102,6 +106,15 @@ def test_duties_with_signs_that_agree_are_read() -> None:
 def test_of_a_cp_and_a_duty_that_differ_a_little_the_cp_counts_and_that_is_told() -> None:
     table = made('name,supply °C,target °C,CP kW/K,duty kW\nH,150,60,2.0,182\n')
     assert table.notes == ('row 2 column 5: the CP 2.0 kW/K counts, which makes 180 kW, and not the duty 182 kW',)
+
+
+# What a sweep replaces.
+
+def test_the_picture_of_a_sweep_says_that_contributions_are_replaced(pinch: Pinch) -> None:
+    for name, said in (('own-contributions', True), ('four-stream', False)):
+        content = example(f'{name}.csv')
+        title = sweep_figure(read_case(content), pinch.sweep(content, 50, 60, 10)).axes[0].get_title()
+        assert ('contributions of their own are replaced' in title) is said
 
 
 # Names.

@@ -15,7 +15,7 @@ from .spreadsheet import Cell, TableRow
 STREAM_COLUMNS = (Heading.NAME, Heading.SUPPLY, Heading.TARGET, Heading.CP, Heading.LOAD, Heading.CONTRIBUTION)
 UTILITY_COLUMNS = (Heading.NAME, Heading.SUPPLY, Heading.LEAST, Heading.MOST, Heading.PRICE, Heading.CONTRIBUTION)
 # Names that say which way a stream runs.
-RUNS = {'hot': re.compile(r'h(?:ot)?[\s_-]*[0-9]+', re.I), 'cold': re.compile(r'c(?:old)?[\s_-]*[0-9]+', re.I)}
+RUNS = {'hot': re.compile(r'h(?:ot)?[\s_-]*[0-9]*', re.I), 'cold': re.compile(r'c(?:old)?[\s_-]*[0-9]*', re.I)}
 # A CP is told from temperatures and from duties by its size: temperatures are at least so many times as large.
 APART = 2
 
