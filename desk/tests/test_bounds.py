@@ -1,6 +1,7 @@
 """What is read is bounded: by its size, in a moment and in little memory, whatever stands in it."""
 from __future__ import annotations
 
+import time
 from collections.abc import Callable
 from fractions import Fraction
 from pathlib import Path
@@ -11,9 +12,10 @@ from hypothesis import given
 from hypothesis import strategies as st
 from tabled import refusal
 
-from pinchdesk import Basis, Refused, print_case, read_case
-from pinchdesk.formats.amounts import LONGEST, exact
+from pinchdesk import Basis, Refused, Wanted, case_of_table, print_case, read_case, read_changes
 from pinchdesk.cli.main import main
+from pinchdesk.formats.amounts import LONGEST, exact
+from pinchdesk.program.causes import lines_of
 
 TC3, TABLE = str(EXAMPLES / 'tc3.csv'), str(EXAMPLES / 'table.csv')
 Desk = Callable[..., Done]
@@ -84,3 +86,52 @@ def test_a_scale_and_divisors_are_read_again(value: Fraction) -> None:
 def test_no_number_of_a_table_fills_the_memory(text: str) -> None:
     for cell in (text, f'{text} °C', f'"{text}"'):
         assert len(refusal(f'Stream;Supply;Target;CP\nH1;{cell};60;2\nC1;20;125;2.5\n')) < 400
+
+
+# Texts.
+
+TOO_LARGE = {
+    'many brackets': '(' * 200_000 + '\n', 'a long cell': 'Stream;Supply;Target;CP\nH1;' + '1' * 40_000 + ';60;2\n',
+    'many rows': 'Stream;Supply;Target;CP\n' + 'H;150;60;2\n' * 20_000,
+    'many lines': '\n' * 1_000_000 + 'H;150;60;2\n',
+    'many fields': ';' * 1_000_000, 'many cells': 'a;b;c;d;e;f\n' * 19_000, 'many places': ';' * 199 + 'x\n',
+    'many quotes': '"";' * 300_000}
+TOO_LARGE['many places'] *= 6_000
+
+
+@pytest.mark.parametrize('name', TOO_LARGE)
+def test_a_text_is_refused_by_its_size(name: str) -> None:
+    begun = time.process_time()
+    assert 'a table has at most 20000 rows and 200 columns' in refusal(TOO_LARGE[name])
+    assert time.process_time() - begun < 3
+
+
+LONG = 30_000
+ATOMS = ['(', '[', ')', ']', '/', 'a/', '_', 'a_', '1', '0', '000 ', "1'", '1.', '.,', 'a', '+', '%', '°F ', 'kW/',
+         'in ', 'x ', '10 ', '10^', '1e5', '1000 kcal/h ', 'deg ', 'per ', '\ufdfa', 'Δ', 'sum ', '#', 'us ',
+         '(K)', 'a(b)', 'EUR/', '€', 'a\u0301', '１']
+FORMS = [
+    '{};;;\nStream;Supply;Target;CP\nH1;150;60;2\nC1;20;125;2.5\n', '{};150;60;2\nC1;20;125;2.5\n',
+    'Stream;Supply {};Target ({});CP;{}\nH1;150;60;2\n', 'Stream;Supply;Target;CP\n;{};°C;kW/K\nH1;150;60;2\n',
+    'kind;Stream;Supply;Target;CP;note\n{};H1;150;60;2;{}\n;{};20;125;2.5;\n{};;;;\n#{};;;;\n',
+    'Stream;Supply;Target;CP\nH1;{};60;2\nH2;150 {};60;2\nH3;1{};60;2 {}\n',
+    'kind;name;supply;target;CP;price {}\n;H1;150;60;2;\nheater;HP;180;;;30 {}\n', '{}\n', 'H1;150;60;2;;;{}\n']
+
+
+@pytest.mark.parametrize('atom', ATOMS)
+def test_no_long_text_takes_long(atom: str) -> None:
+    text = (atom * LONG)[:LONG]
+    begun = time.process_time()
+    for form in FORMS:
+        for wanted in (Wanted(difference='10'), Wanted(difference='10', decimal='.')):
+            try:
+                case_of_table(form.replace('{}', text).encode(), 't.csv', wanted)
+            except Refused as fault:
+                assert max(map(len, lines_of(fault))) < 1200
+    for cells in ('{};S1;supply;+1 K', 'a;{};supply;+1 K', 'a;S1;{};1', 'a;S1;supply;{}', 'a;S1;price;+1 {}'):
+        try:
+            read_changes(f'scenario;source;field;value\n{cells.replace("{}", text)}\n'.encode(), 't.csv', Basis())
+        except Refused as fault:
+            assert max(map(len, lines_of(fault))) < 1200
+    # The units take a second to be made.
+    assert time.process_time() - begun < 4

@@ -6,7 +6,7 @@ from collections.abc import Iterator, Mapping
 from dataclasses import dataclass
 
 from ..errors import Refused
-from ..tables.headings import BRACKETED, is_note_column, splits, squeezed, unknown_headings
+from ..tables.headings import LONGEST, bracketed, is_note_column, splits, squeezed, unknown_headings
 from ..tables.spreadsheet import Table, TableRow
 from ..tables.units import Kind
 
@@ -58,7 +58,7 @@ class ChangeLayout:
 
 def meaning_of(text: str) -> tuple[Column | Field | None, str]:
     """What a heading means, and the unit that stands with it."""
-    for name, unit in parts_of(text):
+    for name, unit in parts_of(text) if len(text) <= LONGEST else ():
         held = squeezed(name)
         found = COLUMNS.get(held) or FIELDS.get(held)
         if found:
@@ -68,7 +68,7 @@ def meaning_of(text: str) -> tuple[Column | Field | None, str]:
 
 def parts_of(text: str) -> Iterator[tuple[str, str]]:
     yield text, ''
-    match = BRACKETED.fullmatch(text)
+    match = bracketed(text)
     if match:
         yield match[1], match[2].strip()
     yield from splits(text)

@@ -36,10 +36,17 @@ CAUSES = {
     'NoItem': 'there is no scenario and no span',
 }
 
+LONGEST = 1000
+
 
 def lines_of(fault: DeskError) -> list[str]:
     """What an error says; a refusal may have a line for each fault of its file."""
     if not isinstance(fault, Refused):
-        return [str(fault)]
+        return [cut(str(fault))]
     words = f': {CAUSES[fault.cause]}' if fault.cause in CAUSES and fault.text.endswith(fault.cause) else ''
-    return [(f'{fault.file}: {line}' if fault.file else line) + words for line in fault.text.split('\n')]
+    return [(f'{fault.file}: ' if fault.file else '') + cut(line) + words for line in fault.text.split('\n')]
+
+
+def cut(line: str) -> str:
+    """A line that can be read: a cell that it quotes may be as long as a book."""
+    return line if len(line) <= LONGEST else f'{line[:LONGEST - 300]} .. {line[-300:]}'

@@ -48,6 +48,10 @@ ABOUT = {Kind.TEMPERATURE: re.compile(r'temp|supply|target|inlet|outlet|\bT\b|°
          Kind.FLOW: re.compile(r'CP\b|capacit|flow|wärmekap', re.I),
          Kind.HEAT: re.compile(r'heat|dut(?:y|ies)|load|enthalp|power|energy|\bQ\b|[dΔ∆]H\b|wärme|leistung|'
                                r'least|most', re.I)}
+# A longer text is no heading, and is not looked at as one: it may be made to take for ever.
+LONGEST = 200
+# So many rows a head has at most below its first one.
+MOST_HEADS = 10
 # A unit that has no letter: `CP (%)`, `Price €`.
 SIGN = re.compile(r'.*[(\[/,]\s*([^\w\s()\[\]/,.:;–—-]+)\s*[)\]]?\s*|.*?([%‰°€$£¥]+)\s*')
 # A sign of money belongs to the unit behind it: `Price €/MWh`.
@@ -109,16 +113,23 @@ def meaning(text: str) -> Heading | None:
 
 def heading_of(text: str) -> tuple[Heading | None, str]:
     """What a heading means, and the unit that stands with it: `CP (MW/K)`, `Supply [°C]`, `Duty / kW`, `Duty in kW`."""
+    if len(text) > LONGEST:
+        return None, ''
     if meaning(text):
         sign = SIGN.fullmatch(text)
         return meaning(text), (sign[1] or sign[2]) if sign else ''
-    match = BRACKETED.fullmatch(text)
+    match = bracketed(text)
     if match:
         return meaning(match[1]), match[2].strip()
     for name, unit in splits(text):
         if meaning(name) and unit and not MONEY.search(name):
             return meaning(name), unit
     return None, ''
+
+
+def bracketed(text: str) -> re.Match[str] | None:
+    """A heading and what stands behind it in brackets."""
+    return BRACKETED.fullmatch(text) if len(text) <= LONGEST else None
 
 
 def splits(text: str) -> Iterator[tuple[str, str]]:
@@ -154,7 +165,7 @@ def layout_of(table: Table) -> Layout:
     for at, row in enumerate(table.rows):
         if known(row) > 1:
             layout = taken(table, row)
-            for below in table.rows[at + 1:]:
+            for below in table.rows[at + 1:at + 1 + MOST_HEADS]:
                 if is_second_head(layout, below):
                     layout = with_second(table, layout, below)
                 elif not is_comment(below):
@@ -236,7 +247,7 @@ def with_first(layout: Layout, row: TableRow, merged: tuple[tuple[int, int, int]
         return replace(layout, units={**alone, **layout.units}, heads=(*layout.heads, row.number))
     made, used = dict(layout.units), 0
     for column, cell in row.filled():
-        match = BRACKETED.fullmatch(cell.text)
+        match = bracketed(cell.text)
         end = next((end for at, begin, end in merged if (at, begin) == (row.number, column)), None)
         following = [each for each in filled if each > column]
         reach = range(column, end or (following[0] if following else max(layout.columns.values(), default=0) + 1))
@@ -274,7 +285,7 @@ def complete(table: Table, layout: Layout, row: TableRow) -> Layout:
 
 
 def is_note_column(title: str) -> bool:
-    return squeezed(BRACKETED.sub(r'\1', title)) in NOTES
+    return len(title) <= LONGEST and squeezed(BRACKETED.sub(r'\1', title)) in NOTES
 
 
 def unknown_headings(table: Table, row: TableRow, titles: Sequence[tuple[int, str]], names: str) -> Refused:

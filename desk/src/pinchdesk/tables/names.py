@@ -56,15 +56,21 @@ def fit_names(names: Iterable[str]) -> dict[str, str]:
     return {name: made[name] for name in held}
 
 
+def number_behind(name: str) -> str:
+    """The number at the end of a name, with the `-` before it."""
+    head = name.rstrip(string.digits)
+    return '-' * head.endswith('-') + name[len(head):] if len(head) < len(name) else ''
+
+
 def short_names(name: str, order: Sequence[str], cuts: Mapping[str, int]) -> Iterator[str]:
     """Ways to make a long name short, the best first: with the number at its end, cut where nothing else begins so,
     with the word that no other has there, with its last words. `order` has all names, sorted, `cuts` how many of them
     are one where they are cut."""
     if len(name) <= LONGEST:
         return
-    number, cut = re.search(r'-?[0-9]+$', name), name[:LONGEST].rstrip('-_')
-    if number and len(number[0]) < LONGEST // 2:
-        yield joined(name, number[0])
+    number, cut = number_behind(name), name[:LONGEST].rstrip('-_')
+    if number and len(number) < LONGEST // 2:
+        yield joined(name, number)
     elif cuts[cut] == 1:
         yield cut
     if cuts[cut] > 1:

@@ -19,8 +19,16 @@ def told(table: Table) -> tuple[str, ...]:
 
 def check(content: bytes, name: str, first: Table, what: str, is_one: Callable[[Table], bool]) -> None:
     """`Refused` where the sheet that was read is no table of what is wanted, and other ones are."""
-    found = [each for each in first.others[:MOST_SHEETS] if is_one(read_table(content, name, each)[0])]
+    found = [each for each in first.others[:MOST_SHEETS] if is_such(content, name, each, is_one)]
     if found:
         has = 'has one' if len(found) == 1 else 'have one'
         cause = f'sheet {first.sheet} has no table of {what}, and {", ".join(found)} {has}: say --sheet {found[0]}'
         raise Refused(3, f'sheet {first.sheet}', 'no table', cause)
+
+
+def is_such(content: bytes, name: str, sheet: str, is_one: Callable[[Table], bool]) -> bool:
+    """Whether another sheet is such a table; one that cannot be read, or is too large, is none."""
+    try:
+        return is_one(read_table(content, name, sheet)[0])
+    except Refused:
+        return False

@@ -13,7 +13,7 @@ from math import gcd, lcm
 
 from ..formats.case import Basis
 from .money import money_of, two_moneys
-from .units import KILOWATT, OPEN, SIGNS, YEAR, UnknownUnit, parsed, registry, rounded
+from .units import KILOWATT, LONGEST, LONGEST_TEXT, OPEN, SIGNS, YEAR, UnknownUnit, parsed, registry, rounded
 
 MOST = 1_000_000
 MONEY = re.compile(r'[^\W\d]{0,8}|[€$£¥]|[A-Za-z]{0,3}[€$£¥]')
@@ -34,13 +34,13 @@ class PriceUnit:
 def price_unit_of(text: str) -> PriceUnit:
     """The unit that a text names, as `EUR/MWh`, `per kWh`, `€/(kW a)`, `per kW and year`; `UnknownUnit` where it is
     none."""
-    held = text.strip()
+    held = text.strip() if len(text) <= LONGEST_TEXT else ''
     for sign, plain in SIGNS.items():
         held = held.replace(sign, plain)
     held = WATT_YEAR.sub(r'\1 a', re.sub(r'\band\b', '*', re.sub(r'(?:^|\b)per\b', '/', held)))
     money, slash, below = (each.strip() for each in held.partition('/'))
     below = re.sub(r'\b(?:KW|Kw|kw)[hH]\b', 'kWh', KILOWATT.sub('kW', below))
-    if not slash or not MONEY.fullmatch(money) or len(held) > 40 or not re.fullmatch(r'[A-Za-z/*() .]+', below) \
+    if not slash or not MONEY.fullmatch(money) or len(held) > LONGEST or not re.fullmatch(r'[A-Za-z/*() .]+', below) \
             or OPEN.search(below):
         raise UnknownUnit(text)
     words = [each for each in re.split(r'[/*() .]+', below) if each]

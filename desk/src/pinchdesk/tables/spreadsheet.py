@@ -21,7 +21,8 @@ from ..text import read_again
 from .workbook_bounds import MOST_CELLS, MOST_COLUMNS, MOST_PLACES, MOST_ROWS, MOST_SIGNS, TooLarge, hidden_by_merging
 
 SEPARATORS = {';': '`;`', '\t': 'a tab', ',': '`,`', '|': '`|`'}
-LONGEST_SHOWN = 40
+# The fields of a text, filled or not; an empty line is one.
+MOST_FIELDS, LONGEST_SHOWN = 1_000_000, 40
 HINT = re.compile(r'sep=(.)(\r\n|\r|\n)')
 # What a format writes as it is: in quotes, behind `\`, as a currency; then what it leaves room for, and conditions.
 LITERAL = re.compile(r'"([^"]*)"|\\(.)|\[\$([^\]-]*)[^\]]*\]|[_*].|\[[^\]]*\]')
@@ -150,10 +151,11 @@ def text_of(content: bytes) -> str:
 def text_table(text: str, separator: str) -> Table:
     reader = csv.reader(io.StringIO(text, newline=''), delimiter=separator, strict=True)
     rows: list[TableRow] = []
-    at = filled = 0
+    at = filled = places = 0
     try:
         for at, fields in enumerate(reader, 1):
-            if len(rows) >= MOST_ROWS or len(fields) > MOST_COLUMNS:
+            places += max(1, len(fields))
+            if len(rows) >= MOST_ROWS or len(fields) > MOST_COLUMNS or places > MOST_FIELDS:
                 raise too_large()
             if any(len(field) > MOST_SIGNS for field in fields):
                 raise too_large(f'row {at} is too long: ')
@@ -175,8 +177,8 @@ def moved(table: Table, rows: int) -> Table:
 
 
 def too_large(what: str = '') -> Refused:
-    cause = f'{what}a table has at most {MOST_ROWS} rows and {MOST_COLUMNS} columns, {MOST_PLACES} cells from its ' \
-            f'first to its last, and {MOST_SIGNS} signs in each'
+    cause = f'{what}a table has at most {MOST_ROWS} rows and {MOST_COLUMNS} columns, {MOST_CELLS} cells that are ' \
+            f'filled, {MOST_PLACES} of a workbook from its first to its last, and {MOST_SIGNS} signs in each'
     return Refused(3, '', 'too large', cause)
 
 

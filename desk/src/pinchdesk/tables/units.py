@@ -48,7 +48,7 @@ class Unit:
         return (number + self.offset) * self.factor
 
 
-LONGEST = 40
+LONGEST, LONGEST_TEXT = 40, 200
 SIGNS = {'º': '°', '˚': '°', '℃': '°C', '℉': '°F', '\u212a': 'K', '·': '*', '⋅': '*', '×': '*', '−': '-',
          '⁻¹': '^-1', 'µ': 'micro', 'μ': 'micro'}
 ALLOWED = re.compile(r'[A-Za-z°_/*^() .-]*(?:(?:\^|\*\*)-?1[A-Za-z°_/*^() .-]*)*')
@@ -87,6 +87,8 @@ def registry() -> Any:
 
 def multiple_of(text: str) -> tuple[int, str]:
     """How many of a unit a text names, and the unit: 1000 and `kcal/h` of `1000 kcal/h`, else 1."""
+    if len(text) > LONGEST_TEXT:
+        return 1, text
     held = RAISED.sub(lambda match: '^' + ''.join(str('⁰¹²³⁴⁵⁶⁷⁸⁹'.index(each)) for each in match[0]), text.strip())
     match = TIMES.fullmatch(held.replace('×', 'x').replace('·', '*').replace('⋅', '*'))
     if not match:
@@ -97,7 +99,7 @@ def multiple_of(text: str) -> tuple[int, str]:
 
 def normal(text: str) -> str:
     """A unit as it is written, in the letters that pint reads; `UnknownUnit` where it cannot be one."""
-    held = text.strip()
+    held = text.strip() if len(text) <= LONGEST_TEXT else ''
     for sign, plain in SIGNS.items():
         held = held.replace(sign, plain)
     held = KILOWATT.sub('kW', re.sub(r'\bper\b', '/', held))

@@ -8,7 +8,7 @@ from decimal import Decimal
 
 from .cells import Told
 from .headings import EMPTY, Heading
-from .numbers import NoNumber, numeral_of
+from .numbers import LONGEST, NoNumber, numeral_of
 from .rows import Line, kind_of
 from .spreadsheet import Cell, TableRow
 
@@ -83,9 +83,10 @@ def check_names(streams: Sequence[Line], told: Told) -> None:
         name = line.name()
         if not re.fullmatch(r'[-+−]?[0-9.,]+', name):
             continue
-        if not name.isdigit() or int(name) <= last:
+        number = int(name) if name.isdigit() and len(name) <= LONGEST else -1
+        if number <= last:
             told.fault(line.row.number, line.at(Heading.NAME), f'`{name}` stands where a name is wanted: give headings')
-        last = int(name) if name.isdigit() else last
+        last = max(number, last)
 
 
 def check_run(line: Line, mark: str, told: Told) -> None:

@@ -10,7 +10,7 @@ from dataclasses import dataclass, field
 from xml.parsers import expat
 
 # What a table of streams never has: rows, columns, bytes when it is unpacked, cells, signs in a cell.
-MOST_ROWS, MOST_COLUMNS, MOST_UNPACKED, MOST_CELLS, MOST_SIGNS = 20_000, 200, 2 ** 25, 200_000, 32_767
+MOST_ROWS, MOST_COLUMNS, MOST_UNPACKED, MOST_CELLS, MOST_SIGNS = 20_000, 200, 2 ** 25, 100_000, 32_767
 # The cells from the first to the last one, filled or not: each takes memory.
 MOST_PLACES = 200_000
 # And of a part: elements, and elements inside one another.
@@ -70,10 +70,11 @@ class PartCheck:
                 raise TooLarge(f'{self.part} has more than {MOST_CELLS} cells')
         elif name in ('v', 'is') and self.place[0]:
             self.filled.append(self.place)
-        elif name == 'mergeCell':
+        elif name in ('mergeCell', 'hyperlink'):
             first, _, last = attributes.get('ref', '').partition(':')
             self.within(*place_of(last or first))
-            self.merged.append(Merged(*place_of(first), *place_of(last or first)))
+            if name == 'mergeCell':
+                self.merged.append(Merged(*place_of(first), *place_of(last or first)))
 
     def ended(self, name: str) -> None:
         del name
