@@ -7,6 +7,7 @@ use network_text::NetWhy;
 use problem_table::Target;
 use reports::{FileRole, Shown, text_of};
 use site::SiteWhy;
+use std::alloc::{AllocError, Global};
 use std::process::Abort;
 use std::test::Fail;
 use stream_case::Items;
@@ -108,11 +109,27 @@ fn rows_of_a_sweep_have_their_text(rt: HostRuntime) -> Result<(), Fail> {
     Ok(())
 }
 
+/// So many pinches.
+fn many_pinches(alloc: Global, count: u32) -> Result<Vec<i32>, AllocError> {
+    let mut pinches = Vec::new(alloc);
+    for _ in 0..count {
+        pinches.push(850)?;
+    }
+    Ok(pinches)
+}
+
+/// How many bytes the text of the targets and of these pinches has.
+fn length_with(alloc: Global, pinches: Vec<i32>) -> Result<usize, AllocError> {
+    let shown = targets_with(pinches);
+    let text = text_of(alloc, &shown)?;
+    Ok(text.len())
+}
+
 /// The targets, and so many pinches of ten bytes that the text is longer than most files.
 #[test]
 fn a_text_of_two_million_bytes_is_made(rt: HostRuntime) -> Result<(), Fail> {
-    let pinches = vec![in rt.alloc(); 850; 200_000]?;
-    let text = text_of(rt.alloc(), &targets_with(pinches))?;
-    assert_same(&rt, "its bytes", &text.len(), &2_000_021);
+    let pinches = many_pinches(rt.alloc(), 200_000)?;
+    let length = length_with(rt.alloc(), pinches)?;
+    assert_same(&rt, "its bytes", &length, &2_000_021);
     Ok(())
 }
