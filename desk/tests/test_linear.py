@@ -7,7 +7,8 @@ import pytest
 from hypothesis import given, settings
 from hypothesis import strategies as some
 
-from pinchdesk.search.solver import linear
+from pinchdesk import ProgramError
+from pinchdesk.search.solver import linear, process
 from pinchdesk.search.solver.elimination import Elimination, Inconsistent
 from pinchdesk.search.solver.linear import Program, Row, Terms
 
@@ -49,6 +50,20 @@ def test_no_time_is_no_answer() -> None:
     aim = tuple((at, Fraction(at * at % 17 + 1)) for at in range(size))
     with pytest.raises(linear.OutOfTime):
         linear.solve(Program(lows, highs, frozenset(range(size)), (row,), aim), 1e-9)
+
+
+def test_a_program_of_many_choices_is_solved_apart(monkeypatch: pytest.MonkeyPatch) -> None:
+    size = 40
+    rows = (Row(tuple((at, Fraction(at % 7 + 2)) for at in range(size)), Fraction(60), None),)
+    aim = tuple((at, Fraction(at * at % 11 + 3)) for at in range(size))
+    program = Program((Fraction(0),) * size, (ONE,) * size, frozenset(range(size)), rows, aim)
+    here = linear.solve(program)
+    with process.Apart() as apart:
+        there = apart.solve(program, 60)
+        assert apart.process is not None and here is not None and there is not None and there.aim == here.aim
+    monkeypatch.setattr(process, 'BEGIN', 'raise SystemExit(1)')
+    with pytest.raises(ProgramError, match='ends when it begins'):
+        process.Apart().solve(program, 60)
 
 
 def test_equations_that_contradict() -> None:

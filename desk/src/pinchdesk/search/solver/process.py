@@ -11,6 +11,7 @@ import subprocess
 import sys
 from pathlib import Path
 
+from ...errors import ProgramError
 from .linear import OutOfTime, Program, Solved, solve
 
 # What the solver may take behind its time limit before it is ended.
@@ -20,7 +21,7 @@ BEGIN_IN = 60.0
 # Up to so many whole variables a program is solved here, in less time than a process takes to begin.
 SMALL = 30
 SOURCE = Path(__file__).resolve().parents[3]
-BEGIN = f'import sys; sys.path.insert(0, {str(SOURCE)!r}); from pinchdesk.search import apart; apart.serve()'
+BEGIN = f'import sys; sys.path.insert(0, {str(SOURCE)!r}); from {__name__} import serve; serve()'
 
 
 class Apart:
@@ -57,12 +58,16 @@ class Apart:
         return held
 
     def begun(self) -> subprocess.Popen[bytes]:
-        """The process. It has a session of its own, so that an interruption from the keyboard is for this one alone."""
+        """The process; `ProgramError` where there can be none. It has a session of its own, so that an interruption
+        from the keyboard is for this one alone."""
         if self.process is None:
             self.process = subprocess.Popen([sys.executable, '-c', BEGIN], stdin=subprocess.PIPE,
                                             stdout=subprocess.PIPE, stderr=subprocess.DEVNULL,
                                             start_new_session=True)
-            self.answer(self.process, BEGIN_IN)
+            try:
+                self.answer(self.process, BEGIN_IN)
+            except EOFError as fault:
+                raise ProgramError('the process of the solver ends when it begins') from fault
         return self.process
 
     def answer(self, process: subprocess.Popen[bytes], seconds: float) -> object:
