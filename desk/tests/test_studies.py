@@ -81,7 +81,7 @@ REFUSED = [('price,LP,20000,', 'row 2: 20000 EUR/MWh is too large or too fine: i
            ('price,XP,5,', 'study row 2 UnknownName'), ('price,LP,5', 'study row 2 FieldCount'),
            ('span,LP,5,4', 'study row 2 BadRange'), ('#price,USD/MWh,,', 'row 2: the prices are in USD/MWh, and those'),
            ('#price,EUR/MWh,,\n#price,EUR/kWh,,', 'row 3: a second unit of its prices: EUR/MWh and EUR/kWh'),
-           ('price,LP,1e99999999,', 'and `e99999999` is another unit'),
+           ('price,LP,1e99999999,', '`1e99999999`: a number with more than 30 zeros'),
            ('span,LP,0,2000', 'there are 200001 prices in steps of 0.01')]
 
 

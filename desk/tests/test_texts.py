@@ -174,6 +174,9 @@ def test_comments_in_any_letters_and_long_fields_are_passed_over() -> None:
     assert read_case(held).streams == (Stream('H', Side.HOT, 1000, 500, 10, 0, 50),)
 
 
-def test_comments_of_the_desk_that_say_nothing_are_comments() -> None:
-    held = '#scale,x,,,,,\n#scale,0,,,,,\n#price,EUR/MWh,1/0,,,,\ncontribution,,50,,,,\nhot,H,1000,500,10,,\n'
-    assert read_case(held).basis == Basis()
+def test_comments_of_the_desk_that_say_what_cannot_be_are_refused() -> None:
+    rows = 'contribution,,50,,,,\nhot,H,1000,500,10,,\n'
+    for comment in ('#scale,x,,,,,', '#scale,0,,,,,', '#price,EUR/MWh,1/0,,,,', '#cost,EUR/h,,,,,'):
+        with pytest.raises(Refused, match=f'case row 1 {comment.split(",")[0]}: .* is no number from'):
+            read_case(f'{comment}\n{rows}')
+    assert read_case(f'#,x,,,,,\n# scale,x,,,,,\n{rows}').basis == Basis()
