@@ -61,4 +61,4 @@ def test_a_network_that_is_too_fine_is_no_good_answer(pinch: Pinch, tmp_path: Pa
     (tmp_path / 'case.csv').write_text(case)
     (tmp_path / 'network.txt').write_text(network)
     for word in ('audit', 'table'):
-        assert main([word, str(tmp_path / 'case.csv'), str(tmp_path / 'network.txt')]) == 1
+        assert main([word, str(tmp_path / 'case.csv'), str(tmp_path / 'network.txt')]) == 9

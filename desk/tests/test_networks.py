@@ -92,7 +92,7 @@ def test_the_word(tmp_path: Path) -> None:
     assert done.status == 0 and not done.out
     assert len(read_network(out.read_bytes()).exchangers) == 3
     assert pinchdesk('network', str(EXAMPLES / 'too-little-cooling.csv')).status == 1
-    assert pinchdesk('network', str(EXAMPLES / 'tc3.csv'), '--cost', '1').status == 1
+    assert pinchdesk('network', str(EXAMPLES / 'tc3.csv'), '--cost', '1').status == 2
     assert pinchdesk('network', str(EXAMPLES / 'tc3.csv'), '--seconds', '0').status == 2
 
 
@@ -135,7 +135,7 @@ def test_what_a_network_may_cost_is_asked_in_the_unit_that_is_told(table: str, s
     for asked in (more, f'{more} {unit}', more.replace('.', ',')):
         assert pinchdesk('network', str(case), '--seconds', '1', '--cost', asked).status == 0
     refused = pinchdesk('network', str(case), '--seconds', '1', '--cost', less)
-    assert refused.status == 1 and f' {unit}, the least cost of a heat flow' in refused.err
+    assert refused.status == 2 and f' {unit}, the least cost of a heat flow' in refused.err
     for asked, told in ((f'{more} USD/d', f'the costs of the case are in {unit}, and `USD/d` is another unit'),
                         ('dear', f'dear is no number of a cost: one is wanted in {unit}'),
                         ('32.000', 'the cost 32.000 may be 32 or 32000')):
