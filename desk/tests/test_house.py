@@ -11,7 +11,7 @@ from conftest import DESK
 SOURCE = DESK / 'src' / 'pinchdesk'
 # From the lowest to the highest; those of one line do not know one another.
 ORDER = (('errors', 'text', 'version'), ('failures', 'formats'), ('program',), ('tables',), ('analysis',), ('search',),
-         ('figures',), ('report',), ('batch',), ('cli',))
+         ('figures',), ('report',), ('batch',), ('plant', 'cli'))
 LEVEL = {name: level for level, names in enumerate(ORDER) for name in names}
 # What still reaches up, each to go: a word is to be a function of its data.
 OPEN = {('batch', 'cli'), ('program', 'tables'), ('report', 'cli')}

@@ -17,7 +17,7 @@ from .errors import DeskError, OutputError, ProgramError, Refused, WordsError
 from .formats.case import Basis, Case, Forbid, Side, Stream, Utility, actual, completed, print_case, read_case, shifted
 from .formats.network import End, Exchanger, Mix, Network, Pass, Split, print_network, read_network
 from .formats.shown import Shown
-from .formats.site import Main, Plant, Site, read_site
+from .formats.site import Main, Site, SitePlant, read_site
 from .formats.study import Scenario, Span, Study, print_study, read_study
 from .program.answers import (Curves, Cut, Design, HeatFlow, Move, Part, Point, Price, PriceAnswer, Prices, Profile,
                               Rows, ScenarioAnswer, Segment, SiteAnswer, SpanAnswer, Sweep, SweepRow, Targets, Use)
@@ -35,18 +35,20 @@ from .tables.convert import Converted, Wanted, case_of_table, checked
 from .version import __version__
 
 if TYPE_CHECKING:
+    from .plant.whole_plant import Plant, read
     from .search.reduce.simplify import simpler
     from .search.reduce.tradeoff import TradeOff, tradeoff
 
 # What searches wants scipy, which is slow to load: it is loaded when it is asked for.
-SEARCHES = {'simpler': 'simplify', 'tradeoff': 'tradeoff', 'TradeOff': 'tradeoff'}
+LATE = {'simpler': 'search.reduce.simplify', 'tradeoff': 'search.reduce.tradeoff',
+        'TradeOff': 'search.reduce.tradeoff', 'Plant': 'plant.whole_plant', 'read': 'plant.whole_plant'}
 
 
 def __getattr__(name: str) -> Any:
-    if name not in SEARCHES:
+    if name not in LATE:
         raise AttributeError(f'module {__name__!r} has no attribute {name!r}')
     from importlib import import_module
-    return getattr(import_module(f'.search.reduce.{SEARCHES[name]}', __name__), name)
+    return getattr(import_module(f'.{LATE[name]}', __name__), name)
 
 
 __all__ = [
@@ -56,12 +58,12 @@ __all__ = [
     'Piece', 'Pinch', 'PinchPoint', 'PinchSide', 'Place', 'PlaceKind', 'Plant', 'PlusMinus', 'Point', 'Posed', 'Price',
     'PriceAnswer', 'Prices', 'Profile', 'ProgramError', 'Refused', 'Region', 'RegionUnits', 'Rejected', 'Rest',
     'Results', 'Rows', 'Scenario', 'ScenarioAnswer', 'Segment', 'Sheet', 'Shown', 'Side', 'SideState', 'Site',
-    'SiteAnswer', 'Span', 'SpanAnswer', 'Split', 'Step', 'Stream', 'StreamEnd', 'Study', 'Sweep', 'SweepRow', 'Targets',
+    'SiteAnswer', 'SitePlant', 'Span', 'SpanAnswer', 'Split', 'Step', 'Stream', 'StreamEnd', 'Study', 'Sweep', 'SweepRow', 'Targets',
     'TooFine', 'TradeOff', 'Units', 'Use', 'Utility', 'Variant', 'Variants', 'Verdict', 'Wanted', 'Way', 'WhatIf',
     'WordsError', '__version__', 'actual', 'audit_sheets', 'case_of_table', 'checked', 'completed', 'exchangers_sheet',
     'find_network',
     'flow_sheets', 'follow', 'least_units', 'many', 'partition', 'pinches_of', 'prices_sheets', 'print_case',
-    'print_network', 'print_study', 'read_case', 'read_changes', 'read_network', 'read_site', 'read_study', 'remaining',
+    'print_network', 'print_study', 'read', 'read_case', 'read_changes', 'read_network', 'read_site', 'read_study', 'remaining',
     'rendered', 'rest_sheets', 'shifted', 'simpler', 'site_sheets', 'streams_sheet', 'sums_sheet', 'sweep_sheets',
     'targets_sheets', 'tradeoff', 'tradeoff_sheets', 'units_sheets', 'what_if', 'what_if_sheets', 'written_case',
 ]

@@ -11,8 +11,8 @@ from collections.abc import Mapping, Sequence
 from dataclasses import dataclass
 from pathlib import Path
 
-from ..cli.output import read_bytes
 from ..errors import Refused, WordsError
+from ..formats.plain_files import read_bytes
 from ..tables.convert import is_case
 from ..tables.headings import unknown_headings
 from ..tables.spreadsheet import Table, TableRow, read_table

@@ -7,12 +7,13 @@ from collections.abc import Generator, Iterator, Mapping, Sequence
 from contextlib import closing
 from dataclasses import dataclass, field
 
-from ..cli.output import check_apart, made_folder, read_bytes, write_whole
+from ..cli.output import check_apart, made_folder, write_whole
 from ..cli.progress import tell
 from ..errors import OutputError, Refused, WordsError
 from ..failures import failure_of
 from ..formats.case import Case
 from ..formats.network import Network
+from ..formats.plain_files import read_bytes
 from ..formats.study import Study, print_study
 from ..program.causes import lines_of
 from ..program.run import as_bytes, case_bytes, found, network_bytes

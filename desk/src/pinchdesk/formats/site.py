@@ -20,7 +20,7 @@ class Main:
 
 
 @dataclass(frozen=True)
-class Plant:
+class SitePlant:
     """A plant with its streams."""
 
     name: str
@@ -34,7 +34,7 @@ class Site:
 
     contribution: int
     mains: tuple[Main, ...]
-    plants: tuple[Plant, ...]
+    plants: tuple[SitePlant, ...]
     basis: Basis = Basis()
 
 
@@ -64,7 +64,7 @@ def read_site(text: str | bytes) -> Site:
             plants[-1][1].append((Side(row[0]), row[1], [number('site', at, text) for text in row[2:5]]))
     if contribution is None:
         raise refused_row('site', at + 1, 'NoContribution')
-    made = tuple(Plant(name, streams_of(rows, contribution)) for name, rows in plants)
+    made = tuple(SitePlant(name, streams_of(rows, contribution)) for name, rows in plants)
     return Site(contribution, tuple(mains), made, Basis(scale=scale_of(list(records(text)))))
 
 

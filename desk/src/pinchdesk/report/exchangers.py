@@ -14,11 +14,11 @@ from fractions import Fraction
 from ..analysis.findings import Finding, finding_of, headline, stream_at
 from ..analysis.follow import Followed, Passage, PinchPoint, StreamEnd, follow, pinches_of
 from ..cli.commands.asked import held_case, judged, takes_network
-from ..cli.output import read_bytes
 from ..cli.word import Answer, Word
 from ..errors import about
 from ..formats.case import Side, Stream, Utility
 from ..formats.network import read_network
+from ..formats.plain_files import read_bytes
 from ..formats.shown import Shown
 from ..program.run import Pinch
 from ..program.verdicts import Accepted, Place, PlaceKind, Rejected, Verdict

@@ -10,8 +10,9 @@ from typing import Any
 
 from ..errors import WordsError
 from ..text import plain, printable
+from .frames import Cell as Cell
+from .frames import columns_of
 
-Cell = str | Decimal | None
 FORMS = ('text', 'csv', 'xlsx')
 
 
@@ -25,12 +26,13 @@ class Sheet:
     marked: frozenset[int] = frozenset()
 
     def frame(self) -> Any:
-        """The rows as a `pandas.DataFrame`; `WordsError` where pandas is not installed."""
+        """The rows as a `pandas.DataFrame` with numbers as floats (`frames`); `WordsError` where pandas is not
+        installed."""
         try:
             import pandas
         except ImportError as fault:
             raise WordsError('frame() wants pandas, which is not installed') from fault
-        return pandas.DataFrame([dict(zip(self.headings, row)) for row in self.rows])
+        return pandas.DataFrame(columns_of(self.headings, self.rows))
 
 
 def form_of(output: str | None, told: str | None) -> str:

@@ -11,13 +11,14 @@ from pathlib import Path
 from typing import TYPE_CHECKING
 
 from ..cli.commands.asked import CASE_HELP, answer_of, takes_form
-from ..cli.output import check_apart, key_of, made_folder, read_bytes, write_whole
+from ..cli.output import check_apart, key_of, made_folder, write_whole
 from ..cli.progress import tell
 from ..cli.word import Answer, Word
 from ..errors import OutputError, about
 from ..formats.amounts import seconds_of
 from ..formats.case import Case, read_case
 from ..formats.network import Exchanger, print_network, read_network
+from ..formats.plain_files import read_bytes
 from ..formats.shown import Number, Shown
 from ..program.run import Pinch
 from .sheet import Cell, Sheet

@@ -13,6 +13,7 @@ from ...errors import about
 from ...formats.amounts import whole
 from ...formats.case import Case, completed, read_case
 from ...formats.network import read_network
+from ...formats.plain_files import read_bytes
 from ...formats.site import read_site
 from ...program.answers import Cut, Prices
 from ...program.run import Pinch
@@ -20,7 +21,6 @@ from ...program.verdicts import Verdict, ending
 from ...report.answer_sheets import audit_sheets, flow_sheets, prices_sheets, site_sheets, sweep_sheets, targets_sheets
 from ...report.sheet import FORMS, Sheet, form_of, rendered
 from ...tables.study_prices import studied
-from ..output import read_bytes
 from ..word import Answer, Facts, Word
 
 CASE_HELP = 'a case file, as `pinchdesk case` writes it'

@@ -11,11 +11,11 @@ from ...analysis.sweep_request import asked_range
 from ...errors import WordsError, about
 from ...formats.amounts import whole
 from ...formats.network import read_network
+from ...formats.plain_files import read_bytes
 from ...formats.site import read_site
 from ...program.answers import Cut
 from ...program.run import Pinch
 from ...program.verdicts import ending
-from ..output import read_bytes
 from ..word import Answer, Word
 from .asked import CASE_HELP, held_case, priced, takes_workers
 

@@ -2,17 +2,14 @@
 from __future__ import annotations
 
 from argparse import ArgumentParser, Namespace
-from fractions import Fraction
 
-from ...errors import Refused, WordsError
-from ...formats.amounts import exact, shortened
+from ...errors import Refused
 from ...formats.case import print_case, print_comments
+from ...formats.plain_files import read_bytes
 from ...program.run import Pinch
 from ...tables.convert import Wanted, case_of_table, checked
-from ..output import read_bytes
+from ...tables.wanted import wanted_by
 from ..word import Answer, Word
-
-SCALES = [Fraction(10) ** power for power in range(-3, 4)]
 
 
 def takes_table(parser: ArgumentParser) -> None:
@@ -26,26 +23,10 @@ def takes_table(parser: ArgumentParser) -> None:
     parser.add_argument('--hours', metavar='H', help='the hours of running in a year: costs come back per year')
 
 
-def number(text: str, what: str) -> Fraction:
-    try:
-        held = exact(text)
-    except ValueError:
-        held = Fraction(0)
-    if not Fraction(1, 10 ** 9) <= held < 10 ** 10:
-        raise WordsError(f'{shortened(text)} is no {what}')
-    return held
-
-
 def wanted_of(options: Namespace) -> Wanted:
     """How the words ask the table to be read."""
-    scale = number(options.scale, 'scale')
-    if scale not in SCALES:
-        raise WordsError(f'{options.scale} is no scale: a power of ten is wanted, from 0.001 to 1000')
-    separator = '\t' if options.separator == 'tab' else options.separator
-    if separator is not None and (len(separator) != 1 or separator in '"\r\n'):
-        raise WordsError(f'{separator} is no separator: one sign is wanted')
-    hours = number(options.hours, 'number of hours') if options.hours is not None else None
-    return Wanted(options.difference, options.sheet, separator, options.decimal, scale, hours)
+    return wanted_by(options.difference, options.sheet, options.separator, options.decimal, options.scale,
+                     options.hours)
 
 
 def case(options: Namespace) -> Answer:

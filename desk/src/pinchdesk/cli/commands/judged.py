@@ -12,6 +12,7 @@ from ...analysis.what_if import what_if
 from ...errors import OutputError, Refused, Status, WordsError, about
 from ...formats.case import print_case, print_comments, read_case
 from ...formats.network import read_network
+from ...formats.plain_files import read_bytes
 from ...program.answers import Cut
 from ...program.run import Pinch
 from ...program.verdicts import Accepted, ending
@@ -22,7 +23,7 @@ from ...report.unit_sheets import units_sheets
 from ...report.what_if_sheets import rounding_notes as scenario_notes
 from ...report.what_if_sheets import what_if_sheets
 from ...text import printable
-from ..output import check_place, read_bytes, write_whole
+from ..output import check_place, write_whole
 from ..word import Answer, Word
 from .asked import answer_of, held_case, takes_case, takes_network, takes_workers
 

@@ -6,10 +6,10 @@ from collections import Counter
 from pathlib import Path
 
 from ...errors import WordsError
+from ...formats.plain_files import read_bytes
 from ...report.page import Given, page_of
 from ...report.pdf import as_pdf
 from ...text import printable
-from ..output import read_bytes
 from ..word import Answer, Word
 from .asked import CASE_HELP
 

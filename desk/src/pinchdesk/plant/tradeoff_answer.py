@@ -1,0 +1,129 @@
+"""Exchangers against cost, the least number of exchangers, and scenarios, as answers of a plant."""
+from __future__ import annotations
+
+from collections.abc import Mapping
+from dataclasses import dataclass, field
+from decimal import Decimal
+from fractions import Fraction
+from typing import TYPE_CHECKING
+
+from ..analysis.follow import Followed
+from ..analysis.least_units import Units
+from ..analysis.what_if import WhatIf
+from ..formats.case import Case
+from ..formats.shown import Shown
+from ..program.answers import Cut
+from ..report.answer_sheets import flow_sheets
+from ..report.tradeoff_sheets import network_text, tradeoff_sheets
+from ..report.unit_sheets import units_sheets
+from ..report.what_if_sheets import rounding_notes, what_if_sheets
+from .plant_answer import PlantAnswer, cost, cost_if_any, kilowatts
+
+if TYPE_CHECKING:
+    from ..search.reduce.tradeoff import TradeOff
+
+
+@dataclass(frozen=True)
+class ExactTradeoff:
+    """The costs in fractions, by the number of exchangers."""
+
+    costs: Mapping[int, Fraction]
+    floor: Fraction
+
+
+@dataclass(frozen=True, kw_only=True)
+class PlantTradeoff(PlantAnswer):
+    """Networks of fewer and fewer exchangers: their texts and costs by the number of exchangers, in `cost_unit`."""
+
+    exact: ExactTradeoff
+    networks: Mapping[int, str] = field(repr=False)
+    cost_unit: str
+    stopped: bool
+    traded: TradeOff = field(repr=False)
+
+    @property
+    def costs(self) -> Mapping[int, Decimal]:
+        return {count: cost(each) for count, each in self.exact.costs.items()}
+
+    @property
+    def floor(self) -> Decimal:
+        return cost(self.exact.floor)
+
+    def figure(self) -> object:
+        """A figure of matplotlib."""
+        from ..figures import tradeoff_figure
+        return tradeoff_figure(self.traded)
+
+
+def plant_tradeoff(traded: TradeOff) -> PlantTradeoff:
+    shown = Shown(traded.case.basis)
+    exact = ExactTradeoff({each.exchangers: shown.in_cost(each.cost) for each in traded.rows},
+                          shown.in_cost(traded.floor))
+    networks = {each.exchangers: network_text(each, traded) for each in traded.rows}
+    notes = ('the search was stopped: these are the networks that were found so far',) if traded.stopped else ()
+    return PlantTradeoff(sheets=tuple(tradeoff_sheets(traded)), notes=notes, exact=exact, networks=networks,
+                         cost_unit=shown.cost_unit, stopped=traded.stopped, traded=traded)
+
+
+@dataclass(frozen=True, kw_only=True)
+class PlantUnits(PlantAnswer):
+    """The least number of exchangers by the books' rule, for the whole without a cut, at least and at most; None where
+    there is no heat flow, which the tables then prove."""
+
+    least_exchangers: int | None
+    most_exchangers: int | None
+
+
+def plant_units(case: Case, units: Units | Cut, followed: Followed | None, notes: tuple[str, ...]) -> PlantUnits:
+    if isinstance(units, Cut):
+        return PlantUnits(sheets=tuple(flow_sheets(case, units)), text=units.text, least_exchangers=None,
+                          most_exchangers=None)
+    whole = units.whole.partition
+    return PlantUnits(sheets=tuple(units_sheets(units, followed)), notes=notes,
+                      least_exchangers=whole.least_exchangers, most_exchangers=whole.found_exchangers)
+
+
+@dataclass(frozen=True)
+class ExactScenarios:
+    """The answers of scenarios in fractions, by their names, `base` the case as it is. None where a scenario is
+    refused, and of a cost where it has no heat flow."""
+
+    hot_kw: Mapping[str, Fraction | None]
+    cold_kw: Mapping[str, Fraction | None]
+    costs: Mapping[str, Fraction | None]
+
+
+@dataclass(frozen=True, kw_only=True)
+class PlantWhatIf(PlantAnswer):
+    """Scenarios beside the case as it is. `cases` are their cases, `faults` why one is refused; costs are in
+    `cost_unit`."""
+
+    exact: ExactScenarios
+    cases: Mapping[str, Case] = field(repr=False)
+    faults: Mapping[str, str]
+    cost_unit: str
+
+    @property
+    def hot_kw(self) -> Mapping[str, Decimal | None]:
+        return {name: None if each is None else kilowatts(each) for name, each in self.exact.hot_kw.items()}
+
+    @property
+    def cold_kw(self) -> Mapping[str, Decimal | None]:
+        return {name: None if each is None else kilowatts(each) for name, each in self.exact.cold_kw.items()}
+
+    @property
+    def costs(self) -> Mapping[str, Decimal | None]:
+        return {name: cost_if_any(each) for name, each in self.exact.costs.items()}
+
+
+def plant_what_if(made: WhatIf, notes: tuple[str, ...]) -> PlantWhatIf:
+    shown = Shown(made.base.case.basis)
+    held = {each.variant.name: each for each in (made.base, *made.outcomes)}
+    exact = ExactScenarios(
+        {name: shown.in_kilowatts(each.targets.hot) if each.targets else None for name, each in held.items()},
+        {name: shown.in_kilowatts(each.targets.cold) if each.targets else None for name, each in held.items()},
+        {name: None if each.cost is None else shown.in_cost(each.cost) for name, each in held.items()})
+    return PlantWhatIf(sheets=tuple(what_if_sheets(made)), notes=(*notes, *rounding_notes(made)), exact=exact,
+                       cases={name: each.case for name, each in held.items()},
+                       faults={name: each.fault for name, each in held.items() if each.fault},
+                       cost_unit=shown.cost_unit)

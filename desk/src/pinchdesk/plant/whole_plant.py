@@ -1,0 +1,217 @@
+"""A plant: a case with what was told when it was read, and the words of the desk as methods. It asks `pinch` once for
+what several answers share."""
+from __future__ import annotations
+
+import os
+from dataclasses import dataclass, field
+from functools import cached_property
+from typing import TYPE_CHECKING
+
+from ..analysis.change_table import Variants, read_changes
+from ..analysis.follow import Followed, PinchPoint, follow, pinches_of
+from ..analysis.least_units import least_units
+from ..analysis.rest import remaining
+from ..analysis.sweep_request import as_it_is, asked_range, check_workers
+from ..analysis.what_if import what_if
+from ..errors import Refused, WordsError, about
+from ..formats.amounts import seconds_of
+from ..formats.case import Case, completed, print_case, print_comments, read_case
+from ..formats.network import read_network
+from ..formats.plain_files import read_bytes
+from ..formats.shown import Shown
+from ..program.answers import Curves, Cut, HeatFlow, Targets
+from ..program.run import Pinch
+from ..program.verdicts import Accepted, Verdict
+from ..report.exchangers import verdict_sheet
+from ..report.page import Given, case_streams, page_of
+from ..search.find import find_network
+from ..tables.convert import case_of_table, checked, is_case
+from ..tables.cost_words import cost_of, percent_of
+from ..tables.study_prices import studied
+from ..tables.wanted import wanted_by
+from .given import FileGiven, Number, as_text, given
+from .network_answers import PlantAudit, PlantNetwork, PlantRest, plant_audit, plant_network, plant_rest, plant_table
+from .plant_answer import PlantAnswer
+from .target_answers import (PlantFlow, PlantPrices, PlantSweep, PlantTargets, plant_flow, plant_prices, plant_sweep,
+                             plant_targets)
+from .tradeoff_answer import PlantTradeoff, PlantUnits, PlantWhatIf, plant_tradeoff, plant_units, plant_what_if
+
+if TYPE_CHECKING:
+    from matplotlib.figure import Figure
+
+WORKERS = min(16, os.cpu_count() or 1)
+
+
+@dataclass(frozen=True)
+class Plant:
+    """A plant with its case: `text` is the case as a file, `notes` what was told when it was read."""
+
+    name: str
+    text: str = field(repr=False)
+    notes: tuple[str, ...] = ()
+    pinch: Pinch = field(default_factory=Pinch, repr=False, compare=False)
+
+    @cached_property
+    def case(self) -> Case:
+        """The case as its file has it."""
+        return read_case(self.text)
+
+    @cached_property
+    def completed(self) -> Case:
+        """The case with the utilities that stand in where it has none of a side."""
+        return completed(self.case)
+
+    @cached_property
+    def asked_targets(self) -> Targets:
+        """The targets as `pinch` printed them, in its own units."""
+        with about(case=self.name):
+            return self.pinch.targets(self.text)
+
+    @cached_property
+    def asked_curves(self) -> Curves:
+        return self.pinch.curves(self.text)
+
+    @cached_property
+    def asked_flow(self) -> HeatFlow | Cut:
+        return self.pinch.flow(self.text)
+
+    @property
+    def pinches(self) -> tuple[PinchPoint, ...]:
+        return pinches_of(self.asked_targets, self.asked_curves)
+
+    def _repr_html_(self) -> str:
+        return PlantAnswer(sheets=(case_streams(self.completed),), notes=self.notes)._repr_html_()
+
+    def targets(self) -> PlantTargets:
+        """The least hot and cold utility, and the pinches."""
+        return plant_targets(self.completed, self.asked_targets)
+
+    def flow(self) -> PlantFlow:
+        """A heat flow of least cost with its proof, or the proof that there is none."""
+        return plant_flow(self.completed, self.asked_flow)
+
+    def sweep(self, first: Number, last: Number, step: Number, workers: int = WORKERS) -> PlantSweep:
+        """Targets and least cost at each least difference from the first to the last one, in K."""
+        asked = asked_range(as_text(first), as_text(last), as_text(step), workers)
+        made = self.pinch.sweep(self.text, *asked, workers)
+        return plant_sweep(self.completed, made, as_it_is(self.pinch, self.text, self.completed))
+
+    def audit(self, network: FileGiven) -> PlantAudit:
+        """Whether a network is valid, what it costs, and where it loses heat."""
+        return plant_audit(*self.judged(network))
+
+    def table(self, network: FileGiven) -> PlantAudit:
+        """The exchangers of a network: temperatures, differences, duties, side of the pinch, penalties."""
+        followed, verdict = self.judged(network)
+        return plant_table(followed, self.pinches, verdict)
+
+    def judged(self, network: FileGiven) -> tuple[Followed, Verdict]:
+        """A network that was followed, and what the audit says of it."""
+        file = given(network, 'network')
+        with about(case=self.name, network=file.path):
+            verdict = self.pinch.audit(self.text, file.content)
+            return follow(self.completed, read_network(file.content)), verdict
+
+    def network(self, above: Number | None = None, cost: Number | None = None, seconds: Number = 60,
+                start: FileGiven | None = None) -> PlantNetwork:
+        """A network with few exchangers at the least cost; or so many percent above it, or at most at this cost in the
+        unit of the case's costs. `start` is a network to be bettered."""
+        if above is not None and cost is not None:
+            raise WordsError('a network is at most at a cost, or so much above the least one, not both')
+        most = None if cost is None else cost_of(as_text(cost), Shown(self.case.basis))
+        percent = None if above is None else percent_of(as_text(above))
+        file = None if start is None else given(start, 'network')
+        with about(case=self.name, network=file.path if file else ''):
+            found = find_network(self.text, most, percent, seconds_of(as_text(seconds)),
+                                 file.content if file else None, pinch=self.pinch)
+        return plant_network(found, list(plant_audit(follow(self.completed, found.network), found.verdict).sheets))
+
+    def tradeoff(self, network: FileGiven | None = None, seconds: Number = 30) -> PlantTradeoff:
+        """Exchangers against cost: networks of fewer and fewer exchangers, from one that is given or searched."""
+        # It wants scipy, which is slow to load.
+        from ..search.reduce.tradeoff import tradeoff
+        file = None if network is None else given(network, 'network')
+        with about(case=self.name, network=file.path if file else ''):
+            return plant_tradeoff(tradeoff(self.case, file.content if file else None, self.pinch,
+                                           float(seconds_of(as_text(seconds)))))
+
+    def units(self, network: FileGiven | None = None) -> PlantUnits:
+        """The least number of exchangers by the books' rule, beside those of a network."""
+        followed, notes = None, ()
+        if network is not None:
+            followed, verdict = self.judged(network)
+            notes = () if isinstance(verdict, Accepted) else (str(verdict_sheet(followed, verdict).rows[0][0]),)
+        return plant_units(self.completed, least_units(self.text, self.pinch), followed, notes)
+
+    def rest(self, network: FileGiven) -> PlantRest:
+        """What is left of a network with open branches, and what the choice so far costs."""
+        file = given(network, 'network')
+        with about(case=self.name, network=file.path):
+            return plant_rest(remaining(self.text, file.content, self.pinch))
+
+    def prices(self, study: FileGiven, workers: int = WORKERS) -> PlantPrices:
+        """The least cost at other prices, in the unit of the case's prices."""
+        check_workers(workers)
+        file = given(study, 'study')
+        with about(case=self.name, study=file.path):
+            asked = studied(file.content, self.case)
+            made = self.pinch.prices(asked.case, asked.content, workers)
+        return plant_prices(completed(asked.case), made, asked.notes)
+
+    def what_if(self, changes: FileGiven | None = None, sheet: str | None = None, decimal: str | None = None,
+                workers: int = WORKERS) -> PlantWhatIf:
+        """Scenarios of a table of changes beside the case as it is, and what a little more of each stream would do."""
+        check_workers(workers)
+        file = None if changes is None else given(changes, 'changes')
+        try:
+            held = Variants(()) if file is None else \
+                read_changes(file.content, file.path, self.case.basis, sheet, decimal)
+            made = what_if(self.text, held.variants, self.pinch, workers)
+        except Refused as fault:
+            fault.file = fault.file or (file.path if file else self.name)
+            raise
+        return plant_what_if(made, held.notes)
+
+    def curves(self) -> Figure:
+        """Composite, balanced and grand composite curves, as a figure of matplotlib."""
+        from ..figures import curves_figure
+        return curves_figure(self.completed, self.asked_targets, self.asked_curves, self.asked_flow)
+
+    def grid(self, network: FileGiven, most: int = 60) -> Figure:
+        """The grid diagram of a network of at most so many exchangers, as a figure of matplotlib."""
+        from ..figures import grid_figure
+        followed, verdict = self.judged(network)
+        return grid_figure(followed, self.pinches, verdict, most)
+
+    def page(self, *networks: FileGiven) -> str:
+        """The page for the reviewer with these networks side by side, as HTML."""
+        files = [given(each, f'network {at}') for at, each in enumerate(networks, 1)]
+        return page_of(Given(self.name, self.name, self.text.encode()), files)[0]
+
+
+def read(source: str | os.PathLike[str] | bytes, name: str = '', *, difference: Number | None = None,
+         sheet: str | None = None, separator: str | None = None, decimal: str | None = None, scale: Number = 1,
+         hours: Number | None = None) -> Plant:
+    """A plant from the file of its table (.xlsx, or text with separators), or from a case file; of bytes `name` is what
+    the file is called. The options are those of the word `case`. `Refused` where something is not understood, or is
+    ambiguous."""
+    if isinstance(source, bytes) and not name:
+        raise WordsError('bytes want a name, as read(content, "plant.xlsx")')
+    path = name if isinstance(source, bytes) else os.fspath(source)
+    content = source if isinstance(source, bytes) else read_bytes(path)
+    asked = wanted_by(*(None if each is None else as_text(each) for each in (difference, sheet, separator, decimal)),
+                      as_text(scale), None if hours is None else as_text(hours))
+    if is_case(content):
+        options = [each for each in (difference, sheet, separator, decimal, hours) if each is not None]
+        if options or asked.scale != 1:
+            raise Refused(3, '', 'a case already', 'this is a case already, in tenths of °C, 10 W/K and W, and options '
+                          'are of tables. If it is a table in °C, give it headings', path)
+        plant = Plant(path, content.decode('utf-8', 'replace'), ('read as a case file, in tenths of °C, 10 W/K and W',))
+        return plant if plant.asked_targets else plant
+    pinch = Pinch()
+    try:
+        made = checked(case_of_table(content, path, asked), pinch)
+    except Refused as fault:
+        fault.file = fault.file or path
+        raise
+    return Plant(path, print_comments(made.comments) + print_case(made.case), made.notes, pinch)

@@ -1,0 +1,34 @@
+"""What a network may cost, as words say it: a cost in the unit of the case, or percent above the least."""
+from __future__ import annotations
+
+from fractions import Fraction
+
+from ..errors import WordsError
+from ..formats.amounts import exact, shortened
+from ..formats.shown import Shown
+from .numbers import NoNumber, Says, numeral_of, readings
+
+
+def percent_of(text: str) -> Fraction:
+    """Percent of the words; `WordsError` where they are none, or below 0."""
+    try:
+        held = exact(text.strip().removesuffix('%').replace(',', '.'))
+    except ValueError as fault:
+        raise WordsError(f'{shortened(text)} is no number of percent') from fault
+    if held < 0:
+        raise WordsError('the percent are at least 0')
+    return held
+
+
+def cost_of(text: str, shown: Shown) -> Fraction:
+    """A cost in the unit of the case's costs, which may stand with it, as the program has it."""
+    try:
+        numeral = numeral_of(text)
+        if numeral.says is Says.EITHER:
+            raise WordsError(f'the cost {text} may be {readings(numeral)}')
+        value = Fraction(numeral.value(numeral.says.value or '.'))
+    except NoNumber as fault:
+        raise WordsError(f'{text} is no number of a cost: one is wanted in {shown.cost_unit}') from fault
+    if numeral.unit and numeral.unit.split() != shown.cost_unit.split():
+        raise WordsError(f'the costs of the case are in {shown.cost_unit}, and `{numeral.unit}` is another unit')
+    return shown.in_program(value)

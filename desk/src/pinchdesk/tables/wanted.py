@@ -1,0 +1,37 @@
+"""How a table is to be read, as words say it."""
+from __future__ import annotations
+
+from fractions import Fraction
+
+from ..errors import WordsError
+from ..formats.amounts import exact, shortened
+from .convert import Wanted
+
+SCALES = [Fraction(10) ** power for power in range(-3, 4)]
+MARKS = ('.', ',')
+
+
+def number(text: str, what: str) -> Fraction:
+    """A number of the words above 0; `WordsError` where it is none."""
+    try:
+        held = exact(text)
+    except ValueError:
+        held = Fraction(0)
+    if not Fraction(1, 10 ** 9) <= held < 10 ** 10:
+        raise WordsError(f'{shortened(text)} is no {what}')
+    return held
+
+
+def wanted_by(difference: str | None, sheet: str | None, separator: str | None, decimal: str | None, scale: str = '1',
+              hours: str | None = None) -> Wanted:
+    """How the words ask the table to be read; `WordsError` where one of them is none."""
+    times = number(scale, 'scale')
+    if times not in SCALES:
+        raise WordsError(f'{scale} is no scale: a power of ten is wanted, from 0.001 to 1000')
+    sign = '\t' if separator == 'tab' else separator
+    if sign is not None and (len(sign) != 1 or sign in '"\r\n'):
+        raise WordsError(f'{sign} is no separator: one sign is wanted')
+    if decimal is not None and decimal not in MARKS:
+        raise WordsError(f'{shortened(decimal)} is no decimal mark: a point or a comma is wanted')
+    yearly = number(hours, 'number of hours') if hours is not None else None
+    return Wanted(difference, sheet, sign, decimal, times, yearly)

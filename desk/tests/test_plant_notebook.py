@@ -1,0 +1,171 @@
+"""A plant in a notebook: each method says what `pinch` printed, shows itself as HTML, and gives data frames."""
+from __future__ import annotations
+
+import dataclasses
+import re
+from decimal import Decimal
+from fractions import Fraction
+from typing import Any
+
+import pytest
+from conftest import EXAMPLES, example
+
+from pinchdesk import Pinch, Plant, Refused, Sheet, WordsError, print_case, read
+from pinchdesk.plant.given import as_text
+from pinchdesk.plant.plant_answer import PlantAnswer
+from pinchdesk.program.answers import HeatFlow
+from pinchdesk.program.verdicts import Accepted
+
+PREHEATER, NETWORK = EXAMPLES / 'preheater.csv', EXAMPLES / 'preheater-network.txt'
+LEVELS = EXAMPLES / 'two-steam-levels.csv'
+
+
+def plant() -> Plant:
+    return read(PREHEATER)
+
+
+def test_a_table_is_read_as_the_word_case_reads_it() -> None:
+    made = read(EXAMPLES / 'table.xlsx', difference=10)
+    same = read(example('table.xlsx'), 'table.xlsx', difference='10')
+    assert made.text == same.text and print_case(made.case) in made.text
+    assert (made.targets().hot_kw, made.targets().cold_kw, made.targets().pinches_c) == (20, 60, (85,))
+    with pytest.raises(WordsError, match='bytes want a name'):
+        read(example('table.xlsx'))
+    with pytest.raises(Refused, match='no contribution'):
+        read(EXAMPLES / 'table.xlsx')
+
+
+def test_a_case_file_is_told_and_takes_no_options() -> None:
+    assert plant().text.encode() == example('preheater.csv') and 'tenths' in plant().notes[0]
+    with pytest.raises(Refused, match='a case already'):
+        read(PREHEATER, difference=10)
+    with pytest.raises(Refused, match='preheater-network.txt'):
+        read(NETWORK)
+    with pytest.raises(Refused, match='cannot be read'):
+        read('nowhere.xlsx')
+
+
+def test_targets_flow_and_sweep_are_those_of_pinch(pinch: Pinch) -> None:
+    text, held = example('two-steam-levels.csv'), read(LEVELS)
+    targets, flow, shown = pinch.targets(text), pinch.flow(text), held.targets()
+    assert (shown.text, held.flow().text) == (targets.text, flow.text) and isinstance(flow, HeatFlow)
+    assert shown.exact.hot_kw == Fraction(targets.hot, 1000) and shown.hot_kw == Decimal(targets.hot) / 1000
+    assert shown.exact.pinches_c == tuple(Fraction(each, 10) for each in targets.pinches)
+    assert (held.flow().cost, held.flow().feasible) == (flow.cost, True)
+    assert held.flow().uses_kw == {each.name: Decimal(each.heat) / 1000 for each in flow.uses}
+    sweep, printed = held.sweep(0, Decimal('20.0'), 2.4, workers=1), pinch.sweep(text, 0, 100, 12)
+    assert sweep.text == printed.text and sweep.points[1].difference_k == Decimal('2.4')
+    rows = [(each.hot, each.cost) for each in printed.points]
+    assert [(each.hot_kw * 1000, each.cost) for each in sweep.points] == rows
+
+
+def test_without_a_heat_flow_there_is_no_cost() -> None:
+    held = read(EXAMPLES / 'too-little-cooling.csv')
+    flow, units = held.flow(), held.units()
+    assert (flow.feasible, flow.cost, flow.uses_kw, units.least_exchangers) == (False, None, {}, None)
+    assert 'No heat flow' in flow._repr_html_()
+
+
+def test_an_audit_is_that_of_pinch(pinch: Pinch) -> None:
+    verdict = pinch.audit(example('preheater.csv'), example('preheater-network.txt'))
+    assert isinstance(verdict, Accepted)
+    for network in (NETWORK, str(NETWORK), example('preheater-network.txt'), NETWORK.read_text()):
+        audit = plant().audit(network)
+        assert audit.text == verdict.text and audit.accepted and audit.exact
+        assert (audit.exact.hot_kw, audit.exact.cost) == (verdict.hot / 1000, verdict.cost)
+        assert (audit.excess_kw, audit.floor) == (Decimal(int(verdict.excess)) / 1000, verdict.floor)
+    assert [each.title for each in plant().table(NETWORK).sheets][:1] == ['Exchangers']
+    rejected = plant().audit('# nothing is done\n')
+    assert (rejected.accepted, rejected.hot_kw, rejected.cost, rejected.exact) == (False, None, None, None)
+    with pytest.raises(Refused, match='preheater.csv.*network line 1|network line 1'):
+        plant().audit('no network\n')
+
+
+def test_a_network_is_searched_and_given_back() -> None:
+    held = read(EXAMPLES / 'tc3.csv')
+    found = held.network(above='2 %', seconds=3)
+    audit = held.audit(found)
+    assert audit.accepted and (audit.cost, audit.floor) == (found.cost, found.floor)
+    assert audit.exact == found.exact and found.exact.cost <= found.exact.floor * Fraction(102, 100)
+    assert audit.exchangers == found.exchangers and 'bound' in found.bounds
+    with pytest.raises(WordsError, match='not both'):
+        held.network(above=2, cost=115000)
+    with pytest.raises(WordsError, match='at least 0'):
+        held.network(above=-1)
+
+
+def every_answer() -> list[PlantAnswer]:
+    levels, begun = read(LEVELS), read(EXAMPLES / 'four-stream.csv')
+    return [plant().targets(), plant().flow(), plant().sweep(0, 4, 2, 1), plant().audit(NETWORK),
+            plant().table(NETWORK), plant().units(NETWORK), begun.rest(EXAMPLES / 'four-stream-begun.txt'),
+            levels.prices(EXAMPLES / 'steam-prices.csv', 1), levels.what_if(EXAMPLES / 'changes.csv', workers=2),
+            read(EXAMPLES / 'tc3.csv').tradeoff(EXAMPLES / 'tc3-network.txt', seconds=1),
+            read(EXAMPLES / 'too-little-cooling.csv').flow()]
+
+
+def test_each_answer_shows_itself_and_its_frames_are_columns_of_numbers() -> None:
+    pandas = pytest.importorskip('pandas')
+    for answer in every_answer():
+        html = answer._repr_html_()
+        for sheet in answer.sheets:
+            frame = sheet.frame()
+            assert list(frame.columns) == list(dict.fromkeys(frame.columns)) and '' not in frame.columns
+            for heading in frame.columns:
+                numbers = pandas.api.types.is_float_dtype(frame[heading])
+                assert numbers or all(each is None or isinstance(each, str) for each in frame[heading])
+            assert all(f'>{cell:f}</td>' in html for row in sheet.rows for cell in row if isinstance(cell, Decimal))
+        assert answer.frame().equals(answer.sheets[0].frame())
+        assert dataclasses.is_dataclass(answer) and str(answer)
+
+
+def test_a_frame_says_beside_its_numbers_what_is_none() -> None:
+    pytest.importorskip('pandas')
+    frame: Any = Sheet('', ('', 'kW', 'kW'), (('a', Decimal('1.5'), None), ('b', 'no heat flow', Decimal(2)))).frame()
+    assert list(frame.columns) == ['what', 'kW', 'kW, said', 'kW (3)']
+    assert frame['kW'][0] == 1.5 and frame['kW'].isna()[1] and frame['kW, said'][1] == 'no heat flow'
+    flow = plant().flow().frame('Heat flow, shifted °C')
+    assert list(flow.columns) == ['hot', 'hot from °C', 'hot to °C', 'cold', 'cold from °C', 'cold to °C', 'kW']
+    with pytest.raises(WordsError, match='there is no table x: there are Least cost'):
+        plant().flow().frame('x')
+
+
+def test_what_is_shown_is_escaped() -> None:
+    sheet = Sheet('<b>', ('<i>', 'a&b'), (('<script>alert(1)</script>', Decimal('1')),))
+    html = PlantAnswer(sheets=(sheet,), notes=('"<u>"',))._repr_html_()
+    assert not re.search('<(b|i|u|script)>', html) and '&lt;script&gt;' in html and 'a&amp;b' in html
+
+
+def test_prices_and_scenarios_and_the_rest(pinch: Pinch) -> None:
+    held, study = read(LEVELS), EXAMPLES / 'steam-prices.csv'
+    made = held.prices(study, 1)
+    printed = pinch.prices(example('two-steam-levels.csv'), study.read_bytes())
+    assert made.text == printed.text and len(made.costs) == sum(1 for each in printed.answers if hasattr(each, 'name'))
+    changed = held.what_if(EXAMPLES / 'changes.csv')
+    for name, case in changed.cases.items():
+        if name not in changed.faults:
+            assert changed.exact.hot_kw[name] == Fraction(pinch.targets(case).hot, 1000)
+    begun = read(EXAMPLES / 'four-stream.csv').rest(EXAMPLES / 'four-stream-begun.txt')
+    assert begun.good and begun.case and begun.text == print_case(begun.case)
+    assert begun.excess_least_kw <= begun.excess_most_kw
+
+
+def test_pictures_are_figures_and_a_page_is_a_text() -> None:
+    from matplotlib.figure import Figure
+    levels = read(LEVELS)
+    figures = [plant().curves(), plant().grid(NETWORK), plant().sweep(0, 4, 2, 1).figure(),
+               levels.prices(EXAMPLES / 'steam-prices.csv', 1).figure('LP')]
+    assert all(isinstance(each, Figure) for each in figures)
+    page = plant().page(NETWORK, NETWORK.read_text())
+    assert page.startswith('<!') and 'preheater-network.txt' in page and 'network 2' in page
+
+
+@pytest.mark.parametrize('number, text', [(10, '10'), (2.4, '2.4'), (10.125, '10.1250'), (Decimal('1E+1'), '10'),
+                                          (Fraction(5, 2), '2.5'), (Fraction(1, 3), '1/3'), ('18 °F', '18 °F')])
+def test_a_number_of_python_is_one_number(number: Any, text: str) -> None:
+    assert as_text(number) == text
+
+
+@pytest.mark.parametrize('number', [float('nan'), float('inf'), Decimal('1e999999'), True, [1]])
+def test_what_is_no_number_is_refused(number: Any) -> None:
+    with pytest.raises(WordsError):
+        as_text(number)
