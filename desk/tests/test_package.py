@@ -26,9 +26,9 @@ def test_the_readme_runs_as_it_is_shown(monkeypatch: pytest.MonkeyPatch) -> None
 
 
 def frames() -> types.ModuleType:
-    """A stand-in for pandas whose frames are lists of rows."""
+    """A stand-in for pandas whose frames are what they are made of: lists of rows, or columns by their headings."""
     module = types.ModuleType('pandas')
-    setattr(module, 'DataFrame', list)
+    setattr(module, 'DataFrame', lambda held: held)
     return module
 
 
@@ -46,7 +46,7 @@ def test_answers_are_data_frames(pinch: Pinch, monkeypatch: pytest.MonkeyPatch) 
     assert [row.get('slope') for row in pinch.prices(case, study).frame()] == [2000, None]
     assert pinch.site(example('three-plants.csv')).frame()[0]['temperature'] == 2550
     sheet = pinchdesk.targets_sheets(pinchdesk.read_case(case), pinch.targets(case))[1]
-    assert [float(each) for each in sheet.frame()[0].values()] == [55, 60, 50]
+    assert [column[0] for column in sheet.frame().values()] == [55, 60, 50]
 
 
 def test_without_pandas_a_frame_is_refused(pinch: Pinch, monkeypatch: pytest.MonkeyPatch) -> None:

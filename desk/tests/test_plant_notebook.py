@@ -11,7 +11,7 @@ import pytest
 from conftest import EXAMPLES, example
 
 from pinchdesk import Pinch, Plant, Refused, Sheet, WordsError, print_case, read
-from pinchdesk.plant.given import as_text
+from pinchdesk.plant.given import FileGiven, as_text
 from pinchdesk.plant.plant_answer import PlantAnswer
 from pinchdesk.program.answers import HeatFlow
 from pinchdesk.program.verdicts import Accepted
@@ -28,7 +28,8 @@ def test_a_table_is_read_as_the_word_case_reads_it() -> None:
     made = read(EXAMPLES / 'table.xlsx', difference=10)
     same = read(example('table.xlsx'), 'table.xlsx', difference='10')
     assert made.text == same.text and print_case(made.case) in made.text
-    assert (made.targets().hot_kw, made.targets().cold_kw, made.targets().pinches_c) == (20, 60, (85,))
+    targets = made.targets()
+    assert targets.hot_kw == 20 and targets.cold_kw == 60 and targets.pinches_c == (Decimal(85),)
     with pytest.raises(WordsError, match='bytes want a name'):
         read(example('table.xlsx'))
     with pytest.raises(Refused, match='no contribution'):
@@ -51,12 +52,12 @@ def test_targets_flow_and_sweep_are_those_of_pinch(pinch: Pinch) -> None:
     assert (shown.text, held.flow().text) == (targets.text, flow.text) and isinstance(flow, HeatFlow)
     assert shown.exact.hot_kw == Fraction(targets.hot, 1000) and shown.hot_kw == Decimal(targets.hot) / 1000
     assert shown.exact.pinches_c == tuple(Fraction(each, 10) for each in targets.pinches)
-    assert (held.flow().cost, held.flow().feasible) == (flow.cost, True)
+    assert held.flow().cost == flow.cost and held.flow().feasible
     assert held.flow().uses_kw == {each.name: Decimal(each.heat) / 1000 for each in flow.uses}
     sweep, printed = held.sweep(0, Decimal('20.0'), 2.4, workers=1), pinch.sweep(text, 0, 100, 12)
     assert sweep.text == printed.text and sweep.points[1].difference_k == Decimal('2.4')
-    rows = [(each.hot, each.cost) for each in printed.points]
-    assert [(each.hot_kw * 1000, each.cost) for each in sweep.points] == rows
+    for point, row in zip(sweep.points, printed.points, strict=True):
+        assert point.hot_kw * 1000 == row.hot and point.cost == row.cost
 
 
 def test_without_a_heat_flow_there_is_no_cost() -> None:
@@ -69,11 +70,12 @@ def test_without_a_heat_flow_there_is_no_cost() -> None:
 def test_an_audit_is_that_of_pinch(pinch: Pinch) -> None:
     verdict = pinch.audit(example('preheater.csv'), example('preheater-network.txt'))
     assert isinstance(verdict, Accepted)
-    for network in (NETWORK, str(NETWORK), example('preheater-network.txt'), NETWORK.read_text()):
+    files: list[FileGiven] = [NETWORK, str(NETWORK), example('preheater-network.txt'), NETWORK.read_text()]
+    for network in files:
         audit = plant().audit(network)
         assert audit.text == verdict.text and audit.accepted and audit.exact
         assert (audit.exact.hot_kw, audit.exact.cost) == (verdict.hot / 1000, verdict.cost)
-        assert (audit.excess_kw, audit.floor) == (Decimal(int(verdict.excess)) / 1000, verdict.floor)
+        assert audit.excess_kw == Decimal(int(verdict.excess)) / 1000 and audit.floor == verdict.floor
     assert [each.title for each in plant().table(NETWORK).sheets][:1] == ['Exchangers']
     rejected = plant().audit('# nothing is done\n')
     assert (rejected.accepted, rejected.hot_kw, rejected.cost, rejected.exact) == (False, None, None, None)

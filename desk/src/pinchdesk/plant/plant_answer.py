@@ -35,7 +35,7 @@ class PlantAnswer:
 
     def sheet(self, table: int | str) -> Sheet:
         titles = [each.title for each in self.sheets]
-        at = titles.index(table) if table in titles else table
+        at = titles.index(table) if isinstance(table, str) and table in titles else table
         if not isinstance(at, int) or not -len(titles) <= at < len(titles):
             raise WordsError(f'there is no table {table}: there are {", ".join(titles)}')
         return self.sheets[at]

@@ -137,7 +137,8 @@ class Plant:
 
     def units(self, network: FileGiven | None = None) -> PlantUnits:
         """The least number of exchangers by the books' rule, beside those of a network."""
-        followed, notes = None, ()
+        followed: Followed | None = None
+        notes: tuple[str, ...] = ()
         if network is not None:
             followed, verdict = self.judged(network)
             notes = () if isinstance(verdict, Accepted) else (str(verdict_sheet(followed, verdict).rows[0][0]),)
@@ -199,8 +200,8 @@ def read(source: str | os.PathLike[str] | bytes, name: str = '', *, difference: 
         raise WordsError('bytes want a name, as read(content, "plant.xlsx")')
     path = name if isinstance(source, bytes) else os.fspath(source)
     content = source if isinstance(source, bytes) else read_bytes(path)
-    asked = wanted_by(*(None if each is None else as_text(each) for each in (difference, sheet, separator, decimal)),
-                      as_text(scale), None if hours is None else as_text(hours))
+    asked = wanted_by(None if difference is None else as_text(difference), sheet, separator, decimal, as_text(scale),
+                      None if hours is None else as_text(hours))
     if is_case(content):
         options = [each for each in (difference, sheet, separator, decimal, hours) if each is not None]
         if options or asked.scale != 1:
