@@ -147,8 +147,13 @@ def test_prices_and_scenarios_and_the_rest(pinch: Pinch) -> None:
         if name not in changed.faults:
             assert changed.exact.hot_kw[name] == Fraction(pinch.targets(case).hot, 1000)
     begun = read(EXAMPLES / 'four-stream.csv').rest(EXAMPLES / 'four-stream-begun.txt')
-    assert begun.good and begun.case and begun.text == print_case(begun.case)
-    assert begun.excess_least_kw <= begun.excess_most_kw
+    assert begun.good and begun.case and begun.text == print_case(begun.case) and begun.exact
+    assert begun.exact.excess_least_kw <= begun.exact.excess_most_kw
+
+
+def test_the_rest_of_a_rejected_network_has_no_numbers() -> None:
+    made = read(EXAMPLES / 'four-stream.csv').rest('exchanger E1 H4 C3 100000\npass H4 E1 h4a\npass C3 E1 c3a\n')
+    assert (made.good, made.exact, made.hot_used_kw, made.excess_most_kw, made.case) == (False, None, None, None, None)
 
 
 def test_pictures_are_figures_and_a_page_is_a_text() -> None:

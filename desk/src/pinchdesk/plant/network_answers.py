@@ -139,32 +139,32 @@ class ExactRest:
 @dataclass(frozen=True, kw_only=True)
 class PlantRest(PlantAnswer):
     """What is left of a network with open branches. `case` is that of the rest; None where nothing is left, or the
-    network is rejected. `text` is it as a file."""
+    network is rejected. `text` is it as a file. The numbers are None where the audit does not take what stands."""
 
-    exact: ExactRest
+    exact: ExactRest | None
     case: Case | None
     good: bool
 
     @property
-    def hot_used_kw(self) -> Decimal:
-        return kilowatts(self.exact.hot_used_kw)
+    def hot_used_kw(self) -> Decimal | None:
+        return kilowatts(self.exact.hot_used_kw) if self.exact else None
 
     @property
-    def cold_used_kw(self) -> Decimal:
-        return kilowatts(self.exact.cold_used_kw)
+    def cold_used_kw(self) -> Decimal | None:
+        return kilowatts(self.exact.cold_used_kw) if self.exact else None
 
     @property
-    def excess_least_kw(self) -> Decimal:
-        return kilowatts(self.exact.excess_least_kw)
+    def excess_least_kw(self) -> Decimal | None:
+        return kilowatts(self.exact.excess_least_kw) if self.exact else None
 
     @property
-    def excess_most_kw(self) -> Decimal:
-        return kilowatts(self.exact.excess_most_kw)
+    def excess_most_kw(self) -> Decimal | None:
+        return kilowatts(self.exact.excess_most_kw) if self.exact else None
 
 
 def plant_rest(rest: Rest) -> PlantRest:
     shown, case = Shown(rest.followed.case.basis), written_case(rest)
     heats: list[Number] = [rest.hot_used, rest.cold_used, *rest.excess]
-    exact = ExactRest(*map(shown.in_kilowatts, heats))
+    exact = ExactRest(*map(shown.in_kilowatts, heats)) if isinstance(rest.verdict, Accepted) else None
     return PlantRest(sheets=tuple(rest_sheets(rest)), notes=tuple(rounding_notes(rest)), exact=exact, case=case,
                      good=rest.good, text='' if case is None else print_case(case))
