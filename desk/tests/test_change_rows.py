@@ -9,12 +9,12 @@ from tabled import workbook
 
 from pinchdesk import Refused, read_changes
 from pinchdesk.formats.comments import Basis
-from pinchdesk.analysis.change_table import Variants
+from pinchdesk.analysis.change_table import CaseScenarios
 
 HEAD = 'scenario;source;field;value\n'
 
 
-def read(text: str, basis: Basis = Basis()) -> Variants:
+def read(text: str, basis: Basis = Basis()) -> CaseScenarios:
     return read_changes(text.encode(), 't.csv', basis)
 
 

@@ -10,7 +10,7 @@ from conftest import example
 from pinchdesk import WordsError
 from pinchdesk.batch.cluster import Cluster
 from pinchdesk.program.digests import digests
-from pinchdesk.batch.job import File, Job, Outcome
+from pinchdesk.batch.job import File, Job, JobOutcome
 
 
 class KilledWorker(Exception):
@@ -77,7 +77,7 @@ def quick(monkeypatch: pytest.MonkeyPatch) -> None:
     monkeypatch.setattr('pinchdesk.batch.cluster.PAUSE', 0.0)
 
 
-def answers(client: Client, count: int, *steps: Callable[[list[Future]], None]) -> tuple[list[Outcome], Cluster]:
+def answers(client: Client, count: int, *steps: Callable[[list[Future]], None]) -> tuple[list[JobOutcome], Cluster]:
     """All outcomes where each look finds what the next step did to the open jobs; then all of them end well."""
     cluster = Cluster(client, 'tcp://there')
     left = list(steps)
@@ -88,7 +88,7 @@ def answers(client: Client, count: int, *steps: Callable[[list[Future]], None]) 
             left.pop(0)(held)
         else:
             for each in held:
-                each.ends('finished', Outcome(each.job.number, 0))
+                each.ends('finished', JobOutcome(each.job.number, 0))
     with pytest.MonkeyPatch.context() as patch:
         patch.setattr('pinchdesk.batch.cluster.wait_for_one', wait)
         return list(cluster.outcomes(jobs(count))), cluster
@@ -142,7 +142,7 @@ def test_without_a_worker_it_ends_with_what_is_done(good: tuple[str, str], monke
     client = Client(a=good)
 
     def gone(held: list[Future]) -> None:
-        held[0].ends('finished', Outcome(0, 0))
+        held[0].ends('finished', JobOutcome(0, 0))
         client.workers = {}
         monkeypatch.setattr('pinchdesk.batch.cluster.PATIENCE', -1.0)
     outcomes, cluster = answers(client, 3, gone)

@@ -1,4 +1,4 @@
-"""The house: a package uses only packages below it, and no two modules have one name."""
+"""The house: a package uses only packages below it, and no two modules and no two classes have one name."""
 from __future__ import annotations
 
 import ast
@@ -28,10 +28,14 @@ def file_of(module: tuple[str, ...]) -> Path:
     return path / '__init__.py' if path.is_dir() else path.with_suffix('.py')
 
 
+def tree_of(module: tuple[str, ...]) -> ast.Module:
+    return ast.parse(file_of(module).read_text(encoding='utf-8'))
+
+
 def used_by(module: tuple[str, ...]) -> Iterator[str]:
     """The packages that a module names in an import, wherever it stands."""
     here = module if SOURCE.joinpath(*module).is_dir() else module[:-1]
-    for node in ast.walk(ast.parse(file_of(module).read_text(encoding='utf-8'))):
+    for node in ast.walk(tree_of(module)):
         if isinstance(node, ast.ImportFrom) and node.level:
             base = here[:len(here) - node.level + 1]
             named = [*base, *(node.module or '').split('.')] if node.module else list(base)
@@ -49,4 +53,10 @@ def test_a_package_uses_only_packages_below_it() -> None:
 
 def test_no_two_modules_have_one_name() -> None:
     counts = Counter(module[-1] for module in modules() if module and file_of(module).name != '__init__.py')
+    assert not [name for name, count in counts.items() if count > 1]
+
+
+def test_no_two_classes_have_one_name() -> None:
+    counts = Counter(node.name for module in modules() for node in ast.walk(tree_of(module))
+                     if isinstance(node, ast.ClassDef))
     assert not [name for name, count in counts.items() if count > 1]

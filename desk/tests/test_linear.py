@@ -10,7 +10,7 @@ from hypothesis import strategies as some
 from pinchdesk import ProgramError
 from pinchdesk.search.solver import linear, process
 from pinchdesk.search.solver.elimination import Elimination, Inconsistent
-from pinchdesk.search.solver.linear import Program, Row, Terms
+from pinchdesk.search.solver.linear import Program, LinearRow, Terms
 
 ONE = Fraction(1)
 
@@ -20,7 +20,7 @@ def terms(*factors: int | Fraction) -> Terms:
 
 
 def test_a_vertex_is_made_exact() -> None:
-    rows = (Row(terms(3, 1), None, ONE), Row(terms(1, 7), None, ONE))
+    rows = (LinearRow(terms(3, 1), None, ONE), LinearRow(terms(1, 7), None, ONE))
     program = Program((Fraction(0),) * 2, (None,) * 2, frozenset(), rows, terms(-1, -1))
     solved = linear.solve(program)
     assert solved is not None and solved.optimal
@@ -28,7 +28,7 @@ def test_a_vertex_is_made_exact() -> None:
 
 
 def test_whole_variables_stay_as_they_are() -> None:
-    rows = (Row(terms(1, -5), None, Fraction(0)), Row(terms(1, 0, 1), Fraction(7, 3), Fraction(7, 3)))
+    rows = (LinearRow(terms(1, -5), None, Fraction(0)), LinearRow(terms(1, 0, 1), Fraction(7, 3), Fraction(7, 3)))
     program = Program((Fraction(0),) * 3, (None, ONE, Fraction(1, 3)), frozenset({1}), rows, ((1, ONE),))
     solved = linear.solve(program)
     assert solved is not None and solved.aim == pytest.approx(1) and solved.bound == pytest.approx(1)
@@ -38,7 +38,7 @@ def test_whole_variables_stay_as_they_are() -> None:
 
 
 def test_a_program_without_a_point() -> None:
-    program = Program((Fraction(0),), (ONE,), frozenset({0}), (Row(terms(3), ONE, Fraction(2)),), terms(1))
+    program = Program((Fraction(0),), (ONE,), frozenset({0}), (LinearRow(terms(3), ONE, Fraction(2)),), terms(1))
     assert linear.solve(program) is None
     assert linear.exact(program, (0.4,)) is None
 
@@ -46,7 +46,7 @@ def test_a_program_without_a_point() -> None:
 def test_no_time_is_no_answer() -> None:
     size = 60
     lows, highs = (Fraction(0),) * size, (ONE,) * size
-    row = Row(tuple((at, Fraction(2 * at + 101)) for at in range(size)), Fraction(5500), Fraction(5500))
+    row = LinearRow(tuple((at, Fraction(2 * at + 101)) for at in range(size)), Fraction(5500), Fraction(5500))
     aim = tuple((at, Fraction(at * at % 17 + 1)) for at in range(size))
     with pytest.raises(linear.OutOfTime):
         linear.solve(Program(lows, highs, frozenset(range(size)), (row,), aim), 1e-9)
@@ -54,7 +54,7 @@ def test_no_time_is_no_answer() -> None:
 
 def test_a_program_of_many_choices_is_solved_apart(monkeypatch: pytest.MonkeyPatch) -> None:
     size = 40
-    rows = (Row(tuple((at, Fraction(at % 7 + 2)) for at in range(size)), Fraction(60), None),)
+    rows = (LinearRow(tuple((at, Fraction(at % 7 + 2)) for at in range(size)), Fraction(60), None),)
     aim = tuple((at, Fraction(at * at % 11 + 3)) for at in range(size))
     program = Program((Fraction(0),) * size, (ONE,) * size, frozenset(range(size)), rows, aim)
     here = linear.solve(program)
@@ -84,12 +84,13 @@ def test_what_is_given_back_is_a_point(data: some.DataObject) -> None:
     rows = []
     for _ in range(data.draw(some.integers(1, 4))):
         held = tuple((at, data.draw(factor)) for at in range(width))
-        value = Row(held, None, None).at(inside)
-        rows.append(Row(held, value if data.draw(some.booleans()) else None, value + data.draw(some.integers(0, 1))))
+        value = LinearRow(held, None, None).at(inside)
+        least = value if data.draw(some.booleans()) else None
+        rows.append(LinearRow(held, least, value + data.draw(some.integers(0, 1))))
     aim = tuple((at, data.draw(factor)) for at in range(width))
     program = Program((Fraction(0),) * width, (Fraction(5),) * width, frozenset(), tuple(rows), aim)
     solved = linear.solve(program)
     assert solved is not None
     point = linear.exact(program, solved.values)
     assert point is not None and linear.allows(program, point)
-    assert float(Row(aim, None, None).at(point)) == pytest.approx(solved.aim, abs=1e-6)
+    assert float(LinearRow(aim, None, None).at(point)) == pytest.approx(solved.aim, abs=1e-6)

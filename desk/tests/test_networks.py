@@ -15,7 +15,7 @@ from pinchdesk.search.staged import windows
 from pinchdesk.search.find import NoNetwork
 from pinchdesk.search.staged.merge import joined
 from pinchdesk.search.accepted import NotAccepted
-from pinchdesk.search.staged.plan import Match, Plan
+from pinchdesk.search.staged.plan import Match, StagedPlan
 from pinchdesk.search.staged.write import written
 
 FEW = {'four-stream': 6, 'tc3': 7, 'two-reactors': 7, 'own-contributions': 7, 'column': 7, 'preheater': 3,
@@ -66,9 +66,9 @@ def test_equal_pairs_that_follow_each_other_are_one() -> None:
     case = completed(read_case('contribution,,50,,,,\nhot,H,1000,500,10,,\ncold,C,300,500,25,,\n'))
     matches = {0: Match('H', 'C', Fraction(2000)), 1: Match('H', 'C', Fraction(3000))}
     size = {'H': Fraction(10), 'C': Fraction(25)}
-    plan = Plan(matches, {'H': ({0: size['H']}, {1: size['H']}), 'C': ({1: size['C']}, {0: size['C']})})
+    plan = StagedPlan(matches, {'H': ({0: size['H']}, {1: size['H']}), 'C': ({1: size['C']}, {0: size['C']})})
     assert [each.duty for each in joined(case, plan).matches.values()] == [5000]
-    other = Plan(matches, {'H': ({0: size['H']}, {1: size['H']}), 'C': ({0: size['C']}, {1: size['C']})})
+    other = StagedPlan(matches, {'H': ({0: size['H']}, {1: size['H']}), 'C': ({0: size['C']}, {1: size['C']})})
     assert len(joined(case, other).matches) == 2
 
 
@@ -78,8 +78,8 @@ def test_a_branch_goes_through_where_the_others_are_mixed(pinch: Pinch) -> None:
     matches = {0: Match('H', 'C', Fraction(4000)), 1: Match('K', 'C', Fraction(2000)),
                2: Match('K', 'C', Fraction(2000)), 3: Match('H', 'COLD', Fraction(1000)),
                4: Match('K', 'COLD', Fraction(1000))}
-    plan = Plan(matches, {'H': ({0: whole}, {3: whole}), 'K': ({1: whole}, {2: whole}, {4: whole}),
-                          'C': ({0: half, 2: half}, {0: half, 1: half})})
+    plan = StagedPlan(matches, {'H': ({0: whole}, {3: whole}), 'K': ({1: whole}, {2: whole}, {4: whole}),
+                                'C': ({0: half, 2: half}, {0: half, 1: half})})
     network = written(case, plan)
     assert isinstance(pinch.audit(case, network), Accepted)
     assert len(joined(case, plan).matches) == 4

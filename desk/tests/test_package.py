@@ -42,7 +42,7 @@ def test_answers_are_data_frames(pinch: Pinch, monkeypatch: pytest.MonkeyPatch) 
     assert isinstance(verdict, pinchdesk.Accepted)
     assert verdict.frame()[1] == {'place': 'exchanger Q1', 'penalty': 1000}
     assert pinch.sweep(case, 50, 50, 1).frame() == [{'contribution': 50, 'hot': 2000, 'cold': 2000, 'cost': 2000}]
-    study = pinchdesk.Study((pinchdesk.Span('ST', 0, 1), pinchdesk.Scenario('now')))
+    study = pinchdesk.Study((pinchdesk.Span('ST', 0, 1), pinchdesk.PriceScenario('now')))
     assert [row.get('slope') for row in pinch.prices(case, study).frame()] == [2000, None]
     assert pinch.site(example('three-plants.csv')).frame()[0]['temperature'] == 2550
     sheet = pinchdesk.targets_sheets(pinchdesk.read_case(case), pinch.targets(case))[1]

@@ -5,6 +5,7 @@ import re
 
 import openpyxl
 import pytest
+from openpyxl.comments import Comment
 from tabled import TEN, made, refusal, saved, streams
 
 from pinchdesk import Pinch
@@ -129,10 +130,10 @@ def test_a_remark_of_a_workbook_is_a_note() -> None:
     book = openpyxl.Workbook()
     for row in (['Stream', 'Supply', 'Target', 'CP (kW/K)'], ['H1', 150, 60, 2]):
         book.active.append(row)
-    book.active['B1'].comment = openpyxl.comments.Comment('Author:\nat the battery limit', 'me')
+    book.active['B1'].comment = Comment('Author:\nat the battery limit', 'me')
     said = 'sheet Sheet row 1 column B: passed over, a remark: `Author: at the battery limit`'
     assert said in made(saved(book)).notes
-    book.active['B2'].comment = openpyxl.comments.Comment('all in °F', 'me')
+    book.active['B2'].comment = Comment('all in °F', 'me')
     assert 'names a unit, and the numbers have none' in refusal(saved(book))
 
 

@@ -14,7 +14,7 @@ from looking import svg_texts
 from test_words import Captured
 
 import pinchdesk
-from pinchdesk import (Basis, Pinch, Refused, Scenario, ScenarioAnswer, Span, SpanAnswer, Study, print_study,
+from pinchdesk import (Basis, Pinch, Refused, PriceScenario, PriceScenarioAnswer, Span, SpanAnswer, Study, print_study,
                        read_case, read_study)
 from pinchdesk.figures import prices_figure
 from pinchdesk.tables.study_prices import studied
@@ -122,7 +122,7 @@ def test_a_study_in_another_unit_is_none_of_the_program(pinch: Pinch) -> None:
 
 def test_studies_of_a_notebook_are_per_watt(plant: Path, pinch: Pinch) -> None:
     case = read_case(Path('case.csv').read_bytes())
-    study = Study((Scenario('Winter', (('LP', 5000),)),))
+    study = Study((PriceScenario('Winter', (('LP', 5000),)),))
     made = pinchdesk.many('prices', {'held': (case, study), 'text': (case, 'scenario,Winter,,\nprice,LP,50,\n')},
                           processes=1)
     assert [each.outcome.facts[0]['least cost EUR/h'] for each in made.done] == [Decimal('4.125')] * 2
@@ -130,6 +130,13 @@ def test_studies_of_a_notebook_are_per_watt(plant: Path, pinch: Pinch) -> None:
 
 
 prices = some.decimals(-500, 500, places=2)
+
+
+def fit(told: list[Decimal], divisor: int, largest: int) -> bool:
+    """Whether a case has room for these prices of its study beside its own largest one, all made whole."""
+    whole = [price * divisor for price in told]
+    times = next(10 ** digits for digits in range(4) if all(price * 10 ** digits % 1 == 0 for price in whole))
+    return times * max(largest, *map(abs, whole)) <= 10 ** 6
 
 
 @given(some.lists(prices, min_size=1, max_size=3), prices,
@@ -143,15 +150,19 @@ def test_the_answer_is_that_of_the_same_prices_per_watt(held: list[Decimal], sta
                                        cost_divisor=Fraction(divisor)))
     rows = [f'scenario,S{at},,\nprice,HP,{price},' for at, price in enumerate(held)]
     text = '\n'.join([f'#price,{unit},,', *rows, f'span,LP,{start},{start + 1}', ''])
+    if not fit([*held, start, start + 1], divisor, max(utility.price for utility in case.utilities)):
+        with pytest.raises(Refused, match='is too large or too fine'):
+            studied(text.encode(), priced)
+        return
     asked = studied(text.encode(), priced)
     answers = pinch.prices(asked.case, asked.content).answers
     fine = replace(case, utilities=tuple(replace(each, price=each.price * 1000) for each in case.utilities))
-    whole = Study(tuple(Scenario(f'S{at}', (('HP', int(price * divisor * 1000)),)) for at, price in enumerate(held)
+    whole = Study(tuple(PriceScenario(f'S{at}', (('HP', int(price * divisor * 1000)),)) for at, price in enumerate(held)
                         if abs(price * divisor * 1000) <= 10 ** 6))
     if len(whole.items) == len(held):
         wanted = pinch.prices(fine, whole).answers
         for answer, want in zip(answers, wanted):
-            assert isinstance(answer, ScenarioAnswer) and isinstance(want, ScenarioAnswer)
+            assert isinstance(answer, PriceScenarioAnswer) and isinstance(want, PriceScenarioAnswer)
             assert answer.cost is not None and want.cost is not None
             assert Fraction(answer.cost) / asked.case.basis.cost_divisor == Fraction(want.cost, 1000 * divisor)
     span = answers[-1]

@@ -11,8 +11,8 @@ from conftest import CASES, NETWORKS, SITES, example
 from hypothesis import given
 from hypothesis import strategies as some
 
-from pinchdesk import (Basis, Case, Cut, End, Exchanger, Forbid, Mix, Network, Pass, Pinch, Refused, Scenario, Side,
-                       Span, Split, Stream, Study, Utility, completed, print_case, print_network, print_study,
+from pinchdesk import (Basis, Case, Cut, End, Exchanger, Forbid, Mix, Network, Pass, Pinch, PriceScenario, Refused,
+                       Side, Span, Split, Stream, Study, Utility, completed, print_case, print_network, print_study,
                        read_case, read_network, read_site, read_study, shifted)
 
 names = some.from_regex(r'[A-Za-z0-9][A-Za-z0-9_-]{0,15}', fullmatch=True)
@@ -55,7 +55,7 @@ statements = some.one_of(some.builds(Exchanger, names, names, names, duties), so
 networks = some.builds(Network, some.lists(statements, max_size=20).map(tuple))
 prices = some.integers(-10 ** 6, 10 ** 6)
 studies = some.builds(Study, some.lists(some.one_of(
-    some.builds(Scenario, names, some.lists(some.tuples(names, prices), max_size=3).map(tuple)),
+    some.builds(PriceScenario, names, some.lists(some.tuples(names, prices), max_size=3).map(tuple)),
     some.builds(Span, names, prices, prices)), max_size=5).map(tuple))
 
 

@@ -57,7 +57,7 @@ class Change:
 
 
 @dataclass(frozen=True)
-class Variant:
+class CaseScenario:
     """A scenario with its changes, in the order of their rows."""
 
     name: str
@@ -65,15 +65,15 @@ class Variant:
 
 
 @dataclass(frozen=True)
-class Variants:
+class CaseScenarios:
     """The scenarios of a table, in the order in which they are first named; `notes` is told."""
 
-    variants: tuple[Variant, ...]
+    variants: tuple[CaseScenario, ...]
     notes: tuple[str, ...] = ()
 
 
 def read_changes(content: bytes, name: str, basis: Basis | None, sheet: str | None = None,
-                 decimal: str | None = None) -> Variants:
+                 decimal: str | None = None) -> CaseScenarios:
     """The scenarios of a table's file, for a case of this basis, or for cases whose units of prices are not known yet;
     `Refused`, by row and column, where something is not understood, or is ambiguous."""
     best = max(read_table(content, name, sheet), key=most_headings)
@@ -94,8 +94,8 @@ def read_changes(content: bytes, name: str, basis: Basis | None, sheet: str | No
     if not held:
         raise Refused(3, '', 'no scenario', 'the table has no scenario')
     told.notes += other_sheets.told(best)
-    return Variants(tuple(Variant(printable(each), tuple(changes)) for each, changes in held.items()),
-                    tuple(told.notes))
+    scenarios = tuple(CaseScenario(printable(name), tuple(changes)) for name, changes in held.items())
+    return CaseScenarios(scenarios, tuple(told.notes))
 
 
 def most_headings(table: Table) -> int:

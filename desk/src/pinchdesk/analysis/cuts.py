@@ -30,7 +30,7 @@ class Piece:
 
 
 @dataclass(frozen=True)
-class Place:
+class CutPlace:
     """A place where a case may be cut: what stands just there lies above it where `takes_level`. `process` where it is
     a pinch of the streams, else it is one of the utilities."""
 
@@ -47,8 +47,8 @@ class Place:
 class Region:
     """What lies between two places, which are None at the outer ends; its heats balance."""
 
-    upper: Place | None
-    lower: Place | None
+    upper: CutPlace | None
+    lower: CutPlace | None
     pieces: tuple[Piece, ...]
 
 
@@ -67,7 +67,7 @@ def whole_pieces(case: Case, flow: HeatFlow) -> tuple[Piece, ...]:
     return (*streams, *(Piece(each, level, level, use) for each, level, use in levels if use))
 
 
-def upper_part(piece: Piece, place: Place) -> Piece | None:
+def upper_part(piece: Piece, place: CutPlace) -> Piece | None:
     """What of a piece lies above a place; None where nothing does."""
     if piece.high == piece.low:
         above = piece.high > place.temperature or piece.high == place.temperature and place.takes_level
@@ -76,7 +76,7 @@ def upper_part(piece: Piece, place: Place) -> Piece | None:
     return sensible(piece, piece.high, low) if piece.high > low else None
 
 
-def lower_part(piece: Piece, place: Place) -> Piece | None:
+def lower_part(piece: Piece, place: CutPlace) -> Piece | None:
     """What of a piece lies below a place; None where nothing does."""
     if piece.high == piece.low:
         return None if upper_part(piece, place) else piece
@@ -89,19 +89,19 @@ def sensible(piece: Piece, high: int, low: int) -> Piece:
     return Piece(piece.source, high, low, piece.source.cp * (high - low))
 
 
-def cascade(pieces: Sequence[Piece], place: Place) -> int:
+def cascade(pieces: Sequence[Piece], place: CutPlace) -> int:
     """What everything above a place gives less what it takes: the heat that crosses it."""
     return sum(each.signed for each in (upper_part(piece, place) for piece in pieces) if each)
 
 
-def places(pieces: Sequence[Piece], targets: Targets) -> tuple[Place, ...]:
+def places(pieces: Sequence[Piece], targets: Targets) -> tuple[CutPlace, ...]:
     """The places where no heat crosses, from the highest down; of those that cut alike the first."""
     grid = sorted({end for each in pieces for end in (each.high, each.low)} | set(targets.pinches), reverse=True)
-    candidates = [Place(each, takes, each in targets.pinches) for each in grid for takes in (False, True)]
+    candidates = [CutPlace(each, takes, each in targets.pinches) for each in grid for takes in (False, True)]
     return tuple(each for each in candidates if cascade(pieces, each) == 0)
 
 
-def regions(pieces: Sequence[Piece], cuts: Sequence[Place]) -> tuple[Region, ...]:
+def regions(pieces: Sequence[Piece], cuts: Sequence[CutPlace]) -> tuple[Region, ...]:
     """What lies above, between and below the places, from the hottest down; a place above or below which nothing is
     left cuts nothing."""
     made: list[Region] = []
@@ -119,7 +119,7 @@ def crossed(pieces: Sequence[Piece], targets: Targets) -> tuple[Crossed, ...]:
     """The pinches across which heat goes at these uses, with the least of it."""
     made: list[Crossed] = []
     for each in targets.pinches:
-        heats = [cascade(pieces, Place(each, takes, True)) for takes in (False, True)]
+        heats = [cascade(pieces, CutPlace(each, takes, True)) for takes in (False, True)]
         if 0 not in heats:
             made.append(Crossed(each, min(heats)))
     return tuple(made)

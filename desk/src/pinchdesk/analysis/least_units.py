@@ -12,7 +12,7 @@ from dataclasses import dataclass
 from ..formats.case import Case, Side, Utility, completed, read_case
 from ..program.answers import Cut, HeatFlow, Targets
 from ..program.run import CaseText, Pinch, case_bytes
-from .cuts import Crossed, Piece, Place, Region, crossed, places, regions, whole_pieces
+from .cuts import Crossed, Piece, CutPlace, Region, crossed, places, regions, whole_pieces
 from .independent_sets import Member, Partition, joinable_partition, partition
 
 
@@ -99,7 +99,7 @@ def units_of(case: Case, targets: Targets, flow: HeatFlow) -> Units:
     return Units(case, targets, flow, whole, at_pinches, each_counted(case, pieces, cuts), crossed(pieces, targets))
 
 
-def each_counted(case: Case, pieces: Sequence[Piece], cuts: Sequence[Place]) -> tuple[RegionUnits, ...]:
+def each_counted(case: Case, pieces: Sequence[Piece], cuts: Sequence[CutPlace]) -> tuple[RegionUnits, ...]:
     return tuple(counted(case, each) for each in regions(pieces, cuts))
 
 

@@ -20,7 +20,7 @@ from ..program.run import CaseText, Pinch, case_bytes
 from ..tables.limits import outside_of_row
 from ..tables.units import rounded
 from .change_columns import Field
-from .change_table import SOURCES, Change, Variant, Way
+from .change_table import SOURCES, Change, CaseScenario, Way
 
 LATENT, SENSIBLE = ('level', 'load', 'contribution'), ('supply', 'target', 'CP', 'load', 'contribution')
 OF_UTILITY = ('level', 'supply', 'least', 'most', 'price', 'contribution')
@@ -41,11 +41,11 @@ class Step:
 
 
 @dataclass(frozen=True)
-class Outcome:
+class ScenarioOutcome:
     """A scenario with its changed case, completed, and its answers. `fault` is why it is refused: then there are
     none."""
 
-    variant: Variant
+    variant: CaseScenario
     steps: tuple[Step, ...]
     case: Case
     targets: Targets | None = None
@@ -72,8 +72,8 @@ class PlusMinus:
 class WhatIf:
     """The case as it is, its scenarios, and its plus-minus numbers."""
 
-    base: Outcome
-    outcomes: tuple[Outcome, ...]
+    base: ScenarioOutcome
+    outcomes: tuple[ScenarioOutcome, ...]
     plus_minus: tuple[PlusMinus, ...]
 
     @property
@@ -85,7 +85,7 @@ class WhatIf:
         return any(isinstance(each.flow, Cut) for each in (self.base, *self.outcomes))
 
 
-def what_if(case: CaseText, scenarios: Iterable[Variant], pinch: Pinch | None = None, workers: int = 0) -> WhatIf:
+def what_if(case: CaseText, scenarios: Iterable[CaseScenario], pinch: Pinch | None = None, workers: int = 0) -> WhatIf:
     """The scenarios of a case. `Refused` where the program refuses the case as it is, or a change names what is not
     there; a scenario that the program refuses says so in its outcome. `workers` of the program run side by side."""
     asked = pinch or Pinch()
@@ -107,11 +107,11 @@ def side_by_side(run: Callable[[Asked], Given], items: Sequence[Asked], workers:
         pool.shutdown(cancel_futures=True)
 
 
-def unchanged(case: Case) -> Outcome:
-    return Outcome(Variant('base', ()), (), completed(case))
+def unchanged(case: Case) -> ScenarioOutcome:
+    return ScenarioOutcome(CaseScenario('base', ()), (), completed(case))
 
 
-def answered(pinch: Pinch, outcome: Outcome) -> Outcome:
+def answered(pinch: Pinch, outcome: ScenarioOutcome) -> ScenarioOutcome:
     """An outcome with its answers, or with the cause for which the program refuses it."""
     try:
         return replace(outcome, targets=pinch.targets(outcome.case), flow=pinch.flow(outcome.case))
@@ -129,7 +129,7 @@ def told(case: Case, fault: Refused) -> str:
     return f'{where}{said or CAUSES.get(fault.cause, "refused")} ({fault.cause})'
 
 
-def changed(case: Case, scenario: Variant) -> Outcome:
+def changed(case: Case, scenario: CaseScenario) -> ScenarioOutcome:
     """The case with the changes of a scenario; `Refused` where a change names what is not there."""
     held, steps = case, []
     seen: set[tuple[str, Field]] = set()
@@ -145,7 +145,7 @@ def changed(case: Case, scenario: Variant) -> Outcome:
         steps.append(step)
     order = {id(each): at for at, each in enumerate(scenario.changes)}
     steps.sort(key=lambda each: order[id(each.change)])
-    return Outcome(scenario, tuple(steps), completed(held))
+    return ScenarioOutcome(scenario, tuple(steps), completed(held))
 
 
 def refusal(change: Change, cause: str) -> Refused:

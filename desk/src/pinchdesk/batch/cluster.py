@@ -17,7 +17,7 @@ from typing import Any
 
 from ..errors import Status, WordsError
 from ..program.digests import Digests, digests
-from .job import Job, Outcome, done, following, lost
+from .job import Job, JobOutcome, done, following, lost
 
 # How long a scheduler may take to answer, and how long there may be no worker, in seconds.
 ANSWERS, PATIENCE = 10.0, 60.0
@@ -100,7 +100,7 @@ class Cluster:
         del self.open[future]
         self.again.append(job)
 
-    def ended(self) -> Iterator[Outcome]:
+    def ended(self) -> Iterator[JobOutcome]:
         """The outcomes that are there."""
         for future, (job, _) in list(self.open.items()):
             if future.status in ('cancelled', 'lost'):
@@ -117,7 +117,7 @@ class Cluster:
                 del self.open[future]
                 yield outcome
 
-    def outcomes(self, jobs: Iterator[Job]) -> Iterator[Outcome]:
+    def outcomes(self, jobs: Iterator[Job]) -> Iterator[JobOutcome]:
         """All outcomes, as they come; where nobody is left to do them, those that came."""
         self.look()
         if not self.fit:
@@ -146,11 +146,11 @@ def fault_of(answer: Any, own: Digests) -> str:
     return ''
 
 
-def failed(job: Job, fault: BaseException) -> Outcome:
+def failed(job: Job, fault: BaseException) -> JobOutcome:
     """The outcome of a job that no worker could do."""
     if type(fault).__name__ == 'KilledWorker':
         return lost(job, 'several workers')
-    return Outcome(job.number, Status.FAILED, told=f'no worker could do it: {type(fault).__name__}: {fault}')
+    return JobOutcome(job.number, Status.FAILED, told=f'no worker could do it: {type(fault).__name__}: {fault}')
 
 
 def wait_for_one(futures: Collection[Any]) -> None:
@@ -204,7 +204,7 @@ def quiet() -> Iterator[None]:
             each.setLevel(level)
 
 
-def by_cluster(jobs: Iterator[Job], address: str, notes: list[str]) -> Generator[Outcome, None, None]:
+def by_cluster(jobs: Iterator[Job], address: str, notes: list[str]) -> Generator[JobOutcome, None, None]:
     """The outcomes of jobs, as they come, by the workers of a scheduler; what is to be told goes to `notes`."""
     with quiet(), closing(connected(address)) as client:
         cluster = Cluster(client, address)

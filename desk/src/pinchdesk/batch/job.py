@@ -47,7 +47,7 @@ class Job:
 
 
 @dataclass(frozen=True)
-class Outcome:
+class JobOutcome:
     """What came of a job: the status with which the word would have ended (None where it was not done), its rows, what
     is said, the answer where it is kept, and what a status of 1 says."""
 
@@ -76,7 +76,7 @@ def word_of(words: tuple[str, ...]) -> Word:
     return held
 
 
-def done(job: Job) -> Outcome:
+def done(job: Job) -> JobOutcome:
     """Does a job. Whatever goes wrong is said in the outcome, by the files' own names."""
     names: dict[str, str] = {}
     try:
@@ -89,10 +89,10 @@ def done(job: Job) -> Outcome:
             return outcome_of(job, answer_of(word_of(job.words), options), names)
     except DeskError as fault:
         told = '; '.join(named(line, names) for line in lines_of(fault))
-        return Outcome(job.number, fault.status, told=told, no=fault.no)
+        return JobOutcome(job.number, fault.status, told=told, no=fault.no)
     except Exception as fault:  # Whatever it is, the other rows have to go on.
         status, told = failure_of(fault)
-        return Outcome(job.number, status, told=named(told, names))
+        return JobOutcome(job.number, status, told=named(told, names))
 
 
 def answer_of(word: Word, options: Namespace) -> Answer:
@@ -118,12 +118,12 @@ def named(text: str, names: Mapping[str, str]) -> str:
     return text
 
 
-def outcome_of(job: Job, answer: Answer, names: Mapping[str, str]) -> Outcome:
+def outcome_of(job: Job, answer: Answer, names: Mapping[str, str]) -> JobOutcome:
     notes = tuple(named(each, names) for each in answer.notes)
     content = answer.content if job.output is not None else None
-    return Outcome(job.number, answer.ends, facts_of(answer), notes=notes, content=content, no=answer.no)
+    return JobOutcome(job.number, answer.ends, facts_of(answer), notes=notes, content=content, no=answer.no)
 
 
-def lost(job: Job, how: str) -> Outcome:
+def lost(job: Job, how: str) -> JobOutcome:
     """The outcome of a job that ended whoever did it."""
-    return Outcome(job.number, Status.FAILED, told=f'whoever did it died, {TRIES} times: {how}')
+    return JobOutcome(job.number, Status.FAILED, told=f'whoever did it died, {TRIES} times: {how}')

@@ -15,7 +15,7 @@ from multiprocessing.connection import Connection, wait
 from types import FrameType, ModuleType
 from typing import Any
 
-from .job import TRIES, Job, Outcome, done, following, lost
+from .job import TRIES, Job, JobOutcome, done, following, lost
 
 # How long a process may take to end when it is told to, in seconds.
 PATIENCE = 2.0
@@ -81,14 +81,14 @@ class Hand:
             with suppress(OSError):
                 self.pipe.send(job)
 
-    def taken(self) -> Outcome | None:
+    def taken(self) -> JobOutcome | None:
         """The outcome of its job; None where it died."""
         try:
             held = self.pipe.recv()
         except (EOFError, OSError):
             return None
         self.job = None
-        assert isinstance(held, Outcome)
+        assert isinstance(held, JobOutcome)
         return held
 
     def end(self) -> str:
@@ -124,7 +124,7 @@ class Crew:
     def hire(self) -> None:
         self.hands.append(Hand([each.pipe for each in self.hands]))
 
-    def outcomes(self, jobs: Iterator[Job]) -> Iterator[Outcome]:
+    def outcomes(self, jobs: Iterator[Job]) -> Iterator[JobOutcome]:
         """All outcomes, as they come: each job has one."""
         while True:
             for hand in self.hands:
@@ -139,7 +139,7 @@ class Crew:
                 if outcome:
                     yield outcome
 
-    def replaced(self, hand: Hand) -> Outcome | None:
+    def replaced(self, hand: Hand) -> JobOutcome | None:
         """Another process in place of one that died; the outcome of its job where that is given up."""
         job, how = hand.job, hand.end()
         assert job
@@ -158,7 +158,7 @@ class Crew:
             hand.end()
 
 
-def by_processes(jobs: Iterator[Job], count: int) -> Generator[Outcome, None, None]:
+def by_processes(jobs: Iterator[Job], count: int) -> Generator[JobOutcome, None, None]:
     """The outcomes of jobs, in the order in which they come, by so many processes."""
     crew = Crew()
     try:

@@ -19,7 +19,7 @@ from ..program.causes import lines_of
 from ..program.run import as_bytes, case_bytes, found, network_bytes
 from ..tables.units import registry
 from .inputs import Listed, Role, listed
-from .job import File, Job, Outcome, word_of
+from .job import File, Job, JobOutcome, word_of
 from .kept_files import names_of
 from .local import by_processes, processors
 from .results import Done, Results
@@ -70,7 +70,7 @@ class Work:
         if self.table is not None and order.scenarios is not None:
             self.rows, notes = with_scenarios(rows, self.table, order.scenarios)
             self.notes += notes
-        self.outcomes: dict[int, Outcome] = {}
+        self.outcomes: dict[int, JobOutcome] = {}
         self.names = order.kept(self.rows) if order.into is not None else None
         self.stopped = False
 
@@ -95,11 +95,11 @@ class Work:
                          for option, paths in row.paths.items()}
                 files |= self.varied(row, files)
             except Refused as fault:
-                self.take(Outcome(number, fault.status, told='; '.join(lines_of(fault))))
+                self.take(JobOutcome(number, fault.status, told='; '.join(lines_of(fault))))
                 continue
             except Exception as fault:  # Whatever it is, the other rows have to go on.
                 status, told = failure_of(fault)
-                self.take(Outcome(number, status, told=told))
+                self.take(JobOutcome(number, status, told=told))
                 continue
             yield self.job(number, files)
 
@@ -114,7 +114,7 @@ class Work:
     def job(self, number: int, files: Mapping[str, tuple[File, ...]]) -> Job:
         return Job(number, self.order.words, self.order.options, files, self.names[number] if self.names else None)
 
-    def take(self, outcome: Outcome) -> None:
+    def take(self, outcome: JobOutcome) -> None:
         """Takes an outcome, once, and keeps its answer; where that cannot be written, it failed."""
         if outcome.number in self.outcomes:
             return
@@ -122,7 +122,7 @@ class Work:
             try:
                 write_whole(self.path(outcome.number), outcome.content)
             except OutputError as fault:
-                outcome = Outcome(outcome.number, fault.status, told=str(fault))
+                outcome = JobOutcome(outcome.number, fault.status, told=str(fault))
         self.outcomes[outcome.number] = outcome
         bad = sum(each.status != 0 for each in self.outcomes.values())
         tell(f'{len(self.outcomes)} of {len(self.rows)}' + (f', {bad} not good' if bad else ''))
@@ -136,7 +136,7 @@ class Work:
         except KeyboardInterrupt:
             self.stopped = True
 
-    def begun(self, jobs: Iterator[Job]) -> Generator[Outcome, None, None]:
+    def begun(self, jobs: Iterator[Job]) -> Generator[JobOutcome, None, None]:
         if self.order.scheduler is None:
             # That there is no program is no outcome of each case.
             found()
@@ -148,7 +148,7 @@ class Work:
     def results(self) -> Results:
         """What came of all rows, in their order."""
         # The order of the input is that of the rows, whoever was quicker.
-        done = tuple(Done(row.names, self.outcomes.get(number) or Outcome(number, None))
+        done = tuple(Done(row.names, self.outcomes.get(number) or JobOutcome(number, None))
                      for number, row in enumerate(self.rows))
         notes = [f'{each.name}: {note}' for each in done for note in each.outcome.notes]
         return Results(' '.join(self.order.words), done, (*self.notes, *notes), self.stopped)

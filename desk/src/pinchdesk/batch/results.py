@@ -10,7 +10,7 @@ from ..cli.word import Facts
 from ..errors import Status
 from ..report.sheet import Sheet
 from .facts import SAID
-from .job import Outcome
+from .job import JobOutcome
 
 ANSWER = 'answer'
 # By the status with which the word would have ended; of 1 the outcome says it.
@@ -24,7 +24,7 @@ class Done:
     """One case: the names of its files by their headings, and what came of it."""
 
     names: Mapping[str, str]
-    outcome: Outcome
+    outcome: JobOutcome
 
     @property
     def name(self) -> str:

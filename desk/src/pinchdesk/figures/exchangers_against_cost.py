@@ -14,7 +14,7 @@ from .labels import Labels, Xy
 from .style import HOT, INK, PALE, blank, framed, said, styled
 
 if TYPE_CHECKING:
-    from ..search.reduce.tradeoff import Row, TradeOff
+    from ..search.reduce.tradeoff import TradeOffRow, TradeOff
 
 # Of more exchangers than these that went at once only the number is written.
 MOST_NAMES = 2
@@ -41,7 +41,7 @@ def tradeoff_figure(traded: TradeOff) -> Figure:
     return figure
 
 
-def point_of(row: Row, shown: Shown) -> Xy:
+def point_of(row: TradeOffRow, shown: Shown) -> Xy:
     return row.exchangers, float(shown.in_cost(row.cost))
 
 
@@ -67,7 +67,7 @@ def put_points(axes: Axes, traded: TradeOff, points: list[Xy], shown: Shown) -> 
     legend_below(axes)
 
 
-def label_of(row: Row, shown: Shown, whole: bool) -> str:
+def label_of(row: TradeOffRow, shown: Shown, whole: bool) -> str:
     """The number of exchangers, the cost, and (where it is the whole) what went and came."""
     told = (('without', row.gone), ('with', row.come)) if whole else ()
     return '\n'.join((f'{row.exchangers}: {shown.cost(row.cost)}',

@@ -18,7 +18,7 @@ from ..program.answers import Point
 from .labels import Labels, Xy
 from .scale import LEAST, broken, gaps_of
 from .style import COLD, HOT, INK, PALE, framed
-from .utilities_used import Corner, Drawn, Span, Used, balanced, on_curve, stairs
+from .utilities_used import Corner, Drawn, DrawnSpan, Used, balanced, on_curve, stairs
 
 CURVE = {'marker': 'o', 'markersize': 2.8, 'linewidth': 1.5}
 
@@ -44,7 +44,7 @@ def drawn_at(corners: Sequence[Corner], shown: Shown) -> list[Xy]:
     return [at(shown, *each) for each in corners]
 
 
-def ends_of(span: Span, shown: Shown) -> list[Xy]:
+def ends_of(span: DrawnSpan, shown: Shown) -> list[Xy]:
     return [at(shown, span.first, span.temperature), at(shown, span.last, span.temperature)]
 
 
@@ -88,12 +88,12 @@ def put_curve(axes: Axes, points: Sequence[Xy], colour: str, name: str) -> None:
         axes.plot(*zip(*points), color=colour, label=name, gid='curve', **CURVE)
 
 
-def put_span(axes: Axes, span: Span, shown: Shown) -> None:
+def put_span(axes: Axes, span: DrawnSpan, shown: Shown) -> None:
     axes.plot(*zip(*ends_of(span, shown)), color=span.used.colour, linewidth=3.6, solid_capstyle='butt', gid='utility',
               label=legend_of(span.used, shown))
 
 
-def name_spans(labels: Labels, spans: Sequence[Span], shown: Shown) -> None:
+def name_spans(labels: Labels, spans: Sequence[DrawnSpan], shown: Shown) -> None:
     """The name of each utility at its line, where there is room."""
     for each in spans:
         (first, level), (last, _) = ends_of(each, shown)
@@ -169,7 +169,7 @@ def put_balanced(axes: Axes, drawn: Drawn) -> None:
     finish(axes, [drawn_at(each, shown) for each in streams], levels, 'temperature in °C', 'Balanced composite curves')
 
 
-def balanced_side(drawn: Drawn, side: Side) -> tuple[list[Corner], list[Span]]:
+def balanced_side(drawn: Drawn, side: Side) -> tuple[list[Corner], list[DrawnSpan]]:
     points = drawn.curves.hot if side is Side.HOT else drawn.curves.cold
     return balanced(points, [each for each in drawn.uses if each.utility.side is side])
 

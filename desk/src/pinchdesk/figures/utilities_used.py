@@ -35,7 +35,7 @@ class Used:
 
 
 @dataclass(frozen=True)
-class Span:
+class DrawnSpan:
     """A utility on a curve: at one temperature, from one heat to another."""
 
     used: Used
@@ -108,23 +108,23 @@ def below_and_upto(points: Sequence[Point], temperature: int) -> tuple[Fraction,
     return heat, heat
 
 
-def balanced(points: Sequence[Point], uses: Sequence[Used]) -> tuple[list[Corner], list[Span]]:
+def balanced(points: Sequence[Point], uses: Sequence[Used]) -> tuple[list[Corner], list[DrawnSpan]]:
     """The curve of a side with its utilities in it, rising from 0, and the utilities on it."""
     corners: list[Corner] = []
-    spans: list[Span] = []
+    spans: list[DrawnSpan] = []
     lower = Fraction(0)
     for temperature in sorted({*(each.temperature for each in points), *(each.utility.level for each in uses)}):
         below, upto = (heat + lower for heat in below_and_upto(points, temperature))
         corners.append((below, temperature))
         for each in (each for each in uses if each.utility.level == temperature):
-            spans.append(Span(each, upto, upto + each.heat, temperature))
+            spans.append(DrawnSpan(each, upto, upto + each.heat, temperature))
             upto, lower = upto + each.heat, lower + each.heat
         if upto != below:
             corners.append((upto, temperature))
     return corners, spans
 
 
-def stairs(drawn: Drawn) -> list[Span]:
+def stairs(drawn: Drawn) -> list[DrawnSpan]:
     """The utilities as they stand on the grand composite curve, the hottest first. The line of stairs leaves the top
     of the curve; a heater leads it to the left and a cooler to the right, each at its shifted level, to the bottom of
     the curve. What flows down between the utilities and the curve is the heat that lies between the two, so that the
@@ -132,7 +132,7 @@ def stairs(drawn: Drawn) -> list[Span]:
     made, at = [], Fraction(drawn.targets.hot)
     for each in sorted(drawn.uses, key=lambda each: (-each.level, not each.hot)):
         to = at - each.heat if each.hot else at + each.heat
-        made.append(Span(each, at, to, each.level))
+        made.append(DrawnSpan(each, at, to, each.level))
         at = to
     return made
 

@@ -15,7 +15,7 @@ PER_WATT = 'per W'
 
 
 @dataclass(frozen=True)
-class Scenario:
+class PriceScenario:
     """One set of prices: those that are given, and of any other utility that of the case."""
 
     name: str
@@ -31,7 +31,7 @@ class Span:
     last: int
 
 
-Item = Scenario | Span
+Item = PriceScenario | Span
 
 
 @dataclass(frozen=True)
@@ -56,7 +56,7 @@ def read_study(text: str | bytes) -> Study:
             continue
         if row[0] == 'scenario':
             scenario = len(items)
-            items.append(Scenario(row[1]))
+            items.append(PriceScenario(row[1]))
         elif row[0] == 'span':
             items.append(Span(row[1], number('study', at, row[2]), number('study', at, row[3])))
         elif row[0] == 'price':
@@ -81,9 +81,9 @@ def unit_refusal(at: int, cause: str) -> Refused:
     return Refused(4, place, 'unit', f'{place}: {cause}')
 
 
-def priced(item: Item, utility: str, price: int) -> Scenario:
-    assert isinstance(item, Scenario)
-    return Scenario(item.name, (*item.prices, (utility, price)))
+def priced(item: Item, utility: str, price: int) -> PriceScenario:
+    assert isinstance(item, PriceScenario)
+    return PriceScenario(item.name, (*item.prices, (utility, price)))
 
 
 def print_study(study: Study) -> str:

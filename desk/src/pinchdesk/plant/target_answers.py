@@ -8,7 +8,7 @@ from fractions import Fraction
 
 from ..formats.case import Case
 from ..formats.shown import Shown
-from ..program.answers import Cut, HeatFlow, Prices, ScenarioAnswer, Sweep, SweepRow, Targets
+from ..program.answers import Cut, HeatFlow, Prices, PriceScenarioAnswer, Sweep, SweepRow, Targets
 from ..report.answer_sheets import flow_sheets, prices_sheets, sweep_sheets, targets_sheets
 from .plant_answer import PlantAnswer, celsius, cost_if_any, each_kilowatts, kilowatts
 
@@ -170,6 +170,6 @@ class PlantPrices(PlantAnswer):
 def plant_prices(case: Case, prices: Prices, notes: tuple[str, ...]) -> PlantPrices:
     shown = Shown(case.basis)
     costs = {each.name: None if each.cost is None else shown.in_cost(each.cost)
-             for each in prices.answers if isinstance(each, ScenarioAnswer)}
+             for each in prices.answers if isinstance(each, PriceScenarioAnswer)}
     return PlantPrices(sheets=tuple(prices_sheets(case, prices)), text=prices.text, notes=notes,
                        exact=ExactPrices(costs), cost_unit=shown.cost_unit, case=case, prices=prices)

@@ -7,7 +7,7 @@ from dataclasses import dataclass, field
 from functools import cached_property
 from typing import TYPE_CHECKING
 
-from ..analysis.change_table import Variants, read_changes
+from ..analysis.change_table import CaseScenarios, read_changes
 from ..analysis.follow import Followed, PinchPoint, follow, pinches_of
 from ..analysis.least_units import least_units
 from ..analysis.rest import remaining
@@ -165,7 +165,7 @@ class Plant:
         check_workers(workers)
         file = None if changes is None else given(changes, 'changes')
         try:
-            held = Variants(()) if file is None else \
+            held = CaseScenarios(()) if file is None else \
                 read_changes(file.content, file.path, self.case.basis, sheet, decimal)
             made = what_if(self.text, held.variants, self.pinch, workers)
         except Refused as fault:

@@ -181,7 +181,7 @@ class Sweep(Rows):
 
 
 @dataclass(frozen=True)
-class ScenarioAnswer:
+class PriceScenarioAnswer:
     """The least cost at the prices of a scenario; None where there is no heat flow."""
 
     name: str
@@ -209,7 +209,7 @@ class SpanAnswer:
     segments: tuple[Segment, ...]
 
 
-PriceAnswer = ScenarioAnswer | SpanAnswer
+PriceAnswer = PriceScenarioAnswer | SpanAnswer
 
 
 @dataclass(frozen=True)
@@ -226,7 +226,7 @@ class Prices(Rows):
 
     def rows(self) -> Iterator[Row]:
         for each in self.answers:
-            if isinstance(each, ScenarioAnswer):
+            if isinstance(each, PriceScenarioAnswer):
                 yield {'scenario': each.name, 'cost': each.cost}
             else:
                 yield from ({'span': each.utility, 'first': one.first, 'last': one.last, 'base': one.base,

@@ -5,9 +5,9 @@ from collections.abc import Iterable
 from fractions import Fraction
 
 from ..formats.case import Side
-from ..formats.study import Scenario, Study
+from ..formats.study import PriceScenario, Study
 from .answers import (Curves, Cut, Design, HeatFlow, Move, Part, Point, Price, PriceAnswer, Prices, Profile,
-                      ScenarioAnswer, Segment, SiteAnswer, SpanAnswer, Sweep, SweepRow, Targets, Use)
+                      PriceScenarioAnswer, Segment, SiteAnswer, SpanAnswer, Sweep, SweepRow, Targets, Use)
 from .verdicts import Accepted, Penalty, Place, PlaceKind, Rejected, TooFine, Verdict
 
 Lines = list[list[str]]
@@ -128,8 +128,8 @@ def prices_of(study: Study, text: str) -> Prices:
     lines = lines_of(text)
     answers: list[PriceAnswer] = []
     for item in study.items:
-        if isinstance(item, Scenario):
-            answers.append(ScenarioAnswer(item.name, cost_of(lines.pop(0)[2])))
+        if isinstance(item, PriceScenario):
+            answers.append(PriceScenarioAnswer(item.name, cost_of(lines.pop(0)[2])))
         else:
             answers.append(SpanAnswer(item.utility, segments_of(lines, item.last)))
     return Prices(tuple(answers), text)

@@ -9,7 +9,8 @@ from ..analysis.pinch_places import temperatures_at
 from ..analysis.sweep_request import own_contributions
 from ..formats.case import Basis, Case, Side
 from ..formats.shown import Number, Shown
-from ..program.answers import Cut, HeatFlow, Prices, ScenarioAnswer, SiteAnswer, SpanAnswer, Sweep, SweepRow, Targets
+from ..program.answers import (Cut, HeatFlow, Prices, PriceScenarioAnswer, SiteAnswer, SpanAnswer, Sweep, SweepRow,
+                               Targets)
 from ..program.verdicts import Accepted, TooFine, Verdict
 from .sheet import Cell, Sheet
 
@@ -136,7 +137,7 @@ def prices_sheets(case: Case, prices: Prices) -> list[Sheet]:
     scenarios: list[tuple[Cell, ...]] = []
     segments: list[tuple[Cell, ...]] = []
     for each in prices.answers:
-        if isinstance(each, ScenarioAnswer):
+        if isinstance(each, PriceScenarioAnswer):
             scenarios.append((each.name, 'no heat flow' if each.cost is None else cost(shown, each.cost)))
         else:
             segments.extend(span_rows(each, shown) or [(each.utility, 'no heat flow')])

@@ -25,7 +25,7 @@ from .sheet import Cell, Sheet
 
 if TYPE_CHECKING:
     from ..search.accepted import Judged
-    from ..search.reduce.tradeoff import Row, TradeOff
+    from ..search.reduce.tradeoff import TradeOffRow, TradeOff
 
 PICTURES = ('svg', 'png', 'pdf')
 
@@ -68,7 +68,7 @@ def begun_row(traded: TradeOff, shown: Shown) -> tuple[Cell, ...]:
             Decimal(shown.kilowatts(begun.verdict.excess)), Decimal(begun.splits))
 
 
-def row_of(row: Row, traded: TradeOff, shown: Shown) -> tuple[Cell, ...]:
+def row_of(row: TradeOffRow, traded: TradeOff, shown: Shown) -> tuple[Cell, ...]:
     return (Decimal(row.exchangers), cost(shown, row.cost), cost(shown, row.cost - traded.floor),
             Decimal(shown.kilowatts(row.excess)), Decimal(row.judged.splits),
             listed(row.gone, shown), listed(row.come, shown))
@@ -86,7 +86,7 @@ def said_of(traded: TradeOff) -> str:
             f'were found, and none of fewer than {last} exchangers, which is no proof that there are none.')
 
 
-def network_text(row: Row, traded: TradeOff) -> str:
+def network_text(row: TradeOffRow, traded: TradeOff) -> str:
     """A network as a text, with what it is in comments."""
     shown = Shown(traded.case.basis)
     head = (f'# {row.exchangers} exchangers, {row.judged.splits} splits',

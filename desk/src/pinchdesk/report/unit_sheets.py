@@ -6,7 +6,7 @@ from collections.abc import Iterable, Sequence
 from decimal import Decimal
 from fractions import Fraction
 
-from ..analysis.cuts import Piece, Place, Region
+from ..analysis.cuts import Piece, CutPlace, Region
 from ..analysis.follow import Followed, Passage, SideState, heat_above
 from ..analysis.independent_sets import MOST_SOURCES, MOST_SUBSETS
 from ..analysis.least_units import IndependentSet, RegionUnits, Units
@@ -54,7 +54,7 @@ def summed(counted: Sequence[RegionUnits]) -> tuple[Cell, ...]:
             Decimal(least) if exact else f'{least} to {found}')
 
 
-def heat_above_place(side: SideState, duty: Fraction, place: Place | None) -> Fraction | None:
+def heat_above_place(side: SideState, duty: Fraction, place: CutPlace | None) -> Fraction | None:
     """How much of a duty a side gives or takes above a place; all of it above none."""
     if place is None:
         return duty

@@ -1,4 +1,4 @@
-"""Variants as tables: targets, pinch and cost of each beside the case as it is, what was changed, and what a little
+"""Scenarios as tables: targets, pinch and cost of each beside the case as it is, what was changed, and what a little
 more of each stream would do."""
 from __future__ import annotations
 
@@ -7,7 +7,7 @@ from decimal import Decimal
 from fractions import Fraction
 
 from ..analysis.change_columns import Field
-from ..analysis.what_if import Outcome, PlusMinus, Step, WhatIf, little
+from ..analysis.what_if import ScenarioOutcome, PlusMinus, Step, WhatIf, little
 from ..formats.case import ANY_HEAT
 from ..formats.shown import Shown, decimal
 from ..program.answers import Cut
@@ -37,7 +37,7 @@ def scenarios_sheet(made: WhatIf) -> Sheet:
     return Sheet('What if', headings, tuple(row[:len(headings)] for row in rows), marked)
 
 
-def scenario_row(outcome: Outcome, base: Outcome, shown: Shown) -> tuple[Cell, ...]:
+def scenario_row(outcome: ScenarioOutcome, base: ScenarioOutcome, shown: Shown) -> tuple[Cell, ...]:
     name = outcome.variant.name
     if outcome.targets is None or base.targets is None:
         return (name, None, None, None, None, REFUSED, None, None, outcome.fault)

@@ -22,7 +22,7 @@ from .money import LEADING, fault_of, is_money
 from .names import fit_names
 from .numbers import NoNumber, Says, numeral_of, readings
 from .prices import PriceFault, PriceUnit, Priced, price_unit_of, priced
-from .roundings import Span
+from .roundings import RoundingSpan
 from .roundings import told as how_far_off
 from .rows import Body, Line, body_of, headed_line
 from .sources import Entries
@@ -58,7 +58,7 @@ class Converted:
     origins: tuple[int, ...]
     notes: tuple[str, ...]
     comments: tuple[str, ...] = ()
-    exact: tuple[Span, ...] = ()
+    exact: tuple[RoundingSpan, ...] = ()
 
 
 def case_of_table(content: bytes, name: str, wanted: Wanted) -> Converted:

@@ -10,7 +10,7 @@ from ..formats.shown import decimal
 
 
 @dataclass(frozen=True)
-class Span:
+class RoundingSpan:
     """A stream as the problem table sees it: what it gives or takes in W, evenly between two shifted temperatures, or
     at one."""
 
@@ -27,12 +27,12 @@ class Span:
         return self.heat * min(max(part, Fraction(0)), Fraction(1))
 
 
-def span_of(side: Side, ends: tuple[Fraction, Fraction], heat: Fraction, contribution: Fraction) -> Span:
+def span_of(side: Side, ends: tuple[Fraction, Fraction], heat: Fraction, contribution: Fraction) -> RoundingSpan:
     shift = -contribution if side is Side.HOT else contribution
-    return Span(side, min(ends) + shift, max(ends) + shift, heat)
+    return RoundingSpan(side, min(ends) + shift, max(ends) + shift, heat)
 
 
-def deficits(spans: Sequence[Span]) -> Iterator[Fraction]:
+def deficits(spans: Sequence[RoundingSpan]) -> Iterator[Fraction]:
     """What the cold streams need above each place more than the hot ones give there; it is the most at one of these."""
     for place in sorted({end for each in spans for end in (each.low, each.high)}):
         for with_place in (False, True):
@@ -40,14 +40,14 @@ def deficits(spans: Sequence[Span]) -> Iterator[Fraction]:
                       Fraction(0))
 
 
-def exact_targets(spans: Sequence[Span]) -> tuple[Fraction, Fraction]:
+def exact_targets(spans: Sequence[RoundingSpan]) -> tuple[Fraction, Fraction]:
     """The least hot and cold utility in W of streams whose numbers are exact."""
     hot = max([Fraction(0), *deficits(spans)])
     surplus = sum((each.heat * (1 if each.side is Side.HOT else -1) for each in spans), Fraction(0))
     return hot, hot + surplus
 
 
-def told(spans: Sequence[Span], hot: int, cold: int, scale: Fraction) -> str:
+def told(spans: Sequence[RoundingSpan], hot: int, cold: int, scale: Fraction) -> str:
     """How far the targets of a rounded case are from those of the table; empty where they are the same. The heats of
     the case are the table's so many times."""
     exact = exact_targets(spans)

@@ -10,7 +10,7 @@ from ..formats.shown import decimal
 from .cells import CellReader, Entered, Told
 from .headings import Heading
 from .limits import CONTRIBUTION, CP, HEAT, LOAD, TEMPERATURE, Limit, fitting_scale, outside
-from .roundings import Span, span_of
+from .roundings import RoundingSpan, span_of
 from .rows import Line
 from .units import Kind, rounded
 
@@ -100,7 +100,7 @@ class Entries:
         cp, load = (0, size) if supply == target else (size, 0)
         return Stream(name, side, supply, target, cp, load, 0), share
 
-    def exact(self, line: Line, side: Side, share: Fraction) -> Span:
+    def exact(self, line: Line, side: Side, share: Fraction) -> RoundingSpan:
         """A stream that was made of a line, as the table has it; `share` is the contribution of the case."""
         def entered(heading: Heading) -> Fraction | None:
             held = self.reader.entered.get((line.row.number, line.columns.get(heading, -1)))

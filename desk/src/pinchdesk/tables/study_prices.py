@@ -32,7 +32,7 @@ class Studied:
 
 
 @dataclass(frozen=True)
-class Row:
+class StudyRow:
     """A row of a study, with its prices in the program's unit, exact, by their fields."""
 
     at: int
@@ -58,11 +58,11 @@ def studied(content: bytes, case: Case) -> Studied:
     return Studied(finer, text.getvalue().encode(), () if told else (note,))
 
 
-def read_row(at: int, row: Sequence[str], shown: Shown) -> Row:
+def read_row(at: int, row: Sequence[str], shown: Shown) -> StudyRow:
     if row[0] == '#price':
-        return Row(at, (row[0], PER_WATT, *row[2:]), {})
+        return StudyRow(at, (row[0], PER_WATT, *row[2:]), {})
     asked = PRICED.get(row[0], ()) if len(row) == 4 and not is_passed_over(row) else ()
-    return Row(at, tuple(row), {field: price(at, row[field], shown) for field in asked})
+    return StudyRow(at, tuple(row), {field: price(at, row[field], shown) for field in asked})
 
 
 def price(at: int, text: str, shown: Shown) -> Fraction:
@@ -80,7 +80,7 @@ def price(at: int, text: str, shown: Shown) -> Fraction:
     return value * shown.basis.price_divisor
 
 
-def times_of(rows: Iterable[Row], case: Case) -> int:
+def times_of(rows: Iterable[StudyRow], case: Case) -> int:
     """What the prices of a case are taken times, so that those of its study are whole too."""
     # HOT stands in at the price 1, whatever the others are taken times.
     fixed = all(each.side is not Side.HOT for each in case.utilities)
@@ -111,7 +111,7 @@ def with_finer(case: Case, times: int) -> Case:
                    basis=basis)
 
 
-def in_program(row: Row, times: int, shown: Shown) -> list[str]:
+def in_program(row: StudyRow, times: int, shown: Shown) -> list[str]:
     """A row of a study with whole prices."""
     held = {field: int(exact * times) for field, exact in row.prices.items()}
     if row.fields[0] == 'span' and len(held) == 2 and held[3] - held[2] >= WIDEST:

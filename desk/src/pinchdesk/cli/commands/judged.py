@@ -4,7 +4,7 @@ from __future__ import annotations
 from argparse import ArgumentParser, Namespace
 from dataclasses import replace
 
-from ...analysis.change_table import Variants, read_changes
+from ...analysis.change_table import CaseScenarios, read_changes
 from ...analysis.follow import Followed, follow
 from ...analysis.least_units import least_units
 from ...analysis.rest import Rest, remaining, written_case
@@ -100,7 +100,7 @@ def whatif(options: Namespace) -> Answer:
         pinch = Pinch()
         pinch.targets(content)
         try:
-            held = Variants(()) if table is None else \
+            held = CaseScenarios(()) if table is None else \
                 read_changes(table, options.changes, read_case(content).basis, options.sheet, options.decimal)
             made = what_if(content, held.variants, pinch, options.workers)
         except Refused as fault:

@@ -9,15 +9,15 @@ from ...analysis.follow import Passage
 from ...formats.case import Side, Utility
 from ...program.verdicts import PlaceKind, Rejected, Verdict
 from ..paper import Paper
-from .layout import Plan
+from .layout import GridLayout
 
 
 @dataclass
-class Sheet:
+class Canvas:
     """Where things are drawn, in inches from the lower left."""
 
     paper: Paper
-    plan: Plan
+    plan: GridLayout
     heights: dict[str, list[float]]
     labels: float
     slants: float
@@ -42,7 +42,7 @@ class Sheet:
                        for x, one, other in self.bars)
 
 
-def ends_at(sheet: Sheet, passage: Passage) -> tuple[tuple[float, float], tuple[float, float]]:
+def ends_at(sheet: Canvas, passage: Passage) -> tuple[tuple[float, float], tuple[float, float]]:
     """Where the bar of an exchanger begins and ends."""
     plan, name, made = sheet.plan, passage.exchanger.name, []
     for side, word, other in ((passage.hot, 'hot', 'cold'), (passage.cold, 'cold', 'hot')):
@@ -54,7 +54,7 @@ def ends_at(sheet: Sheet, passage: Passage) -> tuple[tuple[float, float], tuple[
     return made[0], made[1]
 
 
-def utility_reach(sheet: Sheet, utility: Utility) -> tuple[float, float]:
+def utility_reach(sheet: Canvas, utility: Utility) -> tuple[float, float]:
     """From the first to the last exchanger of a utility."""
     held = []
     for each in sheet.plan.followed.passages:

@@ -14,10 +14,10 @@ from ...program.verdicts import Accepted, Rejected, Verdict
 from ..paper import Look, Paper
 from ..style import ABOVE, ACROSS, BELOW, BETWEEN, FAULT, INK, NEUTRAL, PALE, styled
 from ..text_widths import width
-from .canvas import Sheet, ends_at
+from .canvas import Canvas, ends_at
 from .end_numbers import margins, put_numbers
 from .ends import end_texts
-from .layout import PinchText, Plan, lane_heights, pinch_texts, plan_of
+from .layout import PinchText, GridLayout, lane_heights, pinch_texts, plan_of
 from .streams import put_streams
 
 # How many exchangers have room; the order of their bars among what lies above and below them; the room around texts.
@@ -46,7 +46,7 @@ def grid_figure(followed: Followed, pinches: tuple[PinchPoint, ...], verdict: Ve
     high = deep + top + bottom
     with styled():
         heights = {name: [high - top - each for each in lanes] for name, lanes in heights.items()}
-        sheet = Sheet(Paper(wide, high), plan, heights, high - top - labels, high - top - slants, finding, verdict)
+        sheet = Canvas(Paper(wide, high), plan, heights, high - top - labels, high - top - slants, finding, verdict)
         put_title(sheet, title, high)
         put_pinches(sheet, pinched, high - top, bottom)
         put_exchangers(sheet)
@@ -56,7 +56,7 @@ def grid_figure(followed: Followed, pinches: tuple[PinchPoint, ...], verdict: Ve
         return sheet.paper.done()
 
 
-def headline(followed: Followed, verdict: Verdict, finding: Finding | None, plan: Plan) -> list[str]:
+def headline(followed: Followed, verdict: Verdict, finding: Finding | None, plan: GridLayout) -> list[str]:
     """What the audit said, in lines that the picture holds."""
     shown = Shown(followed.case.basis)
     if isinstance(verdict, Accepted):
@@ -70,13 +70,13 @@ def headline(followed: Followed, verdict: Verdict, finding: Finding | None, plan
     return textwrap.wrap(told, int(room / 0.086)) or ['']
 
 
-def put_title(sheet: Sheet, lines: list[str], high: float) -> None:
+def put_title(sheet: Canvas, lines: list[str], high: float) -> None:
     colour = INK if isinstance(sheet.verdict, Accepted) else FAULT
     for at, line in enumerate(lines):
         sheet.write(0.25, high - 0.24 - 0.17 * at, line, fontsize=10, ha='left', color=colour, fontweight='bold')
 
 
-def put_pinches(sheet: Sheet, texts: list[PinchText], top: float, bottom: float) -> None:
+def put_pinches(sheet: Canvas, texts: list[PinchText], top: float, bottom: float) -> None:
     """A line at each pinch, a band where exchangers work across it; its temperature on both scales above it."""
     plan = sheet.plan
     for at, each in enumerate(texts):
@@ -100,7 +100,7 @@ def colour_of(passage: Passage, pinches: tuple[PinchPoint, ...]) -> str:
     return BETWEEN if len(sides) > 1 else ABOVE if sides == {PinchSide.ABOVE} else BELOW
 
 
-def put_exchangers(sheet: Sheet) -> None:
+def put_exchangers(sheet: Canvas) -> None:
     """The bar of each exchanger with a circle at both ends, its name, duty, and what it carries across."""
     circles: dict[tuple[str, str, float], list[tuple[float, float]]] = {}
     for passage in sheet.plan.followed.passages:
@@ -122,7 +122,7 @@ def put_exchangers(sheet: Sheet) -> None:
                            markeredgecolor=ink, markeredgewidth=weight, zorder=6)
 
 
-def put_label(sheet: Sheet, name: str, x: float, ink: str, bad: bool) -> None:
+def put_label(sheet: Canvas, name: str, x: float, ink: str, bad: bool) -> None:
     """The name of an exchanger and its duties on its bar, which is broken there."""
     lines, upright, size = sheet.plan.labels[name], sheet.plan.type.upright, sheet.plan.type.size
     lines = ('   '.join(lines),) if upright else lines
@@ -135,7 +135,7 @@ def put_label(sheet: Sheet, name: str, x: float, ink: str, bad: bool) -> None:
                 fontweight='bold', zorder=7)
 
 
-def put_legend(sheet: Sheet, notes: list[str]) -> None:
+def put_legend(sheet: Canvas, notes: list[str]) -> None:
     """What the colours say, where there is a pinch, and the units."""
     plan, x, y = sheet.plan, 0.25, 0.22 + 0.14 * len(notes)
     used = {colour_of(each, plan.pinches) for each in plan.followed.passages}

@@ -6,18 +6,18 @@ from dataclasses import dataclass
 from ...formats.case import Stream
 from ..style import FAULT, INK, PALE
 from ..text_widths import width
-from .canvas import Sheet
-from .ends import End, end_of, reading
-from .layout import Plan, reach
+from .canvas import Canvas
+from .ends import DrawnEnd, end_of, reading
+from .layout import GridLayout, reach
 
 # The room around a text.
 PAD = 0.034
 
 
-def margins(plan: Plan) -> list[float]:
+def margins(plan: GridLayout) -> list[float]:
     """Sets the plan's left end, and gives where the columns of CPs and loads end, right of the streams."""
     size = plan.type.size
-    ends: list[End] = [end_of(plan, each) for each in plan.rows]
+    ends: list[DrawnEnd] = [end_of(plan, each) for each in plan.rows]
     names = max(width(each.name, size, True) for each in plan.rows)
     left = max(width(each.left, size, each.missed) for each in ends)
     plan.left = 0.25 + names + 0.12 + left + 0.05
@@ -28,7 +28,7 @@ def margins(plan: Plan) -> list[float]:
     return [first, first + 0.2 + loads, first + 0.2 + loads + 0.25]
 
 
-def put_numbers(sheet: Sheet, numbers: list[float], top: float) -> None:
+def put_numbers(sheet: Canvas, numbers: list[float], top: float) -> None:
     """The columns at both sides, under their headings, and what is at the ends of each stream. The bars of exchangers
     have to be drawn."""
     plan, edges = sheet.plan, sheet.plan.edges
@@ -57,7 +57,7 @@ class Spot:
     upright: bool = False
 
 
-def spots(plan: Plan, at: tuple[float, float], wide: float, side: str) -> list[Spot]:
+def spots(plan: GridLayout, at: tuple[float, float], wide: float, side: str) -> list[Spot]:
     """Places for a text of this width, the best first: beside the end; above the stream; upright there."""
     way, line = -1 if side == 'right' else 1, plan.type.line
     (x, y), up = at, line * 0.72
@@ -66,7 +66,7 @@ def spots(plan: Plan, at: tuple[float, float], wide: float, side: str) -> list[S
             *(Spot(x - way * far, y + wide / 2 + 0.06, line * 0.9, wide, True) for far in (0.1, -0.1))]
 
 
-def put_end(sheet: Sheet, at: tuple[float, float], text: str, side: str, wrong: bool) -> None:
+def put_end(sheet: Canvas, at: tuple[float, float], text: str, side: str, wrong: bool) -> None:
     """What stands at the end of a stream, where no bar passes."""
     wide = width(text, sheet.plan.type.size, wrong)
     held = spots(sheet.plan, at, wide, side)

@@ -6,11 +6,11 @@ from fractions import Fraction
 
 from ...formats.case import Side, Stream, Utility
 from ...formats.shown import Shown
-from .layout import Plan, percent
+from .layout import GridLayout, percent
 
 
 @dataclass(frozen=True)
-class End:
+class DrawnEnd:
     """The texts of a row: at its left and right end, its CP, its load; `missed` where the network misses the target."""
 
     left: str
@@ -20,21 +20,21 @@ class End:
     missed: bool = False
 
 
-def end_of(plan: Plan, row: Stream | Utility) -> End:
+def end_of(plan: GridLayout, row: Stream | Utility) -> DrawnEnd:
     shown = plan.shown
     if isinstance(row, Utility):
         duties = [each.duty for each in plan.followed.network.exchangers if row.name in (each.hot, each.cold)]
         level = '' if row.invented else shown.celsius(row.level)
         ends = (level, '') if row.side is Side.HOT else ('', level)
-        return End(*ends, '', shown.kilowatts(sum(duties, Fraction(0))))
+        return DrawnEnd(*ends, '', shown.kilowatts(sum(duties, Fraction(0))))
     reached, missed = reached_by(plan, row)
     supply = shown.celsius(row.supply)
     flow = 'latent' if row.latent else shown.kilowatts_per_kelvin(row.cp)
     ends = (supply, reached) if row.side is Side.HOT else (reached, supply)
-    return End(ends[0], ends[1], flow, shown.kilowatts(row.heat), missed)
+    return DrawnEnd(ends[0], ends[1], flow, shown.kilowatts(row.heat), missed)
 
 
-def reached_by(plan: Plan, stream: Stream) -> tuple[str, bool]:
+def reached_by(plan: GridLayout, stream: Stream) -> tuple[str, bool]:
     """What the network does at the end of a stream, and whether that is not what is wanted."""
     shown, target = plan.shown, plan.shown.celsius(stream.target)
     ends = plan.followed.ends[stream.name]
@@ -66,7 +66,7 @@ def reading(row: Stream | Utility, side: str) -> bool:
     return (row.side is Side.COLD) == (side == 'right')
 
 
-def end_texts(plan: Plan) -> str:
+def end_texts(plan: GridLayout) -> str:
     told = 'temperatures in °C, duties in kW; at a split the part of the stream that each branch has'
     invented = any(isinstance(each, Utility) and each.invented for each in plan.rows)
     return told + ('; HOT and COLD stand for a heater and a cooler of any level' if invented else '')

@@ -37,7 +37,7 @@ class Type:
 
 
 @dataclass
-class Plan:
+class GridLayout:
     """All that is known before a line is drawn. Lengths are in inches, heights from the bottom."""
 
     followed: Followed
@@ -124,7 +124,7 @@ def percent(part: Fraction, places: int = 2) -> str:
     return decimal(part * 100, places) + ' %'
 
 
-def plan_of(followed: Followed, pinches: tuple[PinchPoint, ...]) -> Plan:
+def plan_of(followed: Followed, pinches: tuple[PinchPoint, ...]) -> GridLayout:
     """The plan of a network."""
     rows, hot = rows_of(followed)
     tracks = Tracks({each.name: at if at < hot else at + 2 for at, each in enumerate(rows)}, hot)
@@ -133,10 +133,10 @@ def plan_of(followed: Followed, pinches: tuple[PinchPoint, ...]) -> Plan:
     lanes = {each.name: lanes_of(followed, course, columns, each) for each in followed.case.streams}
     labels = labels_of(followed, pinches)
     type_ = type_of(columns.count, labels, numbers_of(followed))
-    return Plan(followed, pinches, course, columns, lanes, rows, labels, type_)
+    return GridLayout(followed, pinches, course, columns, lanes, rows, labels, type_)
 
 
-def reach(plan: Plan, stream: Stream) -> tuple[float, float]:
+def reach(plan: GridLayout, stream: Stream) -> tuple[float, float]:
     """From where to where a stream is drawn: one that begins or ends at a pinch, or before it, is drawn as far as
     that."""
     left, right = plan.edges
@@ -154,7 +154,7 @@ def reach(plan: Plan, stream: Stream) -> tuple[float, float]:
     return min([left, *(each - margin for each in held)]), max([right, *(each + margin for each in held)])
 
 
-def lane_heights(plan: Plan) -> tuple[dict[str, list[float]], float, float, float]:
+def lane_heights(plan: GridLayout) -> tuple[dict[str, list[float]], float, float, float]:
     """The height of each lane of each row, of the band of labels (its middle), of the slanted bars (its middle), and of
     the first row's top, all counted down from 0."""
     line, heights, down = plan.type.line, {}, 0.0
@@ -172,13 +172,13 @@ def lane_heights(plan: Plan) -> tuple[dict[str, list[float]], float, float, floa
     return heights, labels, slants, down
 
 
-def is_slanted(plan: Plan) -> bool:
+def is_slanted(plan: GridLayout) -> bool:
     """Whether an exchanger has a column for each side."""
     held = plan.columns.of
     return any(('cold', key[1]) in held and held['cold', key[1]] != at for key, at in held.items() if key[0] == 'hot')
 
 
-def band(plan: Plan) -> float:
+def band(plan: GridLayout) -> float:
     """How tall the labels of exchangers are."""
     if not plan.type.upright:
         return max((len(each) for each in plan.labels.values()), default=2) * plan.type.line + 0.16
@@ -195,7 +195,7 @@ class PinchText:
     level: int
 
 
-def pinch_texts(plan: Plan, wide: float) -> list[PinchText]:
+def pinch_texts(plan: GridLayout, wide: float) -> list[PinchText]:
     """The texts above the pinches on a sheet of this width; those that are near lie above one another."""
     case, shown, size = plan.followed.case, plan.shown, max(plan.type.size, 6.5)
     made: list[PinchText] = []

@@ -8,7 +8,7 @@ from ...formats.case import Side, Stream, Utility
 from ...formats.network import End
 from ..paper import Look
 from ..style import COLD, FAULT, HOT
-from .canvas import Sheet, utility_reach
+from .canvas import Canvas, utility_reach
 from .courses import Node
 from .lanes import drawn_branches, node_at, share_of
 from .layout import percent, reach
@@ -16,7 +16,7 @@ from .layout import percent, reach
 STREAM = 1.8
 
 
-def put_streams(sheet: Sheet) -> None:
+def put_streams(sheet: Canvas) -> None:
     """All rows of the diagram."""
     for row in sheet.plan.rows:
         if isinstance(row, Utility):
@@ -25,13 +25,13 @@ def put_streams(sheet: Sheet) -> None:
             put_stream(sheet, row)
 
 
-def put_utility(sheet: Sheet, row: Utility) -> None:
+def put_utility(sheet: Canvas, row: Utility) -> None:
     y, colour = sheet.heights[row.name][0], FAULT if sheet.is_fault(row.name) else HOT if row.side is Side.HOT else COLD
     first, last = utility_reach(sheet, row)
     sheet.paper.dashed(((first, y), (last, y)), color=colour, linewidth=1.4, linestyle='--', zorder=3)
 
 
-def put_stream(sheet: Sheet, stream: Stream) -> None:
+def put_stream(sheet: Canvas, stream: Stream) -> None:
     """The branches of a stream, and an arrow at its end."""
     plan, lanes = sheet.plan, sheet.plan.lanes[stream.name]
     colour = FAULT if sheet.is_fault(stream.name) else HOT if stream.side is Side.HOT else COLD
@@ -54,11 +54,11 @@ def put_stream(sheet: Sheet, stream: Stream) -> None:
     put_joints(sheet, stream, lanes, colour)
 
 
-def column(sheet: Sheet, node: Node) -> float:
+def column(sheet: Canvas, node: Node) -> float:
     return sheet.plan.x(sheet.plan.columns.of[node.key])
 
 
-def put_state(sheet: Sheet, branch: Branch, made: Node | None, x: float, y: float, ended: bool) -> None:
+def put_state(sheet: Canvas, branch: Branch, made: Node | None, x: float, y: float, ended: bool) -> None:
     """Behind an exchanger or a mix the temperature, behind a split the share of the stream."""
     plan, way = sheet.plan, 1 if branch.stream.side is Side.HOT else -1
     style = {'rotation': 90.0} if plan.type.upright else {}
@@ -75,7 +75,7 @@ def put_state(sheet: Sheet, branch: Branch, made: Node | None, x: float, y: floa
                     **style)
 
 
-def put_joints(sheet: Sheet, stream: Stream, lanes: Mapping[str, int], colour: str) -> None:
+def put_joints(sheet: Canvas, stream: Stream, lanes: Mapping[str, int], colour: str) -> None:
     """The upright line at each split and mix, from the first to the last of its lanes."""
     course = sheet.plan.course
     drawn = drawn_branches(course, lanes)

@@ -10,7 +10,7 @@ from dataclasses import dataclass
 from fractions import Fraction
 
 from ...formats.case import Case, Side, Source, Stream
-from ..solver.linear import Program, Row, Terms
+from ..solver.linear import Program, LinearRow, Terms
 from .structure import Course, Parting, Structure, Through, throughs
 
 
@@ -31,10 +31,10 @@ class Sum:
         """The sum at a point."""
         return self.constant + sum((factor * point[at] for at, factor in self.terms.items()), Fraction(0))
 
-    def row(self, low: Fraction | None, high: Fraction | None, more: Terms = ()) -> Row:
+    def row(self, low: Fraction | None, high: Fraction | None, more: Terms = ()) -> LinearRow:
         """The row that keeps the sum between two bounds; `more` are further terms."""
         below, above = (None if each is None else each - self.constant for each in (low, high))
-        return Row((*((at, each) for at, each in self.terms.items() if each), *more), below, above)
+        return LinearRow((*((at, each) for at, each in self.terms.items() if each), *more), below, above)
 
 
 NOTHING = Sum(Fraction(0), {})
@@ -48,7 +48,7 @@ class Ends:
     outlet: Sum
 
 
-class Model:
+class DutyModel:
     """The rows of a structure, and the programs that are made of them."""
 
     def __init__(self, case: Case, structure: Structure) -> None:
@@ -62,7 +62,7 @@ class Model:
         self.most = tuple(self.exchanged(*(self.sources[each] for each in structure.pairs[name]))
                           for name in self.names)
         self.ends: dict[tuple[str, Side], Ends] = {}
-        self.lane_rows: list[Row] = []
+        self.lane_rows: list[LinearRow] = []
         for stream in case.streams:
             begin = Fraction(stream.supply) if not stream.latent else Fraction(stream.side is Side.HOT)
             self.walk(stream, structure.courses[stream.name], Sum(begin, {}), Fraction(stream.size))
@@ -138,7 +138,7 @@ class Model:
             whole = whole.plus(self.sum_of(each), Fraction(each.price))
         return whole
 
-    def balance_rows(self) -> Iterator[Row]:
+    def balance_rows(self) -> Iterator[LinearRow]:
         """Each stream exchanges its heat, and each utility within its range."""
         for each in self.case.sources:
             if isinstance(each, Stream):
@@ -147,7 +147,7 @@ class Model:
                 yield self.sum_of(each).row(Fraction(each.least), Fraction(each.most))
         yield from self.lane_rows
 
-    def approach_rows(self, optional: bool) -> Iterator[Row]:
+    def approach_rows(self, optional: bool) -> Iterator[LinearRow]:
         """Both ends of each exchanger; where they are optional, of those that are there."""
         for name, pair in self.structure.pairs.items():
             approach = Fraction(sum(self.sources[each].contribution for each in pair))
@@ -200,8 +200,8 @@ class Model:
         count = len(self.names)
         rows = [*self.balance_rows(), *self.approach_rows(True)]
         for at, high in enumerate(self.most):
-            rows.append(Row(((at, Fraction(1)), (count + at, -high / self.unit)), None, Fraction(0)))
-        rows.append(Row(tuple((count + at, Fraction(1)) for at in range(count)), None, Fraction(most)))
+            rows.append(LinearRow(((at, Fraction(1)), (count + at, -high / self.unit)), None, Fraction(0)))
+        rows.append(LinearRow(tuple((count + at, Fraction(1)) for at in range(count)), None, Fraction(most)))
         if cost is not None:
             rows.append(self.cost.row(None, cost))
         highs = (*(each / self.unit for each in self.most), *(Fraction(each > 0) for each in self.most))

@@ -8,7 +8,7 @@ from fractions import Fraction
 
 from ...formats.case import Case
 from ..solver.linear import OutOfTime, Program, exact, solve
-from .balances import Model
+from .balances import DutyModel
 from .network_structure import Duties
 from .structure import Structure, reduced
 
@@ -28,7 +28,7 @@ class Costed:
 def cheapest(case: Case, structure: Structure) -> Costed | None:
     """The least cost of a structure, without the exchangers that it leaves without a duty; None where it cannot do
     what the case wants."""
-    model = Model(case, structure)
+    model = DutyModel(case, structure)
     point = exact(model.cheapest(), ())
     if point is None:
         return None
@@ -39,13 +39,13 @@ def cheapest(case: Case, structure: Structure) -> Costed | None:
 
 def least_cost(case: Case, structure: Structure) -> float:
     """The least cost of a structure in floats, for a comparison of many; infinite where there is none."""
-    found = solve(Model(case, structure).cheapest())
+    found = solve(DutyModel(case, structure).cheapest())
     return found.aim if found else math.inf
 
 
 def fewest(case: Case, structure: Structure, cost: Fraction, most: int, seconds: float) -> Costed | None:
     """The fewest of the exchangers of a structure, and at most so many, with which it costs no more than this."""
-    model = Model(case, structure)
+    model = DutyModel(case, structure)
     # A little more for the solver, whose rows hold as far as floats do; what it chooses is costed exactly.
     made = settled(case, structure, model.fewest(cost + model.scale / FINE, most), seconds)
     return made if made and made.cost <= cost else None
@@ -55,7 +55,7 @@ def cheapest_of(case: Case, structure: Structure, most: int, seconds: float, bel
                 fresh: frozenset[str] = frozenset()) -> Costed | None:
     """The least cost with at most so many of the exchangers of a structure, or nearly so with few of the fresh ones;
     None where it is not below a cost."""
-    model = Model(case, structure)
+    model = DutyModel(case, structure)
     most_cost = None if below is None else below - model.scale / FINE
     return settled(case, structure, model.cheapest_of(most, most_cost, fresh), seconds)
 

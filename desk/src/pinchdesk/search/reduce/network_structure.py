@@ -131,7 +131,7 @@ def side_by_side(edges: list[Edge], start: int, end: int) -> Reduced | None:
     return None
 
 
-class Writer:
+class StructureWriter:
     """Writes the statements of one stream."""
 
     def __init__(self, stream: Stream, duties: Duties, taken: set[str]) -> None:
@@ -197,5 +197,5 @@ def network_of(case: Case, structure: Structure, duties: Duties) -> Network:
                                    for name, (hot, cold) in structure.pairs.items()]
     taken: set[str] = set()
     for stream in case.streams:
-        statements.extend(Writer(stream, duties, taken).written(structure.courses[stream.name]))
+        statements.extend(StructureWriter(stream, duties, taken).written(structure.courses[stream.name]))
     return Network(tuple(statements))

@@ -21,7 +21,7 @@ from .structure import Course, Lane, Parting, Structure, Through
 
 
 @dataclass(frozen=True)
-class Row:
+class TradeOffRow:
     """A network of a trade-off, and how it differs from the one before it: the exchangers that went, those that came,
     and the loops and paths along which heat was moved. Of the first row nothing is said."""
 
@@ -58,7 +58,7 @@ class TradeOff:
     case: Case
     floor: int
     begun: Judged
-    rows: tuple[Row, ...]
+    rows: tuple[TradeOffRow, ...]
     stopped: bool = False
 
     @property
@@ -86,14 +86,14 @@ def tradeoff(case: CaseText, network: NetworkText | None = None, pinch: Pinch | 
     return TradeOff(judge.case, begun.verdict.floor, begun, tuple(rows_of(judge, begun, found)), stopped)
 
 
-def rows_of(judge: Judge, begun: Judged, found: list[Judged]) -> Iterator[Row]:
+def rows_of(judge: Judge, begun: Judged, found: list[Judged]) -> Iterator[TradeOffRow]:
     """The rows with the names of the network from which the search went out: an exchanger of one pair keeps its name
     from row to row."""
     taken, before = taken_names(judge.case, begun.structure), begun
     for at, judged in enumerate(found):
         named = judge.of(named_like(judge.case, judged, before.structure, taken)) if judged is not begun else judged
         judged = named or judged
-        yield difference(judge.case, before, judged) if at or judged is not begun else Row(judged)
+        yield difference(judge.case, before, judged) if at or judged is not begun else TradeOffRow(judged)
         before = judged
 
 
@@ -126,10 +126,10 @@ def named(course: Course, names: Mapping[str, str]) -> Course:
     return tuple(made)
 
 
-def difference(case: Case, before: Judged, after: Judged) -> Row:
+def difference(case: Case, before: Judged, after: Judged) -> TradeOffRow:
     """What changed from one network to the next."""
     pairs = {**before.structure.pairs, **after.structure.pairs}
     gone = tuple(each for each in before.network.exchangers if each.name not in after.duties)
     come = tuple(each for each in after.network.exchangers if each.name not in before.duties)
     utilities = frozenset(each.name for each in case.sources if not isinstance(each, Stream))
-    return Row(after, gone, come, shifts(pairs, before.duties, after.duties, utilities))
+    return TradeOffRow(after, gone, come, shifts(pairs, before.duties, after.duties, utilities))

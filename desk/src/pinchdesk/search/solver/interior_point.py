@@ -9,7 +9,7 @@ from collections.abc import Mapping, Sequence
 from dataclasses import replace
 from fractions import Fraction
 
-from .linear import Program, Row, allows, settled, solve, solved_at
+from .linear import Program, LinearRow, allows, settled, solve, solved_at
 
 # How much room is wanted, in units of a row's largest term; the multiples of the grain that are tried.
 ROOM, MULTIPLES = Fraction(1), (10000, 1000, 100, 10, 1)
@@ -31,8 +31,9 @@ def roomy(program: Program, values: Sequence[float], grains: Mapping[int, Fracti
 
 def with_room(program: Program) -> Program:
     """The program with a variable for the room of each row and bound, as much of it as there may be."""
-    bounds = [Row(((at, Fraction(1)),), low, high) for at, (low, high) in enumerate(zip(program.lows, program.highs))]
-    rows: list[Row] = []
+    bounds = [LinearRow(((column, Fraction(1)),), low, high)
+              for column, (low, high) in enumerate(zip(program.lows, program.highs))]
+    rows: list[LinearRow] = []
     width = len(program.lows)
     for row in (*program.rows, *bounds):
         if row.low is not None and row.low == row.high:
@@ -40,9 +41,9 @@ def with_room(program: Program) -> Program:
             continue
         largest = max(abs(factor) for _, factor in row.terms)
         if row.low is not None:
-            rows.append(Row((*row.terms, (width, -largest)), row.low, None))
+            rows.append(LinearRow((*row.terms, (width, -largest)), row.low, None))
         if row.high is not None:
-            rows.append(Row((*row.terms, (width, largest)), None, row.high))
+            rows.append(LinearRow((*row.terms, (width, largest)), None, row.high))
         width += 1
     more = width - len(program.lows)
     aim = tuple((len(program.lows) + at, Fraction(-1)) for at in range(more))

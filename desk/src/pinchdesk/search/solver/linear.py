@@ -27,7 +27,7 @@ Floats = NDArray[numpy.float64]
 
 
 @dataclass(frozen=True)
-class Row:
+class LinearRow:
     """`low <= sum of coefficient times variable <= high`; None where there is no such bound."""
 
     terms: Terms
@@ -47,7 +47,7 @@ class Program:
     lows: tuple[Fraction | None, ...]
     highs: tuple[Fraction | None, ...]
     wholes: frozenset[int]
-    rows: tuple[Row, ...]
+    rows: tuple[LinearRow, ...]
     aim: Terms
 
 
@@ -120,7 +120,7 @@ def settled(program: Program, values: Mapping[int, Fraction]) -> Program | None:
         if not within(lows[at], value, highs[at]):
             return None
         lows[at] = highs[at] = value
-    rows: list[Row] = []
+    rows: list[LinearRow] = []
     for row in program.rows:
         left = without(row, values)
         if len(left.terms) > 1:
@@ -134,14 +134,14 @@ def settled(program: Program, values: Mapping[int, Fraction]) -> Program | None:
     return replace(program, lows=tuple(lows), highs=tuple(highs), rows=tuple(rows), wholes=frozenset())
 
 
-def without(row: Row, values: Mapping[int, Fraction]) -> Row:
+def without(row: LinearRow, values: Mapping[int, Fraction]) -> LinearRow:
     """The row less what its fixed variables give."""
     gone = sum((factor * values[at] for at, factor in row.terms if at in values), Fraction(0))
     terms = tuple((at, factor) for at, factor in row.terms if at not in values and factor)
-    return Row(terms, None if row.low is None else row.low - gone, None if row.high is None else row.high - gone)
+    return LinearRow(terms, None if row.low is None else row.low - gone, None if row.high is None else row.high - gone)
 
 
-def narrow(lows: list[Fraction | None], highs: list[Fraction | None], row: Row) -> None:
+def narrow(lows: list[Fraction | None], highs: list[Fraction | None], row: LinearRow) -> None:
     """Takes a row of one variable as its bounds."""
     (at, factor), = row.terms
     low, high = (None if each is None else each / factor for each in (row.low, row.high))
@@ -228,7 +228,7 @@ def constraints_of(program: Program) -> list[LinearConstraint]:
     return [LinearConstraint(matrix, low, high)] if program.rows else []
 
 
-def matrix_of(rows: Sequence[Row], width: int) -> tuple[csr_matrix, Floats, Floats]:
+def matrix_of(rows: Sequence[LinearRow], width: int) -> tuple[csr_matrix, Floats, Floats]:
     """The rows as a matrix with both bounds, each divided by its largest coefficient."""
     data: list[float] = []
     places: tuple[list[int], list[int]] = ([], [])

@@ -9,7 +9,7 @@ from ..budget import Effort, rounded_up
 from ..solver.interior_point import roomy
 from ..solver.linear import OutOfTime, exact
 from ..solver.process import Apart
-from .model import Model
+from .model import StagedModel
 from .slots import Asked, Slot
 from .stages import model_of
 
@@ -18,10 +18,10 @@ LONG = 10 ** 9
 
 
 @dataclass(frozen=True)
-class Answer:
+class SolverAnswer:
     """An exact point of a model, with the slots that are used in it, and its number of exchangers."""
 
-    model: Model
+    model: StagedModel
     point: tuple[Fraction, ...]
 
     @property
@@ -39,11 +39,11 @@ class Answer:
 
 
 @dataclass(frozen=True)
-class Outcome:
+class SolverOutcome:
     """What came of a question: an answer, or none; what the solver says that no answer goes below; whether it is
     settled, so that there is no better one, or none at all."""
 
-    answer: Answer | None
+    answer: SolverAnswer | None
     bound: int
     settled: bool
 
@@ -55,25 +55,25 @@ class Solver:
         self.effort = effort
         self.apart = Apart()
 
-    def ask(self, asked: Asked, seconds: float, least: int | None = None, most: int | None = None) -> Outcome:
+    def ask(self, asked: Asked, seconds: float, least: int | None = None, most: int | None = None) -> SolverOutcome:
         """As few exchangers as there may be, between two numbers."""
         slice = self.effort.slice(seconds)
         model = model_of(asked)
-        none = Outcome(None, 0 if most is None else most + 1, True)
+        none = SolverOutcome(None, 0 if most is None else most + 1, True)
         if least is not None and most is not None and least > most:
             return none
         try:
             solved = self.apart.solve(model.program(least, most), slice)
         except OutOfTime as fault:
-            return Outcome(None, rounded_up(fault.bound), False)
+            return SolverOutcome(None, rounded_up(fault.bound), False)
         if solved is None:
             return none
         point = point_at(model, solved.values)
-        answer = None if point is None else Answer(model, point)
-        return Outcome(answer, rounded_up(solved.bound), solved.optimal and answer is not None)
+        answer = None if point is None else SolverAnswer(model, point)
+        return SolverOutcome(answer, rounded_up(solved.bound), solved.optimal and answer is not None)
 
 
-def point_at(model: Model, values: Sequence[float]) -> tuple[Fraction, ...] | None:
+def point_at(model: StagedModel, values: Sequence[float]) -> tuple[Fraction, ...] | None:
     """An exact point with the exchangers of these values: a vertex, or one with room where the vertex has long
     fractions."""
     program = replace(model.program(), aim=())
@@ -84,9 +84,9 @@ def point_at(model: Model, values: Sequence[float]) -> tuple[Fraction, ...] | No
     return point
 
 
-def answer_with(asked: Asked) -> Answer | None:
+def answer_with(asked: Asked) -> SolverAnswer | None:
     """An answer in which each slot that is asked for has its exchanger, and none is joined."""
     model = model_of(asked)
     used = set(model.uses.values())
     point = point_at(model, [1.0 if at in used else 0.0 for at in range(len(model.lows))])
-    return None if point is None else Answer(model, point)
+    return None if point is None else SolverAnswer(model, point)

@@ -7,12 +7,12 @@ from __future__ import annotations
 
 from collections.abc import Iterator
 
-from .model import ONE, ZERO, Model
+from .model import ONE, ZERO, StagedModel
 from .slots import Joint, Slot
-from .windows import Piece
+from .windows import WindowPiece
 
 
-def add_joints(model: Model, at: int) -> None:
+def add_joints(model: StagedModel, at: int) -> None:
     """Adds what may be joined across the cut below a window. An exchanger is joined once, and a stream that is alone
     with one other."""
     made = {joint: model.variable(ZERO, ONE, True) for joint in joints_of(model, at)}
@@ -26,7 +26,7 @@ def add_joints(model: Model, at: int) -> None:
         model.row([(use, 1) for joint, use in made.items() if joint.upper == upper], None, ONE)
 
 
-def joints_of(model: Model, at: int) -> Iterator[Joint]:
+def joints_of(model: StagedModel, at: int) -> Iterator[Joint]:
     """Pairs that may be joined across the cut below a window."""
     above, below = ({each.name: each for each in model.asked.windows[held].pieces if not each.is_level}
                     for held in (at, at + 1))
@@ -39,7 +39,7 @@ def joints_of(model: Model, at: int) -> Iterator[Joint]:
             yield from (each for each in held if above[each.other].cp >= above[each.alone].cp)
 
 
-def add_joint(model: Model, joint: Joint, slot: Slot, use: int) -> None:
+def add_joint(model: StagedModel, joint: Joint, slot: Slot, use: int) -> None:
     """One of the two exchangers that are joined: it is there, it takes all of the stream that is alone, and the other
     stream has the same range in its stage."""
     held = {each.name: each for each in model.asked.windows[slot.window].pieces}
@@ -48,7 +48,7 @@ def add_joint(model: Model, joint: Joint, slot: Slot, use: int) -> None:
         tie(model, slot, held[joint.alone], held[name], use)
 
 
-def tie(model: Model, slot: Slot, alone: Piece, piece: Piece, use: int) -> None:
+def tie(model: StagedModel, slot: Slot, alone: WindowPiece, piece: WindowPiece, use: int) -> None:
     """Where two are joined, the range of a piece in the stage is the duty over the CP of the stream that is alone."""
     cp = alone.cp / model.unit
     upper, lower = (model.states[slot.window, piece.name, slot.stage + each] for each in (0, 1))

@@ -9,7 +9,7 @@ from collections.abc import Sequence
 from dataclasses import replace
 from fractions import Fraction
 
-from .ask import Answer, Solver, answer_with
+from .ask import SolverAnswer, Solver, answer_with
 from .one_window import as_one
 from .pair_sets import PairSets
 from .slots import Asked, slots_of
@@ -28,8 +28,8 @@ class Ladder:
     """The search in one window; with a limit of cost where the uses of its utilities are open, and then `begins` is
     the window with some uses that do. With an answer already, it looks for better ones alone."""
 
-    def __init__(self, solver: Solver, window: Window, most_cost: Fraction | None = None, best: Answer | None = None,
-                 begins: Sequence[Window] = ()) -> None:
+    def __init__(self, solver: Solver, window: Window, most_cost: Fraction | None = None,
+                 best: SolverAnswer | None = None, begins: Sequence[Window] = ()) -> None:
         self.solver, self.window, self.most_cost = solver, window, most_cost
         self.until = math.inf
         self.sets = PairSets(solver, window, most_cost)
@@ -45,7 +45,7 @@ class Ladder:
         """Whether there is an answer that cannot be better, or no time for a better one."""
         return self.best is not None and (self.best.count <= self.sets.least or self.left <= 0)
 
-    def run(self, seconds: float) -> Answer:
+    def run(self, seconds: float) -> SolverAnswer:
         """An answer, in so many seconds, or in more where none was found; `TimeOver` where none was at all."""
         self.until = self.solver.effort.spent + seconds
         few = self.sets.first(seconds / 4)

@@ -6,10 +6,10 @@ from dataclasses import replace
 from fractions import Fraction
 
 from ...formats.case import Case, Side, Stream
-from .plan import Plan, Segment
+from .plan import StagedPlan, Segment
 
 
-def joined(case: Case, plan: Plan) -> Plan:
+def joined(case: Case, plan: StagedPlan) -> StagedPlan:
     """The plan with such exchangers joined, as many as there are."""
     streams = {each.name: each for each in case.streams}
     while True:
@@ -19,7 +19,7 @@ def joined(case: Case, plan: Plan) -> Plan:
         plan = merged(plan, *pair)
 
 
-def pairs_of(plan: Plan, streams: dict[str, Stream]) -> Iterator[tuple[int, int]]:
+def pairs_of(plan: StagedPlan, streams: dict[str, Stream]) -> Iterator[tuple[int, int]]:
     """Two exchangers of one pair that are one: the first is on the hot side of the other."""
     for one, first in plan.matches.items():
         for other, second in plan.matches.items():
@@ -28,7 +28,7 @@ def pairs_of(plan: Plan, streams: dict[str, Stream]) -> Iterator[tuple[int, int]
                     yield one, other
 
 
-def follows(plan: Plan, stream: Stream | None, upper: int, lower: int) -> bool:
+def follows(plan: StagedPlan, stream: Stream | None, upper: int, lower: int) -> bool:
     """Whether the branch of one exchanger goes on to the other, in the direction from hot to cold. At a level there is
     no order."""
     if stream is None or stream.latent:
@@ -39,13 +39,13 @@ def follows(plan: Plan, stream: Stream | None, upper: int, lower: int) -> bool:
     return last + 1 < len(steps) and steps[last + 1].get(second) == steps[last][first] and second not in steps[last]
 
 
-def merged(plan: Plan, one: int, other: int) -> Plan:
+def merged(plan: StagedPlan, one: int, other: int) -> StagedPlan:
     """The plan with the second exchanger taken into the first."""
     first, second = plan.matches[one], plan.matches[other]
     matches = {at: each for at, each in plan.matches.items() if at != other}
     matches[one] = replace(first, duty=first.duty + second.duty)
     segments = {name: tuple(renamed(each, one, other) for each in steps) for name, steps in plan.segments.items()}
-    return Plan(matches, segments)
+    return StagedPlan(matches, segments)
 
 
 def renamed(segment: Segment, one: int, other: int) -> Segment:

@@ -7,7 +7,7 @@ from collections.abc import Iterable
 from dataclasses import dataclass, field
 from fractions import Fraction
 
-from ..solver.linear import Program, Row, Terms
+from ..solver.linear import Program, LinearRow, Terms
 from .slots import Asked, Joint, Slot
 from .windows import Window
 
@@ -15,7 +15,7 @@ ZERO, ONE = Fraction(0), Fraction(1)
 
 
 @dataclass
-class Model:
+class StagedModel:
     """What was asked for, and the variables: of each slot the duty and whether there is an exchanger, of each joint
     whether it is used, of each sensible stream its temperature at each boundary (window, name, boundary)."""
 
@@ -24,7 +24,7 @@ class Model:
     lows: list[Fraction | None] = field(default_factory=list)
     highs: list[Fraction | None] = field(default_factory=list)
     wholes: set[int] = field(default_factory=set)
-    rows: list[Row] = field(default_factory=list)
+    rows: list[LinearRow] = field(default_factory=list)
     duties: dict[Slot, int] = field(default_factory=dict)
     uses: dict[Slot, int] = field(default_factory=dict)
     joints: dict[Joint, int] = field(default_factory=dict)
@@ -38,7 +38,7 @@ class Model:
         return len(self.lows) - 1
 
     def row(self, terms: Iterable[tuple[int, Fraction | int]], low: Fraction | None, high: Fraction | None) -> None:
-        self.rows.append(Row(tuple((at, Fraction(factor)) for at, factor in terms), low, high))
+        self.rows.append(LinearRow(tuple((at, Fraction(factor)) for at, factor in terms), low, high))
 
     @property
     def aim(self) -> Terms:
@@ -48,7 +48,7 @@ class Model:
     def program(self, least: int | None = None, most: int | None = None) -> Program:
         """The program: as few exchangers as there may be, at least and at most so many."""
         ends = (None if least is None else Fraction(least), None if most is None else Fraction(most))
-        rows = (*self.rows, Row(self.aim, *ends)) if ends != (None, None) else tuple(self.rows)
+        rows = (*self.rows, LinearRow(self.aim, *ends)) if ends != (None, None) else tuple(self.rows)
         return Program(tuple(self.lows), tuple(self.highs), frozenset(self.wholes), rows, self.aim)
 
 

@@ -4,7 +4,7 @@ from __future__ import annotations
 from dataclasses import replace
 
 from ...formats.case import Side
-from .slots import Asked, End, Slot, places
+from .slots import Asked, SlotEnd, Slot, places
 from .windows import Window
 
 
@@ -14,9 +14,9 @@ def as_one(every: Window, slots: frozenset[Slot]) -> tuple[Asked, frozenset[Slot
     hots = {each.name: each for each in every.pieces if each.side is Side.HOT}
     colds = {each.name: each for each in every.pieces if each.side is Side.COLD}
 
-    def placed(slot: Slot) -> End | None:
+    def placed(slot: Slot) -> SlotEnd | None:
         place = places(hots[slot.hot], colds[slot.cold], 1)[0]
-        return End(place) if place < 0 else None
+        return SlotEnd(place) if place < 0 else None
 
     staged = [slot for slot in slots if placed(slot) is None]
     order = {step: at for at, step in enumerate(sorted({slot.step for slot in staged}))}

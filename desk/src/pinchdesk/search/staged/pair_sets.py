@@ -7,7 +7,7 @@ from dataclasses import replace
 from fractions import Fraction
 
 from ..budget import rounded_up
-from ..solver.linear import OutOfTime, Program, Row
+from ..solver.linear import OutOfTime, Program, LinearRow
 from .ask import Solver
 from .transshipment import Pair, transshipment
 from .windows import Window
@@ -32,7 +32,7 @@ class PairSets:
     def other(self, seconds: float) -> frozenset[Pair] | None:
         """As many other pairs, by chance."""
         weights = tuple((at, Fraction(self.random.randrange(100, 200), 100)) for at in self.used.values())
-        limit = Row(self.program.aim, None, Fraction(self.count))
+        limit = LinearRow(self.program.aim, None, Fraction(self.count))
         return self.ask(replace(self.program, rows=(*self.program.rows, limit), aim=weights), seconds, GAP, False)
 
     def ask(self, program: Program, seconds: float, gap: float, is_first: bool) -> frozenset[Pair] | None:

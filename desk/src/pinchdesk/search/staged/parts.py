@@ -5,7 +5,7 @@ import random
 from collections.abc import Callable
 from dataclasses import replace
 
-from .ask import Answer, Solver
+from .ask import SolverAnswer, Solver
 from .slots import Slot, slots_of
 
 # How many slots are free at first, and for how long the solver may think of them.
@@ -16,7 +16,7 @@ SECONDS = 10.0
 class Parts:
     """The search around an answer. Each better one is handed to `taking`."""
 
-    def __init__(self, solver: Solver, answer: Answer, taking: Callable[[Answer], None]) -> None:
+    def __init__(self, solver: Solver, answer: SolverAnswer, taking: Callable[[SolverAnswer], None]) -> None:
         self.solver, self.answer, self.taking = solver, answer, taking
         self.slots = slots_of(answer.asked)
         self.random = random.Random(1)

@@ -6,7 +6,7 @@ from dataclasses import dataclass
 from fractions import Fraction
 
 from ...formats.case import Case, Side, Stream
-from .model import Model
+from .model import StagedModel
 from .slots import Slot
 
 
@@ -24,7 +24,7 @@ Segment = Mapping[int, Fraction]
 
 
 @dataclass(frozen=True)
-class Plan:
+class StagedPlan:
     """Exchangers by their numbers, and the segments of each stream from its supply on. At the end of a segment all
     branches have one state. An exchanger may stand in several segments, one behind the other, with one size: its
     branch goes through."""
@@ -33,7 +33,7 @@ class Plan:
     segments: Mapping[str, tuple[Segment, ...]]
 
 
-def plan_of(case: Case, model: Model, point: Sequence[Fraction]) -> Plan:
+def plan_of(case: Case, model: StagedModel, point: Sequence[Fraction]) -> StagedPlan:
     """The plan of a point of a model."""
     slots = sorted(slot for slot, at in model.duties.items() if point[at] > 0)
     duties = {slot: point[model.duties[slot]] * model.unit for slot in slots}
@@ -50,7 +50,7 @@ def plan_of(case: Case, model: Model, point: Sequence[Fraction]) -> Plan:
             heat = sum((duties[slot] for slot in group), Fraction(0))
             steps.append({numbers[slot]: stream.cp * duties[slot] / heat for slot in group})
         segments[stream.name] = tuple(steps)
-    return Plan(matches, segments)
+    return StagedPlan(matches, segments)
 
 
 def in_order(slots: Sequence[Slot], stream: Stream) -> list[list[Slot]]:

@@ -6,10 +6,10 @@ from collections.abc import Iterator, Sequence
 from dataclasses import dataclass
 from fractions import Fraction
 
-from .windows import Piece, Window
+from .windows import WindowPiece, Window
 
 
-class End(enum.IntEnum):
+class SlotEnd(enum.IntEnum):
     """Places of an exchanger that are no stage: at the hot end of a cold stream, at the cold end of a hot one, and
     between two levels."""
 
@@ -35,7 +35,7 @@ class Slot:
     @property
     def step(self) -> tuple[int, int]:
         """Where it is from the hot end: its window, and in it the top, the stages, the bottom."""
-        return (self.window, self.stage if self.stage >= 0 else 10 ** 6 if self.stage == End.BOTTOM else -1)
+        return (self.window, self.stage if self.stage >= 0 else 10 ** 6 if self.stage == SlotEnd.BOTTOM else -1)
 
 
 @dataclass(frozen=True, order=True)
@@ -65,14 +65,14 @@ class Asked:
     ends: bool = True
 
 
-def may_meet(hot: Piece, cold: Piece, window: Window) -> bool:
+def may_meet(hot: WindowPiece, cold: WindowPiece, window: Window) -> bool:
     """Whether a pair may exchange heat: it is not forbidden, and the hot one is hot enough."""
     if (hot.name, cold.name) in window.forbids:
         return False
     return hot.high > cold.low or hot.is_level and cold.is_level and hot.high == cold.low
 
 
-def capacity(hot: Piece, cold: Piece) -> int:
+def capacity(hot: WindowPiece, cold: WindowPiece) -> int:
     """The most that a pair can exchange: hot heat above the cold one's low end, cold heat below the hot one's high
     end."""
     given = hot.most if hot.is_level else hot.cp * (hot.high - max(hot.low, cold.low))
@@ -80,20 +80,20 @@ def capacity(hot: Piece, cold: Piece) -> int:
     return min(given, taken)
 
 
-def places(hot: Piece, cold: Piece, stages: int, ends: bool = True) -> Sequence[int]:
+def places(hot: WindowPiece, cold: WindowPiece, stages: int, ends: bool = True) -> Sequence[int]:
     """Where exchangers of a pair may stand in a window."""
     if hot.is_level and cold.is_level:
-        return (End.LEVELS,)
+        return (SlotEnd.LEVELS,)
     if not ends:
         return range(stages)
     if hot.is_level and hot.high >= cold.high:
-        return (End.TOP,)
+        return (SlotEnd.TOP,)
     if cold.is_level and cold.low <= hot.low:
-        return (End.BOTTOM,)
+        return (SlotEnd.BOTTOM,)
     return range(stages)
 
 
-def places_in(window: Window, at: int, stages: int, ends: bool) -> Iterator[tuple[Slot, Piece, Piece]]:
+def places_in(window: Window, at: int, stages: int, ends: bool) -> Iterator[tuple[Slot, WindowPiece, WindowPiece]]:
     """All slots of a window, each with its pieces."""
     for hot in window.hots:
         for cold in window.colds:

@@ -17,7 +17,7 @@ from ...program.run import Pinch
 from ...program.verdicts import Accepted
 from ..budget import Effort, TimeOver
 from ..reduce.simplify import simpler
-from .ask import Answer, Solver, answer_with
+from .ask import SolverAnswer, Solver, answer_with
 from .ladder import Ladder
 from .merge import joined
 from .one_window import as_one
@@ -118,7 +118,7 @@ class Search:
             self.best, self.effort.best = found, found.exchangers
             self.effort.told()
 
-    def take(self, answer: Answer | None) -> None:
+    def take(self, answer: SolverAnswer | None) -> None:
         """Writes an answer, where there is one, and offers it as it is and made simpler."""
         if answer is None:
             return
@@ -128,7 +128,7 @@ class Search:
         if less != network:
             self.offer(less)
 
-    def at_least_cost(self, ladders: Sequence[Ladder]) -> Answer | None:
+    def at_least_cost(self, ladders: Sequence[Ladder]) -> SolverAnswer | None:
         """The windows one by one, then together."""
         only = self.most_cost == self.floor
         share = self.effort.left / (3 if only else 6) / len(ladders)
@@ -139,7 +139,7 @@ class Search:
             answer = self.of_windows(ladders) or answer
         return None if answer is None else self.together(answer, self.effort.left / (1 if only else 6))
 
-    def of_windows(self, ladders: Sequence[Ladder]) -> Answer | None:
+    def of_windows(self, ladders: Sequence[Ladder]) -> SolverAnswer | None:
         """What was found for the windows, as one answer; None where there is none for one of them."""
         answers = [each.best for each in ladders if each.best is not None]
         if len(answers) < len(ladders):
@@ -150,7 +150,7 @@ class Search:
         self.take(answer)
         return answer
 
-    def together(self, answer: Answer, seconds: float) -> Answer:
+    def together(self, answer: SolverAnswer, seconds: float) -> SolverAnswer:
         """All windows of an answer together: the whole at once where it is not large, then part by part."""
         until = self.effort.spent + seconds
         asked = replace(answer.asked, slots=None)
@@ -168,7 +168,7 @@ class Search:
             self.staged = (parts.answer.count, parts.answer.asked.stages)
         return parts.answer
 
-    def at_higher_cost(self, every: Window, answer: Answer | None, uses: Mapping[str, int]) -> None:
+    def at_higher_cost(self, every: Window, answer: SolverAnswer | None, uses: Mapping[str, int]) -> None:
         """The whole case with open utilities, from an answer at the least cost on."""
         self.staged = None
         begun = None

@@ -11,14 +11,14 @@ from fractions import Fraction
 
 from ...formats.case import Side
 from .crossing import add_joints
-from .model import ONE, ZERO, Model, unit_of
-from .slots import Asked, End, Slot, capacity, may_meet, places, places_in
-from .windows import Piece, Window
+from .model import ONE, ZERO, StagedModel, unit_of
+from .slots import Asked, SlotEnd, Slot, capacity, may_meet, places, places_in
+from .windows import WindowPiece, Window
 
 
-def model_of(asked: Asked) -> Model:
+def model_of(asked: Asked) -> StagedModel:
     """The model of some windows, together."""
-    model = Model(asked, unit_of(asked.windows))
+    model = StagedModel(asked, unit_of(asked.windows))
     for at, window in enumerate(asked.windows):
         add_window(model, at, window, asked.stages[at])
     for at in range(len(asked.windows) - 1):
@@ -30,7 +30,7 @@ def model_of(asked: Asked) -> Model:
     return model
 
 
-def add_window(model: Model, at: int, window: Window, stages: int) -> None:
+def add_window(model: StagedModel, at: int, window: Window, stages: int) -> None:
     for piece in window.pieces:
         if not piece.is_level:
             add_states(model, at, piece, window, stages)
@@ -45,28 +45,28 @@ def add_window(model: Model, at: int, window: Window, stages: int) -> None:
             add_stream(model, at, piece, stages)
 
 
-def add_states(model: Model, at: int, piece: Piece, window: Window, stages: int) -> None:
+def add_states(model: StagedModel, at: int, piece: WindowPiece, window: Window, stages: int) -> None:
     """The temperatures of a stream at each boundary. Its ends are fixed, but for one at which a level may stand."""
     hot = piece.side is Side.HOT
     pairs = [(piece, each) for each in window.colds] if hot else [(each, piece) for each in window.hots]
     ends = {place for pair in pairs if may_meet(*pair, window) for place in places(*pair, 1, model.asked.ends)}
     for boundary in range(stages + 1):
-        is_high = boundary == 0 and (hot or End.TOP not in ends)
-        is_low = boundary == stages and not (hot and End.BOTTOM in ends)
+        is_high = boundary == 0 and (hot or SlotEnd.TOP not in ends)
+        is_low = boundary == stages and not (hot and SlotEnd.BOTTOM in ends)
         if stages == 0:
             is_high, is_low = hot, not hot
         low, high = (Fraction(piece.high if is_high else piece.low), Fraction(piece.low if is_low else piece.high))
         model.states[at, piece.name, boundary] = model.variable(low, high)
 
 
-def add_slot(model: Model, slot: Slot, limit: Fraction) -> None:
+def add_slot(model: StagedModel, slot: Slot, limit: Fraction) -> None:
     """A duty, and whether there is an exchanger."""
     model.duties[slot] = model.variable(ZERO, limit)
     model.uses[slot] = model.variable(ZERO, ONE, True)
     model.row([(model.duties[slot], 1), (model.uses[slot], -limit)], None, ZERO)
 
 
-def add_approach(model: Model, slot: Slot, hot: Piece, cold: Piece) -> None:
+def add_approach(model: StagedModel, slot: Slot, hot: WindowPiece, cold: WindowPiece) -> None:
     """The hot side is as warm as the cold one at both ends of an exchanger. Without one the difference is at most so
     wrong as the ranges say; where they say that it is never, there is no row."""
     if slot.stage < 0:
@@ -86,13 +86,13 @@ def add_approach(model: Model, slot: Slot, hot: Piece, cold: Piece) -> None:
             model.row([*terms, (model.uses[slot], least + level)], least, None)
 
 
-def exchangers_of(model: Model, at: int, piece: Piece) -> dict[Slot, int]:
+def exchangers_of(model: StagedModel, at: int, piece: WindowPiece) -> dict[Slot, int]:
     """The slots of a piece with their duties."""
     return {slot: held for slot, held in model.duties.items()
             if slot.window == at and piece.name == (slot.hot if piece.side is Side.HOT else slot.cold)}
 
 
-def add_level(model: Model, at: int, piece: Piece) -> None:
+def add_level(model: StagedModel, at: int, piece: WindowPiece) -> None:
     """A level gives or takes in all what it has."""
     duties = exchangers_of(model, at, piece)
     model.row([(held, 1) for held in duties.values()], piece.least / model.unit, piece.most / model.unit)
@@ -100,7 +100,7 @@ def add_level(model: Model, at: int, piece: Piece) -> None:
         model.row([(model.uses[slot], 1) for slot in duties], ONE, None)
 
 
-def add_stream(model: Model, at: int, piece: Piece, stages: int) -> None:
+def add_stream(model: StagedModel, at: int, piece: WindowPiece, stages: int) -> None:
     """A stream gives or takes in each stage what its temperatures say, and at its end what is left."""
     duties = exchangers_of(model, at, piece)
     cp = piece.cp / model.unit

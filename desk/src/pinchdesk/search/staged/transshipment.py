@@ -8,9 +8,9 @@ from fractions import Fraction
 
 from ...formats.case import Side
 from ..solver.linear import Program
-from .model import ONE, ZERO, Model, unit_of
+from .model import ONE, ZERO, StagedModel, unit_of
 from .slots import Asked, capacity, may_meet
-from .windows import Piece, Window
+from .windows import WindowPiece, Window
 
 Pair = tuple[str, str]
 Band = tuple[int, int]
@@ -29,14 +29,14 @@ def bands_of(window: Window) -> list[Band]:
     return made
 
 
-def is_in(piece: Piece, band: Band) -> bool:
+def is_in(piece: WindowPiece, band: Band) -> bool:
     high, low = band
     if piece.is_level or high == low:
         return piece.is_level and high == low == piece.high
     return piece.low < high <= piece.high
 
 
-def heat_in(piece: Piece, band: Band) -> int:
+def heat_in(piece: WindowPiece, band: Band) -> int:
     """What of a piece is in a band, at most."""
     if not is_in(piece, band):
         return 0
@@ -49,12 +49,12 @@ class Transshipment:
     the cold side."""
 
     window: Window
-    model: Model
+    model: StagedModel
     bands: list[Band]
     used: dict[Pair, int] = field(default_factory=dict)
     duties: dict[tuple[Pair, Band], int] = field(default_factory=dict)
 
-    def add_pair(self, hot: Piece, cold: Piece) -> None:
+    def add_pair(self, hot: WindowPiece, cold: WindowPiece) -> None:
         pair = (hot.name, cold.name)
         limit = Fraction(min(capacity(hot, cold), self.window.total)) / self.model.unit
         self.used[pair] = self.model.variable(ZERO, ONE, True)
@@ -65,21 +65,21 @@ class Transshipment:
         held = [(at, ONE) for (each, _), at in self.duties.items() if each == pair]
         self.model.row([*held, (self.used[pair], -limit)], None, ZERO)
 
-    def taken(self, piece: Piece, band: Band | None = None) -> list[tuple[int, Fraction]]:
+    def taken(self, piece: WindowPiece, band: Band | None = None) -> list[tuple[int, Fraction]]:
         """The duties of a piece, in a band or in all."""
         return [(at, ONE) for (pair, each), at in self.duties.items() if piece.name in pair and band in (None, each)]
 
-    def add_level(self, piece: Piece) -> None:
+    def add_level(self, piece: WindowPiece) -> None:
         unit = self.model.unit
         self.model.row(self.taken(piece), Fraction(piece.least) / unit, Fraction(piece.most) / unit)
 
-    def add_cold(self, piece: Piece) -> None:
+    def add_cold(self, piece: WindowPiece) -> None:
         for band in self.bands:
             if is_in(piece, band):
                 heat = Fraction(heat_in(piece, band)) / self.model.unit
                 self.model.row(self.taken(piece, band), heat, heat)
 
-    def add_hot(self, piece: Piece) -> None:
+    def add_hot(self, piece: WindowPiece) -> None:
         """What a hot stream has in a band it gives there or further down."""
         rest: int | None = None
         for band in self.bands:
@@ -99,7 +99,7 @@ class Transshipment:
 def transshipment(window: Window, most_cost: Fraction | None = None) -> tuple[Program, dict[Pair, int]]:
     """The program of a window and the variables of its pairs; with a cost that is not to be passed where the heat of
     the utilities is open."""
-    held = Transshipment(window, Model(Asked((window,), (0,)), unit_of((window,))), bands_of(window))
+    held = Transshipment(window, StagedModel(Asked((window,), (0,)), unit_of((window,))), bands_of(window))
     for hot in window.hots:
         for cold in window.colds:
             if may_meet(hot, cold, window):

@@ -11,18 +11,18 @@ from dataclasses import replace
 from fractions import Fraction
 
 from ..solver.linear import Program, solve
-from .model import ONE, Model
-from .slots import Asked, End, Slot, may_meet
+from .model import ONE, StagedModel
+from .slots import Asked, SlotEnd, Slot, may_meet
 from .stages import model_of
 from .transshipment import Pair
-from .windows import Piece, Window
+from .windows import WindowPiece, Window
 
 # How often the weights are made anew; a duty of so much of the greatest heat has half the weight of none.
 ROUNDS, HALF = 12, Fraction(1, 500)
 Heats = dict[str, Fraction]
 
 
-def runs(pieces: Sequence[Piece]) -> Iterator[tuple[Fraction, Fraction, Fraction]]:
+def runs(pieces: Sequence[WindowPiece]) -> Iterator[tuple[Fraction, Fraction, Fraction]]:
     """The composite curve from the hottest end down, in runs of one slope: upper and lower temperature, and heat."""
     ends = sorted({end for each in pieces for end in (each.high, each.low)}, reverse=True)
     for at, end in enumerate(ends):
@@ -46,7 +46,7 @@ def kinks(window: Window) -> list[Fraction]:
     return sorted(held)
 
 
-def heats_between(pieces: Sequence[Piece], first: Fraction, last: Fraction) -> Heats:
+def heats_between(pieces: Sequence[WindowPiece], first: Fraction, last: Fraction) -> Heats:
     """What each piece gives or takes where the curve has between so much and so much heat above it."""
     made: Heats = {}
     above = Fraction(0)
@@ -89,7 +89,7 @@ def upright_slots(window: Window, chance: random.Random) -> tuple[int, frozenset
     for stage, (first, last) in enumerate(zip(places, places[1:])):
         given, taken = (heats_between(pieces, first, last) for pieces in (window.hots, window.colds))
         pairs = set(matched(given, taken, order, known))
-        slots |= {Slot(0, End.LEVELS if levels.issuperset(pair) else stage, *pair) for pair in pairs}
+        slots |= {Slot(0, SlotEnd.LEVELS if levels.issuperset(pair) else stage, *pair) for pair in pairs}
         known |= pairs
     return len(places) - 1, frozenset(slots)
 
@@ -115,7 +115,7 @@ def upright(asked: Asked, begin: Window, chance: random.Random) -> Asked | None:
     return replace(asked, slots=slots)
 
 
-def all_used(model: Model, aim: tuple[tuple[int, Fraction], ...]) -> Program:
+def all_used(model: StagedModel, aim: tuple[tuple[int, Fraction], ...]) -> Program:
     """The program in which each slot has its exchanger."""
     program = model.program()
     lows = list(program.lows)

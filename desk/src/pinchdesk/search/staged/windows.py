@@ -14,7 +14,7 @@ from ...formats.case import Case, Side, Source, Stream, shifted
 
 
 @dataclass(frozen=True)
-class Piece:
+class WindowPiece:
     """What of a source is in a window: a range of a sensible stream with its CP, or a level with heat from `least` to
     `most`. The price is that of a utility."""
 
@@ -41,15 +41,15 @@ class Piece:
 class Window:
     """A problem of its own: the pieces of the sources, and the pairs that may not exchange heat."""
 
-    pieces: tuple[Piece, ...]
+    pieces: tuple[WindowPiece, ...]
     forbids: frozenset[tuple[str, str]]
 
     @property
-    def hots(self) -> tuple[Piece, ...]:
+    def hots(self) -> tuple[WindowPiece, ...]:
         return tuple(each for each in self.pieces if each.side is Side.HOT)
 
     @property
-    def colds(self) -> tuple[Piece, ...]:
+    def colds(self) -> tuple[WindowPiece, ...]:
         return tuple(each for each in self.pieces if each.side is Side.COLD)
 
     @property
@@ -62,13 +62,13 @@ class Window:
 Cut = tuple[int, bool]
 
 
-def piece_of(source: Source, uses: Mapping[str, int] | None) -> Piece:
+def piece_of(source: Source, uses: Mapping[str, int] | None) -> WindowPiece:
     """The whole of a source. A utility has the heat that it is used for, or its range where no uses are given."""
     if isinstance(source, Stream):
-        return Piece(source.name, source.side, source.high, source.low, source.cp, source.heat, source.heat)
+        return WindowPiece(source.name, source.side, source.high, source.low, source.cp, source.heat, source.heat)
     level = shifted(source, source.level)
     least, most = (source.least, source.most) if uses is None else (uses[source.name],) * 2
-    return Piece(source.name, source.side, level, level, 0, least, most, source.price)
+    return WindowPiece(source.name, source.side, level, level, 0, least, most, source.price)
 
 
 def whole(case: Case, uses: Mapping[str, int] | None) -> Window:
@@ -93,12 +93,12 @@ def cuts_of(window: Window) -> Iterator[Cut]:
         yield (place, True)
 
 
-def is_above(piece: Piece, cut: Cut) -> bool:
+def is_above(piece: WindowPiece, cut: Cut) -> bool:
     """Whether a level is above a cut."""
     return piece.high > cut[0] or piece.high == cut[0] and cut[1]
 
 
-def heat_above(piece: Piece, cut: Cut) -> int:
+def heat_above(piece: WindowPiece, cut: Cut) -> int:
     if piece.is_level:
         return piece.most if is_above(piece, cut) else 0
     return piece.cp * max(0, piece.high - max(piece.low, cut[0]))
@@ -115,7 +115,7 @@ def between(window: Window, upper: Cut | None, lower: Cut | None) -> Window:
     return Window(tuple(each for each in held if each), window.forbids)
 
 
-def part(piece: Piece, upper: Cut | None, lower: Cut | None) -> Piece | None:
+def part(piece: WindowPiece, upper: Cut | None, lower: Cut | None) -> WindowPiece | None:
     """What of a piece is between two cuts; None where that is nothing."""
     if piece.is_level:
         outside = upper is not None and is_above(piece, upper) or lower is not None and not is_above(piece, lower)
@@ -125,4 +125,4 @@ def part(piece: Piece, upper: Cut | None, lower: Cut | None) -> Piece | None:
     if high <= low:
         return None
     heat = piece.cp * (high - low)
-    return Piece(piece.name, piece.side, high, low, piece.cp, heat, heat)
+    return WindowPiece(piece.name, piece.side, high, low, piece.cp, heat, heat)

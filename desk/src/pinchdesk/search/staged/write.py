@@ -6,16 +6,16 @@ from fractions import Fraction
 
 from ...formats.case import Case, Stream
 from ...formats.network import End, Exchanger, Mix, Network, Pass, Split, Statement
-from .plan import Match, Plan
+from .plan import Match, StagedPlan
 
 # A branch has a dotted name of at most 16 letters and digits behind the dot.
 LONGEST = 10
 
 
-class Writer:
+class PlanWriter:
     """Writes the streams of a plan, one after the other."""
 
-    def __init__(self, case: Case, plan: Plan) -> None:
+    def __init__(self, case: Case, plan: StagedPlan) -> None:
         self.plan = plan
         self.streams = {each.name: each for each in case.streams}
         self.names = dict(names_of(plan.matches, self.streams))
@@ -87,6 +87,6 @@ def names_of(matches: Mapping[int, Match], streams: Mapping[str, Stream]) -> Ite
         yield at, f'{kind}{counts[kind]}'
 
 
-def written(case: Case, plan: Plan) -> Network:
+def written(case: Case, plan: StagedPlan) -> Network:
     """The network of a plan."""
-    return Writer(case, plan).network()
+    return PlanWriter(case, plan).network()
