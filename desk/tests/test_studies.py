@@ -134,9 +134,9 @@ prices = some.decimals(-500, 500, places=2)
 
 def fit(told: list[Decimal], divisor: int, largest: int) -> bool:
     """Whether a case has room for these prices of its study beside its own largest one, all made whole."""
-    whole = [price * divisor for price in told]
+    whole = [abs(price) * divisor for price in told]
     times = next(10 ** digits for digits in range(4) if all(price * 10 ** digits % 1 == 0 for price in whole))
-    return times * max(largest, *map(abs, whole)) <= 10 ** 6
+    return times * max([Decimal(largest), *whole]) <= 10 ** 6
 
 
 @given(some.lists(prices, min_size=1, max_size=3), prices,
