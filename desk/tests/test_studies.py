@@ -135,7 +135,7 @@ prices = some.decimals(-500, 500, places=2)
 def fit(told: list[Decimal], divisor: int, largest: int) -> bool:
     """Whether a case has room for these prices of its study beside its own largest one, all made whole."""
     whole = [abs(price) * divisor for price in told]
-    times = next(10 ** digits for digits in range(4) if all(price * 10 ** digits % 1 == 0 for price in whole))
+    times: int = next(10 ** digits for digits in range(4) if all(price * 10 ** digits % 1 == 0 for price in whole))
     return times * max([Decimal(largest), *whole]) <= 10 ** 6
 
 
