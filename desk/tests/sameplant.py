@@ -12,11 +12,12 @@ from fractions import Fraction
 from html.parser import HTMLParser
 from pathlib import Path
 
-from pinchdesk import Case, Exchanger, Network, Pinch, Split, case_of_table, print_case, print_network, read_network
+from pinchdesk import Case, Network, Pinch, print_case, print_network, read_network
 from pinchdesk.cli.main import parser
-from pinchdesk.tables.convert import Wanted
-from pinchdesk.formats.shown import decimal
 from pinchdesk.cli.word import Answer
+from pinchdesk.formats.network import Exchanger, Split
+from pinchdesk.formats.shown import decimal
+from pinchdesk.tables.convert import Wanted, case_of_table
 
 # The plant in °C, kW/K and kW, with prices per W.
 SOURCES = '''hot H1 170 60 30 - - - -

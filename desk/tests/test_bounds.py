@@ -12,10 +12,13 @@ from hypothesis import given
 from hypothesis import strategies as st
 from tabled import refusal
 
-from pinchdesk import Basis, Refused, Wanted, case_of_table, print_case, read_case, read_changes
+from pinchdesk import Refused, print_case, read_case
+from pinchdesk.analysis.change_table import read_changes
 from pinchdesk.cli.main import main
 from pinchdesk.formats.amounts import LONGEST, exact
+from pinchdesk.formats.case import Basis
 from pinchdesk.program.causes import lines_of
+from pinchdesk.tables.convert import Wanted, case_of_table
 
 TC3, TABLE = str(EXAMPLES / 'tc3.csv'), str(EXAMPLES / 'table.csv')
 Desk = Callable[..., Done]
@@ -40,10 +43,10 @@ def desk(capfd: pytest.CaptureFixture[str]) -> Desk:
 def test_a_number_is_exact_or_none(value: object) -> None:
     text = str(value)
     try:
-        held = exact(text)
+        number = exact(text)
     except ValueError:
-        return
-    assert len(text.strip()) <= LONGEST and held == Fraction(text.strip()) and text.isascii()
+        number = None
+    assert number is None or len(text.strip()) <= LONGEST and number == Fraction(text.strip()) and text.isascii()
 
 
 @pytest.mark.parametrize('text', HUGE)

@@ -7,9 +7,9 @@ import pytest
 from conftest import pinchdesk
 from tabled import workbook
 
-from pinchdesk import Refused, read_changes
+from pinchdesk import Refused
+from pinchdesk.analysis.change_table import CaseScenarios, read_changes
 from pinchdesk.formats.comments import Basis
-from pinchdesk.analysis.change_table import CaseScenarios
 
 HEAD = 'scenario;source;field;value\n'
 

@@ -9,8 +9,8 @@ from conftest import example
 
 from pinchdesk import WordsError
 from pinchdesk.batch.cluster import Cluster
-from pinchdesk.program.digests import digests
 from pinchdesk.batch.job import File, Job, JobOutcome
+from pinchdesk.program.digests import digests
 
 
 class KilledWorker(Exception):

@@ -13,14 +13,14 @@ from hypothesis import strategies as some
 from looking import cut_off, line_of, lines_named, overlapping, svg_texts, texts_of
 from matplotlib.figure import Figure
 
-from pinchdesk import (Case, Curves, Cut, HeatFlow, Pinch, Side, Stream, Targets, Utility, completed, print_case,
-                       read_case)
+from pinchdesk import Case, Cut, Pinch, Side, Stream, Utility, completed, print_case, read_case
+from pinchdesk.analysis.pinch_places import temperatures_at
 from pinchdesk.figures import balanced_figure, composite_figure, curves_figure, grand_figure
 from pinchdesk.figures.labels import meets
 from pinchdesk.figures.utilities_used import Drawn, balanced, drawn_of, on_curve, stairs
-from pinchdesk.analysis.pinch_places import temperatures_at
-from pinchdesk.report.answer_sheets import targets_sheets
 from pinchdesk.formats.shown import Shown
+from pinchdesk.program.answers import Curves, HeatFlow, Targets
+from pinchdesk.report.answer_sheets import targets_sheets
 
 FURNACE = b"""contribution,,50,,,,
 cold,C1,200,1350,200,,

@@ -5,12 +5,13 @@ from pathlib import Path
 
 import pytest
 
-from pinchdesk import Pinch, Rejected, TooFine, completed, follow, read_case, read_network
-from pinchdesk.report.exchangers import exchangers_sheet, streams_sheet
+from pinchdesk import Pinch, Rejected, completed, follow, read_case, read_network
 from pinchdesk.analysis.findings import finding_of
-from pinchdesk.report.answer_sheets import audit_sheets
-from pinchdesk.report.sheet import as_text
 from pinchdesk.formats.shown import Shown
+from pinchdesk.program.verdicts import TooFine
+from pinchdesk.report.answer_sheets import audit_sheets
+from pinchdesk.report.exchangers import exchangers_sheet, streams_sheet
+from pinchdesk.report.sheet import as_text
 
 PLAIN = 'contribution,,50,,,,\nhot,H,1000,500,10,,\ncold,C,300,700,10,,\n'
 LATENT = 'contribution,,50,,,,\nhot,H,1500,700,10,,\ncold,B,900,900,0,8000,\n'

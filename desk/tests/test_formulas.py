@@ -15,11 +15,10 @@ from hypothesis import given
 from hypothesis import strategies as some
 from tabled import made, streams
 
-from pinchdesk import Sheet, rendered
 from pinchdesk.cli.main import main
-from pinchdesk.text import plain, read_again
-from pinchdesk.report.sheet import Cell
+from pinchdesk.report.sheet import Cell, Sheet, rendered
 from pinchdesk.tables.spreadsheet import read_table
+from pinchdesk.text import plain, read_again
 
 BEGINNINGS = ('=', '+', '-', '@', '\t')
 texts = some.text(some.sampled_from("=+-@'\taZ1, ;\"\r\n＝"), max_size=6)

@@ -1,4 +1,5 @@
-"""The house: a package uses only packages below it, and no two modules and no two classes have one name."""
+"""The house: a package uses only packages below it, no two modules and no two classes have one name, no test imports
+a test."""
 from __future__ import annotations
 
 import ast
@@ -60,3 +61,19 @@ def test_no_two_classes_have_one_name() -> None:
     counts = Counter(node.name for module in modules() for node in ast.walk(tree_of(module))
                      if isinstance(node, ast.ClassDef))
     assert not [name for name, count in counts.items() if count > 1]
+
+
+def test_no_test_imports_a_test() -> None:
+    """What tests share stands in plain modules beside them."""
+    wrong = [(path.name, name) for path in sorted((DESK / 'tests').glob('*.py'))
+             for name in imported_by(ast.parse(path.read_text(encoding='utf-8'))) if name.startswith('test_')]
+    assert not wrong
+
+
+def imported_by(tree: ast.Module) -> Iterator[str]:
+    """The modules that a file names in an import, wherever it stands."""
+    for node in ast.walk(tree):
+        if isinstance(node, ast.Import):
+            yield from (alias.name for alias in node.names)
+        elif isinstance(node, ast.ImportFrom):
+            yield node.module or ''

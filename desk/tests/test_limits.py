@@ -11,7 +11,9 @@ import pytest
 from conftest import CASES, example, held, pinchdesk
 from tabled import TEN, made, refusal, saved, streams, workbook
 
-from pinchdesk import Pinch, Refused, read_case, read_changes, what_if
+from pinchdesk import Pinch, Refused, read_case
+from pinchdesk.analysis.change_table import read_changes
+from pinchdesk.analysis.what_if import what_if
 from pinchdesk.formats.comments import Basis
 from pinchdesk.tables.convert import Wanted, checked
 from pinchdesk.tables.roundings import exact_targets, span_of

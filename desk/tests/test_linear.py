@@ -10,7 +10,7 @@ from hypothesis import strategies as some
 from pinchdesk import ProgramError
 from pinchdesk.search.solver import linear, process
 from pinchdesk.search.solver.elimination import Elimination, Inconsistent
-from pinchdesk.search.solver.linear import Program, LinearRow, Terms
+from pinchdesk.search.solver.linear import LinearRow, Program, Terms
 
 ONE = Fraction(1)
 

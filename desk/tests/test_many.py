@@ -20,13 +20,13 @@ from tabled import workbook
 
 import pinchdesk
 from pinchdesk import Pinch, Refused, WordsError, read_case
-from pinchdesk.cli.main import main
-from pinchdesk.program.digests import digests
 from pinchdesk.batch.facts import facts_of
 from pinchdesk.batch.job import TRIES, File, Job, done
-from pinchdesk.report.sheet import Sheet
 from pinchdesk.batch.taking import options_of
+from pinchdesk.cli.main import main
 from pinchdesk.cli.word import Answer, Word
+from pinchdesk.program.digests import digests
+from pinchdesk.report.sheet import Sheet
 
 LIST = str(EXAMPLES / 'list.txt')
 Desk = Callable[..., Done]

@@ -15,7 +15,8 @@ from hypothesis import event, given, settings
 from hypothesis import strategies as some
 from tabled import made, workbook
 
-from pinchdesk import Basis, Case, Refused, Side, Stream, read_case
+from pinchdesk import Case, Refused, Side, Stream, read_case
+from pinchdesk.formats.case import Basis
 from pinchdesk.tables.convert import Wanted
 
 HEAD = ['kind', 'name', 'supply', 'target', 'CP', 'duty', 'contribution', 'least', 'most', 'price']

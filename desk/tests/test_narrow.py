@@ -81,7 +81,8 @@ def test_letters_of_all_pictures_can_be_read(driver: Any, page: Path, screen: in
 def smallest(name: str) -> float:
     """The size of the smallest letters of a picture of the page, in points, where it is not scaled."""
     from matplotlib.text import Text
-    from pinchdesk import Pinch, completed, follow, pinches_of, read_case, read_network
+    from pinchdesk import Pinch, completed, follow, read_case, read_network
+    from pinchdesk.analysis.follow import pinches_of
     from pinchdesk.figures import balanced_figure, composite_figure, grand_figure
     pinch, content, text = Pinch(), example('crude.csv'), example('crude-network.txt')
     case = completed(read_case(content))

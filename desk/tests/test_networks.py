@@ -10,11 +10,13 @@ from pathlib import Path
 import pytest
 from conftest import EXAMPLES, example, pinchdesk
 
-from pinchdesk import Accepted, Basis, Cut, Pinch, Shown, completed, find_network, read_case, read_network, tradeoff
-from pinchdesk.search.staged import windows
-from pinchdesk.search.find import NoNetwork
-from pinchdesk.search.staged.merge import joined
+from pinchdesk import Accepted, Cut, Pinch, completed, find_network, read_case, read_network, tradeoff
+from pinchdesk.formats.case import Basis
+from pinchdesk.formats.shown import Shown
 from pinchdesk.search.accepted import NotAccepted
+from pinchdesk.search.find import NoNetwork
+from pinchdesk.search.staged import windows
+from pinchdesk.search.staged.merge import joined
 from pinchdesk.search.staged.plan import Match, StagedPlan
 from pinchdesk.search.staged.write import written
 

@@ -11,10 +11,10 @@ import pytest
 from conftest import EXAMPLES, Done, example, pinchdesk
 
 from pinchdesk import Accepted, Pinch, read_case
-from pinchdesk.report.pdf import as_pdf, browser, run_browser
 from pinchdesk.cli.main import main
-from pinchdesk.report.page import Given, page_of
 from pinchdesk.formats.shown import Shown
+from pinchdesk.report.page import Given, page_of
+from pinchdesk.report.pdf import as_pdf, browser, run_browser
 
 STEAM = ('two-reactors-steam.csv', 'two-reactors-steam-network.txt')
 WITH_BROWSER = pytest.mark.skipif(browser() is None, reason='no browser to look at the page with')

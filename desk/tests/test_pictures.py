@@ -7,44 +7,20 @@ from fractions import Fraction
 from time import process_time
 
 import pytest
+from branched import THREE, THREE_NETWORK
 from conftest import NETWORKS, example
 from looking import bars_of, cut_off, dashed_of, overlapping, svg_texts, texts_of
 from matplotlib.figure import Figure
 
-from pinchdesk import (Accepted, Pinch, Rejected, WordsError, completed, follow, pinches_of, read_case, read_network,
-                       read_site)
-from pinchdesk.program.answers import Prices, Segment, SpanAnswer
+from pinchdesk import Accepted, Pinch, Rejected, WordsError, completed, follow, read_case, read_network
+from pinchdesk.analysis.follow import pinches_of
 from pinchdesk.figures import grid_figure, prices_figure, rendered, site_figure, sweep_figure
 from pinchdesk.figures.grid.layout import plan_of
 from pinchdesk.figures.labels import meets
 from pinchdesk.figures.style import ACROSS, FAULT
 from pinchdesk.formats.shown import Shown
-
-# Three branches of 50, 30 and 20 %; two pinches; a stream that begins at the lower one.
-THREE = b"""contribution,,0,,,,
-hot,H,2000,1000,100,,
-cold,A,500,1000,100,,
-cold,B,500,1000,60,,
-cold,D,500,1000,40,,
-"""
-THREE_NETWORK = b"""exchanger E1 H A 50000
-exchanger E2 H B 30000
-exchanger E3 H D 20000
-split H a 50 r
-split r b 30 c
-pass a E1 a2
-pass b E2 b2
-pass c E3 c2
-mix a2 b2 m
-mix m c2 n
-end n
-pass A E1 x
-end x
-pass B E2 y
-end y
-pass D E3 z
-end z
-"""
+from pinchdesk.formats.site import read_site
+from pinchdesk.program.answers import Prices, Segment, SpanAnswer
 
 
 def grid(pinch: Pinch, content: bytes, text: bytes, most: int = 60) -> Figure:

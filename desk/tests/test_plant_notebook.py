@@ -10,11 +10,12 @@ from typing import Any
 import pytest
 from conftest import EXAMPLES, example
 
-from pinchdesk import Pinch, Plant, Refused, Sheet, WordsError, print_case, read
+from pinchdesk import Pinch, Plant, Refused, WordsError, print_case, read
 from pinchdesk.plant.given import FileGiven, as_text
 from pinchdesk.plant.plant_answer import PlantAnswer
 from pinchdesk.program.answers import HeatFlow
 from pinchdesk.program.verdicts import Accepted
+from pinchdesk.report.sheet import Sheet
 
 PREHEATER, NETWORK = EXAMPLES / 'preheater.csv', EXAMPLES / 'preheater-network.txt'
 LEVELS = EXAMPLES / 'two-steam-levels.csv'

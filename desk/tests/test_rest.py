@@ -10,12 +10,14 @@ from conftest import CASES, NETWORKS, example, held
 from hypothesis import given, settings
 from hypothesis import strategies as st
 
-from pinchdesk import (Accepted, Case, Cut, End, Exchanger, HeatFlow, Mix, Network, Pass, Pinch, Refused, Rejected,
-                       Rest, Split, Stream, completed, print_case, read_case, read_network, remaining, rest_sheets,
-                       written_case)
-from pinchdesk.cli.main import main
+from pinchdesk import (Accepted, Case, Cut, Network, Pinch, Refused, Rejected, Stream, completed, print_case, read_case,
+                       read_network)
 from pinchdesk.analysis.open_branches import Rounding, rest_case, scale_of
-from pinchdesk.report.rest_sheets import file_notes, rounding_notes
+from pinchdesk.analysis.rest import Rest, remaining, written_case
+from pinchdesk.cli.main import main
+from pinchdesk.formats.network import End, Exchanger, Mix, Pass, Split
+from pinchdesk.program.answers import HeatFlow
+from pinchdesk.report.rest_sheets import file_notes, rest_sheets, rounding_notes
 
 FOUR = example('four-stream.csv')
 AHEAD = 'exchanger E1 H2 C3 240000\npass H2 E1 a\npass C3 E1 b\nend b\n'

@@ -11,10 +11,11 @@ from pathlib import Path
 import pytest
 from sameplant import PLAIN, STYLES, Files, Page, Told, cells_of, csv_cells, files_of, texts_of, token_of
 
-from pinchdesk import Pinch, Refused, read_case, read_site
+from pinchdesk import Pinch, Refused, read_case
 from pinchdesk.cli.main import main
 from pinchdesk.cli.word import Answer
 from pinchdesk.cli.words import SINGLE
+from pinchdesk.formats.site import read_site
 
 Parts = list[Told | str]
 # Columns of mere numbers: how many there are of something.

@@ -6,8 +6,9 @@ from fractions import Fraction
 import pytest
 from conftest import CASES, NETWORKS, example
 
-from pinchdesk import (Accepted, Cut, Followed, Pinch, PinchSide, Place, PlaceKind, Rejected, Verdict, completed,
-                       follow, pinches_of, read_case, read_network)
+from pinchdesk import Accepted, Cut, Pinch, Rejected, completed, follow, read_case, read_network
+from pinchdesk.analysis.follow import Followed, PinchSide, pinches_of
+from pinchdesk.program.verdicts import Place, PlaceKind, Verdict
 
 SMALL = 'contribution,,50,,,,\nhot,H,1000,500,10,,\ncold,C,300,700,10,,\n'
 LATENT = 'contribution,,50,,,,\nhot,H,1500,700,10,,\ncold,B,900,900,0,8000,\n'

@@ -7,16 +7,18 @@ from fractions import Fraction
 from pathlib import Path
 
 import pytest
+from captured import Captured
 from conftest import example
-from hypothesis import given
+from hypothesis import assume, given
 from hypothesis import strategies as some
 from looking import svg_texts
-from test_words import Captured
 
 import pinchdesk
-from pinchdesk import (Basis, Pinch, Refused, PriceScenario, PriceScenarioAnswer, Span, SpanAnswer, Study, print_study,
-                       read_case, read_study)
+from pinchdesk import Case, Pinch, Refused, read_case
 from pinchdesk.figures import prices_figure
+from pinchdesk.formats.case import Basis
+from pinchdesk.formats.study import PriceScenario, Span, Study, print_study, read_study
+from pinchdesk.program.answers import PriceScenarioAnswer, SpanAnswer
 from pinchdesk.tables.study_prices import studied
 
 PLANT = ('Stream;Kind;Supply (°C);Target (°C);CP (kW/K);Price (EUR/MWh)\n'
@@ -130,43 +132,62 @@ def test_studies_of_a_notebook_are_per_watt(plant: Path, pinch: Pinch) -> None:
 
 
 prices = some.decimals(-500, 500, places=2)
+divisors = some.sampled_from([1, 2, 10, 25, 1000])
+units = some.sampled_from(['EUR/MWh', 'per kWh', '€/(kW a)'])
 
 
-def fit(told: list[Decimal], divisor: int, largest: int) -> bool:
+def priced_in(case: Case, unit: str, divisor: int) -> Case:
+    """The case with prices and costs in a unit, of which so many are one of the program's."""
+    return replace(case, basis=Basis(price_unit=unit, price_divisor=Fraction(divisor), cost_unit='EUR/h',
+                                     cost_divisor=Fraction(divisor)))
+
+
+def study_text(unit: str, asked: list[Decimal], start: Decimal) -> str:
+    rows = [f'scenario,S{at},,\nprice,HP,{price},' for at, price in enumerate(asked)]
+    return '\n'.join([f'#price,{unit},,', *rows, f'span,LP,{start},{start + 1}', ''])
+
+
+def fit(asked: list[Decimal], start: Decimal, divisor: int, case: Case) -> bool:
     """Whether a case has room for these prices of its study beside its own largest one, all made whole."""
-    whole = [abs(price) * divisor for price in told]
+    largest = max(utility.price for utility in case.utilities)
+    whole = [abs(price) * divisor for price in (*asked, start, start + 1)]
     times: int = next(10 ** digits for digits in range(4) if all(price * 10 ** digits % 1 == 0 for price in whole))
     return times * max([Decimal(largest), *whole]) <= 10 ** 6
 
 
-@given(some.lists(prices, min_size=1, max_size=3), prices,
-       some.sampled_from([1, 2, 10, 25, 1000]), some.sampled_from(['EUR/MWh', 'per kWh', '€/(kW a)']))
-def test_the_answer_is_that_of_the_same_prices_per_watt(held: list[Decimal], start: Decimal, divisor: int,
+too_fine = some.integers(20_000, 24_999).map(lambda half: Decimal(2 * half + 1) / 100)
+too_large = some.decimals(1001, 5000, places=2)
+
+
+@given(some.one_of(some.tuples(too_fine, some.just(25)), some.tuples(too_large, some.just(1000))),
+       some.lists(prices, max_size=2), prices, units)
+def test_prices_for_which_a_case_has_no_room_are_refused(odd: tuple[Decimal, int], others: list[Decimal],
+                                                         start: Decimal, unit: str) -> None:
+    (price, divisor), case = odd, read_case(STEAM)
+    assert not fit([*others, price], start, divisor, case)
+    with pytest.raises(Refused, match='is too large or too fine'):
+        studied(study_text(unit, [*others, price], start).encode(), priced_in(case, unit, divisor))
+
+
+@given(some.lists(prices, min_size=1, max_size=3), prices, divisors, units)
+def test_the_answer_is_that_of_the_same_prices_per_watt(asked: list[Decimal], start: Decimal, divisor: int,
                                                         unit: str) -> None:
     """The plant of two steam levels with its prices in a unit, and as the program has them, a thousand times as
     fine."""
     pinch, case = Pinch(), read_case(STEAM)
-    priced = replace(case, basis=Basis(price_unit=unit, price_divisor=Fraction(divisor), cost_unit='EUR/h',
-                                       cost_divisor=Fraction(divisor)))
-    rows = [f'scenario,S{at},,\nprice,HP,{price},' for at, price in enumerate(held)]
-    text = '\n'.join([f'#price,{unit},,', *rows, f'span,LP,{start},{start + 1}', ''])
-    if not fit([*held, start, start + 1], divisor, max(utility.price for utility in case.utilities)):
-        with pytest.raises(Refused, match='is too large or too fine'):
-            studied(text.encode(), priced)
-        return
-    asked = studied(text.encode(), priced)
-    answers = pinch.prices(asked.case, asked.content).answers
-    fine = replace(case, utilities=tuple(replace(each, price=each.price * 1000) for each in case.utilities))
-    whole = Study(tuple(PriceScenario(f'S{at}', (('HP', int(price * divisor * 1000)),)) for at, price in enumerate(held)
-                        if abs(price * divisor * 1000) <= 10 ** 6))
-    if len(whole.items) == len(held):
-        wanted = pinch.prices(fine, whole).answers
-        for answer, want in zip(answers, wanted):
-            assert isinstance(answer, PriceScenarioAnswer) and isinstance(want, PriceScenarioAnswer)
-            assert answer.cost is not None and want.cost is not None
-            assert Fraction(answer.cost) / asked.case.basis.cost_divisor == Fraction(want.cost, 1000 * divisor)
+    assume(fit(asked, start, divisor, case))
+    study = studied(study_text(unit, asked, start).encode(), priced_in(case, unit, divisor))
+    answers = pinch.prices(study.case, study.content).answers
+    fine = replace(case, utilities=tuple(replace(utility, price=utility.price * 1000) for utility in case.utilities))
+    whole = Study(tuple(PriceScenario(f'S{at}', (('HP', int(price * divisor * 1000)),))
+                        for at, price in enumerate(asked) if abs(price * divisor * 1000) <= 10 ** 6))
+    if len(whole.items) == len(asked):
+        for answer, wanted in zip(answers, pinch.prices(fine, whole).answers):
+            assert isinstance(answer, PriceScenarioAnswer) and isinstance(wanted, PriceScenarioAnswer)
+            assert answer.cost is not None and wanted.cost is not None
+            assert Fraction(answer.cost) / study.case.basis.cost_divisor == Fraction(wanted.cost, 1000 * divisor)
     span = answers[-1]
     assert isinstance(span, SpanAnswer)
-    first, last = span.segments[0].first, span.segments[-1].last
-    assert [Fraction(each) / asked.case.basis.price_divisor for each in (first, last)] == [start, start + 1]
-    assert isinstance(read_study(asked.content).items[-1], Span)
+    ends = (span.segments[0].first, span.segments[-1].last)
+    assert [Fraction(price) / study.case.basis.price_divisor for price in ends] == [start, start + 1]
+    assert isinstance(read_study(study.content).items[-1], Span)

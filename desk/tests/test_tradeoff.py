@@ -9,26 +9,28 @@ from fractions import Fraction
 from pathlib import Path
 
 import pytest
+from branched import THREE, THREE_NETWORK
+from captured import Captured
 from conftest import EXAMPLES, NETWORKS, example
 from hypothesis import given
 from hypothesis import strategies as st
 from looking import cut_off, overlapping, svg_texts
-from test_pictures import THREE, THREE_NETWORK
-from test_words import Captured
 
-from pinchdesk import (Accepted, Case, Exchanger, Network, Pinch, Refused, completed, print_network, read_case,
-                       read_network, simpler, tradeoff)
-from pinchdesk.search.reduce.moves import later, structures, unsplit, with_ends
-from pinchdesk.search.reduce.least_cost import Costed, cheapest, cheapest_of
-from pinchdesk.search.find import NoNetwork
+from pinchdesk import (Accepted, Case, Network, Pinch, Refused, completed, print_network, read_case, read_network,
+                       tradeoff)
+from pinchdesk.figures import tradeoff_figure
+from pinchdesk.formats.network import Exchanger
 from pinchdesk.search.accepted import Judge, Judged, NotAccepted
+from pinchdesk.search.find import NoNetwork
+from pinchdesk.search.reduce.least_cost import Costed, cheapest, cheapest_of
+from pinchdesk.search.reduce.moves import later, structures, unsplit, with_ends
+from pinchdesk.search.reduce.network_structure import duties_of, network_of, structure_of
 from pinchdesk.search.reduce.paths import Shift, shifts
 from pinchdesk.search.reduce.shares import reshared
-from pinchdesk.search.solver.quiet_output import silent
+from pinchdesk.search.reduce.simplify import simpler
 from pinchdesk.search.reduce.structure import Parting, levelled, splits
-from pinchdesk.search.reduce.network_structure import duties_of, network_of, structure_of
 from pinchdesk.search.reduce.tradeoff import TradeOff
-from pinchdesk.figures import tradeoff_figure
+from pinchdesk.search.solver.quiet_output import silent
 
 TC3 = [str(EXAMPLES / 'tc3.csv'), str(EXAMPLES / 'tc3-network.txt')]
 

@@ -9,10 +9,11 @@ from conftest import CASES, NETWORKS, example, held
 from hypothesis import given
 from hypothesis import strategies as st
 
-from pinchdesk import Cut, Member, Pinch, Units, completed, follow, least_units, partition, read_case, read_network
-from pinchdesk import units_sheets
+from pinchdesk import Cut, Pinch, completed, follow, read_case, read_network
+from pinchdesk.analysis.independent_sets import Member, is_joined, joinable_partition, partition
+from pinchdesk.analysis.least_units import Units, least_units
 from pinchdesk.cli.main import main
-from pinchdesk.analysis.independent_sets import is_joined, joinable_partition
+from pinchdesk.report.unit_sheets import units_sheets
 
 # Sources less sets on all sides of the pinches, and the exchangers of the published network or of that by hand.
 BOOKS = {'four-stream': ((5, 6), 6), 'tc3': ((5, 7), 7), 'two-reactors': ((5, 7), 7), 'own-contributions': ((5, 7), 7),

@@ -11,10 +11,12 @@ from hypothesis import given
 from hypothesis import strategies as st
 from tabled import workbook
 
-from pinchdesk import Case, Pinch, Refused, WhatIf, print_case, read_case, read_changes, what_if, what_if_sheets
-from pinchdesk.formats.comments import Basis
-from pinchdesk.report.what_if_sheets import rounding_notes
+from pinchdesk import Case, Pinch, Refused, print_case, read_case
+from pinchdesk.analysis.change_table import read_changes
+from pinchdesk.analysis.what_if import WhatIf, what_if
 from pinchdesk.cli.main import main
+from pinchdesk.formats.comments import Basis
+from pinchdesk.report.what_if_sheets import rounding_notes, what_if_sheets
 
 FOUR, STEAM, COLUMN = (example(f'{each}.csv') for each in ('four-stream', 'two-steam-levels', 'column'))
 HEAD = 'scenario;source;field;value\n'

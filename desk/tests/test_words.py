@@ -10,26 +10,15 @@ from pathlib import Path
 
 import openpyxl
 import pytest
+from captured import Captured
 from conftest import CASES, EXAMPLES, NETWORKS, Done, example, pinchdesk
 
 from pinchdesk import Accepted, Pinch
-from pinchdesk.cli.main import WORDS, main
+from pinchdesk.cli.main import WORDS
 from pinchdesk.cli.output import write_whole
 
 FOUR, FOUR_NETWORK = str(EXAMPLES / 'four-stream.csv'), str(EXAMPLES / 'four-stream-network.txt')
 PREHEATER = [str(EXAMPLES / 'preheater.csv'), str(EXAMPLES / 'preheater-network.txt')]
-
-
-class Captured:
-    """Runs words in this process."""
-
-    def __init__(self, capfd: pytest.CaptureFixture[str]) -> None:
-        self.capfd = capfd
-
-    def __call__(self, *words: str) -> Done:
-        status = main(list(words))
-        held = self.capfd.readouterr()
-        return Done(status, held.out, held.err)
 
 
 @pytest.fixture
