@@ -15,7 +15,7 @@ ORDER = (('errors', 'text', 'version'), ('failures', 'formats'), ('program',), (
          ('figures',), ('report',), ('batch',), ('plant', 'cli'))
 LEVEL = {name: level for level, names in enumerate(ORDER) for name in names}
 # What still reaches up, each to go: a word is to be a function of its data.
-OPEN = {('batch', 'cli'), ('program', 'tables'), ('report', 'cli')}
+OPEN = {('batch', 'cli'), ('report', 'cli')}
 
 
 def modules() -> Iterator[tuple[str, ...]]:

@@ -8,9 +8,10 @@ import pytest
 from hypothesis import given
 from hypothesis import strategies as some
 
+from pinchdesk.formats.amounts import rounded
 from pinchdesk.tables.numbers import NoNumber, Says, numeral_of, readings
 from pinchdesk.tables.prices import PriceFault, price_unit_of, priced
-from pinchdesk.tables.units import Kind, UnknownUnit, rounded, unit_of
+from pinchdesk.tables.units import Kind, UnknownUnit, unit_of
 
 KNOWN = [
     (Kind.TEMPERATURE, '°C', 150, 1500), (Kind.TEMPERATURE, 'K', Fraction('423.15'), 1500),

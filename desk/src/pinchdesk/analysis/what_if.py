@@ -12,13 +12,13 @@ from math import ceil
 from typing import TypeVar
 
 from ..errors import Refused
+from ..formats.amounts import rounded
 from ..formats.case import ANY_HEAT, Case, Source, Stream, Utility, case_rows, completed, read_case
 from ..formats.comments import Basis, basis_rows
+from ..formats.limits import outside_of_row
 from ..program.answers import Cut, HeatFlow, Targets
 from ..program.causes import CAUSES
 from ..program.run import CaseText, Pinch, case_bytes
-from ..tables.limits import outside_of_row
-from ..tables.units import rounded
 from .change_columns import Field
 from .change_table import SOURCES, Change, CaseScenario, Way
 

@@ -25,6 +25,12 @@ def shortened(text: str) -> str:
     return text if len(text) <= LONGEST else text[:LONGEST] + '..'
 
 
+def rounded(value: Fraction) -> int:
+    """The nearest whole number, half away from 0."""
+    nearest = (abs(value) * 2 + 1) // 2
+    return int(-nearest if value < 0 else nearest)
+
+
 def whole(text: str) -> int:
     """A whole number of the words, in digits alone; a `ValueError` where it is none."""
     if not re.fullmatch('-?[0-9]{1,9}', text):

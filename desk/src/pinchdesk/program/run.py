@@ -14,9 +14,9 @@ from typing import TypeVar
 
 from ..errors import ProgramError, Refused, WordsError
 from ..formats.case import Case, print_case, records
+from ..formats.limits import outside_of_row
 from ..formats.network import Network, print_network
 from ..formats.study import Study, print_study, read_study
-from ..tables.limits import outside_of_row
 from . import parse as printed
 from .answers import Curves, Cut, Design, HeatFlow, Prices, SiteAnswer, Sweep, Targets
 from .verdicts import Verdict

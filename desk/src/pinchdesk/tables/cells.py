@@ -7,10 +7,11 @@ from decimal import Decimal
 from fractions import Fraction
 
 from ..errors import Refused
+from ..formats.amounts import rounded
 from .headings import EMPTY
 from .numbers import NoNumber, Numeral, Says, numeral_of, plain, readings
 from .spreadsheet import Cell, Table, TableRow
-from .units import Kind, UnknownUnit, names_fahrenheit, of_kilowatts, rounded, unit_of
+from .units import Kind, UnknownUnit, names_fahrenheit, of_kilowatts, unit_of
 
 EXAMPLES = {Kind.TEMPERATURE: '°C, K, °F', Kind.DIFFERENCE: 'K, °C, °F',
             Kind.FLOW: 'kW/K, MW/°C, W/K, kcal/h/K, Btu/(h °F)',

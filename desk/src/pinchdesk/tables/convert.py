@@ -8,8 +8,10 @@ from dataclasses import dataclass, replace
 from fractions import Fraction
 
 from ..errors import Refused, WordsError
+from ..formats.amounts import rounded
 from ..formats.case import Case, Forbid, Side, Stream, Utility, print_case, read_case
 from ..formats.comments import Basis, basis_rows
+from ..formats.limits import CONTRIBUTION, MOST_COLD, MOST_FORBIDS, MOST_HOT, MOST_UTILITIES
 from ..formats.shown import Shown, decimal
 from ..program.causes import CAUSES
 from ..program.run import Pinch
@@ -17,7 +19,6 @@ from . import other_sheets
 from .cells import CellReader, Told, decimal_mark
 from .doubts import as_case, below_titles, doubts_of, note_words, two_units, units_in_words
 from .headings import Heading, Layout, known, layout_of
-from .limits import CONTRIBUTION, MOST_COLD, MOST_FORBIDS, MOST_HOT, MOST_UTILITIES
 from .money import LEADING, fault_of, is_money
 from .names import fit_names
 from .numbers import NoNumber, Says, numeral_of, readings
@@ -27,7 +28,7 @@ from .roundings import told as how_far_off
 from .rows import Body, Line, body_of, headed_line
 from .sources import Entries
 from .spreadsheet import Cell, Table, TableRow, read_table
-from .units import Kind, UnknownUnit, rounded, unit_of
+from .units import Kind, UnknownUnit, unit_of
 from .without_headings import check_order, plain_line
 
 

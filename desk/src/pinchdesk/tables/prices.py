@@ -11,9 +11,10 @@ from dataclasses import dataclass, field
 from fractions import Fraction
 from math import gcd, lcm
 
+from ..formats.amounts import rounded
 from ..formats.case import Basis
 from .money import money_of, two_moneys
-from .units import KILOWATT, LONGEST, LONGEST_TEXT, OPEN, SIGNS, YEAR, UnknownUnit, parsed, registry, rounded
+from .units import KILOWATT, LONGEST, LONGEST_TEXT, OPEN, SIGNS, YEAR, UnknownUnit, parsed, registry
 
 MOST = 1_000_000
 MONEY = re.compile(r'[^\W\d]{0,8}|[€$£¥]|[A-Za-z]{0,3}[€$£¥]')

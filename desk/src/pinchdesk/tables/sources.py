@@ -5,14 +5,15 @@ import re
 from fractions import Fraction
 
 from ..errors import Refused
+from ..formats.amounts import rounded
 from ..formats.case import ANY_HEAT, Side, Stream, Utility
+from ..formats.limits import CONTRIBUTION, CP, HEAT, LOAD, TEMPERATURE, Limit, fitting_scale, outside
 from ..formats.shown import decimal
 from .cells import CellReader, Entered, Told
 from .headings import Heading
-from .limits import CONTRIBUTION, CP, HEAT, LOAD, TEMPERATURE, Limit, fitting_scale, outside
 from .roundings import RoundingSpan, span_of
 from .rows import Line
-from .units import Kind, rounded
+from .units import Kind
 
 # What marks a row as left out elsewhere.
 LEFT_OUT = re.compile(r'//|--|~~|[%!;]|/\*|<!|rem\b', re.I)

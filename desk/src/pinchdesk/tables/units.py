@@ -177,9 +177,3 @@ def is_multiple(text: str, kind: Kind) -> bool:
     times, _ = multiple_of(text)
     return kind in (Kind.HEAT, Kind.FLOW) and times > 1 and set(str(times)[1:]) <= {'0'} and str(times)[0] == '1' \
         and is_unit(text, kind)
-
-
-def rounded(value: Fraction) -> int:
-    """The nearest whole number, half away from 0."""
-    whole = (abs(value) * 2 + 1) // 2
-    return int(-whole if value < 0 else whole)

@@ -6,8 +6,8 @@ from collections.abc import Iterable, Sequence
 from fractions import Fraction
 from typing import NamedTuple
 
-from ..formats.shown import decimal
-from .units import rounded
+from .amounts import rounded
+from .shown import decimal
 
 MOST_HOT, MOST_COLD, MOST_UTILITIES, MOST_FORBIDS = 30, 30, 12, 400
 SCALES = tuple(Fraction(10) ** power for power in range(-3, 4))
