@@ -5,19 +5,26 @@ from __future__ import annotations
 import csv
 import io
 import re
+from argparse import Namespace
 from collections.abc import Iterator, Sequence
 from dataclasses import dataclass, replace
 from decimal import Decimal
 from fractions import Fraction
 from html.parser import HTMLParser
 from pathlib import Path
+from typing import Any
 
 from pinchdesk import Case, Network, Pinch, print_case, print_network, read_network
-from pinchdesk.cli.main import parser
-from pinchdesk.cli.word import Answer
+from pinchdesk.batch.arguments import options_of, paths_of
+from pinchdesk.batch.loaded_files import read_files
+from pinchdesk.cli.answering import results_of
+from pinchdesk.cli.parsing import parser
 from pinchdesk.formats.network import Exchanger, Split
 from pinchdesk.formats.shown import decimal
+from pinchdesk.report.sheet import Sheet, rendered
+from pinchdesk.search.budget import nobody
 from pinchdesk.tables.convert import Wanted, case_of_table
+from pinchdesk.words.word import Word
 
 # The plant in °C, kW/K and kW, with prices per W.
 SOURCES = '''hot H1 170 60 30 - - - -
@@ -127,6 +134,14 @@ cold,D,900,2300,{0},,
 
 
 @dataclass(frozen=True)
+class Said:
+    """What a word says: its tables, and what of it would be written."""
+
+    sheets: tuple[Sheet, ...]
+    content: str | bytes
+
+
+@dataclass(frozen=True)
 class Files:
     """The plant with all files that words read, in a folder."""
 
@@ -140,10 +155,23 @@ class Files:
         """Words with `{name}` for a file of the plant."""
         return [self.path(each[1:-1]) if each.startswith('{') else each for each in text.split()]
 
-    def answer(self, text: str) -> Answer:
-        options = parser().parse_args(self.words(text))
-        answer: Answer = options.its.run(options)
-        return answer
+    def answer(self, text: str) -> Said:
+        """What words say: their tables, and what would be written."""
+        said: list[Said] = []
+
+        def ask(word: Word[Any], _: tuple[str, ...], parsed: Namespace) -> int:
+            answer = word.run(read_files(paths_of(word.roles, parsed)), options_of(word, parsed), nobody)
+            form = word.forms.of(parsed.output, getattr(parsed, 'form', None))
+            said.append(Said(answer.sheets, answer.content(form)))
+            return answer.status
+
+        def ask_many(word: Word[Any], names: tuple[str, ...], parsed: Namespace) -> int:
+            results = results_of(word, names, parsed)
+            said.append(Said((results.sheet(),), rendered([results.sheet()], parsed.form)))
+            return results.status
+        parsed = parser(ask, ask_many).parse_args(self.words(text))
+        parsed.doing(parsed)
+        return said[0]
 
 
 def files_of(style: Style, folder: Path, pinch: Pinch) -> Files:

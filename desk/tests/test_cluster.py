@@ -9,8 +9,9 @@ from conftest import example
 
 from pinchdesk import WordsError
 from pinchdesk.batch.cluster import Cluster
-from pinchdesk.batch.job import File, Job, JobOutcome
+from pinchdesk.batch.job import Job, JobOutcome
 from pinchdesk.program.digests import digests
+from pinchdesk.words.word import Files, NoOptions, TextFile
 
 
 class KilledWorker(Exception):
@@ -62,7 +63,8 @@ class Client:
 
 def jobs(count: int) -> Iterator[Job]:
     for number in range(count):
-        yield Job(number, ('targets',), {}, {'case': (File('tc3.csv', example('tc3.csv')),)})
+        files = Files({'case': (TextFile('tc3.csv', example('tc3.csv')),)})
+        yield Job(number, ('targets',), NoOptions(), files)
 
 
 @pytest.fixture

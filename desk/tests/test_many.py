@@ -6,7 +6,6 @@ import io
 import os
 import subprocess
 import sys
-from argparse import ArgumentParser
 from collections.abc import Callable, Iterator
 from dataclasses import replace
 from decimal import Decimal
@@ -20,13 +19,15 @@ from tabled import workbook
 
 import pinchdesk
 from pinchdesk import Pinch, Refused, WordsError, read_case
-from pinchdesk.batch.facts import facts_of
-from pinchdesk.batch.job import TRIES, File, Job, done
-from pinchdesk.batch.taking import options_of
+from pinchdesk.batch.arguments import taken_of
+from pinchdesk.batch.job import TRIES, Job, cells_of, done
 from pinchdesk.cli.main import main
-from pinchdesk.cli.word import Answer, Word
 from pinchdesk.program.digests import digests
+from pinchdesk.report.facts import Fact, FactTable, rows_of_tables
 from pinchdesk.report.sheet import Sheet
+from pinchdesk.words.all_words import word_of
+from pinchdesk.words.network_word import NetworkOptions
+from pinchdesk.words.word import Answer, Files, NoOptions, TextFile
 
 LIST = str(EXAMPLES / 'list.txt')
 Desk = Callable[..., Done]
@@ -145,36 +146,26 @@ def test_what_an_answer_says_stands_in_no_column_of_the_case(desk: Desk, tmp_pat
         ('base', 'Today'), ('base', 'Winter'), ('hotter', 'Today'), ('hotter', 'Winter')]
 
 
-def test_remarks_stand_beside_the_rows_of_tables() -> None:
-    one = Sheet('One', ('pinch', 'kW'), (('80', Decimal(5)), ('90', Decimal(6))))
-    facts = facts_of(Answer('', sheets=(one, Sheet('', (), (('a remark',),)))))
-    assert facts == ({'pinch': '80', 'kW': 5, 'said': 'a remark'}, {'pinch': '90', 'kW': 6})
-    facts = facts_of(Answer('', sheets=(one, replace(one, title='Two', rows=one.rows[:1]))))
-    assert [row['table'] for row in facts] == ['One', 'One', 'Two']
-    assert facts_of(Answer('', sheets=(Sheet('', (), ()),))) == ({},)
+def test_what_is_said_of_an_answer_stands_in_its_first_row() -> None:
+    one = FactTable('One', ((Fact('pinch', '80'), Fact('', Decimal(5), 'kW')), (Fact('pinch', '90'),)))
+    assert cells_of(Answer(facts=one.rows, headline='a remark')) == (
+        {'pinch': '80', 'kW': 5, 'said': 'a remark'}, {'pinch': '90'})
+    rows = rows_of_tables([one, replace(one, title='Two', rows=one.rows[:1])])
+    assert [row['table'] for row in cells_of(Answer(facts=rows))] == ['One', 'One', 'Two']
+    assert cells_of(Answer()) == ({},)
+    assert one.sheet() == Sheet('One', ('pinch', 'kW'), (('80', Decimal(5)), ('90',)))
 
 
-def test_an_option_that_is_an_output_is_not_asked_for() -> None:
-    def arguments(parser: ArgumentParser) -> None:
-        parser.add_argument('case')
-        parser.add_argument('--start', metavar='FILE')
-        parser.add_argument('--report', metavar='FILE', default='none')
-        group = parser.add_mutually_exclusive_group()
-        group.add_argument('--cost')
-        group.add_argument('--above')
-    word = Word('w', '', '', arguments, lambda options: Answer(''), ('case', 'start'))
-    taken = options_of(word, ['--above', '5', '--start', 'a.txt'])
-    assert taken.common == {'start': ('a.txt',)} and [each.option for each in taken.roles] == ['case', 'start']
-    assert taken.options == {'above': '5', 'cost': None, 'case': None, 'start': None, 'form': None, 'report': 'none'}
-    for words in (['--report', 'x'], ['--above', '5', '--cost', '6']):
+def test_the_words_of_a_call_are_those_that_the_word_declares() -> None:
+    network = word_of(['network'])
+    taken = taken_of(network, ['--above', '5', '--start', 'a.txt'])
+    assert taken.common == {'start': ('a.txt',)} and taken.options == NetworkOptions(above='5')
+    assert [role.name for role in network.roles] == ['case', 'start']
+    assert taken_of(word_of(['whatif']), []).options.workers == 1
+    # What the command writes besides is written by it alone.
+    for word, words in (('rest', ['--case', 'x']), ('network', ['--above', '5', '--cost', '6'])):
         with pytest.raises(WordsError):
-            options_of(word, words)
-
-
-def test_a_text_without_tables_says_of_itself_what_its_comments_say() -> None:
-    text = '# 7 exchangers\n# bound: at least 7 by the solver\n#,a,,,\nexchanger E1 H C 5\n# 3 x\n'
-    assert facts_of(Answer(text)) == ({'said': '7 exchangers; bound: at least 7 by the solver; a'},)
-    assert facts_of(Answer(b'#7 x')) == ({},)
+            taken_of(word_of([word]), words)
 
 
 @pytest.mark.parametrize('words, row', [
@@ -348,8 +339,8 @@ def test_a_case_at_which_each_process_dies_is_given_up(folder: Path, tmp_path: P
 def test_an_error_of_the_desk_is_an_outcome(monkeypatch: pytest.MonkeyPatch) -> None:
     def broken(*_: object) -> Answer:
         raise ZeroDivisionError('here')
-    monkeypatch.setattr('pinchdesk.cli.commands.asked.targets_sheets', broken)
-    job = Job(0, ('targets',), {'form': None}, {'case': (File('tc3.csv', example('tc3.csv')),)})
+    monkeypatch.setattr('pinchdesk.words.targets_word.targets_sheets', broken)
+    job = Job(0, ('targets',), NoOptions(), Files({'case': (TextFile('tc3.csv', example('tc3.csv')),)}))
     outcome = done(job)
     assert outcome.status == 70 and outcome.told.startswith('the desk failed, please report this line: ZeroDivisionErr')
 
@@ -368,7 +359,7 @@ def test_what_was_done_is_kept_when_it_is_stopped(desk: Desk, folder: Path, monk
     def stop(text: str) -> None:
         if text.startswith('2 of 3'):
             raise KeyboardInterrupt
-    monkeypatch.setattr('pinchdesk.batch.order.tell', stop)
+    monkeypatch.setattr('pinchdesk.cli.answering.tell', stop)
     done = desk('targets', str(folder), '--form', 'csv')
     assert done.status == 130
     assert sorted(row['answer'] for row in rows_of(done)) in (['good', 'good', 'not done'],

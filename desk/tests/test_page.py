@@ -13,7 +13,7 @@ from conftest import EXAMPLES, Done, example, pinchdesk
 from pinchdesk import Accepted, Pinch, read_case
 from pinchdesk.cli.main import main
 from pinchdesk.formats.shown import Shown
-from pinchdesk.report.page import Given, page_of
+from pinchdesk.report.page import Given, page_of, review_of
 from pinchdesk.report.pdf import as_pdf, browser, run_browser
 
 STEAM = ('two-reactors-steam.csv', 'two-reactors-steam-network.txt')
@@ -39,9 +39,9 @@ def given(*names: str) -> list[Given]:
 def steam() -> str:
     case, network = given(*STEAM)
     less = Given('less.txt', 'less.txt', network.content.replace(b'CW 10000000', b'CW 9999000'))
-    page, *ended = page_of(case, [network, less])
-    assert ended == [1, 'rejected']
-    return page
+    review = review_of(Pinch(), case, [network, less])
+    assert review.ending == (1, 'rejected')
+    return page_of(review)
 
 
 def words_of(page: str) -> str:
@@ -93,7 +93,7 @@ def test_hostile_names_and_texts_are_only_shown() -> None:
     case, network = given('preheater.csv', 'preheater-network.txt')
     bad = '<script>alert(1)</script>{{ 7 * 7 }}\x1b[31m.csv'
     hostile = Given(bad, 'x', case.content.replace(b'\n', b'\n#</pre><script>alert(2)</script>,,,,,,\n', 1))
-    page, *_ = page_of(hostile, [Given('"><img src=x onerror=alert(3)>', 'y', network.content)])
+    page = page_of(review_of(Pinch(), hostile, [Given('"><img src=x onerror=alert(3)>', 'y', network.content)]))
     assert '<script' not in page and '<img src=x' not in page
     assert '&lt;script&gt;alert(1)&lt;/script&gt;{{ 7 * 7 }}' in page and '&lt;script&gt;alert(2)' in page
 
@@ -185,4 +185,5 @@ def test_a_browser_prints_the_page(tmp_path: Path) -> None:
     if which('pdftotext'):
         case, network = given(*names)
         # A table that has no room below a picture begins on a sheet of its own.
-        assert any(each[0] == 'Exchangers' for each in sheets_of(path, page_of(case, [network], True)[0]) if each)
+        page = page_of(review_of(Pinch(), case, [network]), True)
+        assert any(each[0] == 'Exchangers' for each in sheets_of(path, page) if each)

@@ -9,13 +9,13 @@ from html import unescape
 from pathlib import Path
 
 import pytest
-from sameplant import PLAIN, STYLES, Files, Page, Told, cells_of, csv_cells, files_of, texts_of, token_of
+from sameplant import PLAIN, STYLES, Files, Page, Said, Told, cells_of, csv_cells, files_of, texts_of, token_of
 
 from pinchdesk import Pinch, Refused, read_case
 from pinchdesk.cli.main import main
-from pinchdesk.cli.word import Answer
-from pinchdesk.cli.words import SINGLE
 from pinchdesk.formats.site import read_site
+from pinchdesk.words.all_words import WORDS
+from pinchdesk.words.word import WordGroup
 
 Parts = list[Told | str]
 # Columns of mere numbers: how many there are of something.
@@ -45,7 +45,7 @@ def other(request: pytest.FixtureRequest, tmp_path_factory: pytest.TempPathFacto
     return files_of(STYLES[request.param], tmp_path_factory.mktemp('other') / 'plant', Pinch())
 
 
-def told_of(answer: Answer, files: Files) -> Parts:
+def told_of(answer: Said, files: Files) -> Parts:
     return [each for sheet in answer.sheets
             for each in cells_of(sheet.title, sheet.headings, sheet.rows, files.style)]
 
@@ -168,8 +168,9 @@ def test_a_row_of_many_is_that_of_the_same_plant(words: str, plain: Files, other
 def test_every_word_is_walked() -> None:
     """What is not here has no number of its own: `case` has its notes, which are tested where they are made."""
     walked = {words.split()[0] for words in (*TABLES, *SEARCHES)} | {'draw', 'page', 'case'}
-    assert walked == {each.name for each in SINGLE}
-    assert {words.split()[0] for words in PICTURES} == {part.name for each in SINGLE for part in each.parts}
+    assert walked == {word.name for word in WORDS}
+    assert {words.split()[0] for words in PICTURES} == {part.name for group in WORDS if isinstance(group, WordGroup)
+                                                        for part in group.parts}
     assert {words.split()[0] for words in MANY} == walked - {'draw', 'page', 'case'}
 
 

@@ -11,9 +11,9 @@ import pytest
 from conftest import DESK, EXAMPLES, Done, example
 
 from pinchdesk.cli.main import main
-from pinchdesk.batch.job import File, Job, done
+from pinchdesk.batch.job import Job, done
 from pinchdesk.batch.results import Done as Row
-from pinchdesk.cli.word import Answer
+from pinchdesk.words.word import Answer, Files, NoOptions, TextFile
 
 TC3, FOUR = str(EXAMPLES / 'tc3.csv'), str(EXAMPLES / 'four-stream.csv')
 STEAM, PRICES = str(EXAMPLES / 'two-steam-levels.csv'), str(EXAMPLES / 'steam-prices.csv')
@@ -103,10 +103,10 @@ def broken(*_: object) -> Answer:
 
 
 def test_an_error_of_the_desk_is_one_line(desk: Desk, monkeypatch: pytest.MonkeyPatch) -> None:
-    monkeypatch.setattr('pinchdesk.cli.commands.asked.targets_sheets', broken)
+    monkeypatch.setattr('pinchdesk.words.targets_word.targets_sheets', broken)
     ended = desk('targets', FOUR)
     assert (ended.status, ended.out, ended.err.count('\n')) == (70, '', 1)
-    said = 'pinchdesk: the desk failed, please report this line: ZeroDivisionError: here (asked.py line'
+    said = 'pinchdesk: the desk failed, please report this line: ZeroDivisionError: here (targets_word.py line'
     assert ended.err.startswith(said)
     monkeypatch.setenv('PINCHDESK_TRACE', '1')
     assert 'Traceback' in desk('targets', FOUR).err
@@ -119,10 +119,11 @@ def test_what_the_machine_has_not_is_one_line(fault: Exception, said: str, desk:
                                               monkeypatch: pytest.MonkeyPatch) -> None:
     def failing(*_: object) -> Answer:
         raise fault
-    monkeypatch.setattr('pinchdesk.cli.commands.asked.targets_sheets', failing)
+    monkeypatch.setattr('pinchdesk.words.targets_word.targets_sheets', failing)
     ended = desk('targets', FOUR)
     assert (ended.status, ended.out, ended.err.count('\n')) == (2, '', 1) and said in ended.err
-    outcome = done(Job(0, ('targets',), {'form': None}, {'case': (File('a.csv', example('tc3.csv')),)}))
+    files = Files({'case': (TextFile('a.csv', example('tc3.csv')),)})
+    outcome = done(Job(0, ('targets',), NoOptions(), files))
     assert outcome.status == 2 and said in outcome.told and Row({'case': 'a'}, outcome).answer == 'failed'
 
 

@@ -14,8 +14,8 @@ from captured import Captured
 from conftest import CASES, EXAMPLES, NETWORKS, Done, example, pinchdesk
 
 from pinchdesk import Accepted, Pinch
-from pinchdesk.cli.main import WORDS
-from pinchdesk.cli.output import write_whole
+from pinchdesk.formats.written_files import write_whole
+from pinchdesk.words.all_words import WORDS
 
 FOUR, FOUR_NETWORK = str(EXAMPLES / 'four-stream.csv'), str(EXAMPLES / 'four-stream-network.txt')
 PREHEATER = [str(EXAMPLES / 'preheater.csv'), str(EXAMPLES / 'preheater-network.txt')]
@@ -274,7 +274,7 @@ def desk_text() -> str:
             '        85           90            80\n')
 
 
-@pytest.mark.parametrize('word', [each.name for each in WORDS])
+@pytest.mark.parametrize('word', [*(each.name for each in WORDS), 'many'])
 def test_help_has_an_example_that_runs(word: str, desk: Captured, monkeypatch: pytest.MonkeyPatch,
                                        tmp_path: Path) -> None:
     monkeypatch.chdir(EXAMPLES.parent)

@@ -75,6 +75,16 @@ def about(**files: str) -> Iterator[None]:
         raise
 
 
+@contextmanager
+def of_file(path: str) -> Iterator[None]:
+    """A refusal that is raised inside is of this file, unless it says another one."""
+    try:
+        yield
+    except Refused as fault:
+        fault.file = fault.file or path
+        raise
+
+
 def refused_row(role: str, row: int, cause: str) -> Refused:
     """A refusal by the desk in the words of `pinch`: `case row 14 BadNumber`."""
     count = 'line' if role in ('network', 'report') else 'row'

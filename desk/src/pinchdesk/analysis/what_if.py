@@ -69,6 +69,14 @@ class PlusMinus:
 
 
 @dataclass(frozen=True)
+class Base:
+    """A case as it is, with its targets."""
+
+    case: Case
+    targets: Targets
+
+
+@dataclass(frozen=True)
 class WhatIf:
     """The case as it is, its scenarios, and its plus-minus numbers."""
 
@@ -89,13 +97,22 @@ def what_if(case: CaseText, scenarios: Iterable[CaseScenario], pinch: Pinch | No
     """The scenarios of a case. `Refused` where the program refuses the case as it is, or a change names what is not
     there; a scenario that the program refuses says so in its outcome. `workers` of the program run side by side."""
     asked = pinch or Pinch()
+    return compared(asked_base(asked, case), scenarios, asked, workers)
+
+
+def asked_base(pinch: Pinch, case: CaseText) -> Base:
+    """A case with its targets; `Refused` where the program refuses it."""
     content = case_bytes(case)
-    asked.targets(content)
-    held = read_case(content)
-    made = [changed(held, each) for each in scenarios]
-    base, *outcomes = side_by_side(lambda each: answered(asked, each), [unchanged(held), *made], workers)
-    assert base.targets is not None
-    return WhatIf(base, tuple(outcomes), plus_minus(held, base.targets, asked, workers))
+    targets = pinch.targets(content)
+    return Base(read_case(content), targets)
+
+
+def compared(base: Base, scenarios: Iterable[CaseScenario], pinch: Pinch, workers: int = 0) -> WhatIf:
+    """The scenarios of a case that was asked already."""
+    as_it_is = replace(unchanged(base.case), targets=base.targets)
+    changes = [changed(base.case, scenario) for scenario in scenarios]
+    first, *outcomes = side_by_side(lambda outcome: answered(pinch, outcome), [as_it_is, *changes], workers)
+    return WhatIf(first, tuple(outcomes), plus_minus(base.case, base.targets, pinch, workers))
 
 
 def side_by_side(run: Callable[[Asked], Given], items: Sequence[Asked], workers: int) -> list[Given]:
@@ -112,9 +129,10 @@ def unchanged(case: Case) -> ScenarioOutcome:
 
 
 def answered(pinch: Pinch, outcome: ScenarioOutcome) -> ScenarioOutcome:
-    """An outcome with its answers, or with the cause for which the program refuses it."""
+    """An outcome with the answers that it has not, or with the cause for which the program refuses it."""
     try:
-        return replace(outcome, targets=pinch.targets(outcome.case), flow=pinch.flow(outcome.case))
+        targets = outcome.targets or pinch.targets(outcome.case)
+        return replace(outcome, targets=targets, flow=pinch.flow(outcome.case))
     except Refused as fault:
         return replace(outcome, fault=told(outcome.case, fault))
 

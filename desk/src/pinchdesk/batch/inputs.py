@@ -11,11 +11,12 @@ from collections.abc import Mapping, Sequence
 from dataclasses import dataclass
 from pathlib import Path
 
-from ..errors import Refused, WordsError
+from ..errors import Refused, WordsError, of_file
 from ..formats.plain_files import read_bytes
 from ..tables.convert import is_case
 from ..tables.headings import unknown_headings
 from ..tables.spreadsheet import Table, TableRow, read_table
+from ..words.word import Role
 
 NAME = 'name'
 # What the files of a folder end with: of tables, and of all else.
@@ -26,22 +27,8 @@ OTHERS = ('case', 'network', 'study', 'site', 'table', 'changes', 'start', 'note
 
 
 @dataclass(frozen=True)
-class Role:
-    """A file that a word reads: the name of its option, how it is called, and whether there may be several of it or
-    none."""
-
-    option: str
-    several: bool = False
-    needed: bool = True
-
-    @property
-    def name(self) -> str:
-        return self.option[:-1] if self.several and self.option.endswith('s') else self.option
-
-
-@dataclass(frozen=True)
 class Listed:
-    """A row: its names in the table by their headings, and the paths of its files by the option of their role."""
+    """A row: its names in the table by their headings, and the paths of its files by their roles."""
 
     names: Mapping[str, str]
     paths: Mapping[str, tuple[str, ...]]
@@ -59,7 +46,7 @@ def listed(place: str, roles: Sequence[Role], common: Mapping[str, tuple[str, ..
         raise Refused(3, '', 'empty', 'there is no case in it', place)
     for row in rows:
         for role in roles:
-            if role.needed and role.option not in row.paths:
+            if role.needed and role.name not in row.paths:
                 raise WordsError(f'{row.name} has no {role.name}: give the list a column `{role.name}`, lay '
                                  f'{Path(row.name).stem}-{role.name}.txt beside it, or say --{role.option} FILE')
     return rows
@@ -75,22 +62,22 @@ def in_folder(place: str, roles: Sequence[Role], common: Mapping[str, tuple[str,
     """The cases of a folder by their names; further files stand beside them, as `NAME-network.txt`."""
     first, *further = roles
     names = [each for each in os.listdir(place) if os.path.isfile(os.path.join(place, each)) and each[0] != '.']
-    cases = [each for each in names if each.lower().endswith(ENDINGS.get(first.option, CASES))]
+    cases = [each for each in names if each.lower().endswith(ENDINGS.get(first.name, CASES))]
     stems = {Path(each).stem for each in cases}
     beside = {f'{stem}-{role.name}' for stem in stems for role in further}
     rows = []
     for name in sorted(cases, key=natural):
         if Path(name).stem in beside:
             continue
-        paths: dict[str, tuple[str, ...]] = {first.option: (os.path.join(place, name),), **common}
+        paths: dict[str, tuple[str, ...]] = {first.name: (os.path.join(place, name),), **common}
         for role in further:
             found = [each for each in names if Path(each).stem == f'{Path(name).stem}-{role.name}']
             if len(found) > 1:
                 raise WordsError(f'{name} has more than one {role.name} beside it: {", ".join(sorted(found))}')
-            if found and role.option not in common:
-                paths[role.option] = (os.path.join(place, found[0]),)
-        rows.append(Listed({role.name: ', '.join(map(os.path.basename, paths[role.option])) for role in roles
-                            if role.option in paths and role.option not in common}, paths))
+            if found and role.name not in common:
+                paths[role.name] = (os.path.join(place, found[0]),)
+        rows.append(Listed({role.name: ', '.join(map(os.path.basename, paths[role.name])) for role in roles
+                            if role.name in paths and role.name not in common}, paths))
     return tuple(rows)
 
 
@@ -99,11 +86,8 @@ def in_list(place: str, roles: Sequence[Role], common: Mapping[str, tuple[str, .
     content = read_bytes(place)
     if is_case(content):
         raise Refused(3, '', 'a case', f'this is one {roles[0].name}, and a folder or a list of them is wanted', place)
-    try:
+    with of_file(place):
         return rows_of(fitting(read_table(content, place), roles), roles, place, common)
-    except Refused as fault:
-        fault.file = fault.file or place
-        raise
 
 
 def fitting(tables: Sequence[Table], roles: Sequence[Role]) -> Table:
@@ -131,9 +115,9 @@ def remark(row: TableRow) -> bool:
 
 
 def known_headings(roles: Sequence[Role]) -> dict[str, str]:
-    """The option that each heading stands for; nothing for what this word does not take."""
+    """The role that each heading stands for; nothing for what this word does not take."""
     known = dict.fromkeys(OTHERS, '') | {NAME: NAME}
-    return known | {each.name: each.option for each in roles} | {each.option: each.option for each in roles}
+    return known | {heading: role.name for role in roles for heading in (role.name, role.option)}
 
 
 def headings(row: TableRow, roles: Sequence[Role]) -> dict[int, str]:
@@ -168,10 +152,10 @@ def rows_of(table: Table, roles: Sequence[Role], place: str,
             common: Mapping[str, tuple[str, ...]]) -> tuple[Listed, ...]:
     head, last = head_of(table, roles), len(roles) - 1
     body = [each for each in table.rows if each is not head and not remark(each)]
-    columns = headings(head, roles) if head else {column: roles[min(column, last)].option
+    columns = headings(head, roles) if head else {column: roles[min(column, last)].name
                                                   for column in range(width(table))}
     check_remarks(table, head, columns, place)
-    if body and roles[0].option not in columns.values():
+    if body and roles[0].name not in columns.values():
         raise Refused(3, '', 'columns', f'it has no column `{roles[0].name}`')
     return tuple(row_of(table, row, columns, roles, place, common) for row in body)
 
@@ -192,21 +176,19 @@ def check_remarks(table: Table, head: TableRow | None, columns: Mapping[int, str
 def row_of(table: Table, row: TableRow, columns: Mapping[int, str], roles: Sequence[Role], place: str,
            common: Mapping[str, tuple[str, ...]]) -> Listed:
     names: dict[str, str] = {}
-    held: dict[str, tuple[str, ...]] = {}
-    titles = {each.option: each.name for each in roles} | {NAME: NAME}
+    paths: dict[str, tuple[str, ...]] = {}
     for column, cell in row.filled():
         if column not in columns or cell.fault and columns[column]:
             raise table.refusal(row.number, column, cell.fault or 'a cell below no heading')
-        option = columns[column]
-        if not option:
+        role = columns[column]
+        if not role:
             continue
-        title = titles[option]
-        names[title] = f'{names[title]}, {cell.text}' if title in names else cell.text
-        if option != NAME:
-            held[option] = (*held.get(option, ()), seen(cell.text, place))
-    if roles[0].option not in held:
+        names[role] = f'{names[role]}, {cell.text}' if role in names else cell.text
+        if role != NAME:
+            paths[role] = (*paths.get(role, ()), seen(cell.text, place))
+    if roles[0].name not in paths:
         raise table.refusal(row.number, None, f'there is no {roles[0].name}')
-    return Listed(names, {**common, **held})
+    return Listed(names, {**common, **paths})
 
 
 def seen(path: str, place: str) -> str:

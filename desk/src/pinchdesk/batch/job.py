@@ -4,56 +4,50 @@ A job carries what its files hold, so that whoever does it needs none of them. W
 happens: a file that is refused spoils no other."""
 from __future__ import annotations
 
-import os
-import tempfile
 import threading
-from argparse import Namespace
 from collections.abc import Iterator, Mapping
+from contextlib import AbstractContextManager, nullcontext
 from dataclasses import dataclass, field
-from pathlib import Path
+from typing import Any
 
-from ..cli.word import Answer, Facts, Word
 from ..errors import INFEASIBLE, DeskError, Status
 from ..failures import failure_of
 from ..program.causes import lines_of
-from .facts import facts_of
+from ..report.sheet import Cell
+from ..search.budget import nobody
+from ..words.all_words import word_of
+from ..words.forms import PICTURES
+from ..words.word import Answer, Files, Word
 
 # How often a job is tried whose process or worker dies.
 TRIES = 3
-# How many bytes the name of a file has at most.
-LONGEST_NAME = 255
+# The heading of what is said of a row.
+SAID = 'said'
 # matplotlib is not to draw two pictures at once; a worker of a cluster may have several threads.
 DRAWING = threading.Lock()
-
-
-@dataclass(frozen=True)
-class File:
-    """A file by the name that it is told by, and what it holds."""
-
-    path: str
-    content: bytes
+Cells = Mapping[str, Cell]
 
 
 @dataclass(frozen=True)
 class Job:
-    """A word over one case: its place among all jobs, the word with its part, its options, its files by the option
-    that names them, and, where the answer is kept, a file's name that says its form."""
+    """A word over one case: its place among all jobs, the word with its part, its options, its files, and, where the
+    answer is kept, a file's name that says its form."""
 
     number: int
     words: tuple[str, ...]
-    options: Mapping[str, object]
-    files: Mapping[str, tuple[File, ...]]
+    options: Any
+    files: Files
     output: str | None = None
 
 
 @dataclass(frozen=True)
 class JobOutcome:
-    """What came of a job: the status with which the word would have ended (None where it was not done), its rows, what
-    is said, the answer where it is kept, and what a status of 1 says."""
+    """What came of a job: the status with which the word would have ended (None where it was not done), its rows as
+    cells by their headings, what is said, the answer where it is kept, and what a status of 1 says."""
 
     number: int
     status: int | None
-    facts: tuple[Facts, ...] = ({},)
+    facts: tuple[Cells, ...] = ({},)
     told: str = ''
     notes: tuple[str, ...] = ()
     content: str | bytes | None = field(default=None, repr=False)
@@ -67,61 +61,35 @@ def following(again: list[Job], jobs: Iterator[Job]) -> Job | None:
     return next(jobs, None)
 
 
-def word_of(words: tuple[str, ...]) -> Word:
-    """A word of the desk, or a part of one; `KeyError` where there is none."""
-    from ..cli.words import SINGLE
-    held = {each.name: each for each in SINGLE}[words[0]]
-    for name in words[1:]:
-        held = {each.name: each for each in held.parts}[name]
-    return held
-
-
 def done(job: Job) -> JobOutcome:
-    """Does a job. Whatever goes wrong is said in the outcome, by the files' own names."""
-    names: dict[str, str] = {}
+    """Does a job. Whatever goes wrong is said in the outcome."""
     try:
-        with tempfile.TemporaryDirectory(prefix='pinchdesk-', ignore_cleanup_errors=True) as folder:
-            options = Namespace(**job.options, output=job.output)
-            for role, files in job.files.items():
-                paths = [placed(Path(folder, f'{role}{at}'), file) for at, file in enumerate(files)]
-                names.update(zip(paths, (file.path for file in files)))
-                setattr(options, role, paths if isinstance(getattr(options, role, None), list) else paths[0])
-            return outcome_of(job, answer_of(word_of(job.words), options), names)
+        return outcome_of(job, word_of(job.words))
     except DeskError as fault:
-        told = '; '.join(named(line, names) for line in lines_of(fault))
-        return JobOutcome(job.number, fault.status, told=told, no=fault.no)
+        return JobOutcome(job.number, fault.status, told='; '.join(lines_of(fault)), no=fault.no)
     except Exception as fault:  # Whatever it is, the other rows have to go on.
         status, told = failure_of(fault)
-        return JobOutcome(job.number, status, told=named(told, names))
+        return JobOutcome(job.number, status, told=told)
 
 
-def answer_of(word: Word, options: Namespace) -> Answer:
-    if not word.to_file:
-        return word.run(options)
-    with DRAWING:
-        return word.run(options)
+def outcome_of(job: Job, word: Word[Any]) -> JobOutcome:
+    form = None if job.output is None else word.forms.of(job.output, None)
+    with drawing(word, form):
+        answer = word.run(job.files, job.options, nobody)
+        content = None if form is None else answer.content(form)
+    return JobOutcome(job.number, answer.status, cells_of(answer), notes=answer.notes, content=content, no=answer.no)
 
 
-def placed(folder: Path, file: File) -> str:
-    """Lays a file out under its own last name, which a page shows and an ending of which may count."""
-    folder.mkdir()
-    name = Path(file.path.replace('\0', '_')).name
-    fit = name if len(os.fsencode(name)) <= LONGEST_NAME else name[-LONGEST_NAME // 4:]
-    path = folder / (fit if fit not in ('', '..') else 'file')
-    path.write_bytes(file.content)
-    return str(path)
+def drawing(word: Word[Any], form: str | None) -> AbstractContextManager[object]:
+    draws = word.to_file or form in PICTURES
+    lock: AbstractContextManager[object] = DRAWING if draws else nullcontext()
+    return lock
 
 
-def named(text: str, names: Mapping[str, str]) -> str:
-    for path, name in names.items():
-        text = text.replace(path, name)
-    return text
-
-
-def outcome_of(job: Job, answer: Answer, names: Mapping[str, str]) -> JobOutcome:
-    notes = tuple(named(each, names) for each in answer.notes)
-    content = answer.content if job.output is not None else None
-    return JobOutcome(job.number, answer.ends, facts_of(answer), notes=notes, content=content, no=answer.no)
+def cells_of(answer: Answer) -> tuple[Cells, ...]:
+    """The rows that stand for an answer, one at least; what is said of it stands in the first."""
+    first, *others = [{fact.heading: fact.value for fact in row} for row in answer.facts or ((),)]
+    return ({**first, SAID: answer.headline} if answer.headline else first, *others)
 
 
 def lost(job: Job, how: str) -> JobOutcome:

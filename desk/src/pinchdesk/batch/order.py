@@ -6,29 +6,31 @@ import os
 from collections.abc import Generator, Iterator, Mapping, Sequence
 from contextlib import closing
 from dataclasses import dataclass, field
+from typing import Any
 
-from ..cli.output import check_apart, made_folder, write_whole
-from ..cli.progress import tell
 from ..errors import OutputError, Refused, WordsError
 from ..failures import failure_of
 from ..formats.case import Case
 from ..formats.network import Network
 from ..formats.plain_files import read_bytes
 from ..formats.study import Study, print_study
+from ..formats.written_files import check_apart, made_folder, write_whole
 from ..program.causes import lines_of
 from ..program.run import as_bytes, case_bytes, found, network_bytes
+from ..search.budget import Telling, nobody
 from ..tables.units import registry
-from .inputs import Listed, Role, listed
-from .job import File, Job, JobOutcome, word_of
+from ..words.all_words import word_of
+from ..words.word import Files, Role, TextFile
+from .arguments import taken_of
+from .inputs import Listed, listed
+from .job import Job, JobOutcome
 from .kept_files import names_of
+from .loaded_files import FilesOfRows, read_files
 from .local import by_processes, processors
 from .results import Done, Results
-from .scenarios import SCENARIO, varied, with_scenarios
-from .taking import options_of
+from .scenarios import SCENARIO, ScenarioTable
 
 Held = Case | Network | Study | str | bytes
-# What an answer that is kept is a file of, where the word says nothing by its tables.
-ENDINGS = {'case': 'csv', 'draw': 'svg', 'page': 'html'}
 
 
 @dataclass(frozen=True)
@@ -38,7 +40,7 @@ class Order:
     of changes, by each of which each case is taken too; `place` is the list, and `output` where the table goes."""
 
     words: tuple[str, ...]
-    options: Mapping[str, object]
+    options: Any
     scheduler: str | None = None
     processes: int = field(default_factory=processors)
     into: str | None = None
@@ -49,7 +51,7 @@ class Order:
 
     def kept(self, rows: Sequence[Listed]) -> list[str]:
         """The names of the files of the answers."""
-        ending = self.ending.removeprefix('.') if self.ending is not None else ENDINGS.get(self.words[0], 'txt')
+        ending = self.ending.removeprefix('.') if self.ending is not None else word_of(self.words).ending
         if not ending or os.sep in ending or '\0' in ending:
             raise WordsError(f'{self.ending} is no ending of a file')
         return names_of(rows, ending)
@@ -63,13 +65,14 @@ class Order:
 class Work:
     """The jobs of an order, their outcomes, and what is to be told."""
 
-    def __init__(self, order: Order, rows: Sequence[Listed]) -> None:
-        self.table = read_bytes(order.scenarios) if order.scenarios is not None else None
-        self.order, self.rows = order, rows
+    def __init__(self, order: Order, rows: Sequence[Listed], tell: Telling = nobody) -> None:
+        self.order, self.rows, self.tell = order, rows, tell
         self.notes: list[str] = []
-        if self.table is not None and order.scenarios is not None:
-            self.rows, notes = with_scenarios(rows, self.table, order.scenarios)
-            self.notes += notes
+        self.table: ScenarioTable | None = None
+        if order.scenarios is not None:
+            self.table = ScenarioTable(TextFile(order.scenarios, read_bytes(order.scenarios)))
+            self.rows = self.table.rows(rows)
+            self.notes += self.table.notes
         self.outcomes: dict[int, JobOutcome] = {}
         self.names = order.kept(self.rows) if order.into is not None else None
         self.stopped = False
@@ -89,11 +92,10 @@ class Work:
 
     def jobs(self) -> Iterator[Job]:
         """The jobs, each with what its files hold when it is its turn. A file that cannot be read is an outcome."""
+        files_of_rows = FilesOfRows(self.rows)
         for number, row in enumerate(self.rows):
             try:
-                files = {option: tuple(File(each, read_bytes(each)) for each in paths)
-                         for option, paths in row.paths.items()}
-                files |= self.varied(row, files)
+                files = self.varied(row, files_of_rows.of_row(row))
             except Refused as fault:
                 self.take(JobOutcome(number, fault.status, told='; '.join(lines_of(fault))))
                 continue
@@ -103,15 +105,15 @@ class Work:
                 continue
             yield self.job(number, files)
 
-    def varied(self, row: Listed, files: Mapping[str, tuple[File, ...]]) -> dict[str, tuple[File, ...]]:
-        """The case in the scenario of its row, where there are scenarios."""
-        if self.table is None or self.order.scenarios is None:
-            return {}
-        case, = files['case']
-        content = varied(case.content, self.table, self.order.scenarios, row.names[SCENARIO])
-        return {'case': (File(case.path, content),)}
+    def varied(self, row: Listed, files: Files) -> Files:
+        """The files with the case in the scenario of its row, where there are scenarios."""
+        if self.table is None:
+            return files
+        case = files.one('case')
+        content = self.table.varied(case.content, row.names[SCENARIO])
+        return files | {'case': (TextFile(case.name, content),)}
 
-    def job(self, number: int, files: Mapping[str, tuple[File, ...]]) -> Job:
+    def job(self, number: int, files: Files) -> Job:
         return Job(number, self.order.words, self.order.options, files, self.names[number] if self.names else None)
 
     def take(self, outcome: JobOutcome) -> None:
@@ -125,7 +127,7 @@ class Work:
                 outcome = JobOutcome(outcome.number, fault.status, told=str(fault))
         self.outcomes[outcome.number] = outcome
         bad = sum(each.status != 0 for each in self.outcomes.values())
-        tell(f'{len(self.outcomes)} of {len(self.rows)}' + (f', {bad} not good' if bad else ''))
+        self.tell(f'{len(self.outcomes)} of {len(self.rows)}' + (f', {bad} not good' if bad else ''))
 
     def run(self, jobs: Iterator[Job]) -> None:
         """Does the jobs, until all are done or it is stopped (Ctrl-C): what was done by then stays."""
@@ -162,9 +164,9 @@ def load(word: str) -> None:
         importlib.import_module('pinchdesk.figures')
 
 
-def done_all(order: Order, rows: Sequence[Listed]) -> Results:
+def done_all(order: Order, rows: Sequence[Listed], tell: Telling = nobody) -> Results:
     """Does an order over cases whose files are read here."""
-    work = Work(order, rows)
+    work = Work(order, rows, tell)
     work.check()
     work.run(work.jobs())
     return work.results()
@@ -178,35 +180,34 @@ def many(word: str, cases: str | os.PathLike[str] | Mapping[str, Held | Sequence
     word at the command (`'0', '20', '2'` of `sweep`)."""
     names = tuple(word.split())
     try:
-        held = word_of(names)
-    except (KeyError, IndexError) as fault:
+        found_word = word_of(names)
+    except KeyError as fault:
         raise WordsError(f'{word} is no word of the desk that many cases can be given to') from fault
-    if not held.inputs or held.parts:
-        raise WordsError(f'{word} has no files by itself')
-    taken = options_of(held, words)
+    taken = taken_of(found_word, words)
     order = Order(names, taken.options, scheduler, processes or processors(), into, ending)
     if not isinstance(cases, Mapping):
-        return done_all(order, listed(os.fspath(cases), taken.roles, taken.common))
-    first = taken.roles[0].name
+        return done_all(order, listed(os.fspath(cases), found_word.roles, taken.common))
+    first = found_word.roles[0].name
     work = Work(order, [Listed({first: name}, taken.common) for name in cases])
     work.check()
-    common = {option: tuple(File(each, read_bytes(each)) for each in paths) for option, paths in taken.common.items()}
-    work.run(work.job(number, {**common, **files_of(name, given, taken.roles)})
-             for number, (name, given) in enumerate(cases.items()))
+    common = read_files(taken.common)
+    work.run(work.job(number, common | files_of(name, content, found_word.roles))
+             for number, (name, content) in enumerate(cases.items()))
     return work.results()
 
 
-def files_of(name: str, given: Held | Sequence[Held], roles: Sequence[Role]) -> Mapping[str, tuple[File, ...]]:
+def files_of(name: str, contents: Held | Sequence[Held], roles: Sequence[Role]) -> Mapping[str, tuple[TextFile, ...]]:
     """The files of a case that is held here, in the order in which the word takes them."""
-    held = [given] if isinstance(given, (Case, Network, Study, str, bytes)) else list(given)
-    wanted = [role for role in roles if role.needed]
-    if len(held) < len(wanted) or len(held) > len(roles) and not roles[-1].several:
-        raise WordsError(f'{name}: {", ".join(each.name for each in roles)} are wanted, and {len(held)} are given')
-    files: dict[str, tuple[File, ...]] = {}
-    for at, content in enumerate(held):
-        role = roles[min(at, len(roles) - 1)]
-        file = File(f'{name} {role.name}' if at else name, held_bytes(content))
-        files[role.option] = (*files.get(role.option, ()), file)
+    listed_contents = [contents] if isinstance(contents, (Case, Network, Study, str, bytes)) else list(contents)
+    needed = [role for role in roles if role.needed]
+    if len(listed_contents) < len(needed) or len(listed_contents) > len(roles) and not roles[-1].several:
+        raise WordsError(f'{name}: {", ".join(role.name for role in roles)} are wanted, and {len(listed_contents)} are '
+                         'given')
+    files: dict[str, tuple[TextFile, ...]] = {}
+    for at, content in enumerate(listed_contents):
+        role = roles[min(at, len(roles) - 1)].name
+        file = TextFile(f'{name} {role}' if at else name, held_bytes(content))
+        files[role] = (*files.get(role, ()), file)
     return files
 
 

@@ -6,11 +6,9 @@ from collections.abc import Iterator, Mapping
 from dataclasses import dataclass
 from typing import Any
 
-from ..cli.word import Facts
 from ..errors import Status
 from ..report.sheet import Sheet
-from .facts import SAID
-from .job import JobOutcome
+from .job import SAID, Cells, JobOutcome
 
 ANSWER = 'answer'
 # By the status with which the word would have ended; of 1 the outcome says it.
@@ -35,12 +33,12 @@ class Done:
         """What came of it in a word."""
         return self.outcome.no if self.outcome.status == Status.NO else ANSWERS.get(self.outcome.status, 'failed')
 
-    def rows(self) -> Iterator[Facts]:
+    def rows(self) -> Iterator[Cells]:
         for facts in self.outcome.facts:
             said = '; '.join(each for each in (str(facts.get(SAID) or ''), self.outcome.told) if each)
             yield {**self.names, ANSWER: self.answer, **self.apart(facts), SAID: said or None}
 
-    def apart(self, facts: Facts) -> Facts:
+    def apart(self, facts: Cells) -> Cells:
         """What an answer says, with no heading that is one of the case's own."""
         return {f'its {heading}' if heading in (*self.names, ANSWER) else heading: cell
                 for heading, cell in facts.items()}

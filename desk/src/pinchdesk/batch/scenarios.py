@@ -1,44 +1,52 @@
 """Scenarios of cases: each case as it is, and as each scenario of a table of changes has it, as `whatif` reads them."""
 from __future__ import annotations
 
-from collections.abc import Iterable, Iterator
-from contextlib import contextmanager
+from collections.abc import Iterable
 from dataclasses import replace
 
-from ..analysis.change_table import read_changes
+from ..analysis.change_table import CaseScenario, CaseScenarios, read_changes
 from ..analysis.what_if import changed
-from ..errors import Refused
+from ..errors import of_file
 from ..formats.case import print_case, read_case
+from ..formats.comments import Basis
+from ..words.word import TextFile
 from .inputs import Listed
 
 SCENARIO, BASE = 'scenario', 'base'
 
 
-@contextmanager
-def of_file(path: str) -> Iterator[None]:
-    """A refusal that is raised inside is of this file."""
-    try:
-        yield
-    except Refused as fault:
-        fault.file = fault.file or path
-        raise
+class ScenarioTable:
+    """A table of changes, which is read once for all cases of one scale and one unit of prices."""
 
+    def __init__(self, file: TextFile) -> None:
+        """`Refused` where it cannot be read; whether its prices are in the unit of a case is for each case to say."""
+        self.file = file
+        self.read: dict[tuple[object, ...], CaseScenarios] = {}
+        self.first = self.scenarios(None)
 
-def with_scenarios(rows: Iterable[Listed], table: bytes, path: str) -> tuple[tuple[Listed, ...], tuple[str, ...]]:
-    """Each case as it is and in each scenario, as rows, and what is told of the table. `Refused` where the table cannot
-    be read; whether its prices are in the unit of a case is for each case to say."""
-    with of_file(path):
-        made = read_changes(table, path, None)
-    names = (BASE, *(each.name for each in made.variants))
-    named = tuple(replace(row, names={**row.names, SCENARIO: name}) for row in rows for name in names)
-    return named, tuple(f'{path}: {each}' for each in made.notes)
+    @property
+    def notes(self) -> tuple[str, ...]:
+        return tuple(f'{self.file.name}: {note}' for note in self.first.notes)
 
+    def scenarios(self, basis: Basis | None) -> CaseScenarios:
+        key = (basis.scale, basis.price_unit) if basis else ()
+        if key not in self.read:
+            with of_file(self.file.name):
+                self.read[key] = read_changes(self.file.content, self.file.name, basis)
+        return self.read[key]
 
-def varied(case: bytes, table: bytes, path: str, name: str) -> bytes:
-    """A case in a scenario. `Refused` where a change names what it has not."""
-    if name == BASE:
-        return case
-    held = read_case(case)
-    with of_file(path):
-        scenario = next(each for each in read_changes(table, path, held.basis).variants if each.name == name)
-        return print_case(changed(held, scenario).case).encode()
+    def rows(self, rows: Iterable[Listed]) -> tuple[Listed, ...]:
+        """Each case as it is and in each scenario, as rows."""
+        names = (BASE, *(scenario.name for scenario in self.first.variants))
+        return tuple(replace(row, names={**row.names, SCENARIO: name}) for row in rows for name in names)
+
+    def varied(self, case: bytes, name: str) -> bytes:
+        """A case in a scenario. `Refused` where a change names what it has not."""
+        if name == BASE:
+            return case
+        read = read_case(case)
+        with of_file(self.file.name):
+            return print_case(changed(read, self.scenario(read.basis, name)).case).encode()
+
+    def scenario(self, basis: Basis, name: str) -> CaseScenario:
+        return next(scenario for scenario in self.scenarios(basis).variants if scenario.name == name)

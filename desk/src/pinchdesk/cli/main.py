@@ -1,93 +1,17 @@
-"""The command `pinchdesk`: its words, its errors and its statuses."""
+"""The command `pinchdesk`: what it is asked, its errors and its statuses."""
 from __future__ import annotations
 
-import argparse
 import sys
-from collections.abc import Iterable, Sequence
+from collections.abc import Sequence
 from contextlib import suppress
-from typing import Any, NoReturn
+from typing import NoReturn
 
-from ..errors import DeskError, OutputError, Status, WordsError
+from ..errors import DeskError, OutputError, Status
 from ..failures import failure_of
 from ..program.causes import lines_of
-from ..version import __version__
-from . import words
-from .output import check_place, write_whole
-from .progress import progress
-from .standard_streams import fill, put, say
-from .word import Word
-
-WORDS: tuple[Word, ...] = words.WORDS
-
-
-class Parser(argparse.ArgumentParser):
-    """A parser whose errors and whose help are told as any other ones."""
-
-    def error(self, message: str) -> NoReturn:
-        raise WordsError(f'{message} (`{self.prog} --help` shows how it is used)')
-
-    def print_help(self, file: Any = None) -> None:
-        put(self.format_help())
-
-
-class Version(argparse.Action):
-    """Prints the version, and ends."""
-
-    def __call__(self, parser: argparse.ArgumentParser, *_: Any) -> None:
-        put(f'pinchdesk {__version__}\n')
-        parser.exit()
-
-
-def parser() -> argparse.ArgumentParser:
-    made = Parser(prog='pinchdesk', description='From an engineer\'s spreadsheet to a page for the reviewer, around '
-                                                'the proved program pinch.')
-    made.add_argument('--version', action=Version, nargs=0, help='print the version, and end')
-    add_words(made.add_subparsers(dest='word', metavar='WORD', required=True), WORDS)
-    return made
-
-
-def add_words(under: Any, words: Sequence[Word]) -> None:
-    """Declares words, and those that may follow them."""
-    for word in words:
-        one = under.add_parser(word.name, help=word.summary, description=word.summary,
-                               epilog=f'example: {word.example}',
-                               formatter_class=argparse.RawDescriptionHelpFormatter)
-        if word.parts:
-            add_words(one.add_subparsers(dest='part', metavar='PART', required=True), word.parts)
-            continue
-        word.arguments(one)
-        one.add_argument('-o', '--output', metavar='FILE', required=word.to_file, help='where the answer is written')
-        one.set_defaults(its=word)
-
-
-def paths_of(word: Word, options: argparse.Namespace) -> Iterable[str]:
-    """The paths of the files that a word reads."""
-    for name in word.inputs:
-        held = getattr(options, name)
-        yield from [held] if isinstance(held, str) else held or []
-
-
-def answer(word: Word, options: argparse.Namespace) -> int:
-    """Answers one word: its notes, then its content, whole. Where its notes cannot be told, the answer stands, and that
-    is the error."""
-    inputs = list(paths_of(word, options))
-    if options.output is not None:
-        check_place(options.output, inputs)
-    with progress(word.name):
-        given = word.run(options)
-    untold = None
-    try:
-        for note in given.notes:
-            say(note)
-    except OutputError as fault:
-        untold = fault
-    if options.output is None:
-        put(given.content)
-    else:
-        write_whole(options.output, given.content, inputs)
-    if untold:
-        raise untold
-    return given.ends
+from .answering import answered, done_over_many
+from .parsing import parser
+from .standard_streams import fill, say
 
 
 def main(arguments: Sequence[str] | None = None) -> int:
@@ -96,8 +20,8 @@ def main(arguments: Sequence[str] | None = None) -> int:
     if hasattr(sys.stderr, 'reconfigure'):
         sys.stderr.reconfigure(errors='backslashreplace')
     try:
-        options = parser().parse_args(arguments)
-        return answer(options.its, options)
+        parsed = parser(answered, done_over_many).parse_args(arguments)
+        return int(parsed.doing(parsed))
     except SystemExit as ended:
         return int(ended.code or 0)
     except DeskError as fault:

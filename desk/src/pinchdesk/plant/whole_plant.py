@@ -7,28 +7,30 @@ from dataclasses import dataclass, field
 from functools import cached_property
 from typing import TYPE_CHECKING
 
+from ..analysis.audited import audited
 from ..analysis.change_table import CaseScenarios, read_changes
+from ..analysis.findings import headline
 from ..analysis.follow import Followed, PinchPoint, follow, pinches_of
 from ..analysis.least_units import least_units
+from ..analysis.price_study import study_answer
 from ..analysis.rest import remaining
 from ..analysis.sweep_request import as_it_is, asked_range, check_workers
-from ..analysis.what_if import what_if
-from ..errors import Refused, WordsError, about
+from ..analysis.what_if import Base, compared
+from ..errors import Refused, WordsError, about, of_file
 from ..formats.amounts import seconds_of
-from ..formats.case import Case, completed, print_case, print_comments, read_case
-from ..formats.network import read_network
+from ..formats.case import Case, completed, read_case
 from ..formats.plain_files import read_bytes
 from ..formats.shown import Shown
 from ..program.answers import Curves, Cut, HeatFlow, Targets
 from ..program.run import Pinch
 from ..program.verdicts import Accepted, Verdict
-from ..report.exchangers import verdict_sheet
-from ..report.page import Given, case_streams, page_of
+from ..report.page import Given, case_streams, page_of, review_of
 from ..search.find import find_network
-from ..tables.convert import case_of_table, checked, is_case
+from ..tables.convert import is_case
 from ..tables.cost_words import cost_of, percent_of
-from ..tables.study_prices import studied
 from ..tables.wanted import wanted_by
+from ..words.case_word import case_text, converted
+from ..words.word import TextFile
 from .given import FileGiven, Number, as_text, given
 from .network_answers import PlantAudit, PlantNetwork, PlantRest, plant_audit, plant_network, plant_rest, plant_table
 from .plant_answer import PlantAnswer
@@ -109,8 +111,7 @@ class Plant:
         """A network that was followed, and what the audit says of it."""
         file = given(network, 'network')
         with about(case=self.name, network=file.path):
-            verdict = self.pinch.audit(self.text, file.content)
-            return follow(self.completed, read_network(file.content)), verdict
+            return audited(self.pinch, self.text, file.content)
 
     def network(self, above: Number | None = None, cost: Number | None = None, seconds: Number = 60,
                 start: FileGiven | None = None) -> PlantNetwork:
@@ -141,7 +142,7 @@ class Plant:
         notes: tuple[str, ...] = ()
         if network is not None:
             followed, verdict = self.judged(network)
-            notes = () if isinstance(verdict, Accepted) else (str(verdict_sheet(followed, verdict).rows[0][0]),)
+            notes = () if isinstance(verdict, Accepted) else (headline(followed, verdict),)
         return plant_units(self.completed, least_units(self.text, self.pinch), followed, notes)
 
     def rest(self, network: FileGiven) -> PlantRest:
@@ -155,23 +156,19 @@ class Plant:
         check_workers(workers)
         file = given(study, 'study')
         with about(case=self.name, study=file.path):
-            asked = studied(file.content, self.case)
-            made = self.pinch.prices(asked.case, asked.content, workers)
-        return plant_prices(completed(asked.case), made, asked.notes)
+            answer = study_answer(self.pinch, self.case, file.content, workers)
+        return plant_prices(answer.case, answer.prices, answer.notes)
 
     def what_if(self, changes: FileGiven | None = None, sheet: str | None = None, decimal: str | None = None,
                 workers: int = WORKERS) -> PlantWhatIf:
         """Scenarios of a table of changes beside the case as it is, and what a little more of each stream would do."""
         check_workers(workers)
         file = None if changes is None else given(changes, 'changes')
-        try:
-            held = CaseScenarios(()) if file is None else \
+        with of_file(file.path if file else self.name):
+            scenarios = CaseScenarios(()) if file is None else \
                 read_changes(file.content, file.path, self.case.basis, sheet, decimal)
-            made = what_if(self.text, held.variants, self.pinch, workers)
-        except Refused as fault:
-            fault.file = fault.file or (file.path if file else self.name)
-            raise
-        return plant_what_if(made, held.notes)
+            answered = compared(Base(self.case, self.asked_targets), scenarios.variants, self.pinch, workers)
+        return plant_what_if(answered, scenarios.notes)
 
     def curves(self) -> Figure:
         """Composite, balanced and grand composite curves, as a figure of matplotlib."""
@@ -186,8 +183,8 @@ class Plant:
 
     def page(self, *networks: FileGiven) -> str:
         """The page for the reviewer with these networks side by side, as HTML."""
-        files = [given(each, f'network {at}') for at, each in enumerate(networks, 1)]
-        return page_of(Given(self.name, self.name, self.text.encode()), files)[0]
+        files = [given(network, f'network {at}') for at, network in enumerate(networks, 1)]
+        return page_of(review_of(self.pinch, Given(self.name, self.name, self.text.encode()), files))
 
 
 def read(source: str | os.PathLike[str] | bytes, name: str = '', *, difference: Number | None = None,
@@ -210,9 +207,5 @@ def read(source: str | os.PathLike[str] | bytes, name: str = '', *, difference: 
         plant = Plant(path, content.decode('utf-8', 'replace'), ('read as a case file, in tenths of °C, 10 W/K and W',))
         return plant if plant.asked_targets else plant
     pinch = Pinch()
-    try:
-        made = checked(case_of_table(content, path, asked), pinch)
-    except Refused as fault:
-        fault.file = fault.file or path
-        raise
-    return Plant(path, print_comments(made.comments) + print_case(made.case), made.notes, pinch)
+    made = converted(pinch, TextFile(path, content), asked)
+    return Plant(path, case_text(made), made.notes, pinch)

@@ -175,6 +175,11 @@ class Sweep(Rows):
     points: tuple[SweepRow, ...]
     text: str = printed()
 
+    @property
+    def feasible(self) -> bool:
+        """Whether there is a heat flow in each row."""
+        return all(point.cost is not None for point in self.points)
+
     def rows(self) -> Iterator[Row]:
         for each in self.points:
             yield {'contribution': each.contribution, 'hot': each.hot, 'cold': each.cold, 'cost': each.cost}
@@ -255,6 +260,10 @@ class SiteAnswer(Rows):
     takes: tuple[Price, ...]
     cut: Cut | None
     text: str = printed()
+
+    @property
+    def feasible(self) -> bool:
+        return self.cut is None
 
     def rows(self) -> Iterator[Row]:
         return ({'temperature': each.temperature, 'sink': each.sink, 'source': each.source} for each in self.profiles)

@@ -12,7 +12,11 @@ from ..formats.shown import Number, Shown
 from ..program.answers import (Cut, HeatFlow, Prices, PriceScenarioAnswer, SiteAnswer, SpanAnswer, Sweep, SweepRow,
                                Targets)
 from ..program.verdicts import Accepted, TooFine, Verdict
+from .facts import Fact, FactRow, FactTable, lines_sheet
 from .sheet import Cell, Sheet
+
+
+NO_FLOW = 'no heat flow'
 
 
 def celsius(shown: Shown, tenths: Number) -> Decimal:
@@ -30,13 +34,25 @@ def cost(shown: Shown, value: Number) -> Decimal:
 def targets_sheets(case: Case, targets: Targets) -> list[Sheet]:
     """Both targets, and each pinch on the shifted scale and where the streams of both sides stand at it."""
     shown = Shown(case.basis)
-    rows: list[tuple[Cell, ...]] = [('hot utility', kilowatts(shown, targets.hot), 'kW'),
-                                    ('cold utility', kilowatts(shown, targets.cold), 'kW')]
     pinches = tuple((celsius(shown, each), *(side_cell(case, side, each, shown) for side in (Side.HOT, Side.COLD)))
                     for each in targets.pinches)
     title = 'Pinches' if pinches else 'No pinch'
     headings = ('shifted °C', 'hot side °C', 'cold side °C') if pinches else ()
-    return [Sheet('Targets', ('', '', ''), tuple(rows)), Sheet(title, headings, pinches)]
+    return [lines_sheet('Targets', utility_facts(targets, shown)), Sheet(title, headings, pinches)]
+
+
+def utility_facts(targets: Targets | Accepted, shown: Shown) -> FactRow:
+    """The hot and the cold utility: of a case the least ones, of a network its own."""
+    return (Fact('hot utility', kilowatts(shown, targets.hot), 'kW'),
+            Fact('cold utility', kilowatts(shown, targets.cold), 'kW'))
+
+
+def targets_facts(case: Case, targets: Targets) -> FactRow:
+    """Both targets, and the pinches on the shifted scale, several ones as a text."""
+    shown = Shown(case.basis)
+    pinches = [celsius(shown, pinch) for pinch in targets.pinches]
+    told: Cell = pinches[0] if len(pinches) == 1 else '; '.join(f'{pinch:f}' for pinch in pinches) or 'no pinch'
+    return *utility_facts(targets, shown), Fact('pinch, shifted', told, '°C')
 
 
 def side_cell(case: Case, side: Side, pinch: int, shown: Shown) -> Cell:
@@ -74,13 +90,32 @@ def flow_sheets(case: Case, flow: HeatFlow | Cut) -> list[Sheet]:
                   prices)]
 
 
-def cut_sheet(cut: Cut, shown: Shown) -> Sheet:
-    """The parts that cannot be served."""
+def flow_facts(case: Case, flow: HeatFlow | Cut) -> FactRow:
+    """The least cost and the use of each utility; nothing where there is no heat flow."""
+    if isinstance(flow, Cut):
+        return ()
+    shown = Shown(case.basis)
+    uses = (Fact(utility.name, kilowatts(shown, flow.use(utility.name)), 'kW') for utility in case.utilities)
+    return Fact('least cost', cost(shown, flow.cost), shown.cost_unit), *uses
+
+
+def cut_told(cut: Cut, shown: Shown) -> str:
+    """That there is no heat flow, and why."""
     need, offer = shown.kilowatts(cut.need), shown.kilowatts(cut.offer)
     told = f'have to give {need} kW, and all that they reach can take {offer} kW at most' if cut.side is Side.HOT \
         else f'have to take {need} kW, and all that reaches them can give {offer} kW at most'
-    rows = tuple((each.name, celsius(shown, each.high), celsius(shown, each.low)) for each in cut.parts)
-    return Sheet(f'No heat flow: these parts {told}', ('part', 'from °C', 'to °C'), rows)
+    return f'No heat flow: these parts {told}'
+
+
+def cut_table(cut: Cut, shown: Shown) -> FactTable:
+    """The parts that cannot be served."""
+    rows = tuple((Fact('part', part.name), Fact('from', celsius(shown, part.high), '°C'),
+                  Fact('to', celsius(shown, part.low), '°C')) for part in cut.parts)
+    return FactTable(cut_told(cut, shown), rows)
+
+
+def cut_sheet(cut: Cut, shown: Shown) -> Sheet:
+    return cut_table(cut, shown).sheet()
 
 
 def audit_sheets(followed: Followed, verdict: Verdict) -> list[Sheet]:
@@ -89,81 +124,125 @@ def audit_sheets(followed: Followed, verdict: Verdict) -> list[Sheet]:
     if isinstance(verdict, Accepted):
         return [balance_sheet(verdict, shown), penalties_sheet(verdict, shown)]
     if isinstance(verdict, TooFine):
-        told = f'at {verdict.place}, step {verdict.step}: write duties and sizes with fewer digits'
-        return [Sheet('Too fine: nothing is said of the network', (), ((told,),))]
+        return [Sheet('Too fine: nothing is said of the network', (), ((too_fine_told(verdict),),))]
     found = finding_of(followed, verdict, shown)
     return [Sheet('Rejected', (), ((found.place, verdict.reason), ('', found.sentence)))]
 
 
-def balance_sheet(verdict: Accepted, shown: Shown) -> Sheet:
+def too_fine_told(verdict: TooFine) -> str:
+    return f'at {verdict.place}, step {verdict.step}: write duties and sizes with fewer digits'
+
+
+def audit_told(followed: Followed, verdict: Verdict) -> str:
+    """Why a network, or its penalties, cannot be told; nothing of one that is accepted with them."""
+    if isinstance(verdict, TooFine):
+        return too_fine_told(verdict)
+    if isinstance(verdict, Accepted):
+        return penalties_told(verdict.too_fine) if verdict.too_fine else ''
+    found = finding_of(followed, verdict, Shown(followed.case.basis))
+    return f'{found.place} {verdict.reason}; {found.sentence}'
+
+
+def balance_facts(verdict: Accepted, shown: Shown) -> FactRow:
+    """The balance of an accepted network and its cost, beside which the floor stands."""
     unit = shown.cost_unit
-    rows: tuple[tuple[Cell, ...], ...] = (
-        ('hot utility', kilowatts(shown, verdict.hot), 'kW'), ('cold utility', kilowatts(shown, verdict.cold), 'kW'),
-        ('excess over the hot target', kilowatts(shown, verdict.excess), 'kW'),
-        ('cost', cost(shown, verdict.cost), unit), ('floor: no network costs less', cost(shown, verdict.floor), unit),
-        ('cost above the floor', cost(shown, verdict.cost - verdict.floor), unit),
-        ('reference place, shifted', celsius(shown, verdict.place), '°C'))
-    return Sheet('Accepted', ('', '', ''), rows)
+    return (*utility_facts(verdict, shown),
+            Fact('excess over the hot target', kilowatts(shown, verdict.excess), 'kW'),
+            Fact('cost', cost(shown, verdict.cost), unit),
+            Fact('floor: no network costs less', cost(shown, verdict.floor), unit),
+            Fact('cost above the floor', cost(shown, verdict.cost - verdict.floor), unit),
+            Fact('reference place, shifted', celsius(shown, verdict.place), '°C'))
+
+
+def balance_sheet(verdict: Accepted, shown: Shown) -> Sheet:
+    return lines_sheet('Accepted', balance_facts(verdict, shown))
+
+
+def penalties_told(too_fine: TooFine) -> str:
+    return f'at {too_fine.place}, step {too_fine.step}'
 
 
 def penalties_sheet(verdict: Accepted, shown: Shown) -> Sheet:
     if verdict.too_fine:
-        told = f'at {verdict.too_fine.place}, step {verdict.too_fine.step}'
-        return Sheet('Penalties are too fine', (), ((told,),))
+        return Sheet('Penalties are too fine', (), ((penalties_told(verdict.too_fine),),))
     rows = tuple((str(each.place), kilowatts(shown, each.heat)) for each in verdict.penalties if each.heat)
     title = 'Penalties: where it loses heat' if rows else 'No penalty: it loses no heat'
     return Sheet(title, ('', 'kW') if rows else (), rows)
 
 
-def sweep_sheets(case: Case, sweep: Sweep, base: SweepRow | None = None) -> list[Sheet]:
+def sweep_table(case: Case, sweep: Sweep, base: SweepRow | None = None) -> FactTable:
     """Targets and least cost over the least difference, which is twice the contribution, with the case as it is: a row
     of the sweep, or `base` above them where sources have contributions of their own, which a sweep replaces."""
     shown, own = Shown(case.basis), own_contributions(case)
-    rows: list[tuple[Cell, ...]] = []
-    for each in (*([base] if base else []), *sweep.points):
-        as_it_is = each is base or not own and each.contribution == case.contribution
-        least: Cell = 'no heat flow' if each.cost is None else cost(shown, each.cost)
-        approach: Cell = 'its own' if each is base else celsius(shown, 2 * each.contribution)
-        rows.append((approach, kilowatts(shown, each.hot), kilowatts(shown, each.cold), least,
-                     'the case as it is' if as_it_is else ''))
+    rows: list[FactRow] = []
+    for point in (*([base] if base else []), *sweep.points):
+        as_it_is = point is base or not own and point.contribution == case.contribution
+        least: Cell = NO_FLOW if point.cost is None else cost(shown, point.cost)
+        approach: Cell = 'its own' if point is base else celsius(shown, 2 * point.contribution)
+        rows.append((Fact('least difference', approach, 'K'), Fact('hot', kilowatts(shown, point.hot), 'kW'),
+                     Fact('cold', kilowatts(shown, point.cold), 'kW'), Fact('least cost', least, shown.cost_unit),
+                     Fact('remark', 'the case as it is' if as_it_is else '')))
     title = f'Sweep: the contributions of their own of {", ".join(own)} are replaced' if own else 'Sweep'
-    headings = ('least difference K', 'hot kW', 'cold kW', f'least cost {shown.cost_unit}', 'remark')
-    return [Sheet(title, headings, tuple(rows))]
+    return FactTable(title, tuple(rows))
+
+
+def sweep_sheets(case: Case, sweep: Sweep, base: SweepRow | None = None) -> list[Sheet]:
+    return [sweep_table(case, sweep, base).sheet()]
+
+
+def prices_tables(case: Case, prices: Prices) -> list[FactTable]:
+    """The least cost of each scenario, and at both ends of each segment of a span, with the heat that is its slope."""
+    shown = Shown(case.basis)
+    scenarios: list[FactRow] = []
+    segments: list[FactRow] = []
+    for answer in prices.answers:
+        if isinstance(answer, PriceScenarioAnswer):
+            least: Cell = NO_FLOW if answer.cost is None else cost(shown, answer.cost)
+            scenarios.append((Fact('scenario', answer.name), Fact('least cost', least, shown.cost_unit)))
+        else:
+            segments.extend(span_rows(answer, shown))
+    price, costs = shown.price_unit, shown.cost_unit
+    columns = ('utility', f'from {price}', f'to {price}', f'cost at the first {costs}', f'cost at the last {costs}',
+               'slope kW')
+    tables = [FactTable('Scenarios', tuple(scenarios)), FactTable('Spans', tuple(segments), columns=columns)]
+    return [table for table in tables if table.rows]
 
 
 def prices_sheets(case: Case, prices: Prices) -> list[Sheet]:
-    """The least cost of each scenario, and at both ends of each segment of a span, with the heat that is its slope."""
-    shown = Shown(case.basis)
-    scenarios: list[tuple[Cell, ...]] = []
-    segments: list[tuple[Cell, ...]] = []
-    for each in prices.answers:
-        if isinstance(each, PriceScenarioAnswer):
-            scenarios.append((each.name, 'no heat flow' if each.cost is None else cost(shown, each.cost)))
-        else:
-            segments.extend(span_rows(each, shown) or [(each.utility, 'no heat flow')])
-    unit = shown.price_unit
-    return [Sheet('Scenarios', ('scenario', f'least cost {shown.cost_unit}'), tuple(scenarios))] * bool(scenarios) + [
-        Sheet('Spans', ('utility', f'from {unit}', f'to {unit}', f'cost at the first {shown.cost_unit}',
-                        f'cost at the last {shown.cost_unit}', 'slope kW'), tuple(segments))] * bool(segments)
+    return [table.sheet() for table in prices_tables(case, prices)]
 
 
-def span_rows(span: SpanAnswer, shown: Shown) -> list[tuple[Cell, ...]]:
-    rows: list[tuple[Cell, ...]] = []
-    for each in span.segments:
-        ends = (Decimal(shown.price(price)) for price in (each.first, each.last))
-        costs = (cost(shown, each.cost(price)) for price in (each.first, each.last))
-        rows.append((span.utility, *ends, *costs, kilowatts(shown, each.slope)))
-    return rows
+def span_rows(span: SpanAnswer, shown: Shown) -> list[FactRow]:
+    """A row for each segment, or one that says that there is no heat flow."""
+    price_unit, cost_unit, utility = shown.price_unit, shown.cost_unit, Fact('utility', span.utility)
+    if not span.segments:
+        return [(utility, Fact('from', NO_FLOW, price_unit))]
+    return [(utility, Fact('from', Decimal(shown.price(segment.first)), price_unit),
+             Fact('to', Decimal(shown.price(segment.last)), price_unit),
+             Fact('cost at the first', cost(shown, segment.cost(segment.first)), cost_unit),
+             Fact('cost at the last', cost(shown, segment.cost(segment.last)), cost_unit),
+             Fact('slope', kilowatts(shown, segment.slope), 'kW')) for segment in span.segments]
+
+
+def site_facts(answer: SiteAnswer, basis: Basis) -> FactRow:
+    """What the boiler has to give and the cooling to take; nothing where there is no heat flow."""
+    if answer.boiler is None or answer.cooling is None:
+        return ()
+    shown = Shown(basis)
+    return (Fact('boiler', kilowatts(shown, answer.boiler), 'kW'),
+            Fact('cooling', kilowatts(shown, answer.cooling), 'kW'))
+
+
+def site_tables(answer: SiteAnswer, basis: Basis) -> list[FactTable]:
+    """The profiles of a site, and what cannot be served."""
+    shown = Shown(basis)
+    rows = tuple((Fact('shifted', celsius(shown, profile.temperature), '°C'),
+                  Fact('to give below it', kilowatts(shown, profile.source), 'kW'),
+                  Fact('to take above it', kilowatts(shown, profile.sink), 'kW')) for profile in answer.profiles)
+    return [FactTable('Profiles', rows), *([cut_table(answer.cut, shown)] if answer.cut else [])]
 
 
 def site_sheets(answer: SiteAnswer, basis: Basis = Basis()) -> list[Sheet]:
     """What a site of this basis needs, and its profiles."""
-    shown = Shown(basis)
-    rows = tuple((celsius(shown, each.temperature), kilowatts(shown, each.source), kilowatts(shown, each.sink))
-                 for each in answer.profiles)
-    profiles = Sheet('Profiles', ('shifted °C', 'to give below it kW', 'to take above it kW'), rows)
-    if answer.cut:
-        return [profiles, cut_sheet(answer.cut, shown)]
-    assert answer.boiler is not None and answer.cooling is not None
-    targets = (('boiler', kilowatts(shown, answer.boiler), 'kW'), ('cooling', kilowatts(shown, answer.cooling), 'kW'))
-    return [Sheet('Site', ('', '', ''), targets), profiles]
+    needs = [lines_sheet('Site', site_facts(answer, basis))] if answer.feasible else []
+    return [*needs, *(table.sheet() for table in site_tables(answer, basis))]

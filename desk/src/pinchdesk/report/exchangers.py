@@ -6,22 +6,16 @@ and rounded here. A duty over the logarithmic mean of its differences is for the
 known."""
 from __future__ import annotations
 
-from argparse import Namespace
 from dataclasses import replace
 from decimal import Decimal, localcontext
 from fractions import Fraction
 
 from ..analysis.findings import Finding, finding_of, headline, stream_at
-from ..analysis.follow import Followed, Passage, PinchPoint, StreamEnd, follow, pinches_of
-from ..cli.commands.asked import held_case, judged, takes_network
-from ..cli.word import Answer, Word
-from ..errors import about
+from ..analysis.follow import Followed, Passage, PinchPoint, StreamEnd
 from ..formats.case import Side, Stream, Utility
-from ..formats.network import read_network
-from ..formats.plain_files import read_bytes
 from ..formats.shown import Shown
-from ..program.run import Pinch
 from ..program.verdicts import Accepted, Place, PlaceKind, Rejected, Verdict
+from .facts import Fact, FactRow
 from .sheet import Cell, Sheet
 
 HEADINGS = ('exchanger', 'hot', 'hot branch', 'cold', 'cold branch', 'duty kW', 'hot in °C', 'hot out °C', 'cold in °C',
@@ -140,18 +134,33 @@ def stream_row(stream: Stream, ends: tuple[StreamEnd, ...], shown: Shown) -> tup
 def sums_sheet(followed: Followed) -> Sheet:
     """The heat of each utility, of all exchangers, and the duty over mean difference of those of which it is known."""
     shown = Shown(followed.case.basis)
-    rows: list[tuple[Cell, ...]] = []
+    sides = [(utility.side.value, utility_sum(followed, utility, shown)) for utility in followed.case.utilities]
+    lines = [*sides, *(('', fact) for fact in exchanger_sums(followed, shown))]
+    return Sheet('Utilities', ('', '', '', ''), tuple((fact.name, side, fact.value, fact.unit) for side, fact in lines))
+
+
+def sums_facts(followed: Followed) -> FactRow:
+    """The same sums, each utility with its side."""
+    shown = Shown(followed.case.basis)
+    utilities = [(utility.side.value, utility_sum(followed, utility, shown)) for utility in followed.case.utilities]
+    return (*(replace(fact, name=f'{fact.name} {side}') for side, fact in utilities), *exchanger_sums(followed, shown))
+
+
+def utility_sum(followed: Followed, utility: Utility, shown: Shown) -> Fact:
+    duties = [exchanger.duty for exchanger in followed.network.exchangers
+              if utility.name in (exchanger.hot, exchanger.cold)]
+    return Fact(utility.name, Decimal(shown.kilowatts(sum(duties, Fraction(0)))), 'kW')
+
+
+def exchanger_sums(followed: Followed, shown: Shown) -> FactRow:
+    """The heat of all exchangers, and the duty over mean difference of those of which it is known."""
     exchangers = followed.network.exchangers
-    for each in followed.case.utilities:
-        duties = [one.duty for one in exchangers if each.name in (one.hot, one.cold)]
-        rows.append((each.name, each.side.value, Decimal(shown.kilowatts(sum(duties, Fraction(0)))), 'kW'))
-    duty = sum((each.duty for each in exchangers), Fraction(0))
-    rows.append((f'{len(exchangers)} exchangers', '', Decimal(shown.kilowatts(duty)), 'kW'))
-    sizes = [conductance(each, shown) for each in followed.passages]
-    known = [each for each in sizes if each is not None]
-    size = sum(known, Decimal(0)).quantize(Decimal('0.001'))
-    rows.append((f'duty over mean difference of {len(known)} of them', '', size, 'kW/K'))
-    return Sheet('Utilities', ('', '', '', ''), tuple(rows))
+    duty = sum((exchanger.duty for exchanger in exchangers), Fraction(0))
+    sizes = [conductance(passage, shown) for passage in followed.passages]
+    known = [size for size in sizes if size is not None]
+    sum_of_known = sum(known, Decimal(0)).quantize(Decimal('0.001'))
+    return (Fact(f'{len(exchangers)} exchangers', Decimal(shown.kilowatts(duty)), 'kW'),
+            Fact(f'duty over mean difference of {len(known)} of them', sum_of_known, 'kW/K'))
 
 
 def verdict_sheet(followed: Followed, verdict: Verdict) -> Sheet:
@@ -166,21 +175,3 @@ def mixes_sheets(followed: Followed, verdict: Verdict) -> list[Sheet]:
     rows = tuple((str(each.place), stream_at(followed, each.place.line), Decimal(shown.kilowatts(each.heat)))
                  for each in lost)
     return [Sheet('Mixes that lose heat', ('statement', 'stream', 'penalty kW'), rows)] if rows else []
-
-
-def table(options: Namespace) -> Answer:
-    content, text = read_bytes(options.case), read_bytes(options.network)
-    with about(case=options.case, network=options.network):
-        pinch = Pinch()
-        verdict = pinch.audit(content, text)
-        followed = follow(held_case(content), read_network(text))
-        pinches = pinches_of(pinch.targets(content), pinch.curves(content))
-    sheets = [verdict_sheet(followed, verdict), exchangers_sheet(followed, pinches, verdict),
-              *mixes_sheets(followed, verdict), streams_sheet(followed, verdict), sums_sheet(followed)]
-    return judged(sheets, options, verdict)
-
-
-WORDS = (
-    Word('table', 'the exchangers of a network: temperatures, differences, duties, side of the pinch, penalties',
-         'pinchdesk table examples/tc3.csv examples/tc3-network.txt', takes_network, table, ('case', 'network')),
-)

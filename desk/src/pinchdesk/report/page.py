@@ -12,6 +12,7 @@ from decimal import Decimal
 from fractions import Fraction
 from typing import TYPE_CHECKING, Any
 
+from ..analysis.findings import headline
 from ..analysis.follow import Followed, PinchPoint, follow, pinches_of
 from ..errors import Status, WordsError, about
 from ..formats.case import ANY_HEAT, Case, Side, completed, read_case
@@ -21,7 +22,7 @@ from ..program.answers import Curves, Cut, HeatFlow, Targets
 from ..program.run import Pinch
 from ..program.verdicts import Accepted, Rejected, Verdict, ending
 from .answer_sheets import audit_sheets, flow_sheets, targets_sheets
-from .exchangers import exchangers_sheet, mixes_sheets, streams_sheet, sums_sheet, verdict_sheet
+from .exchangers import exchangers_sheet, mixes_sheets, streams_sheet, sums_sheet
 from .sheet import Cell, Sheet
 
 if TYPE_CHECKING:
@@ -85,7 +86,7 @@ class Reviewed:
 
     @property
     def headline(self) -> str:
-        return str(verdict_sheet(self.followed, self.verdict).rows[0][0])
+        return headline(self.followed, self.verdict)
 
 
 def imaged(figure: Figure) -> tuple[str, int]:
@@ -216,20 +217,39 @@ def compared(networks: Sequence[Reviewed], shown: Shown) -> Sheet:
     return Sheet('Networks side by side', ('', *(each.given.name for each in networks)), rows)
 
 
-def page_of(case: Given, networks: Sequence[Given], unfolded: bool = False) -> tuple[str, Status, str]:
-    """The page, and how the word ends: by its heat flow and its networks. `unfolded` where what is folded shall be
-    seen, as on paper."""
-    answered, verdicts = answers_of(Pinch(), case, networks)
-    held = [reviewed(answered, given, verdict) for given, verdict in zip(networks, verdicts)]
+@dataclass(frozen=True)
+class Review:
+    """A case and its networks, answered and judged, as the page has them."""
+
+    case: Given
+    answered: Answered
+    networks: tuple[Reviewed, ...]
+
+    @property
+    def ending(self) -> tuple[Status, str]:
+        """How a word ends with it: by its heat flow and its networks."""
+        return ending((network.verdict for network in self.networks), [self.answered.flow])
+
+
+def review_of(pinch: Pinch, case: Given, networks: Sequence[Given]) -> Review:
+    answered, verdicts = answers_of(pinch, case, networks)
+    return Review(case, answered, tuple(reviewed(answered, network, verdict)
+                                        for network, verdict in zip(networks, verdicts)))
+
+
+def page_of(review: Review, unfolded: bool = False) -> str:
+    """The page. `unfolded` where what is folded shall be seen, as on paper."""
+    answered, networks = review.answered, review.networks
     shown = Shown(answered.case.basis)
     values = {
-        'case': case, 'answered': answered, 'networks': held, 'shown': shown, 'unfolded': unfolded,
+        'case': review.case, 'answered': answered, 'networks': networks, 'shown': shown, 'unfolded': unfolded,
         'targets': targets_sheets(answered.case, answered.targets), 'tables': case_sheets(answered),
         'flow': flow_sheets(answered.case, answered.flow), 'cut': isinstance(answered.flow, Cut),
         'curves': curves_of(answered),
-        'compared': compared(held, shown) if held else None, 'bars': bars,
+        'compared': compared(networks, shown) if networks else None, 'bars': bars,
     }
-    return template().render(values), *ending(verdicts, [answered.flow])
+    page: str = template().render(values)
+    return page
 
 
 def bars(network: Reviewed) -> list[tuple[str, str, str]]:

@@ -15,9 +15,11 @@ from ..formats.case import Side, Stream, shifted
 from ..formats.shown import Shown, decimal
 from ..program.answers import Cut
 from ..program.verdicts import Accepted, Rejected
-from .answer_sheets import cut_sheet
+from .answer_sheets import audit_told, cut_sheet
+from .facts import Fact, FactRow, lines_sheet
 from .sheet import Cell, Sheet
 
+TOO_FINE = 'its numbers are too fine to be audited: write duties and sizes with fewer digits'
 SIDES = ('above', 'below')
 SPLITS = {('above', True): 'split a cold one', ('below', True): 'split a hot one'}
 
@@ -28,8 +30,9 @@ def between(low: Fraction, high: Fraction, show: Callable[[Fraction], str]) -> C
     return Decimal(first) if low == high or first == last else f'{first} to {last}'
 
 
-def numbers_sheet(rest: Rest) -> Sheet:
-    """What stands, what is left, and what it costs above the targets of the whole."""
+def rest_facts(rest: Rest) -> FactRow:
+    """What stands, what is left, and what it costs above the targets of the whole; what lies between two numbers is a
+    text."""
     shown = Shown(rest.followed.case.basis)
     hots, colds = ([each.hot if side is Side.HOT else each.cold for each in (rest.easier, rest.harder) if each] or
                    [Fraction(0)] for side in (Side.HOT, Side.COLD))
@@ -37,15 +40,15 @@ def numbers_sheet(rest: Rest) -> Sheet:
 
     def heat(low: Fraction, high: Fraction) -> Cell:
         return between(low, high, lambda each: shown.kilowatts(each, 6))
-    rows: list[tuple[Cell, ...]] = [
-        ('exchangers so far', Decimal(len(rest.followed.passages)), ''),
-        ('hot utility that they use', heat(used, used), 'kW'), ('hot target of the rest', heat(least, most), 'kW'),
-        ('hot target of the whole', heat(Fraction(rest.whole.hot), Fraction(rest.whole.hot)), 'kW'),
-        ('the choice costs above it', heat(*rest.excess), f'kW{excess_words(rest)}'),
-        ('cold utility that they use', heat(rest.cold_used, rest.cold_used), 'kW'),
-        ('cold target of the rest', heat(min(colds), max(colds)), 'kW'),
-        ('cold target of the whole', heat(Fraction(rest.whole.cold), Fraction(rest.whole.cold)), 'kW')]
-    return Sheet('The choice so far', ('', '', ''), (*rows, *cost_rows(rest, shown)))
+    return (Fact('exchangers so far', Decimal(len(rest.followed.passages))),
+            Fact('hot utility that they use', heat(used, used), 'kW'),
+            Fact('hot target of the rest', heat(least, most), 'kW'),
+            Fact('hot target of the whole', heat(Fraction(rest.whole.hot), Fraction(rest.whole.hot)), 'kW'),
+            Fact('the choice costs above it', heat(*rest.excess), f'kW{excess_words(rest)}'),
+            Fact('cold utility that they use', heat(rest.cold_used, rest.cold_used), 'kW'),
+            Fact('cold target of the rest', heat(min(colds), max(colds)), 'kW'),
+            Fact('cold target of the whole', heat(Fraction(rest.whole.cold), Fraction(rest.whole.cold)), 'kW'),
+            *cost_facts(rest, shown))
 
 
 def excess_words(rest: Rest) -> str:
@@ -53,7 +56,7 @@ def excess_words(rest: Rest) -> str:
     return ', no more than the rounding' if least == 0 < most else ''
 
 
-def cost_rows(rest: Rest, shown: Shown) -> Iterator[tuple[Cell, ...]]:
+def cost_facts(rest: Rest, shown: Shown) -> Iterator[Fact]:
     """Costs, by the least-cost heat flows of the rest and of the whole; none where one of them has none."""
     posed = [each for each in (rest.easier, rest.harder) if each]
     costs = [each.cost for each in posed if each.cost is not None]
@@ -61,10 +64,10 @@ def cost_rows(rest: Rest, shown: Shown) -> Iterator[tuple[Cell, ...]]:
         return
     floor, unit = rest.whole_flow.cost, shown.cost_unit
     low, high = (rest.cost_used + each for each in (min(costs, default=Fraction(0)), max(costs, default=Fraction(0))))
-    yield 'cost of the utilities used', Decimal(shown.cost(rest.cost_used)), unit
-    yield 'least cost of the rest', between(low - rest.cost_used, high - rest.cost_used, shown.cost), unit
-    yield 'floor of the whole', Decimal(shown.cost(floor)), unit
-    yield 'the choice costs above it', between(low - floor, high - floor, shown.cost), unit
+    yield Fact('cost of the utilities used', Decimal(shown.cost(rest.cost_used)), unit)
+    yield Fact('least cost of the rest', between(low - rest.cost_used, high - rest.cost_used, shown.cost), unit)
+    yield Fact('floor of the whole', Decimal(shown.cost(floor)), unit)
+    yield Fact('the choice costs above it', between(low - floor, high - floor, shown.cost), unit)
 
 
 def open_sheet(rest: Rest) -> Sheet:
@@ -148,19 +151,25 @@ def lost_sheets(rest: Rest) -> list[Sheet]:
 
 def fault_sheets(rest: Rest) -> list[Sheet]:
     """Why what stands is no beginning of a network."""
-    shown = Shown(rest.followed.case.basis)
     if isinstance(rest.verdict, Rejected):
-        found = finding_of(rest.finished, rest.verdict, shown)
+        found = finding_of(rest.finished, rest.verdict, Shown(rest.followed.case.basis))
         return [Sheet('Rejected', (), ((found.place, rest.verdict.reason), ('', found.sentence)))]
-    told = 'its numbers are too fine to be audited: write duties and sizes with fewer digits'
-    return [Sheet('Too fine: nothing is said of the network', (), ((told,),))]
+    return [Sheet('Too fine: nothing is said of the network', (), ((TOO_FINE,),))]
+
+
+def rest_told(rest: Rest) -> str:
+    """Why what stands is no beginning of a network, or those of its numbers that lie between two."""
+    if isinstance(rest.verdict, Accepted):
+        return '; '.join(f'{fact.name} {fact.value} {fact.unit}' for fact in rest_facts(rest)
+                         if isinstance(fact.value, str))
+    return audit_told(rest.finished, rest.verdict) if isinstance(rest.verdict, Rejected) else TOO_FINE
 
 
 def rest_sheets(rest: Rest) -> list[Sheet]:
     """What is left of a network, or why it is rejected."""
     if not isinstance(rest.verdict, Accepted):
         return fault_sheets(rest)
-    sheets = [numbers_sheet(rest), open_sheet(rest)]
+    sheets = [lines_sheet('The choice so far', rest_facts(rest)), open_sheet(rest)]
     if rest.harder:
         sheets += pinch_sheets(rest.harder, rest)
         if isinstance(rest.harder.flow, Cut):

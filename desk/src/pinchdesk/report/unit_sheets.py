@@ -12,6 +12,7 @@ from ..analysis.independent_sets import MOST_SOURCES, MOST_SUBSETS
 from ..analysis.least_units import IndependentSet, RegionUnits, Units
 from ..formats.case import Side, Utility, shifted
 from ..formats.shown import Shown
+from .facts import Fact, FactRow, FactTable
 from .sheet import Cell, Sheet
 
 LEFT_OUT = ('the number is that of sources less independent sets: it counts heats, and a network may want more where '
@@ -37,21 +38,26 @@ def sets_of(counted: RegionUnits) -> Cell:
     return Decimal(len(held.sets)) if held.exact else f'{len(held.sets)} to {held.most_sets}'
 
 
-def joined_number(counted: Sequence[RegionUnits], wanted: bool) -> tuple[Cell, ...]:
-    """The least number with sets that can be joined; empty where it is not known."""
-    held = [each.least_joined for each in counted]
-    known = [each for each in held if each is not None]
-    return ((Decimal(sum(known)) if len(known) == len(held) else '',) if wanted else ())
+def joined_facts(counted: Sequence[RegionUnits], parted: bool) -> FactRow:
+    """The least number with sets that can be joined, where some cannot; empty where it is not known."""
+    numbers = [region.least_joined for region in counted]
+    known = [number for number in numbers if number is not None]
+    return (Fact('that can be joined', Decimal(sum(known)) if len(known) == len(numbers) else ''),) if parted else ()
 
 
-def summed(counted: Sequence[RegionUnits]) -> tuple[Cell, ...]:
+def region_facts(title: str, sources: int, sets: Cell, exchangers: Cell) -> FactRow:
+    return Fact('shifted', title), Fact('sources', Decimal(sources)), Fact('sets', sets), Fact('exchangers', exchangers)
+
+
+def summed(title: str, counted: Sequence[RegionUnits]) -> FactRow:
     """Sources, sets and exchangers of all regions together."""
     partitions = [each.partition for each in counted]
     least, found = sum(each.least_exchangers for each in partitions), sum(each.found_exchangers for each in partitions)
     sets, most = sum(len(each.sets) for each in partitions), sum(each.most_sets for each in partitions)
     exact = all(each.exact for each in partitions)
-    return (Decimal(sum(each.members for each in partitions)), Decimal(sets) if exact else f'{sets} to {most}',
-            Decimal(least) if exact else f'{least} to {found}')
+    return region_facts(title, sum(each.members for each in partitions),
+                        Decimal(sets) if exact else f'{sets} to {most}',
+                        Decimal(least) if exact else f'{least} to {found}')
 
 
 def heat_above_place(side: SideState, duty: Fraction, place: CutPlace | None) -> Fraction | None:
@@ -89,28 +95,27 @@ def all_counted(units: Units) -> Sequence[RegionUnits]:
     return [units.whole, *(each for level in units.levels for each in level)]
 
 
-def found_in(followed: Followed | None, region: Region) -> tuple[Cell, ...]:
+def found_in(followed: Followed | None, region: Region) -> FactRow:
     if followed is None:
         return ()
     whole, partly = exchangers_in(followed.passages, region)
-    return Decimal(whole), Decimal(partly)
+    return Fact('in the network', Decimal(whole)), Fact('partly', Decimal(partly))
 
 
-def numbers_sheet(units: Units, followed: Followed | None = None) -> Sheet:
+def units_table(units: Units, followed: Followed | None = None) -> FactTable:
     """A row for each region, the sum of each way to cut, and the exchangers of a network in each."""
     shown = Shown(units.case.basis)
     parted = not all(one.joinable for each in all_counted(units) for one in each.sets)
-    rows: list[tuple[Cell, ...]] = [(title_of(units.whole.region, shown), *summed([units.whole]),
-                                     *joined_number([units.whole], parted), *found_in(followed, units.whole.region))]
+    whole = units.whole.region
+    rows: list[FactRow] = [(*summed(title_of(whole, shown), [units.whole]), *joined_facts([units.whole], parted),
+                            *found_in(followed, whole))]
     for level in units.levels:
         utility = any(not each.region.lower.process for each in level if each.region.lower)
-        rows.extend((title_of(each.region, shown), Decimal(each.sources), sets_of(each), number_of(each),
-                     *joined_number([each], parted), *found_in(followed, each.region)) for each in level)
+        rows.extend((*region_facts(title_of(each.region, shown), each.sources, sets_of(each), number_of(each)),
+                     *joined_facts([each], parted), *found_in(followed, each.region)) for each in level)
         title = 'all, utility pinches too' if utility else 'all sides of the pinch'
-        rows.append((title, *summed(level), *joined_number(level, parted)))
-    headings = ('shifted', 'sources', 'sets', 'exchangers', *(('that can be joined',) if parted else ()),
-                *(('in the network', 'partly') if followed else ()))
-    return Sheet('Least number of exchangers', headings, tuple(rows))
+        rows.append((*summed(title, level), *joined_facts(level, parted)))
+    return FactTable('Least number of exchangers', tuple(rows))
 
 
 def sum_of(pieces: Iterable[Piece], shown: Shown) -> str:
@@ -123,21 +128,21 @@ def sum_text(one: IndependentSet, shown: Shown) -> str:
     return f'hot: {sum_of(hot, shown)} = cold: {sum_of(cold, shown)}'
 
 
-def sets_sheet(units: Units) -> Sheet:
+def sets_table(units: Units) -> FactTable:
     """Each independent set; one that balances and cannot be joined is marked."""
     shown = Shown(units.case.basis)
-    rows: list[tuple[Cell, ...]] = []
-    marked: list[int] = []
-    for counted in all_counted(units):
-        for title, sets in (('', counted.sets), (', with sets that can be joined', counted.joined or ())):
-            for at, one in enumerate(sets):
-                if not one.joinable:
-                    marked.append(len(rows))
-                rows.append((title_of(counted.region, shown) + title if at == 0 else '', Decimal(len(one.pieces) - 1),
-                             sum_text(one, shown), '' if one.joinable else parted_text(one)))
-    headings = ('shifted', 'exchangers', 'kW', *(('cannot be joined',) if marked else ()))
-    width = len(headings)
-    return Sheet('Independent sets', headings, tuple(row[:width] for row in rows), frozenset(marked))
+    sets = [(title_of(counted.region, shown) + title if at == 0 else '', independent)
+            for counted in all_counted(units)
+            for title, found in (('', counted.sets), (', with sets that can be joined', counted.joined or ()))
+            for at, independent in enumerate(found)]
+    marked = frozenset(at for at, (_, independent) in enumerate(sets) if not independent.joinable)
+    rows = [(Fact('shifted', title), Fact('exchangers', Decimal(len(independent.pieces) - 1)),
+             Fact('', sum_text(independent, shown), 'kW')) for title, independent in sets]
+    if not marked:
+        return FactTable('Independent sets', tuple(rows))
+    return FactTable('Independent sets', tuple(
+        (*row, Fact('cannot be joined', '' if independent.joinable else parted_text(independent)))
+        for row, (_, independent) in zip(rows, sets)), marked)
 
 
 def parted_text(one: IndependentSet) -> str:
@@ -145,7 +150,7 @@ def parted_text(one: IndependentSet) -> str:
     return f'forbidden matches or temperatures part it: {groups}'
 
 
-def notes_sheet(units: Units, followed: Followed | None = None) -> Sheet:
+def units_notes(units: Units, followed: Followed | None = None) -> list[str]:
     """What the rule leaves out, and what was not cut or not counted to the end."""
     shown = Shown(units.case.basis)
     told = [LEFT_OUT]
@@ -164,9 +169,15 @@ def notes_sheet(units: Units, followed: Followed | None = None) -> Sheet:
     if followed is not None:
         told.append(f'the network has {len(followed.passages)} exchangers; `partly` are those that work in other '
                     'regions too')
-    return Sheet('What the rule leaves out', (), tuple((each,) for each in told))
+    return told
+
+
+def units_tables(units: Units, followed: Followed | None = None) -> list[FactTable]:
+    """The rule's numbers, beside them those of a network of the same completed case, and the sets."""
+    return [units_table(units, followed), sets_table(units)]
 
 
 def units_sheets(units: Units, followed: Followed | None = None) -> list[Sheet]:
-    """The rule's numbers, beside them those of a network of the same completed case, the sets, and notes."""
-    return [numbers_sheet(units, followed), sets_sheet(units), notes_sheet(units, followed)]
+    """The same as sheets, and notes."""
+    notes = tuple((note,) for note in units_notes(units, followed))
+    return [*(table.sheet() for table in units_tables(units, followed)), Sheet('What the rule leaves out', (), notes)]

@@ -11,6 +11,7 @@ from ..analysis.what_if import ScenarioOutcome, PlusMinus, Step, WhatIf, little
 from ..formats.case import ANY_HEAT
 from ..formats.shown import Shown, decimal
 from ..program.answers import Cut
+from .facts import Fact, FactRow, FactTable
 from .sheet import Cell, Sheet
 
 REFUSED, INFEASIBLE = 'refused', 'no heat flow'
@@ -18,38 +19,47 @@ CELSIUS = (Field.SUPPLY, Field.TARGET, Field.LEVEL)
 
 
 def what_if_sheets(made: WhatIf) -> list[Sheet]:
+    return [table.sheet() for table in what_if_tables(made)]
+
+
+def what_if_tables(made: WhatIf) -> list[FactTable]:
     """The scenarios, what they change, and the plus-minus numbers of the case as it is."""
-    sheets = [scenarios_sheet(made)] if made.outcomes else []
-    return [*sheets, *([steps_sheet(made)] if made.outcomes else []), plus_minus_sheet(made)]
+    scenarios = [scenarios_table(made), steps_table(made)] if made.outcomes else []
+    return [*scenarios, plus_minus_table(made)]
 
 
-def scenarios_sheet(made: WhatIf) -> Sheet:
+def scenarios_table(made: WhatIf) -> FactTable:
     """A row for the base and each scenario, with the differences from the base; one that is refused or has no heat
     flow is marked."""
     shown = Shown(made.base.case.basis)
-    rows = [scenario_row(each, made.base, shown) for each in (made.base, *made.outcomes)]
-    marked = frozenset(at for at, each in enumerate((made.base, *made.outcomes))
-                       if each.fault or isinstance(each.flow, Cut))
-    unit = shown.cost_unit
-    headings = ('scenario', 'hot kW', 'more hot kW', 'cold kW', 'more cold kW', 'pinch, shifted °C',
-                f'least cost {unit}', f'more cost {unit}', *(('fault',) if any(each.fault for each in made.outcomes)
-                                                             else ()))
-    return Sheet('What if', headings, tuple(row[:len(headings)] for row in rows), marked)
+    outcomes = (made.base, *made.outcomes)
+    marked = frozenset(at for at, outcome in enumerate(outcomes) if outcome.fault or isinstance(outcome.flow, Cut))
+    rows = [scenario_row(outcome, made.base, shown) for outcome in outcomes]
+    if made.refused:
+        rows = [(*row, Fact('fault', outcome.fault)) for row, outcome in zip(rows, outcomes)]
+    return FactTable('What if', tuple(rows), marked)
 
 
-def scenario_row(outcome: ScenarioOutcome, base: ScenarioOutcome, shown: Shown) -> tuple[Cell, ...]:
-    name = outcome.variant.name
-    if outcome.targets is None or base.targets is None:
-        return (name, None, None, None, None, REFUSED, None, None, outcome.fault)
-    is_base = outcome is base
-    hot, cold = outcome.targets.hot, outcome.targets.cold
-    pinches = pinches_of(outcome.targets.pinches, shown)
-    cost: Cell = INFEASIBLE if outcome.cost is None else Decimal(shown.cost(outcome.cost))
-    more = None if is_base or outcome.cost is None or base.cost is None \
-        else Decimal(shown.cost(outcome.cost - base.cost))
-    return (name, kilowatts(hot, shown), None if is_base else kilowatts(hot - base.targets.hot, shown),
-            kilowatts(cold, shown), None if is_base else kilowatts(cold - base.targets.cold, shown), pinches, cost,
-            more, '')
+def scenario_row(outcome: ScenarioOutcome, base: ScenarioOutcome, shown: Shown) -> FactRow:
+    hot: list[Cell] = [None, None]
+    cold: list[Cell] = [None, None]
+    cost: list[Cell] = [None, None]
+    pinches: Cell = REFUSED
+    if outcome.targets and base.targets:
+        hot = with_more(outcome.targets.hot, base.targets.hot, outcome is base, shown)
+        cold = with_more(outcome.targets.cold, base.targets.cold, outcome is base, shown)
+        pinches = pinches_of(outcome.targets.pinches, shown)
+        more = None if outcome is base or outcome.cost is None or base.cost is None \
+            else Decimal(shown.cost(outcome.cost - base.cost))
+        cost = [INFEASIBLE if outcome.cost is None else Decimal(shown.cost(outcome.cost)), more]
+    return (Fact('scenario', outcome.variant.name), Fact('hot', hot[0], 'kW'), Fact('more hot', hot[1], 'kW'),
+            Fact('cold', cold[0], 'kW'), Fact('more cold', cold[1], 'kW'), Fact('pinch, shifted', pinches, '°C'),
+            Fact('least cost', cost[0], shown.cost_unit), Fact('more cost', cost[1], shown.cost_unit))
+
+
+def with_more(watts: int, base: int, is_base: bool, shown: Shown) -> list[Cell]:
+    """A target, and what of it is more than that of the base."""
+    return [kilowatts(watts, shown), None if is_base else kilowatts(watts - base, shown)]
 
 
 def pinches_of(pinches: tuple[int, ...], shown: Shown) -> Cell:
@@ -62,14 +72,18 @@ def kilowatts(watts: int, shown: Shown) -> Decimal:
     return Decimal(shown.kilowatts(watts))
 
 
-def steps_sheet(made: WhatIf) -> Sheet:
+def steps_table(made: WhatIf) -> FactTable:
     """What each scenario changes, from what and to what."""
     shown = Shown(made.base.case.basis)
-    rows = tuple((each.variant.name if at == 0 else '', step.change.source, step.change.field.word,
-                  number(step.before, step.change.field, shown),
-                  number(step.behind, step.change.field, shown), unit_of(step.change.field, shown))
-                 for each in made.outcomes for at, step in enumerate(each.steps))
-    return Sheet('What is changed', ('scenario', 'source', 'field', 'from', 'to', 'unit'), rows)
+    return FactTable('What is changed', tuple(step_row(step, outcome.variant.name if at == 0 else '', shown)
+                                              for outcome in made.outcomes for at, step in enumerate(outcome.steps)))
+
+
+def step_row(step: Step, scenario: str, shown: Shown) -> FactRow:
+    field = step.change.field
+    return (Fact('scenario', scenario), Fact('source', step.change.source), Fact('field', field.word),
+            Fact('from', number(step.before, field, shown)), Fact('to', number(step.behind, field, shown)),
+            Fact('unit', unit_of(field, shown)))
 
 
 def number(value: int | Fraction, field: Field, shown: Shown) -> Cell:
@@ -106,23 +120,23 @@ def rounding_note(step: Step, shown: Shown) -> str:
     return f'{step.change.place}: {field.word} of {step.change.source}: {exact} {unit} is rounded to {held} {unit}'
 
 
-def plus_minus_sheet(made: WhatIf) -> Sheet:
+def plus_minus_table(made: WhatIf) -> FactTable:
     """By how much the hot target rises with a little more of each stream: what makes it smaller is worth trying."""
     shown = Shown(made.base.case.basis)
-    rows = tuple(plus_minus_row(each, shown) for each in made.plus_minus)
-    cp, load = little(shown.basis)
-    headings = ('stream', 'side', f'CP +{shown.kilowatts_per_kelvin(cp, 6)} kW/K: kW',
-                f'load +{shown.kilowatts(load, 6)} kW: kW', 'supply +1 K: kW', 'target +1 K: kW', 'level +1 K: kW')
-    width = 7 if any(each.stream.latent for each in made.plus_minus) else 6
-    keep = [at for at in range(width) if at != 3 or width == 7]
-    return Sheet('Plus and minus: more hot kW', tuple(headings[at] for at in keep),
-                 tuple(tuple(row[at] for at in keep) for row in rows))
+    latent = any(risen.stream.latent for risen in made.plus_minus)
+    rows = tuple(plus_minus_row(risen, latent, shown) for risen in made.plus_minus)
+    return FactTable('Plus and minus: more hot kW', rows)
 
 
-def plus_minus_row(one: PlusMinus, shown: Shown) -> tuple[Cell, ...]:
-    def rise(value: int | None) -> Cell:
-        return 'refused' if value is None else kilowatts(value, shown)
-    latent = one.stream.latent
-    size, warmer = rise(one.size), rise(one.supply)
-    return (one.stream.name, one.stream.side.value, None if latent else size, size if latent else None,
-            None if latent else warmer, None if latent else rise(one.target), warmer if latent else None)
+def plus_minus_row(risen: PlusMinus, latent: bool, shown: Shown) -> FactRow:
+    """The numbers of a stream; those of latent ones only where there are such."""
+    def fact(name: str, value: int | None, is_there: bool) -> Fact:
+        return Fact(f'{name}:', ('refused' if value is None else kilowatts(value, shown)) if is_there else None, 'kW')
+    stream, (cp, load) = risen.stream, little(shown.basis)
+    sensible = not stream.latent
+    row = [Fact('stream', stream.name), Fact('side', stream.side.value),
+           fact(f'CP +{shown.kilowatts_per_kelvin(cp, 6)} kW/K', risen.size, sensible),
+           fact(f'load +{shown.kilowatts(load, 6)} kW', risen.size, stream.latent),
+           fact('supply +1 K', risen.supply, sensible), fact('target +1 K', risen.target, sensible),
+           fact('level +1 K', risen.supply, stream.latent)]
+    return tuple(row if latent else [*row[:3], *row[4:6]])

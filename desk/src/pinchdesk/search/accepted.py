@@ -63,9 +63,11 @@ class Judge:
     pinch: Pinch
     case: Case
 
-    def given(self, network: Network) -> Judged:
-        """A network that somebody has; `NotAccepted` where it is not, `Refused` where it has no structure."""
-        verdict = self.pinch.audit(self.case, network)
+    def given(self, text: NetworkText) -> Judged:
+        """A network that somebody has, which the program reads first; `NotAccepted` where it is not accepted, `Refused`
+        where it has no structure."""
+        verdict = self.pinch.audit(self.case, text)
+        network = held_network(text)
         if not isinstance(verdict, Accepted):
             told = headline(follow(self.case, network), verdict)
             raise NotAccepted(told, verdict)

@@ -10,7 +10,7 @@ from fractions import Fraction
 from ...formats.case import Case, Stream
 from ...formats.network import Exchanger, Network
 from ...program.run import CaseText, NetworkText, Pinch
-from ..accepted import Judge, Judged, case_of, held_network
+from ..accepted import Judge, Judged, case_of
 from ..find import find_network
 from .fewer import Fewer, Telling, nobody
 from .least_cost import Costed
@@ -76,7 +76,7 @@ def tradeoff(case: CaseText, network: NetworkText | None = None, pinch: Pinch | 
     if network is None:
         few = find_network(judge.case, seconds=seconds / 3, pinch=judge.pinch)
         network = simpler(judge.case, few.network, judge.pinch)
-    begun = judge.given(held_network(network))
+    begun = judge.given(network)
     search, stopped = Fewer(judge, begun, seconds, tell, start), False
     try:
         search.run()

@@ -1,0 +1,25 @@
+"""The word `audit`."""
+from __future__ import annotations
+
+from ..analysis.audited import audited
+from ..errors import about
+from ..formats.shown import Shown
+from ..program.run import Pinch
+from ..program.verdicts import Accepted
+from ..report.answer_sheets import audit_sheets, audit_told, balance_facts
+from ..search.budget import Telling, nobody
+from .shared import CASE, NETWORK, ended
+from .word import Answer, Files, NoOptions, Word
+
+
+def audit(files: Files, _: NoOptions = NoOptions(), tell: Telling = nobody) -> Answer:
+    case, network = files.one('case'), files.one('network')
+    with about(case=case.name, network=network.name):
+        followed, verdict = audited(Pinch(), case.content, network.content)
+    facts = balance_facts(verdict, Shown(followed.case.basis)) if isinstance(verdict, Accepted) else ()
+    return ended(Answer(tuple(audit_sheets(followed, verdict)), facts=(facts,),
+                        headline=audit_told(followed, verdict)), [verdict])
+
+
+AUDIT = Word('audit', 'whether a network is valid, what it costs, and where it loses heat',
+             'pinchdesk audit examples/preheater.csv examples/preheater-network.txt', (CASE, NETWORK), NoOptions, audit)

@@ -1,0 +1,70 @@
+"""The word `case`."""
+from __future__ import annotations
+
+from dataclasses import dataclass
+
+from ..errors import of_file
+from ..formats.case import print_case, print_comments
+from ..formats.comments import basis_rows
+from ..program.run import Pinch
+from ..search.budget import Telling, nobody
+from ..tables.convert import Converted, Wanted, case_of_table, checked
+from ..tables.wanted import wanted_by
+from .forms import TEXT
+from .shared import DECIMAL, SHEET, told_of
+from .word import Answer, Files, Option, Role, TextFile, Word
+
+TABLE_FILE = Role('table', 'streams and utilities: .xlsx, or text with separators')
+DECLARED = (
+    Option('difference', 'the least difference, where the table has none; in K, or with its unit',
+           ('-d', '--difference'), metavar='K'),
+    SHEET, Option('separator', 'what separates the fields of a text; `tab` is a tab', ('--separator',), metavar='SIGN'),
+    DECIMAL, Option('scale', 'takes all CPs and heats N times (10, 100, 0.1 ..)', ('--scale',), default='1',
+                    metavar='N'),
+    Option('hours', 'the hours of running in a year: costs come back per year', ('--hours',), metavar='H'))
+# How long what is said of a case is in a table of many.
+LONGEST = 300
+
+
+@dataclass(frozen=True)
+class CaseOptions:
+    """How a table is to be read, in the words of the command."""
+
+    difference: str | None = None
+    sheet: str | None = None
+    separator: str | None = None
+    decimal: str | None = None
+    scale: str = '1'
+    hours: str | None = None
+
+    @property
+    def wanted(self) -> Wanted:
+        return wanted_by(self.difference, self.sheet, self.separator, self.decimal, self.scale, self.hours)
+
+
+def converted(pinch: Pinch, file: TextFile, wanted: Wanted) -> Converted:
+    """The case of a table, which the program takes."""
+    with of_file(file.name):
+        return checked(case_of_table(file.content, file.name, wanted), pinch)
+
+
+def case_text(made: Converted) -> str:
+    """A case as a file, with what is told of it as comments at its head."""
+    return print_comments(made.comments) + print_case(made.case)
+
+
+def case_told(made: Converted) -> str:
+    """What the comments of a case say: those of its table, and its basis."""
+    rows = (','.join(cell for cell in row if cell) for row in basis_rows(made.case.basis))
+    return '; '.join(text.strip('#, ') for text in (*made.comments, *rows))[:LONGEST]
+
+
+def case(files: Files, options: CaseOptions = CaseOptions(), tell: Telling = nobody) -> Answer:
+    file = files.one('table')
+    made = converted(Pinch(), file, options.wanted)
+    return Answer(in_form=lambda form: case_text(made), headline=case_told(made), notes=told_of(file, made.notes))
+
+
+CASE_OF_TABLE = Word('case', 'a case from a table of streams and utilities, as a spreadsheet has it',
+                     'pinchdesk case -d 10 examples/table.csv -o case.csv', (TABLE_FILE,), CaseOptions, case, DECLARED,
+                     TEXT, ending='csv')

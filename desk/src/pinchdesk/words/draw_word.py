@@ -1,0 +1,121 @@
+"""The words of `draw`: pictures."""
+from __future__ import annotations
+
+from collections.abc import Callable
+from dataclasses import dataclass, replace
+from typing import TYPE_CHECKING, Any
+
+from ..analysis.audited import asked_pinches, audited
+from ..analysis.sweep_request import asked_range
+from ..errors import about
+from ..formats.amounts import whole
+from ..formats.site import read_site
+from ..program.answers import Cut
+from ..program.run import Pinch
+from ..search.budget import Telling, nobody
+from .forms import PICTURE
+from .prices_word import STUDY, answered_study
+from .shared import CASE, MOST_WORKERS, NETWORK, RANGE, SITE, WORKERS, SweepOptions, completed_case, ended, told_of
+from .word import Answer, Files, NoOptions, Option, Role, Word, WordGroup, feasibility
+
+if TYPE_CHECKING:
+    from matplotlib.figure import Figure
+
+MOST = Option('most', 'how many exchangers are drawn at most: up to 60 can be read on A3', ('--most',), whole, 60,
+              metavar='N')
+UTILITY = Option('utility', 'of several spans, those of this utility alone', ('--utility',), metavar='NAME')
+SPANS = Role(STUDY.name, 'a price study with a span (docs/FORMATS.md), in the unit of the prices of the case')
+
+
+@dataclass(frozen=True)
+class GridOptions:
+    """How many exchangers a grid diagram may have."""
+
+    most: int = 60
+
+
+@dataclass(frozen=True)
+class SpanOptions:
+    """Whose spans are drawn, and by how many workers the study is answered."""
+
+    utility: str | None = None
+    workers: int = MOST_WORKERS
+
+
+def picture(figure: Figure, feasible: bool = True) -> Answer:
+    from ..figures import rendered
+    return Answer(in_form=lambda form: rendered(figure, form), status=feasibility(feasible))
+
+
+def curves_by(name: str) -> Callable[[Files, NoOptions, Telling], Answer]:
+    """What draws curves by this function of `figures`."""
+    def run(files: Files, _: NoOptions = NoOptions(), tell: Telling = nobody) -> Answer:
+        file = files.one('case')
+        with about(case=file.name):
+            pinch = Pinch()
+            targets, points, flow = (ask(file.content) for ask in (pinch.targets, pinch.curves, pinch.flow))
+        from .. import figures
+        figure = getattr(figures, name)(completed_case(file.content), targets, points, flow)
+        return picture(figure, not isinstance(flow, Cut))
+    return run
+
+
+def grid(files: Files, options: GridOptions = GridOptions(), tell: Telling = nobody) -> Answer:
+    case, network = files.one('case'), files.one('network')
+    with about(case=case.name, network=network.name):
+        pinch = Pinch()
+        followed, verdict = audited(pinch, case.content, network.content)
+        pinches = asked_pinches(pinch, case.content)
+    from ..figures import grid_figure
+    return ended(picture(grid_figure(followed, pinches, verdict, options.most)), [verdict])
+
+
+def site(files: Files, _: NoOptions = NoOptions(), tell: Telling = nobody) -> Answer:
+    file = files.one('site')
+    with about(site=file.name):
+        printed, plants = Pinch().site(file.content), read_site(file.content)
+    from ..figures import site_figure
+    return picture(site_figure(plants, printed), printed.feasible)
+
+
+def sweep(files: Files, options: SweepOptions, tell: Telling = nobody) -> Answer:
+    file = files.one('case')
+    asked = asked_range(options.first, options.last, options.step, options.workers)
+    with about(case=file.name):
+        printed = Pinch().sweep(file.content, *asked, options.workers)
+    from ..figures import sweep_figure
+    return picture(sweep_figure(completed_case(file.content), printed), printed.feasible)
+
+
+def prices(files: Files, options: SpanOptions = SpanOptions(), tell: Telling = nobody) -> Answer:
+    answered = answered_study(files, options.workers)
+    from ..figures import prices_figure
+    figure = prices_figure(answered.case, answered.prices, options.utility)
+    return replace(picture(figure, answered.prices.feasible), notes=told_of(files.one('study'), answered.notes))
+
+
+def part(name: str, summary: str, example: str, roles: tuple[Role, ...], options: type[Any],
+         run: Callable[[Files, Any, Telling], Answer], declared: tuple[Option, ...] = ()) -> Word[Any]:
+    return Word(name, summary, f'pinchdesk draw {name} {example}', roles, options, run, declared, PICTURE, to_file=True,
+                ending='svg')
+
+
+PARTS = (
+    part('curves', 'all curves on one sheet, with targets, pinches and utilities',
+         'examples/four-stream.csv -o curves.svg', (CASE,), NoOptions, curves_by('curves_figure')),
+    part('composite', 'the composite curves at the targets', 'examples/four-stream.csv -o composite.svg', (CASE,),
+         NoOptions, curves_by('composite_figure')),
+    part('balanced', 'the balanced composite curves: streams and the utilities that are used',
+         'examples/three-levels.csv -o balanced.svg', (CASE,), NoOptions, curves_by('balanced_figure')),
+    part('grand', 'the grand composite curve, and the utilities that stand on it',
+         'examples/three-levels.csv -o grand.svg', (CASE,), NoOptions, curves_by('grand_figure')),
+    part('grid', 'the grid diagram of a network', 'examples/tc3.csv examples/tc3-network.txt -o grid.svg',
+         (CASE, NETWORK), GridOptions, grid, (MOST,)),
+    part('site', 'the profiles of a site', 'examples/three-plants.csv -o site.svg', (SITE,), NoOptions, site),
+    part('sweep', 'targets and least cost over the least difference', 'examples/four-stream.csv 0 20 0.4 -o sweep.svg',
+         (CASE,), SweepOptions, sweep, (*RANGE, WORKERS)),
+    part('prices', 'the least cost over the price of a utility',
+         'examples/two-steam-levels.csv examples/steam-prices.csv --utility LP -o prices.svg', (CASE, SPANS),
+         SpanOptions, prices, (UTILITY, WORKERS)))
+DRAW = WordGroup('draw', 'a picture: curves, a grid, a site, a sweep or prices, as .svg, .png or .pdf',
+                 'pinchdesk draw curves examples/four-stream.csv -o curves.svg', PARTS)

@@ -1,0 +1,60 @@
+"""The word `network`."""
+from __future__ import annotations
+
+from dataclasses import dataclass
+from decimal import Decimal
+
+from ..errors import about
+from ..formats.amounts import seconds_of
+from ..formats.case import read_case
+from ..formats.shown import Shown
+from ..program.run import Pinch
+from ..report.facts import Fact, FactRow
+from ..search.budget import Telling, nobody
+from ..search.find import FewExchangers, find_network
+from ..tables.cost_words import cost_of, percent_of
+from .forms import TEXT
+from .shared import CASE
+from .word import Answer, Files, Option, Role, Word
+
+START = Role('start', 'a network that is to be bettered', needed=False, flag='--start', metavar='NETWORK')
+DECLARED = (
+    Option('cost', 'what it may cost at most, in the unit of the costs of the case, which may stand with it: 90 or '
+           '"90 EUR/h" (the least cost)', ('--cost',), metavar='MOST', alone='cost'),
+    Option('above', 'how far above the least cost it may be', ('--above',), metavar='PERCENT', alone='cost'),
+    Option('seconds', 'how long it may search (60 unless given)', ('--seconds',), default='60', metavar='S'))
+
+
+@dataclass(frozen=True)
+class NetworkOptions:
+    """What a network may cost, at most or above the least cost, and how long it may be searched."""
+
+    cost: str | None = None
+    above: str | None = None
+    seconds: str = '60'
+
+
+def network(files: Files, options: NetworkOptions = NetworkOptions(), tell: Telling = nobody) -> Answer:
+    case, start = files.one('case'), files.get('start')
+    seconds = seconds_of(options.seconds)
+    above = None if options.above is None else percent_of(options.above)
+    with about(case=case.name, network=start.name if start else 'network'):
+        pinch = Pinch()
+        pinch.targets(case.content)
+        most = None if options.cost is None else cost_of(options.cost, Shown(read_case(case.content).basis))
+        found = find_network(case.content, most, above, seconds, start.content if start else None, tell, pinch)
+    return Answer(in_form=lambda form: found.text, facts=(network_facts(found),), headline=found.bounds)
+
+
+def network_facts(found: FewExchangers) -> FactRow:
+    """What is known of a network, in the units of its case."""
+    shown, verdict = Shown(found.basis), found.verdict
+    unit = shown.cost_unit
+    return (Fact('exchangers', Decimal(found.exchangers)), Fact('cost', Decimal(shown.cost(verdict.cost)), unit),
+            Fact('floor', Decimal(shown.cost(verdict.floor)), unit),
+            Fact('excess', Decimal(shown.kilowatts(verdict.excess)), 'kW'))
+
+
+NETWORK_OF_FEW = Word('network', 'a network with few exchangers, at the least cost or a little above, accepted by '
+                      '`pinch audit`', 'pinchdesk network examples/tc3.csv -o tc3-few.txt', (CASE, START),
+                      NetworkOptions, network, DECLARED, TEXT)

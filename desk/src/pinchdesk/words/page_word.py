@@ -1,0 +1,38 @@
+"""The word `page`."""
+from __future__ import annotations
+
+from collections import Counter
+from collections.abc import Sequence
+from pathlib import PurePath
+
+from ..program.run import Pinch
+from ..report.page import Given, page_of, review_of
+from ..report.pdf import as_pdf
+from ..search.budget import Telling, nobody
+from ..text import printable
+from .forms import PAGE
+from .shared import CASE
+from .word import Answer, Files, NoOptions, Role, TextFile, Word
+
+NETWORKS_BESIDE = Role('network', 'network texts, shown side by side', several=True, needed=False)
+
+
+def shown_files(files: Sequence[TextFile]) -> list[Given]:
+    """The files by their last names; of two with one name the whole names tell them apart."""
+    last = [PurePath(file.name).name for file in files]
+    counts = Counter(last)
+    return [Given(printable(file.name if counts[name] > 1 else name), file.name, file.content)
+            for file, name in zip(files, last)]
+
+
+def page(files: Files, _: NoOptions = NoOptions(), tell: Telling = nobody) -> Answer:
+    case, *networks = shown_files([files.one('case'), *files.several('network')])
+    review = review_of(Pinch(), case, networks)
+    status, no = review.ending
+    return Answer(in_form=lambda form: as_pdf(page_of(review, True)) if form == 'pdf' else page_of(review),
+                  status=status, no=no)
+
+
+PAGE_OF_REVIEW = Word('page', 'all of a case and its networks on one page for the reviewer, .html or .pdf',
+                      'pinchdesk page examples/tc3.csv examples/tc3-network.txt -o page.html', (CASE, NETWORKS_BESIDE),
+                      NoOptions, page, forms=PAGE, to_file=True, ending='html')

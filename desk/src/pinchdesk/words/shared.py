@@ -1,0 +1,49 @@
+"""What several words take and answer."""
+from __future__ import annotations
+
+import os
+from collections.abc import Iterable
+from dataclasses import dataclass, replace
+
+from ..formats.amounts import whole
+from ..formats.case import Case, completed, read_case
+from ..program.verdicts import Verdict, ending
+from .word import Answer, Option, Role, TextFile
+
+CASE = Role('case', 'a case file, as `pinchdesk case` writes it')
+NETWORK = Role('network', 'a network text')
+SITE = Role('site', 'a site file (docs/FORMATS.md), in tenths of °C and 10 W/K, times its #scale')
+MOST_WORKERS = min(16, os.cpu_count() or 1)
+WORKERS = Option('workers', 'by how many workers it is made (1 to 16); the answer is the same', ('--workers',), whole,
+                 MOST_WORKERS, metavar='N', in_many=1)
+RANGE = tuple(Option(name, 'a least difference in K, of a fifth of a K at least', metavar=name.upper())
+              for name in ('first', 'last', 'step'))
+SHEET = Option('sheet', 'the sheet of a workbook; else it is the first one', ('--sheet',), metavar='NAME')
+DECIMAL = Option('decimal', 'the decimal mark, where the table does not settle it', ('--decimal',),
+                 choices=('.', ','))
+
+
+@dataclass(frozen=True)
+class SweepOptions:
+    """The first and the last least difference of a sweep and its step, in K."""
+
+    first: str
+    last: str
+    step: str
+    workers: int = MOST_WORKERS
+
+
+def completed_case(content: bytes) -> Case:
+    """A case that the program has read, with the utilities that stand in."""
+    return completed(read_case(content))
+
+
+def told_of(file: TextFile | None, notes: Iterable[str]) -> tuple[str, ...]:
+    """Notes with the name of the file that they are about."""
+    return tuple(f'{file.name}: {note}' for note in notes) if file else ()
+
+
+def ended(answer: Answer, verdicts: Iterable[Verdict], flows: Iterable[object] = ()) -> Answer:
+    """An answer that is a verdict ends as that says."""
+    status, no = ending(verdicts, flows)
+    return replace(answer, status=status, no=no)

@@ -1,0 +1,27 @@
+"""The word `table`."""
+from __future__ import annotations
+
+from ..analysis.audited import asked_pinches, audited
+from ..analysis.findings import headline
+from ..errors import about
+from ..program.run import Pinch
+from ..report.exchangers import (exchangers_sheet, mixes_sheets, streams_sheet, sums_facts, sums_sheet, verdict_sheet)
+from ..search.budget import Telling, nobody
+from .shared import CASE, NETWORK, ended
+from .word import Answer, Files, NoOptions, Word
+
+
+def table(files: Files, _: NoOptions = NoOptions(), tell: Telling = nobody) -> Answer:
+    case, network = files.one('case'), files.one('network')
+    with about(case=case.name, network=network.name):
+        pinch = Pinch()
+        followed, verdict = audited(pinch, case.content, network.content)
+        pinches = asked_pinches(pinch, case.content)
+    sheets = (verdict_sheet(followed, verdict), exchangers_sheet(followed, pinches, verdict),
+              *mixes_sheets(followed, verdict), streams_sheet(followed, verdict), sums_sheet(followed))
+    return ended(Answer(sheets, facts=(sums_facts(followed),), headline=headline(followed, verdict)), [verdict])
+
+
+TABLE_OF_EXCHANGERS = Word('table', 'the exchangers of a network: temperatures, differences, duties, side of the '
+                           'pinch, penalties', 'pinchdesk table examples/tc3.csv examples/tc3-network.txt',
+                           (CASE, NETWORK), NoOptions, table)

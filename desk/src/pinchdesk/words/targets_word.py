@@ -1,0 +1,20 @@
+"""The word `targets`."""
+from __future__ import annotations
+
+from ..errors import about
+from ..program.run import Pinch
+from ..report.answer_sheets import targets_facts, targets_sheets
+from ..search.budget import Telling, nobody
+from .shared import CASE, completed_case
+from .word import Answer, Files, NoOptions, Word
+
+
+def targets(files: Files, _: NoOptions = NoOptions(), tell: Telling = nobody) -> Answer:
+    file = files.one('case')
+    with about(case=file.name):
+        printed, case = Pinch().targets(file.content), completed_case(file.content)
+    return Answer(tuple(targets_sheets(case, printed)), facts=(targets_facts(case, printed),))
+
+
+TARGETS = Word('targets', 'the least hot and cold utility, and the pinches',
+               'pinchdesk targets examples/four-stream.csv', (CASE,), NoOptions, targets)

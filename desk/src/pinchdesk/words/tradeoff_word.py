@@ -1,0 +1,73 @@
+"""The word `tradeoff`."""
+from __future__ import annotations
+
+from collections.abc import Callable
+from dataclasses import dataclass
+from typing import TYPE_CHECKING
+
+from ..errors import about
+from ..formats.amounts import seconds_of
+from ..formats.case import Case, read_case
+from ..formats.shown import Shown
+from ..program.run import Pinch
+from ..report.facts import rows_of_tables
+from ..report.sheet import rendered
+from ..report.tradeoff_sheets import network_texts, proved, tradeoff_sheets, tradeoff_tables
+from ..search.budget import Telling, nobody
+from .forms import PICTURES, TABLE_OR_PICTURE
+from .shared import CASE, NETWORK
+from .word import Answer, Files, FurtherFiles, FurtherOutput, Option, Role, Word
+
+if TYPE_CHECKING:
+    from ..search.accepted import Judged
+    from ..search.reduce.tradeoff import TradeOff
+
+BEGUN = Role(NETWORK.name, 'a network text to begin with; without it one of the least cost is searched', needed=False)
+NETWORKS = FurtherOutput('networks', '--networks', 'where the networks are written, one file for each row', folder=True)
+SECONDS = Option('seconds', 'how long it searches at most; it ends earlier where nothing more is gained, and Control-C '
+                 'ends it with what was found', ('--seconds',), default='30', metavar='S')
+STOPPED = 'the search was stopped: these are the networks that were found so far'
+
+
+@dataclass(frozen=True)
+class TradeoffOptions:
+    """How long networks may be searched."""
+
+    seconds: str = '30'
+
+
+def tradeoff(files: Files, options: TradeoffOptions = TradeoffOptions(), tell: Telling = nobody) -> Answer:
+    case, network = files.one('case'), files.get('network')
+    seconds = float(seconds_of(options.seconds))
+    # It wants scipy, which is slow to load.
+    from ..search.reduce.tradeoff import tradeoff as searched
+    with about(case=case.name, network=network.name if network else ''):
+        pinch = Pinch()
+        pinch.targets(case.content)
+        read = read_case(case.content)
+        traded = searched(read, network.content if network else None, pinch, seconds, told_on(read, tell))
+    sheets, tables = tradeoff_sheets(traded), tradeoff_tables(traded)
+    return Answer(tuple(sheets), in_form(traded), rows_of_tables(tables), proved(traded),
+                  notes=(STOPPED,) if traded.stopped else (),
+                  further={NETWORKS.name: FurtherFiles(network_texts(traded))})
+
+
+def told_on(case: Case, tell: Telling) -> Callable[[Judged], None]:
+    """Tells what was found last."""
+    shown = Shown(case.basis)
+    return lambda judged: tell(f'{judged.count} exchangers at {shown.with_unit(judged.cost)}')
+
+
+def in_form(traded: TradeOff) -> Callable[[str], str | bytes]:
+    """A picture, or tables."""
+    def made(form: str) -> str | bytes:
+        if form not in PICTURES:
+            return rendered(tradeoff_sheets(traded), form)
+        from .. import figures
+        return figures.rendered(figures.tradeoff_figure(traded), form)
+    return made
+
+
+TRADEOFF = Word('tradeoff', 'exchangers against cost: networks of fewer and fewer exchangers, as a table or a picture',
+                'pinchdesk tradeoff examples/tc3.csv examples/tc3-network.txt --seconds 1 -o tc3.svg', (CASE, BEGUN),
+                TradeoffOptions, tradeoff, (SECONDS,), TABLE_OR_PICTURE, (NETWORKS,))
