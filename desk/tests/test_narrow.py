@@ -10,9 +10,10 @@ from typing import Any
 import pytest
 from conftest import EXAMPLES, example
 
-from pinchdesk.report.page import Given, page_of
+from pinchdesk import Pinch
 from pinchdesk.figures import grid_figure
 from pinchdesk.figures.style import READABLE
+from pinchdesk.report.page import Given, page_of, review_of
 
 webdriver = pytest.importorskip('selenium.webdriver', reason='no selenium to look at the page with')
 CHROMIUM, DRIVER = which('chromium'), which('chromedriver')
@@ -46,7 +47,7 @@ def page(tmp_path_factory: pytest.TempPathFactory) -> Path:
     names = ('crude.csv', 'crude-network.txt')
     case, network = (Given(each, str(EXAMPLES / each), example(each)) for each in names)
     path = tmp_path_factory.mktemp('narrow') / 'page.html'
-    path.write_text(page_of(case, [network], unfolded=True)[0], encoding='utf-8')
+    path.write_text(page_of(review_of(Pinch(), case, [network]), unfolded=True), encoding='utf-8')
     return path
 
 

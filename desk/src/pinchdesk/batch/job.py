@@ -82,8 +82,9 @@ def outcome_of(job: Job, word: Word[Any]) -> JobOutcome:
 
 def drawing(word: Word[Any], form: str | None) -> AbstractContextManager[object]:
     draws = word.to_file or form in PICTURES
-    lock: AbstractContextManager[object] = DRAWING if draws else nullcontext()
-    return lock
+    if draws:
+        return DRAWING
+    return nullcontext()
 
 
 def cells_of(answer: Answer) -> tuple[Cells, ...]:
