@@ -1,52 +1,58 @@
 """The package as a notebook has it: what the README shows, data frames, signs of life."""
 from __future__ import annotations
 
+import csv
+import os
 import re
+import subprocess
 import sys
 import time
-import types
 from typing import Any
 
 import pytest
 from conftest import DESK, example
 
 import pinchdesk
-from pinchdesk import Pinch, WordsError
+from pinchdesk import Accepted, Pinch, Refused, WordsError, read_case
 from pinchdesk.cli.progress import progress, tell
+from pinchdesk.formats.study import PriceScenario, Span, Study
+from pinchdesk.program.answers import Rows
+from pinchdesk.report.answer_sheets import targets_sheets
+from pinchdesk.tables.convert import Wanted, case_of_table
 
 
 def test_the_readme_runs_as_it_is_shown(monkeypatch: pytest.MonkeyPatch) -> None:
+    pytest.importorskip('pandas')
     monkeypatch.chdir(DESK.parent)
-    monkeypatch.setitem(sys.modules, 'pandas', frames())
     block, = re.findall(r'```python\n(.*?)```', (DESK / 'README.md').read_text(), re.S)
-    held: dict[str, Any] = {}
-    exec(compile(block, 'README', 'exec'), held)
-    assert str(held['pinch'].targets(held['case'])) == 'Targets(hot=107500, cold=40000, pinches=(800,))'
-    assert held['followed'].passage('E1').hot.outlet == 900
+    names: dict[str, Any] = {}
+    exec(compile(block, 'README', 'exec'), names)
+    assert str(names['pinch'].targets(names['case'])) == 'Targets(hot=107500, cold=40000, pinches=(800,))'
+    assert names['followed'].passage('E1').hot.outlet == 900
 
 
-def frames() -> types.ModuleType:
-    """A stand-in for pandas whose frames are what they are made of: lists of rows, or columns by their headings."""
-    module = types.ModuleType('pandas')
-    setattr(module, 'DataFrame', lambda held: held)
-    return module
-
-
-def test_answers_are_data_frames(pinch: Pinch, monkeypatch: pytest.MonkeyPatch) -> None:
-    monkeypatch.setitem(sys.modules, 'pandas', frames())
+def test_answers_are_data_frames(pinch: Pinch) -> None:
+    pytest.importorskip('pandas')
     case, network = example('preheater.csv'), example('preheater-network.txt')
-    assert pinch.targets(case).frame()[0] == {'what': 'hot', 'value': 2000}
-    assert pinch.flow(case).frame()[0]['hot'] == 'ST'
-    assert pinch.curves(case).frame()[0] == {'curve': 'hot', 'heat': 0, 'temperature': 400}
+    assert rows_of(pinch.targets(case))[0] == {'what': 'hot', 'value': 2000}
+    assert rows_of(pinch.flow(case))[0]['hot'] == 'ST'
+    assert rows_of(pinch.curves(case))[0] == {'curve': 'hot', 'heat': 0, 'temperature': 400}
     verdict = pinch.audit(case, network)
-    assert isinstance(verdict, pinchdesk.Accepted)
-    assert verdict.frame()[1] == {'place': 'exchanger Q1', 'penalty': 1000}
-    assert pinch.sweep(case, 50, 50, 1).frame() == [{'contribution': 50, 'hot': 2000, 'cold': 2000, 'cost': 2000}]
-    study = pinchdesk.Study((pinchdesk.Span('ST', 0, 1), pinchdesk.PriceScenario('now')))
-    assert [row.get('slope') for row in pinch.prices(case, study).frame()] == [2000, None]
-    assert pinch.site(example('three-plants.csv')).frame()[0]['temperature'] == 2550
-    sheet = pinchdesk.targets_sheets(pinchdesk.read_case(case), pinch.targets(case))[1]
-    assert [column[0] for column in sheet.frame().values()] == [55, 60, 50]
+    assert isinstance(verdict, Accepted)
+    assert rows_of(verdict)[1] == {'place': 'exchanger Q1', 'penalty': 1000}
+    assert rows_of(pinch.sweep(case, 50, 50, 1)) == [{'contribution': 50, 'hot': 2000, 'cold': 2000, 'cost': 2000}]
+    study = Study((Span('ST', 0, 1), PriceScenario('now')))
+    slopes = pinch.prices(case, study).frame()['slope']
+    assert slopes[0] == 2000 and slopes.isna()[1]
+    assert rows_of(pinch.site(example('three-plants.csv')))[0]['temperature'] == 2550
+    frame = targets_sheets(read_case(case), pinch.targets(case))[1].frame()
+    assert frame.iloc[0].tolist() == [55, 60, 50] and set(map(str, frame.dtypes)) == {'float64'}
+
+
+def rows_of(answer: Rows) -> list[dict[str, Any]]:
+    """The rows of the data frame of an answer."""
+    rows: list[dict[str, Any]] = answer.frame().to_dict('records')
+    return rows
 
 
 def test_without_pandas_a_frame_is_refused(pinch: Pinch, monkeypatch: pytest.MonkeyPatch) -> None:
@@ -75,10 +81,52 @@ def test_a_sign_of_life_is_for_terminals_alone(capsys: pytest.CaptureFixture[str
 
 def test_the_program_is_started_in_one_place_and_no_shell_is() -> None:
     """The browser that makes a PDF, and this Python for the solver, are the only other programs."""
-    sources = {each.name: each.read_text() for each in (DESK / 'src').rglob('*.py')}
+    sources = {path.name: path.read_text() for path in (DESK / 'src').rglob('*.py')}
     assert {name for name, text in sources.items() if 'subprocess' in text} == {'run.py', 'pdf.py', 'process.py'}
     assert not [name for name, text in sources.items() if re.search(r'shell=|os\.(system|popen|exec|spawn)', text)]
 
 
-def test_all_names_of_the_package_are_there() -> None:
-    assert all(hasattr(pinchdesk, each) for each in pinchdesk.__all__)
+def test_the_names_on_top_are_few_and_each_is_loaded_when_it_is_asked_for() -> None:
+    names = set(pinchdesk.__all__)
+    assert names == {*pinchdesk.PLACES, '__version__'} and len(names) <= 27 and names <= set(dir(pinchdesk))
+    assert all(getattr(pinchdesk, name) is not None for name in names)
+    assert not hasattr(pinchdesk, 'follow_')
+
+
+# What each import may set for the whole process, as a Python of its own tells it before and after.
+IMPORTS = """
+import csv, decimal, locale, os, pkgutil, signal, sys
+import pinchdesk
+print(sorted(name for name in sys.modules if name.startswith('pinchdesk')), len(sys.modules))
+import matplotlib
+from scipy import optimize
+
+def state():
+    handlers = [signal.getsignal(number) for number in signal.valid_signals()]
+    return (csv.field_size_limit(), str(decimal.getcontext()), str(decimal.DefaultContext), handlers,
+            locale.setlocale(locale.LC_ALL), dict(matplotlib.rcParams), sys.getrecursionlimit(),
+            sys.get_int_max_str_digits(), dict(os.environ), sys.excepthook)
+
+before = state()
+for module in pkgutil.walk_packages(pinchdesk.__path__, 'pinchdesk.'):
+    __import__(module.name)
+print(state() == before, 'matplotlib.pyplot' in sys.modules, 'pinchdesk.plant.whole_plant' in sys.modules)
+"""
+
+
+def test_an_import_loads_little_and_sets_nothing_of_the_process() -> None:
+    done = subprocess.run([sys.executable, '-c', IMPORTS], capture_output=True, text=True, check=True,
+                          env={**os.environ, 'PYTHONPATH': str(DESK / 'src')})
+    first, last = done.stdout.splitlines()
+    loaded, count = first.rsplit(' ', 1)
+    assert loaded == "['pinchdesk', 'pinchdesk.version']" and int(count) < 250
+    assert last == 'True False True'
+
+
+def test_a_long_field_is_read_and_the_limit_of_csv_stays() -> None:
+    limit, long = csv.field_size_limit(), 'x' * 200_000
+    commented = f'# {long},,,,,,\n' + example('tc3.csv').decode()
+    assert read_case(commented) == read_case(example('tc3.csv'))
+    with pytest.raises(Refused, match='is too long'):
+        case_of_table(f'name;supply\n{long};20\n'.encode(), 't.csv', Wanted())
+    assert csv.field_size_limit() == limit < len(long)

@@ -3,12 +3,14 @@ from __future__ import annotations
 
 import dataclasses
 import re
+import sys
 from decimal import Decimal
 from fractions import Fraction
 from typing import Any
 
 import pytest
 from conftest import EXAMPLES, example
+from matplotlib.figure import Figure
 
 from pinchdesk import Pinch, Plant, Refused, WordsError, print_case, read
 from pinchdesk.plant.given import FileGiven, as_text
@@ -157,12 +159,13 @@ def test_the_rest_of_a_rejected_network_has_no_numbers() -> None:
     assert (made.good, made.exact, made.hot_used_kw, made.excess_most_kw, made.case) == (False, None, None, None, None)
 
 
-def test_pictures_are_figures_and_a_page_is_a_text() -> None:
-    from matplotlib.figure import Figure
+def test_pictures_show_themselves_and_a_page_is_a_text() -> None:
     levels = read(LEVELS)
     figures = [plant().curves(), plant().grid(NETWORK), plant().sweep(0, 4, 2, 1).figure(),
                levels.prices(EXAMPLES / 'steam-prices.csv', 1).figure('LP')]
-    assert all(isinstance(each, Figure) for each in figures)
+    for shown in figures:
+        assert isinstance(shown.figure, Figure) and '<svg' in shown._repr_svg_()
+    assert figures[0].as_file('png').startswith(b'\x89PNG') and 'matplotlib.pyplot' not in sys.modules
     page = plant().page(NETWORK, NETWORK.read_text())
     assert page.startswith('<!') and 'preheater-network.txt' in page and 'network 2' in page
 

@@ -15,10 +15,10 @@ from dataclasses import dataclass, field, replace
 from ..errors import Refused, refused_row
 from .comments import Basis as Basis
 from .comments import basis_rows, noted
+from .long_fields import long_fields
 
 ANY_HEAT = 10 ** 12
 NUMBER = re.compile(r'-?[0-9]{1,13}')
-csv.field_size_limit(2 ** 24)
 
 
 class Side(enum.Enum):
@@ -131,8 +131,9 @@ def decoded(text: str | bytes) -> str:
 
 def records(text: str | bytes) -> Iterator[tuple[int, list[str]]]:
     """The rows of a case, a site or a study, counted from 1; empty lines give none."""
-    rows = csv.reader(io.StringIO(decoded(text), newline=''))
-    yield from enumerate((row for row in rows if row), 1)
+    with long_fields():
+        rows = [row for row in csv.reader(io.StringIO(decoded(text), newline='')) if row]
+    yield from enumerate(rows, 1)
 
 
 def is_passed_over(row: Sequence[str]) -> bool:

@@ -5,12 +5,16 @@ from collections.abc import Mapping
 from dataclasses import dataclass, field
 from decimal import Decimal
 from fractions import Fraction
+from typing import TYPE_CHECKING
 
 from ..formats.case import Case
 from ..formats.shown import Shown
 from ..program.answers import Cut, HeatFlow, Prices, PriceScenarioAnswer, Sweep, SweepRow, Targets
 from ..report.answer_sheets import flow_sheets, prices_sheets, sweep_sheets, targets_sheets
 from .plant_answer import PlantAnswer, celsius, cost_if_any, each_kilowatts, kilowatts
+
+if TYPE_CHECKING:
+    from ..figures import ShownFigure
 
 
 @dataclass(frozen=True)
@@ -126,10 +130,10 @@ class PlantSweep(PlantAnswer):
     case: Case = field(repr=False)
     sweep: Sweep = field(repr=False)
 
-    def figure(self) -> object:
-        """A figure of matplotlib."""
-        from ..figures import sweep_figure
-        return sweep_figure(self.case, self.sweep)
+    def figure(self) -> ShownFigure:
+        """The picture of it."""
+        from ..figures import ShownFigure, sweep_figure
+        return ShownFigure(sweep_figure(self.case, self.sweep))
 
 
 def plant_sweep(case: Case, sweep: Sweep, base: SweepRow | None) -> PlantSweep:
@@ -161,10 +165,10 @@ class PlantPrices(PlantAnswer):
     def costs(self) -> Mapping[str, Decimal | None]:
         return {name: cost_if_any(each) for name, each in self.exact.costs.items()}
 
-    def figure(self, utility: str | None = None) -> object:
-        """A figure of matplotlib with the spans, of several those of this utility alone."""
-        from ..figures import prices_figure
-        return prices_figure(self.case, self.prices, utility)
+    def figure(self, utility: str | None = None) -> ShownFigure:
+        """The picture of the spans, of several those of this utility alone."""
+        from ..figures import ShownFigure, prices_figure
+        return ShownFigure(prices_figure(self.case, self.prices, utility))
 
 
 def plant_prices(case: Case, prices: Prices, notes: tuple[str, ...]) -> PlantPrices:

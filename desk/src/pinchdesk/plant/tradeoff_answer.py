@@ -20,6 +20,7 @@ from ..report.what_if_sheets import rounding_notes, what_if_sheets
 from .plant_answer import PlantAnswer, cost, cost_if_any, kilowatts
 
 if TYPE_CHECKING:
+    from ..figures import ShownFigure
     from ..search.reduce.tradeoff import TradeOff
 
 
@@ -49,10 +50,10 @@ class PlantTradeoff(PlantAnswer):
     def floor(self) -> Decimal:
         return cost(self.exact.floor)
 
-    def figure(self) -> object:
-        """A figure of matplotlib."""
-        from ..figures import tradeoff_figure
-        return tradeoff_figure(self.traded)
+    def figure(self) -> ShownFigure:
+        """The picture of it."""
+        from ..figures import ShownFigure, tradeoff_figure
+        return ShownFigure(tradeoff_figure(self.traded))
 
 
 def plant_tradeoff(traded: TradeOff) -> PlantTradeoff:

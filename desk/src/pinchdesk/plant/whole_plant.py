@@ -39,7 +39,7 @@ from .target_answers import (PlantFlow, PlantPrices, PlantSweep, PlantTargets, p
 from .tradeoff_answer import PlantTradeoff, PlantUnits, PlantWhatIf, plant_tradeoff, plant_units, plant_what_if
 
 if TYPE_CHECKING:
-    from matplotlib.figure import Figure
+    from ..figures import ShownFigure
 
 WORKERS = min(16, os.cpu_count() or 1)
 
@@ -170,16 +170,16 @@ class Plant:
             answered = compared(Base(self.case, self.asked_targets), scenarios.variants, self.pinch, workers)
         return plant_what_if(answered, scenarios.notes)
 
-    def curves(self) -> Figure:
-        """Composite, balanced and grand composite curves, as a figure of matplotlib."""
-        from ..figures import curves_figure
-        return curves_figure(self.completed, self.asked_targets, self.asked_curves, self.asked_flow)
+    def curves(self) -> ShownFigure:
+        """Composite, balanced and grand composite curves."""
+        from ..figures import ShownFigure, curves_figure
+        return ShownFigure(curves_figure(self.completed, self.asked_targets, self.asked_curves, self.asked_flow))
 
-    def grid(self, network: FileGiven, most: int = 60) -> Figure:
-        """The grid diagram of a network of at most so many exchangers, as a figure of matplotlib."""
-        from ..figures import grid_figure
+    def grid(self, network: FileGiven, most: int = 60) -> ShownFigure:
+        """The grid diagram of a network of at most so many exchangers."""
+        from ..figures import ShownFigure, grid_figure
         followed, verdict = self.judged(network)
-        return grid_figure(followed, self.pinches, verdict, most)
+        return ShownFigure(grid_figure(followed, self.pinches, verdict, most))
 
     def page(self, *networks: FileGiven) -> str:
         """The page for the reviewer with these networks side by side, as HTML."""

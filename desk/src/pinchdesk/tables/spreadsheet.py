@@ -17,6 +17,7 @@ from typing import Any
 
 from ..errors import Refused
 from ..formats.amounts import MOST_ZEROS
+from ..formats.long_fields import long_fields
 from ..text import read_again
 from .workbook_bounds import MOST_CELLS, MOST_COLUMNS, MOST_PLACES, MOST_ROWS, MOST_SIGNS, TooLarge, hidden_by_merging
 
@@ -148,6 +149,7 @@ def text_of(content: bytes) -> str:
     raise Refused(3, '', 'no text', 'this is neither a workbook nor a text')
 
 
+@long_fields()
 def text_table(text: str, separator: str) -> Table:
     reader = csv.reader(io.StringIO(text, newline=''), delimiter=separator, strict=True)
     rows: list[TableRow] = []
