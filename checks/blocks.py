@@ -1,9 +1,12 @@
 """The blocks of commands in the documents, each run whole by a shell in a folder of its own, and what the documents say
 of them; sentences with an answer in documents that `docs` does not read; the table of what a spreadsheet does."""
+from __future__ import annotations
+
 import os
 import re
 import subprocess
 import tempfile
+from collections.abc import Container
 
 from common import ROOT, Report, example, run
 from patience import written
@@ -31,7 +34,7 @@ class Blocks:
         self.program, self.report, self.with_desk = program, report, with_desk
         self.left: list[str] = []
 
-    def check(self, documents):
+    def check(self, documents: Container[str]) -> None:
         for name in DOCUMENTS:
             if name in documents:
                 with self.report.reading(name), tempfile.TemporaryDirectory(prefix='a folder ') as folder:
@@ -40,7 +43,7 @@ class Blocks:
             with self.report.reading(TABLE_OF_ROWS):
                 self.spreadsheets()
 
-    def document(self, name, folder):
+    def document(self, name: str, folder: str) -> None:
         with open(os.path.join(ROOT, name), encoding='utf-8') as handle:
             held = handle.read()
         for each in ('examples', 'desk'):
@@ -52,7 +55,7 @@ class Blocks:
         if name not in COMPARED:
             self.sentences(name, held, folder)
 
-    def block(self, name, held, block, folder):
+    def block(self, name: str, held: str, block: str, folder: str) -> None:
         if OUTSIDE.search(block):
             return
         if 'desk/' in block and not self.with_desk:
@@ -69,14 +72,14 @@ class Blocks:
         self.report.count(right, '%s: %s' % (name, block), (late or done.returncode, output),
                           'status 0 and %s' % missing)
 
-    def sentences(self, name, held, folder):
+    def sentences(self, name: str, held: str, folder: str) -> None:
         for words, said in re.findall(r'`pinch ([^`]+)` prints ((?:`[^`]+`(?:, and |, | and )?)+)', held):
             got = run(self.program, words.split(), folder)
             lines = re.findall(r'`([^`]+)`', said)
             right = got[0] == 0 and all(each in got[1].decode().split('\n') for each in lines)
             self.report.count(right, '%s: pinch %s' % (name, words), got, lines)
 
-    def spreadsheets(self):
+    def spreadsheets(self) -> None:
         """The table of what a spreadsheet does: each row as a file, and its answer; then networks from an editor."""
         with open(os.path.join(ROOT, TABLE_OF_ROWS), encoding='utf-8') as handle:
             held = handle.read()
@@ -92,6 +95,6 @@ class Blocks:
                 got = run(self.program, ['audit', 'a case.csv', 'a net.txt'], folder)
                 self.report.count(got == (4, answer), 'HOW_TO_ENTER: a network from an editor', got, answer)
 
-    def write(self, folder, name, content):
+    def write(self, folder: str, name: str, content: str) -> None:
         with open(os.path.join(folder, name), 'w', encoding='utf-8', newline='') as handle:
             handle.write(content)

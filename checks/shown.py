@@ -2,11 +2,13 @@
 "`pinch WORDS` prints `LINE`, `LINE`", each row of a table of refusals or answers; the text is compared byte for byte. A
 block that shows a file is compared with the file that the sentence above it names. In a block a line `...` stands for
 any lines, and "begins" above it leaves the rest open."""
+from __future__ import annotations
+
 import os
 import re
 import tempfile
 
-from common import ROOT, TABLE, example, run, text
+from common import ROOT, TABLE, Report, example, run, text
 
 COMMANDS = 'targets flow curves design vertical audit site sweep sample certify prices'.split()
 # The documents whose blocks and sentences are compared here.
@@ -22,10 +24,17 @@ FOUR_ROWS = example('four-stream.csv')
 
 
 class Docs:
-    def __init__(self, program, report):
-        self.program, self.report, self.left, self.shown, self.printed = program, report, [], 0, {}
+    def __init__(self, program: str, report: Report) -> None:
+        self.program, self.report, self.shown = program, report, 0
+        self.left: list[str] = []
+        self.printed: dict[str, bytes] = {}
+        self.rows: list[str] = []
+        # What was shown or told last: a case by its file or as it is, a network, a design's words.
+        self.case: str | bytes = FOUR
+        self.network: str | None = None
+        self.design: list[str] | None = None
 
-    def read(self, name):
+    def read(self, name: str) -> None:
         with open(os.path.join(ROOT, name), encoding='utf-8') as handle:
             lines = handle.read().split('\n')
         self.name, self.case, self.network, self.design, self.heading, self.part = name, FOUR, None, None, '', ''
@@ -67,7 +76,7 @@ class Docs:
 
     # One run, in a folder that has the examples and what was made before.
 
-    def answer(self, words, files=None):
+    def answer(self, words: list[str], files: dict[str, bytes] | None = None) -> tuple[int | str, str]:
         with tempfile.TemporaryDirectory() as folder:
             os.symlink(os.path.join(ROOT, 'examples'), os.path.join(folder, 'examples'))
             for name, content in (files or {}).items():
@@ -76,7 +85,8 @@ class Docs:
             status, written = run(self.program, words, folder)
             return status, written.decode('latin-1')
 
-    def compare(self, what, words, files, status, lines, rest=False):
+    def compare(self, what: str, words: list[str], files: dict[str, bytes] | None, status: int, lines: list[str],
+                rest: bool = False) -> None:
         got = self.answer(words, files)
         pattern = ''.join('(?:.*\n)*?' if line == '...' else re.escape(line) + '\n'
                           for line in lines) + ('(?:.*\n)*' if rest or lines[-1:] == ['...'] else '')
@@ -84,12 +94,12 @@ class Docs:
         self.report.count(right, '%s: %s (pinch %s)' % (self.where, what, ' '.join(words)), (got[0], got[1]),
                           'status %d, %r' % (status, '\n'.join(lines)))
 
-    def leave(self, why):
+    def leave(self, why: str) -> None:
         self.left.append('%s: %s' % (self.where, why))
 
     # Blocks.
 
-    def block(self, language, lines, above, below):
+    def block(self, language: str, lines: list[str], above: str, below: str) -> None:
         self.shown += 1
         spans = SPAN.findall(above)
         if language == 'sh':
@@ -102,7 +112,7 @@ class Docs:
         else:
             self.shown_text(lines, above, below, spans)
 
-    def shell(self, line):
+    def shell(self, line: str) -> None:
         command, _, said = line.partition('#')
         command, _, file = command.partition('>')
         words = command.split()
@@ -115,7 +125,7 @@ class Docs:
         right = status == 0 and all(each in written.split('\n') for each in wanted)
         self.report.count(right, '%s: %s' % (self.where, line), (status, written), 'status 0 and the lines %s' % wanted)
 
-    def shown_file(self, lines, spans):
+    def shown_file(self, lines: list[str], spans: list[str]) -> None:
         named = [span for span in spans if span.startswith('examples/') and span.endswith('.csv')]
         self.rows = lines
         if not named:
@@ -132,7 +142,7 @@ class Docs:
         self.case = self.case if ASKED.match(lines[0]) else named[-1]
         self.report.count(right, '%s: %s as it is shown' % (self.where, named[-1]), (0, '\n'.join(held)), lines)
 
-    def shown_network(self, lines, above, spans):
+    def shown_network(self, lines: list[str], above: str, spans: list[str]) -> None:
         named = [span for span in spans if span.startswith('examples/') and span.endswith('.txt')]
         if named:
             held = example(os.path.basename(named[-1])).decode()
@@ -149,7 +159,7 @@ class Docs:
         self.compare('the network that is shown', ['audit', 'case', 'net'], {'case': case, 'net': text(*lines)}, 0,
                      ['accepted'], True)
 
-    def shown_text(self, lines, above, below, spans):
+    def shown_text(self, lines: list[str], above: str, below: str, spans: list[str]) -> None:
         status = int((re.findall(r'with status (\d)', above) or ['1' if 'infeasible' in lines else '0'])[-1])
         rest = 'begin' in above or below.startswith('and then')
         called = [span for span in spans if (span[6:] if span.startswith('pinch ') else span).split()[0] in COMMANDS
@@ -188,7 +198,7 @@ class Docs:
             self.audited_case = words[1]
         self.compare('the text that is shown', words, files, status, lines, rest)
 
-    def altered(self, rows, plant):
+    def altered(self, rows: list[str], plant: str) -> list[str]:
         """The site that was shown last, with these rows in place of those of their names, and one plant."""
         out, inside = [], True
         for row in self.rows:
@@ -202,7 +212,7 @@ class Docs:
 
     # Sentences.
 
-    def sentences(self, said):
+    def sentences(self, said: str) -> None:
         for match in re.finditer(r'`pinch ([^`]+)` prints ((?:`[^`]+`(?:, and |, | and )?)+)', said):
             lines = [span for span in SPAN.findall(match.group(2)) if LINE.match(span)]
             self.compare('what is said', match.group(1).split(), None, 0, lines)
@@ -212,37 +222,36 @@ class Docs:
             for other in [asked[0]] + SPAN.findall(match.group(4) or ''):
                 words = [other] + asked[1:] + ['nothing'] * (other == 'audit')
                 self.compare('what is said', words, None, int(match.group(3)), [match.group(2)])
-        match = re.match(r'prints ((?:`[^`]+`(?:, | and )?)+)', said)
-        if match and isinstance(self.case, bytes):
-            self.compare('what is said', ['targets', 'case'], {'case': self.case}, 0, SPAN.findall(match.group(1)))
-        match = re.match(r'With (.*) the numbers `([0-9 ]+)` give `([^`]+)`', said)
-        if match:
-            self.compare('what is said', ['sweep', 'case'] + match.group(2).split(),
-                         {'case': text('contribution,,50,,,,', *SPAN.findall(match.group(1)))}, 0, [match.group(3)])
+        prints = re.match(r'prints ((?:`[^`]+`(?:, | and )?)+)', said)
+        if prints and isinstance(self.case, bytes):
+            self.compare('what is said', ['targets', 'case'], {'case': self.case}, 0, SPAN.findall(prints.group(1)))
+        swept = re.match(r'With (.*) the numbers `([0-9 ]+)` give `([^`]+)`', said)
+        if swept:
+            self.compare('what is said', ['sweep', 'case'] + swept.group(2).split(),
+                         {'case': text('contribution,,50,,,,', *SPAN.findall(swept.group(1)))}, 0, [swept.group(3)])
         for row in re.findall(r'So `([^`]+)` is a (?:hot stream|vapour)',
                               said) + re.findall(r'with `([^`]+)` a stream has none', said):
             self.compare('a row that is read', ['targets', 'file'], {'file': text('contribution,,50,,,,', row)}, 0,
                          ['hot 0', '...'])
-        match = re.search(r'with the one hot stream `([^`]+)` and a contribution of (\d+) the row `([^`]+)` leaves the '
-                          r'case standard, and `([^`]+)` does not', said)
-        for row, status, first in zip(match.groups()[2:], (0, 3),
-                                      ('# hot 0 cold 5000 excess 0 cost 0', 'case not standard')) if match else ():
-            held = text('contribution,,%s,,,,' % match.group(2), match.group(1), row)
-            self.compare('whether a case is standard', ['vertical', 'file'], {'file': held}, status, [first],
+        standard = re.search(r'with the one hot stream `([^`]+)` and a contribution of (\d+) the row `([^`]+)` leaves '
+                             r'the case standard, and `([^`]+)` does not', said)
+        stream, share, *rows = standard.groups() if standard else ('', '')
+        for row, status, first in zip(rows, (0, 3), ('# hot 0 cold 5000 excess 0 cost 0', 'case not standard')):
+            case = text('contribution,,%s,,,,' % share, stream, row)
+            self.compare('whether a case is standard', ['vertical', 'file'], {'file': case}, status, [first],
                          status == 0)
         if said.startswith('These are no command'):
             for span in SPAN.findall(said):
                 self.compare('no command', [FOUR if word == 'CASE' else word for word in span.split()], None, 2,
                              [TABLE[:-1]])
-        match = re.search(r'(?:`pinch audit \S+ \S+` accepts|`audit` accepts) it with excess 0', said)
-        if match and self.design:
+        if self.design and re.search(r'(?:`pinch audit \S+ \S+` accepts|`audit` accepts) it with excess 0', said):
             made = self.answer(self.design)[1].encode()
             self.compare('what %s prints, audited' % self.design[0], ['audit', self.design[1], 'net'], {'net': made}, 0,
                          ['accepted', '...', 'excess 0'], True)
 
     # Tables.
 
-    def table(self, rows, above, at):
+    def table(self, rows: list[list[str]], above: str, at: int) -> None:
         head, rows = rows[0], rows[2:]
         for number, row in enumerate(rows):
             self.where = '%s:%d' % (self.name, at + 2 + number)
@@ -265,7 +274,7 @@ class Docs:
             elif head[:2] == ['Words', 'Text'] or head[:2] == ['Answer', 'Text']:
                 self.leave('a form of a text: %s' % row[0])
 
-    def refused_row(self, why, said):
+    def refused_row(self, why: str, said: str) -> None:
         site = 'site' in self.part
         command, role = ('site', 'site') if site else ('targets', 'case')
         base = ['contribution,,50,,,,', 'main,MP,1500,,,,', 'plant,A,,,,,', 'hot,H,2000,1000,10,,', 'plant,B,,,,,',
@@ -298,7 +307,7 @@ class Docs:
         self.compare('refused', [command, 'file'], {'file': text(*rows)}, 3,
                      ['%s row %d %s' % (role, len(rows) + end, why)])
 
-    def refused_network(self, why, said):
+    def refused_network(self, why: str, said: str) -> None:
         case = text('contribution,,50,,,,', 'hot,H,1000,500,10,,', 'cold,C,300,700,10,,')
         spans = SPAN.findall(said)
         if said == 'a statement 100,001':
@@ -317,13 +326,13 @@ class Docs:
             self.compare('refused', ['audit', 'case', 'net'], {'case': case, 'net': text(*statements)}, 4,
                          ['network line %d %s' % (line, why)])
 
-    def refused_report(self, why, said):
+    def refused_report(self, why: str, said: str) -> None:
         spans, line = SPAN.findall(said), int(re.findall(r'(?:at|statement,) (\d+)', said)[-1])
         for span in spans:
             self.compare('refused', ['certify', FOUR, 'report'], {'report': text(*span.split('; '))}, 4,
                          ['report line %d %s' % (line, why)])
 
-    def refused_study(self, why, said):
+    def refused_study(self, why: str, said: str) -> None:
         spans = SPAN.findall(said)
         if said == 'a 1,001st `span` row':
             tried, line = [['span,HOT,0,1'] * 1001], 1001
@@ -333,7 +342,7 @@ class Docs:
             self.compare('refused', ['prices', FOUR, 'study', '1'], {'study': text(*rows)}, 4,
                          ['study row %d %s' % (line, why)])
 
-    def audited(self, row, above):
+    def audited(self, row: list[str], above: str) -> None:
         case = told_case(above)
         named = re.search(r'where `X` is `([^`]+)`', above)
         spans, wanted = SPAN.findall(row[0]), SPAN.findall(row[1])[0]
@@ -347,6 +356,8 @@ class Docs:
             network = spans[1] if small else named.group(1) if spans[0] == 'X' and named else spans[0]
         if small:
             case = text('contribution,,50,,,,', 'hot,H,1000,500,%s,,' % small.group(1))
+        if case is None:
+            return self.leave('networks whose case is not told')
         if extra:
             case += text(extra.group(1))
         status = 9 if wanted.startswith('too fine') else 1
@@ -354,7 +365,7 @@ class Docs:
                      [wanted])
 
 
-def told_case(said):
+def told_case(said: str) -> bytes | None:
     """The case of which a sentence says `H` (1000 to 500, CP 10) or `B` (cold, latent at 900, load 8000), with a
     contribution of 50 where it says none."""
     streams = re.findall(r'`(\w+)` \((\d+) to (\d+), CP (\d+)\)', said)
@@ -362,7 +373,7 @@ def told_case(said):
         return None
     share = (re.findall(r'contribution of (\d+)', said) or ['50'])[0]
     latent = re.findall(r'`(\w+)` \((hot|cold), latent at (\d+), load (\d+)\)', said)
-    return text('contribution,,%s,,,,' % share, *['%s,%s,%s,%s,%s,,' % ('hot' if int(supply) > int(target) else 'cold',
-                                                                        name, supply, target, cp)
-                                                   for name, supply, target, cp in streams],
+    rows = ['%s,%s,%s,%s,%s,,' % ('hot' if int(supply) > int(target) else 'cold', name, supply, target, cp)
+            for name, supply, target, cp in streams]
+    return text('contribution,,%s,,,,' % share, *rows,
                 *['%s,%s,%s,%s,0,%s,' % (side, name, level, level, load) for name, side, level, load in latent])

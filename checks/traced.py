@@ -4,14 +4,18 @@ refused.
 Nothing but Python is needed. The program is the built one, unchanged: what is refused is refused by the C library,
 which is asked for more than there is, or by the system, whose call is not made.
 """
+from __future__ import annotations
+
 import ctypes
 import errno
 import os
 import signal
 import struct
 import tempfile
+from collections.abc import Callable, Container, Iterable, Iterator
+from typing import IO
 
-from common import ENVIRONMENT, status_with
+from common import ENVIRONMENT, Answer, status_with
 from patience import LOOK, Patience
 
 TRACEME, PEEK, POKE, CONT, GETREGS, SETREGS, SYSCALL, SETOPTIONS = 0, 1, 4, 7, 12, 13, 24, 0x4200
@@ -19,6 +23,12 @@ SYSCALL_STOPS, FOLLOW_THREADS, END_WITH_TRACER = 0x01, 0x08, 0x100000
 ANY_THREAD = 0x40000000
 READ, WRITE, OPEN, OPENAT, CLONE, CLONE3 = 0, 1, 2, 257, 56, 435
 HUGE = 1 << 63
+# Told of a stop of a thread, and whether it is at a call of the system; whether it was one of ours.
+Stopped = Callable[[int, bool], bool]
+# A call of the system: what sort, of which file, and how long it is.
+Call = tuple[str, int | None, int]
+# What is to become of a call, by its number, sort, file and length: nothing, an error, or so many bytes at most.
+Change = Callable[[int, str, int | None, int], int | tuple[str, int] | None]
 ENDBR64, PUSH_RBP, BREAKPOINT = b'\xf3\x0f\x1e\xfa', b'\x55', 0xcc
 
 
@@ -33,25 +43,25 @@ library.ptrace.restype = ctypes.c_long
 library.ptrace.argtypes = [ctypes.c_long, ctypes.c_long, ctypes.c_void_p, ctypes.c_void_p]
 
 
-def ptrace(request, thread, address=0, data=0):
+def ptrace(request: int, thread: int, address: int = 0, data: int = 0) -> int:
     ctypes.set_errno(0)
     answer = library.ptrace(request, thread, address, data)
     if answer == -1 and ctypes.get_errno():
         raise OSError(ctypes.get_errno(), os.strerror(ctypes.get_errno()))
-    return answer & 0xffffffffffffffff
+    return int(answer) & 0xffffffffffffffff
 
 
-def registers_of(thread):
+def registers_of(thread: int) -> Registers:
     registers = Registers()
     ptrace(GETREGS, thread, 0, ctypes.addressof(registers))
     return registers
 
 
-def set_registers(thread, registers):
+def set_registers(thread: int, registers: Registers) -> None:
     ptrace(SETREGS, thread, 0, ctypes.addressof(registers))
 
 
-def symbols_in(image, wanted):
+def symbols_in(image: bytes, wanted: Container[str]) -> Iterator[tuple[str, int, int]]:
     """Of each named function of an ELF file its address, and where in the file the entry of its symbol stands."""
     sections, (size, count) = struct.unpack_from('<Q', image, 40)[0], struct.unpack_from('<HH', image, 58)
     for number in range(count):
@@ -68,7 +78,7 @@ def symbols_in(image, wanted):
                 yield called, value, entry
 
 
-def symbols_of(program, wanted):
+def symbols_of(program: str, wanted: Container[str]) -> tuple[dict[str, int], bool]:
     """The addresses of the named functions in the program's file, and whether the system moves it as a whole. A script
     has none."""
     with open(program, 'rb') as handle:
@@ -78,20 +88,20 @@ def symbols_of(program, wanted):
     return {name: value for name, value, _ in symbols_in(image, wanted)}, struct.unpack_from('<H', image, 16)[0] == 3
 
 
-def base_of(process, program):
+def base_of(process: int, program: str) -> int:
     real = os.path.realpath(program)
     with open('/proc/%d/maps' % process) as handle:
         return min(int(line.split('-')[0], 16) for line in handle if line.rstrip('\n').endswith(real))
 
 
-def text_at(process, address):
+def text_at(process: int, address: int) -> bytes:
     with open('/proc/%d/mem' % process, 'rb', 0) as memory:
         memory.seek(address)
         read = memory.read(4096 - address % 4096)
         return read.split(b'\0')[0]
 
 
-def started(program, words, folder, output, error):
+def started(program: str, words: list[str], folder: str, output: IO[bytes], error: IO[bytes]) -> int:
     """A new process of the program that stands before its first instruction."""
     process = os.fork()
     if process == 0:
@@ -111,11 +121,11 @@ def started(program, words, folder, output, error):
     return process
 
 
-def follow(process, go_on, stopped):
+def follow(process: int, go_on: int, stopped: Stopped) -> int:
     """Lets the process run to its end; `stopped` is told of each stop that is one of ours. Gives the exit status."""
     patience = Patience(process)
 
-    def look(*_):
+    def look(*_: object) -> None:
         if patience.over():
             raise TimeoutError
 
@@ -131,7 +141,7 @@ def follow(process, go_on, stopped):
         signal.setitimer(signal.ITIMER_REAL, 0)
 
 
-def followed(process, go_on, stopped):
+def followed(process: int, go_on: int, stopped: Stopped) -> int:
     known = set([process])
     ptrace(go_on, process)
     while True:
@@ -158,14 +168,15 @@ def followed(process, go_on, stopped):
             pass
 
 
-def answer_of(status, output, error):
+def answer_of(status: int, output: IO[bytes], error: IO[bytes]) -> Answer:
     """The status of a run that is over, with what stands on standard error, and its text."""
     output.seek(0)
     error.seek(0)
     return status_with(status, error.read()), output.read()
 
 
-def with_memory_refused(program, words, folder, number, lasting=False):
+def with_memory_refused(program: str, words: list[str], folder: str, number: int,
+                        lasting: bool = False) -> tuple[int | str, bytes, int]:
     """A run whose request for memory of this number is refused (with `lasting`, each one from there on).
 
     Gives the status, the text, and how many requests the run made.
@@ -186,7 +197,7 @@ def with_memory_refused(program, words, folder, number, lasting=False):
             ptrace(POKE, process, base + address, word & ~0xff | BREAKPOINT)
         count = 0
 
-        def stopped(thread, at_call):
+        def stopped(thread: int, at_call: bool) -> bool:
             nonlocal count
             registers = registers_of(thread)
             place = places.get(registers.rip - 1)
@@ -211,35 +222,32 @@ def with_memory_refused(program, words, folder, number, lasting=False):
         return *answer_of(follow(process, CONT, stopped), output, error), count
 
 
-KEPT = {}
+KEPT: dict[str, tuple[dict[str, int], bool]] = {}
 # The functions by which the program asks for memory.
 ASKING = ('rattle_alloc', 'rattle_realloc')
 
 
-def symbols_of_once(program):
+def symbols_of_once(program: str) -> tuple[dict[str, int], bool]:
     if program not in KEPT:
         KEPT[program] = symbols_of(program, ASKING)
     return KEPT[program]
 
 
-def ptrace_word(process, address):
-    word = ctypes.c_ulonglong()
+def ptrace_word(process: int, address: int) -> int:
     with open('/proc/%d/mem' % process, 'rb', 0) as memory:
         memory.seek(address)
-        word = int.from_bytes(memory.read(8), 'little')
-    return word
+        return int.from_bytes(memory.read(8), 'little')
 
 
 class Calls:
     """Which calls of the system are the program's own: opening a file that a word names, reading it, writing the
     output, and making a thread."""
 
-    def __init__(self, names):
+    def __init__(self, names: Iterable[str]) -> None:
         self.names = [os.fsencode(name) for name in names]
-        self.files = {}
-        self.opening = None
+        self.files: dict[int, int | None] = {}
 
-    def of(self, process, registers):
+    def of(self, process: int, registers: Registers) -> tuple[str, int | None] | None:
         """What a call is that begins, as (sort, file's number), or None."""
         if registers.orig_rax in (OPEN, OPENAT):
             name = text_at(process, registers.rdi if registers.orig_rax == OPEN else registers.rsi)
@@ -253,7 +261,8 @@ class Calls:
         return None
 
 
-def with_calls_changed(program, words, names, folder, change):
+def with_calls_changed(program: str, words: list[str], names: Iterable[str], folder: str,
+                       change: Change) -> tuple[int | str, bytes, list[Call]]:
     """A run in which `change(number, sort, file, length)` is asked at each call of the program's own, counted from 1.
 
     It answers None (let it be), an error's number (the call fails with it), or ('short', n), a read or write of n bytes
@@ -262,9 +271,12 @@ def with_calls_changed(program, words, names, folder, change):
     with tempfile.TemporaryFile() as output, tempfile.TemporaryFile() as error:
         process = started(program, words, folder, output, error)
         calls = Calls(names)
-        made, inside, answers, opened = [], {}, {}, {}
+        made: list[Call] = []
+        inside: dict[int, bool] = {}
+        answers: dict[int, int] = {}
+        opened: dict[int, int | None] = {}
 
-        def stopped(thread, at_call):
+        def stopped(thread: int, at_call: bool) -> bool:
             if not at_call:
                 return False
             registers = registers_of(thread)

@@ -119,11 +119,11 @@ def refused() -> Iterator[Worked]:
         if second in ROLES:
             yield Worked(words, {'plant.csv': FOUR}, 6, text('read fault ' + ROLES[second]))
     yield Worked(['vertical', 'plant.csv'], {'plant.csv': FORBIDDEN}, 3, text('case not standard'))
-    for words, second, written in (
+    for words, content, written in (
             (['audit', 'plant.csv', 'network.txt'], text('end'), 'network line 1 FieldCount'),
             (['certify', 'plant.csv', 'report.txt'], text('infeasible'), 'report line 2 Ended'),
             (['prices', 'plant.csv', 'study.csv', '2'], text('price,HOT,2,'), 'study row 1 NoScenario')):
-        yield Worked(words, {'plant.csv': FOUR, words[2]: second}, 4, text(written))
+        yield Worked(words, {'plant.csv': FOUR, words[2]: content}, 4, text(written))
 
 
 def large() -> Iterator[Worked]:

@@ -19,9 +19,26 @@ NO_CASES = (*SITES, 'changes', 'steam-prices', 'table')
 CASES = sorted(each.stem for each in EXAMPLES.glob('*.csv') if each.stem not in NO_CASES)
 NETWORKS = [each for each in CASES if (EXAMPLES / f'{each}-network.txt').exists()]
 # The same examples each time, with no memory of earlier runs; the program is slow to start on a busy machine.
-settings.register_profile('desk', deadline=None, max_examples=40, derandomize=True, database=None,
+settings.register_profile('desk', deadline=None, max_examples=20, derandomize=True, database=None,
                           suppress_health_check=[HealthCheck.too_slow])
-settings.load_profile('desk')
+settings.register_profile('all', settings.get_profile('desk'), max_examples=100)
+
+
+def pytest_addoption(parser: pytest.Parser) -> None:
+    parser.addoption('--all', action='store_true', help='the tests that are marked as long too, and more examples')
+
+
+def pytest_configure(config: pytest.Config) -> None:
+    settings.load_profile('all' if config.getoption('--all') else 'desk')
+
+
+def pytest_collection_modifyitems(config: pytest.Config, items: list[pytest.Item]) -> None:
+    """A long test is for --all, and for whoever names it."""
+    if config.getoption('--all') or any('::' in word for word in config.args):
+        return
+    long = [item for item in items if item.get_closest_marker('long')]
+    config.hook.pytest_deselected(items=long)
+    items[:] = [item for item in items if item not in long]
 
 
 @dataclass(frozen=True)
