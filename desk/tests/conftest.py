@@ -1,16 +1,21 @@
 """What the tests share: the program, the examples, the command as it is run from a checkout."""
 from __future__ import annotations
 
+import io
 import os
 import subprocess
 import sys
+from collections.abc import Collection, Iterable
+from contextlib import chdir, redirect_stderr, redirect_stdout
 from dataclasses import dataclass
 from pathlib import Path
+from typing import Any
 
 import pytest
 from hypothesis import HealthCheck, settings
 
 from pinchdesk import Pinch
+from pinchdesk.cli.main import main
 
 DESK = Path(__file__).resolve().parents[1]
 EXAMPLES = DESK.parent / 'examples'
@@ -18,10 +23,17 @@ SITES = ('site-books', 'three-plants')
 NO_CASES = (*SITES, 'changes', 'steam-prices', 'table')
 CASES = sorted(each.stem for each in EXAMPLES.glob('*.csv') if each.stem not in NO_CASES)
 NETWORKS = [each for each in CASES if (EXAMPLES / f'{each}-network.txt').exists()]
+# Between them they have a pinch, levels of steam, latent streams, contributions of their own, and prices.
+FEW = ('four-stream', 'own-contributions', 'preheater', 'two-reactors', 'two-steam-levels')
 # The same examples each time, with no memory of earlier runs; the program is slow to start on a busy machine.
 settings.register_profile('desk', deadline=None, max_examples=20, derandomize=True, database=None,
                           suppress_health_check=[HealthCheck.too_slow])
 settings.register_profile('all', settings.get_profile('desk'), max_examples=100)
+
+
+def few_of(names: Iterable[str], few: Collection[str] = FEW) -> list[Any]:
+    """The names as parameters of a test: all but a few of them are long."""
+    return [pytest.param(name, marks=[] if name in few else [pytest.mark.long]) for name in names]
 
 
 def pytest_addoption(parser: pytest.Parser) -> None:
@@ -50,11 +62,20 @@ class Done:
     err: str
 
 
-def pinchdesk(*words: str, cwd: Path | None = None) -> Done:
+def command(*words: str, cwd: Path | None = None) -> Done:
     """The command, run from the checkout in a process of its own."""
     done = subprocess.run([sys.executable, str(DESK / 'pinchdesk'), *words], cwd=cwd, capture_output=True, check=False,
                           stdin=subprocess.DEVNULL, env=dict(os.environ))
     return Done(done.returncode, done.stdout.decode('utf-8', 'replace'), done.stderr.decode('utf-8', 'replace'))
+
+
+def pinchdesk(*words: str, cwd: Path | None = None) -> Done:
+    """The same in this process, where it need not be loaded anew."""
+    out, err = io.BytesIO(), io.BytesIO()
+    with (chdir(cwd or os.curdir), redirect_stdout(io.TextIOWrapper(out, 'utf-8', write_through=True)),
+          redirect_stderr(io.TextIOWrapper(err, 'utf-8', write_through=True))):
+        status = main(list(words))
+    return Done(status, out.getvalue().decode('utf-8', 'replace'), err.getvalue().decode('utf-8', 'replace'))
 
 
 @pytest.fixture(scope='session')

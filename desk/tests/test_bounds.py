@@ -7,7 +7,7 @@ from fractions import Fraction
 from pathlib import Path
 
 import pytest
-from conftest import EXAMPLES, Done, example
+from conftest import EXAMPLES, Done, example, few_of
 from hypothesis import given
 from hypothesis import strategies as st
 from tabled import refusal
@@ -49,7 +49,7 @@ def test_a_number_is_exact_or_none(value: object) -> None:
     assert number is None or len(text.strip()) <= LONGEST and number == Fraction(text.strip()) and text.isascii()
 
 
-@pytest.mark.parametrize('text', HUGE)
+@pytest.mark.parametrize('text', few_of(HUGE, ('1e99999999', '9' * 5000, 'nan', '')))
 @pytest.mark.parametrize('words', [
     ['network', TC3, '--cost=#'], ['network', TC3, '--above=#'], ['network', TC3, '--seconds=#'],
     ['tradeoff', TC3, '--seconds=#'], ['sweep', '--', TC3, '#', '10', '1'], ['sweep', '--', TC3, '0', '#', '1'],
@@ -62,18 +62,29 @@ def test_no_number_of_the_words_fills_the_memory(words: list[str], text: str, de
     assert ended.status in (2, 3) and ended.out == '' and ended.err.count('\n') == 1
 
 
-@pytest.mark.parametrize('text', [*HUGE, '1e7', '1e-7', '-1', '0', 'ten'])
-@pytest.mark.parametrize('row', ['#scale,{},,,,,', '#price,EUR/MWh,{},,,,', '#cost,EUR/h,{},,,,'])
-def test_a_comment_says_what_can_be(row: str, text: str, desk: Desk, tmp_path: Path) -> None:
-    if 'scale' not in row and text in ('1e7', '1e-7'):
-        return
+ROWS = ('#scale,{},,,,,', '#price,EUR/MWh,{},,,,', '#cost,EUR/h,{},,,,')
+COMMENTS = [*(row.format(text) for row in ROWS for text in (*HUGE, '-1', '0', 'ten')), '#scale,1e7,,,,,',
+            '#scale,1e-7,,,,,']
+
+
+@pytest.mark.parametrize('comment', COMMENTS)
+def test_a_comment_says_what_can_be(comment: str, desk: Desk, tmp_path: Path) -> None:
     case = tmp_path / 'case.csv'
-    case.write_bytes(row.format(text).encode() + b'\n' + example('four-stream.csv'))
-    for words in (['targets'], ['flow'], ['units'], ['network', '--seconds', '2'], ['whatif']):
-        ended = desk(words[0], str(case), *words[1:])
-        assert (ended.status, ended.out) == (3, '') and 'case row 1 #' in ended.err
+    case.write_bytes(comment.encode() + b'\n' + example('four-stream.csv'))
+    ended = desk('targets', str(case))
+    assert (ended.status, ended.out) == (3, '') and 'case row 1 #' in ended.err
     with pytest.raises(Refused):
         read_case(case.read_bytes())
+
+
+@pytest.mark.parametrize('comment', few_of(COMMENTS, ('#scale,1e7,,,,,', '#price,EUR/MWh,ten,,,,',
+                                                      '#cost,EUR/h,0,,,,')))
+def test_a_comment_that_cannot_be_is_refused_by_each_word(comment: str, desk: Desk, tmp_path: Path) -> None:
+    case = tmp_path / 'case.csv'
+    case.write_bytes(comment.encode() + b'\n' + example('four-stream.csv'))
+    for words in (['flow'], ['units'], ['network', '--seconds', '2'], ['whatif']):
+        ended = desk(words[0], str(case), *words[1:])
+        assert (ended.status, ended.out) == (3, '') and 'case row 1 #' in ended.err
 
 
 @given(st.fractions(min_value=Fraction(1, 10 ** 6), max_value=10 ** 6).filter(lambda each: each > 0))
@@ -121,7 +132,7 @@ FORMS = [
     'kind;name;supply;target;CP;price {}\n;H1;150;60;2;\nheater;HP;180;;;30 {}\n', '{}\n', 'H1;150;60;2;;;{}\n']
 
 
-@pytest.mark.parametrize('atom', ATOMS)
+@pytest.mark.parametrize('atom', few_of(ATOMS, ('(', 'a_', '1', '10^', '1000 kcal/h ', 'sum ')))
 def test_no_long_text_takes_long(atom: str) -> None:
     text = (atom * LONG)[:LONG]
     begun = time.process_time()

@@ -7,7 +7,7 @@ from dataclasses import replace
 from fractions import Fraction
 
 import pytest
-from conftest import CASES, example
+from conftest import CASES, example, few_of
 from hypothesis import given, settings
 from hypothesis import strategies as some
 from looking import cut_off, line_of, lines_named, overlapping, svg_texts, texts_of
@@ -58,7 +58,7 @@ def assert_readable(figure: Figure) -> None:
     assert cut_off(figure) == []
 
 
-@pytest.mark.parametrize('name', CASES)
+@pytest.mark.parametrize('name', few_of(CASES))
 def test_curves_show_targets_and_pinches_on_both_scales(name: str, pinch: Pinch) -> None:
     content = example(f'{name}.csv')
     figure, case, targets = curves(pinch, content), read_case(content), pinch.targets(content)

@@ -7,10 +7,12 @@ import re
 import subprocess
 import sys
 import time
+from pathlib import Path
 from typing import Any
 
 import pytest
-from conftest import DESK, example
+from conftest import DESK, command, example
+from conftest import pinchdesk as pinchdesk_here
 
 import pinchdesk
 from pinchdesk import Accepted, Pinch, Refused, WordsError, read_case
@@ -77,6 +79,12 @@ def test_a_sign_of_life_is_for_terminals_alone(capsys: pytest.CaptureFixture[str
             shown += capsys.readouterr().err
     assert 'sweep: ' in shown and '3 of 7' in shown
     assert (shown + capsys.readouterr().err).endswith('\r\033[K')
+
+
+def test_the_command_in_a_process_of_its_own_says_the_same(tmp_path: Path) -> None:
+    (tmp_path / 'case.csv').write_bytes(example('four-stream.csv'))
+    for words in (['targets', 'case.csv'], ['flow', 'case.csv', '--form', 'csv'], ['targets', 'none.csv'], ['nothing']):
+        assert command(*words, cwd=tmp_path) == pinchdesk_here(*words, cwd=tmp_path)
 
 
 def test_the_program_is_started_in_one_place_and_no_shell_is() -> None:

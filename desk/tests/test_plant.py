@@ -22,7 +22,7 @@ def test_the_plant_runs_whole_and_writes_into_its_folder_alone(tmp_path: Path) -
     before = sorted(os.listdir(EXAMPLES))
     done = run(str(folder), cwd=elsewhere)
     assert (done.status, done.err) == (0, '')
-    for line in ('hot utility   20  kW', '6 exchangers\nValid', 'Exchangers against cost', '10 K hotter       0',
+    for line in ('hot utility   20  kW', '6 exchangers\nAccepted', 'Exchangers against cost', '10 K hotter       0',
                  "('base', 'good')\n('5 K hotter', 'rejected')\n"):
         assert line in done.out
     files = ['case.csv', 'curves.svg', 'found.txt', 'grid.svg', 'page.html', 'sweep.svg', 'tradeoff.svg']

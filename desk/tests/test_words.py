@@ -11,7 +11,7 @@ from pathlib import Path
 import openpyxl
 import pytest
 from captured import Captured
-from conftest import CASES, EXAMPLES, NETWORKS, Done, example, pinchdesk
+from conftest import CASES, EXAMPLES, NETWORKS, Done, command, example
 
 from pinchdesk import Accepted, Pinch
 from pinchdesk.formats.written_files import write_whole
@@ -265,7 +265,7 @@ def test_a_closed_or_full_output_is_an_error() -> None:
 
 
 def test_the_launcher_runs_from_any_folder(tmp_path: Path) -> None:
-    done = pinchdesk('targets', FOUR, cwd=tmp_path)
+    done = command('targets', FOUR, cwd=tmp_path)
     assert done == Done(0, desk_text(), '')
 
 
