@@ -9,6 +9,7 @@ from html import unescape
 from pathlib import Path
 
 import pytest
+from conftest import few_of
 from sameplant import PLAIN, STYLES, Files, Page, Said, Told, cells_of, csv_cells, files_of, texts_of, token_of
 
 from pinchdesk import Pinch, Refused, read_case
@@ -39,7 +40,7 @@ def plain(tmp_path_factory: pytest.TempPathFactory) -> Files:
     return files_of(PLAIN, tmp_path_factory.mktemp('plain') / 'plant', Pinch())
 
 
-@pytest.fixture(scope='module', params=STYLES)
+@pytest.fixture(scope='module', params=few_of(STYLES, ('a tenth, MW and K, per kW and year',)))
 def other(request: pytest.FixtureRequest, tmp_path_factory: pytest.TempPathFactory) -> Files:
     """The plant in another table."""
     return files_of(STYLES[request.param], tmp_path_factory.mktemp('other') / 'plant', Pinch())
