@@ -45,17 +45,17 @@ class Blocks:
 
     def document(self, name: str, folder: str) -> None:
         with open(os.path.join(ROOT, name), encoding='utf-8') as handle:
-            held = handle.read()
-        for each in ('examples', 'desk'):
-            os.symlink(os.path.join(ROOT, each), os.path.join(folder, each))
+            content = handle.read()
+        for place in ('examples', 'desk'):
+            os.symlink(os.path.join(ROOT, place), os.path.join(folder, place))
         os.mkdir(os.path.join(folder, 'bin'))
         os.symlink(self.program, os.path.join(folder, 'bin', 'pinch'))
-        for block in CODE.findall(held):
-            self.block(name, held, block, folder)
+        for block in CODE.findall(content):
+            self.block(name, content, block, folder)
         if name not in COMPARED:
-            self.sentences(name, held, folder)
+            self.sentences(name, content, folder)
 
-    def block(self, name: str, held: str, block: str, folder: str) -> None:
+    def block(self, name: str, content: str, block: str, folder: str) -> None:
         if OUTSIDE.search(block):
             return
         if 'desk/' in block and not self.with_desk:
@@ -65,26 +65,26 @@ class Blocks:
                               stdout=subprocess.PIPE, stderr=subprocess.STDOUT) as done:
             output, _, late = written(done)
         lines = output.decode().split('\n')
-        said = [each.strip() for line in re.findall(r'#(.*)', block) for each in line.split(',')]
-        missing = [each for each in said if LINE.match(each) and each not in lines]
-        below = re.match(r'\s*It prints\s*```\n(.*?)```', held.split(block)[1][3:], re.S)
+        said = [part.strip() for comment in re.findall(r'#(.*)', block) for part in comment.split(',')]
+        missing = [line for line in said if LINE.match(line) and line not in lines]
+        below = re.match(r'\s*It prints\s*```\n(.*?)```', content.split(block)[1][3:], re.S)
         right = done.returncode == 0 and not missing and (not below or output.decode() == below.group(1))
         self.report.count(right, '%s: %s' % (name, block), (late or done.returncode, output),
                           'status 0 and %s' % missing)
 
-    def sentences(self, name: str, held: str, folder: str) -> None:
-        for words, said in re.findall(r'`pinch ([^`]+)` prints ((?:`[^`]+`(?:, and |, | and )?)+)', held):
+    def sentences(self, name: str, content: str, folder: str) -> None:
+        for words, said in re.findall(r'`pinch ([^`]+)` prints ((?:`[^`]+`(?:, and |, | and )?)+)', content):
             got = run(self.program, words.split(), folder)
             lines = re.findall(r'`([^`]+)`', said)
-            right = got[0] == 0 and all(each in got[1].decode().split('\n') for each in lines)
+            right = got[0] == 0 and all(line in got[1].decode().split('\n') for line in lines)
             self.report.count(right, '%s: pinch %s' % (name, words), got, lines)
 
     def spreadsheets(self) -> None:
         """The table of what a spreadsheet does: each row as a file, and its answer; then networks from an editor."""
         with open(os.path.join(ROOT, TABLE_OF_ROWS), encoding='utf-8') as handle:
-            held = handle.read()
+            content = handle.read()
         with tempfile.TemporaryDirectory() as folder:
-            for answer, rows in re.findall(r'^\| `(case row \d \w+)` \| (.*?) \|', held, re.M):
+            for answer, rows in re.findall(r'^\| `(case row \d \w+)` \| (.*?) \|', content, re.M):
                 self.write(folder, 'a file.csv', ''.join(row + '\n' for row in re.findall(r'`([^`]+)`', rows)))
                 got = run(self.program, ['targets', 'a file.csv'], folder)
                 self.report.count(got == (3, (answer + '\n').encode()), 'HOW_TO_ENTER: %s' % rows, got, answer)

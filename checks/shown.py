@@ -48,7 +48,7 @@ class Docs:
                 at += 1
             elif line.startswith('```'):
                 end = lines.index('```', at + 1)
-                below = next((each for each in lines[end + 1:] if each), '')
+                below = next((line for line in lines[end + 1:] if line), '')
                 self.where = '%s:%d' % (name, at + 1)
                 with self.report.reading(self.where):
                     self.block(line[3:], lines[at + 1:end], above, below)
@@ -59,7 +59,7 @@ class Docs:
                     end += 1
                 self.where = '%s:%d' % (name, at + 1)
                 with self.report.reading(self.where):
-                    self.table([[cell.strip() for cell in each.strip('|').split('|')] for each in lines[at:end]], above,
+                    self.table([[cell.strip() for cell in row.strip('|').split('|')] for row in lines[at:end]], above,
                                at + 1)
                 at, above = end, ''
             elif line:
@@ -121,8 +121,8 @@ class Docs:
         status, written = self.answer(words[1:], self.printed)
         if file.strip():
             self.printed[file.strip()] = written.encode()
-        wanted = [each.strip() for each in said.split(',') if LINE.match(each.strip())]
-        right = status == 0 and all(each in written.split('\n') for each in wanted)
+        wanted = [part.strip() for part in said.split(',') if LINE.match(part.strip())]
+        right = status == 0 and all(line in written.split('\n') for line in wanted)
         self.report.count(right, '%s: %s' % (self.where, line), (status, written), 'status 0 and the lines %s' % wanted)
 
     def shown_file(self, lines: list[str], spans: list[str]) -> None:
@@ -132,27 +132,27 @@ class Docs:
             self.case = text(*lines)
             return self.report.count(self.answer(['targets', 'case'], {'case': self.case})[0] == 0,
                                      '%s: the case that is shown' % self.where, (0, ''), 'a case')
-        held = example(os.path.basename(named[-1])).decode().split('\n')
+        written = example(os.path.basename(named[-1])).decode().split('\n')
         whole = lines[0].startswith('contribution') or ASKED.match(lines[0]) is not None
         # Comment rows are not shown.
         if whole:
-            right = [row for row in held if not row.startswith('#')] == lines + ['']
+            right = [row for row in written if not row.startswith('#')] == lines + ['']
         else:
-            right = any(held[at:at + len(lines)] == lines for at in range(len(held)))
+            right = any(written[at:at + len(lines)] == lines for at in range(len(written)))
         self.case = self.case if ASKED.match(lines[0]) else named[-1]
-        self.report.count(right, '%s: %s as it is shown' % (self.where, named[-1]), (0, '\n'.join(held)), lines)
+        self.report.count(right, '%s: %s as it is shown' % (self.where, named[-1]), (0, '\n'.join(written)), lines)
 
     def shown_network(self, lines: list[str], above: str, spans: list[str]) -> None:
         named = [span for span in spans if span.startswith('examples/') and span.endswith('.txt')]
         if named:
-            held = example(os.path.basename(named[-1])).decode()
+            written = example(os.path.basename(named[-1])).decode()
             # What is shown leaves out the comments.
-            held = ''.join(line + '\n' for line in held.split('\n') if line and not line.startswith('#'))
+            written = ''.join(line + '\n' for line in written.split('\n') if line and not line.startswith('#'))
             pattern = ''.join('(?:.*\n)*?' if line == '...' else re.escape(line) + '\n'
                               for line in lines) + ('(?:.*\n)*' if lines[-1] == '...' else '')
             self.network = named[-1]
-            return self.report.count(re.fullmatch(pattern, held) is not None,
-                                     '%s: %s as it is shown' % (self.where, named[-1]), (0, held), lines)
+            return self.report.count(re.fullmatch(pattern, written) is not None,
+                                     '%s: %s as it is shown' % (self.where, named[-1]), (0, written), lines)
         case = told_case(above)
         if not case:
             return self.leave('a network whose case is not told')
@@ -205,7 +205,7 @@ class Docs:
             kind, name = row.split(',')[:2]
             if kind == 'plant':
                 inside = name == plant
-            instead = [each for each in rows if each.split(',')[:2] == [kind, name]]
+            instead = [other for other in rows if other.split(',')[:2] == [kind, name]]
             if kind in ('contribution', 'main') or inside:
                 out.append(instead[0] if instead else row)
         return out

@@ -65,12 +65,12 @@ def symbols_in(image: bytes, wanted: Container[str]) -> Iterator[tuple[str, int,
     """Of each named function of an ELF file its address, and where in the file the entry of its symbol stands."""
     sections, (size, count) = struct.unpack_from('<Q', image, 40)[0], struct.unpack_from('<HH', image, 58)
     for number in range(count):
-        _, sort, _, _, offset, length, link, _, _, each = struct.unpack_from('<IIQQQQIIQQ', image,
+        _, sort, _, _, offset, length, link, _, _, step = struct.unpack_from('<IIQQQQIIQQ', image,
                                                                              sections + number * size)
         if sort != 2:
             continue
         names = struct.unpack_from('<IIQQQQ', image, sections + link * size)[4]
-        for entry in range(offset, offset + length, each):
+        for entry in range(offset, offset + length, step):
             name, _, _, _, value, _ = struct.unpack_from('<IBBHQQ', image, entry)
             end = image.index(b'\0', names + name)
             called = image[names + name:end].decode('latin-1')

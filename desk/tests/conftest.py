@@ -21,8 +21,8 @@ DESK = Path(__file__).resolve().parents[1]
 EXAMPLES = DESK.parent / 'examples'
 SITES = ('site-books', 'three-plants')
 NO_CASES = (*SITES, 'changes', 'steam-prices', 'table')
-CASES = sorted(each.stem for each in EXAMPLES.glob('*.csv') if each.stem not in NO_CASES)
-NETWORKS = [each for each in CASES if (EXAMPLES / f'{each}-network.txt').exists()]
+CASES = sorted(path.stem for path in EXAMPLES.glob('*.csv') if path.stem not in NO_CASES)
+NETWORKS = [name for name in CASES if (EXAMPLES / f'{name}-network.txt').exists()]
 # Between them they have a pinch, levels of steam, latent streams, contributions of their own, and prices.
 FEW = ('four-stream', 'own-contributions', 'preheater', 'two-reactors', 'two-steam-levels')
 # The same examples each time, with no memory of earlier runs; the program is slow to start on a busy machine.

@@ -31,8 +31,8 @@ HUGE = ('1e400', '-1e400', '1e5000', '1e99999999', '1e-99999999', '1E+9999999999
 def desk(capfd: pytest.CaptureFixture[str]) -> Desk:
     def run(*words: str) -> Done:
         status = main(list(words))
-        held = capfd.readouterr()
-        return Done(status, held.out, held.err)
+        printed = capfd.readouterr()
+        return Done(status, printed.out, printed.err)
     return run
 
 
@@ -58,7 +58,7 @@ def test_a_number_is_exact_or_none(value: object) -> None:
     ['sweep', TC3, '0', '10', '1', '--workers=#'], ['whatif', TC3, '--workers=#'],
     ['many', 'targets', TC3, '--processes=#'], ['draw', 'grid', TC3, TC3, '--most=#', '-o', 'x.svg']])
 def test_no_number_of_the_words_fills_the_memory(words: list[str], text: str, desk: Desk) -> None:
-    ended = desk(*(each.replace('#', text) for each in words))
+    ended = desk(*(word.replace('#', text) for word in words))
     assert ended.status in (2, 3) and ended.out == '' and ended.err.count('\n') == 1
 
 
@@ -87,7 +87,7 @@ def test_a_comment_that_cannot_be_is_refused_by_each_word(comment: str, desk: De
         assert (ended.status, ended.out) == (3, '') and 'case row 1 #' in ended.err
 
 
-@given(st.fractions(min_value=Fraction(1, 10 ** 6), max_value=10 ** 6).filter(lambda each: each > 0))
+@given(st.fractions(min_value=Fraction(1, 10 ** 6), max_value=10 ** 6).filter(lambda value: value > 0))
 def test_a_scale_and_divisors_are_read_again(value: Fraction) -> None:
     basis = Basis(scale=value, price_unit='EUR/MWh', price_divisor=value * 10 ** 9, cost_unit='EUR/h',
                   cost_divisor=value / 10 ** 12)

@@ -34,7 +34,7 @@ def test_a_text_made_plain_is_no_formula_and_is_read_again_as_it_was(text: str) 
 
 @given(some.lists(some.one_of(texts, some.decimals(-1000, 1000, places=2)), min_size=1, max_size=4))
 def test_cells_and_headings_are_no_formulas_in_any_form(cells: list[Cell]) -> None:
-    headings = tuple(each if isinstance(each, str) else 'kW' for each in cells)
+    headings = tuple(cell if isinstance(cell, str) else 'kW' for cell in cells)
     sheet = Sheet('', headings, (tuple(cells),))
     content = rendered([sheet], 'csv')
     assert isinstance(content, str)
@@ -47,8 +47,8 @@ def test_cells_and_headings_are_no_formulas_in_any_form(cells: list[Cell]) -> No
     book = rendered([sheet], 'xlsx')
     assert isinstance(book, bytes)
     check_book(book)
-    for held, cell in zip(openpyxl.load_workbook(io.BytesIO(book)).active[2], cells):
-        assert held.data_type == ('n' if isinstance(cell, Decimal) else 's') or not cell
+    for filled, cell in zip(openpyxl.load_workbook(io.BytesIO(book)).active[2], cells):
+        assert filled.data_type == ('n' if isinstance(cell, Decimal) else 's') or not cell
 
 
 def check_book(content: bytes) -> None:
@@ -111,8 +111,8 @@ def test_what_many_wrote_names_the_same_cases_in_a_list(hostile: Path, capfd: py
         assert main(['many', 'targets', 'cases', '--processes', '1', '-o', output]) == 0
         names = [row.cell(0).text for row in read_table(Path(output).read_bytes(), output)[0].rows[1:]]
         # A tab steers a terminal, and is told as `?`.
-        assert sorted(names) == sorted(f'{each}.csv'.replace('\t', '?') for each in NAMES)
-        rows = ''.join(f'"{plain(each)}"\n' for each in names if '?' not in each)
+        assert sorted(names) == sorted(f'{name}.csv'.replace('\t', '?') for name in NAMES)
+        rows = ''.join(f'"{plain(name)}"\n' for name in names if '?' not in name)
         Path('cases/list').write_text(f'case\n{rows}', encoding='utf-8')
         capfd.readouterr()
         assert main(['many', 'targets', 'cases/list', '--processes', '1']) == 0

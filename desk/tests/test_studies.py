@@ -127,7 +127,7 @@ def test_studies_of_a_notebook_are_per_watt(plant: Path, pinch: Pinch) -> None:
     study = Study((PriceScenario('Winter', (('LP', 5000),)),))
     made = pinchdesk.many('prices', {'held': (case, study), 'text': (case, 'scenario,Winter,,\nprice,LP,50,\n')},
                           processes=1)
-    assert [each.outcome.facts[0]['least cost EUR/h'] for each in made.done] == [Decimal('4.125')] * 2
+    assert [done.outcome.facts[0]['least cost EUR/h'] for done in made.done] == [Decimal('4.125')] * 2
     assert print_study(study).startswith('#price,per W,,\n')
 
 
