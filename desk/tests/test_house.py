@@ -75,3 +75,21 @@ def imported_by(tree: ast.Module) -> Iterator[str]:
             yield from (alias.name for alias in node.names)
         elif isinstance(node, ast.ImportFrom):
             yield node.module or ''
+
+
+# What a word knows nothing of: it is a function of what its files hold and of its options.
+OUTSIDE = {'argparse', 'tempfile', 'sys', 'io', 'shutil', 'subprocess'}
+READERS = {'plain_files', 'written_files'}
+
+
+def test_a_word_knows_no_command_and_no_file() -> None:
+    for module in modules():
+        if module[:1] != ('words',):
+            continue
+        for node in ast.walk(tree_of(module)):
+            names = [node.module or ''] if isinstance(node, ast.ImportFrom) else \
+                [alias.name for alias in node.names] if isinstance(node, ast.Import) else []
+            parts = {part for name in names for part in name.split('.')}
+            assert not parts & (OUTSIDE | READERS), module
+            called = node.func if isinstance(node, ast.Call) else None
+            assert not (isinstance(called, ast.Name) and called.id in ('open', 'print')), module
