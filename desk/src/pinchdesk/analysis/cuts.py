@@ -70,8 +70,7 @@ def whole_pieces(case: Case, flow: HeatFlow) -> tuple[Piece, ...]:
 def upper_part(piece: Piece, place: CutPlace) -> Piece | None:
     """What of a piece lies above a place; None where nothing does."""
     if piece.high == piece.low:
-        above = piece.high > place.temperature or piece.high == place.temperature and place.takes_level
-        return piece if above else None
+        return piece if place.point.is_below(piece.high) else None
     low = max(piece.low, place.temperature)
     return sensible(piece, piece.high, low) if piece.high > low else None
 

@@ -61,6 +61,10 @@ class PinchPoint:
     temperature: int
     takes_level: bool
 
+    def is_below(self, level: int | Fraction) -> bool:
+        """Whether the pinch is below what stands at one shifted temperature."""
+        return level > self.temperature or level == self.temperature and self.takes_level
+
 
 class PinchSide(enum.Enum):
     """On which side of a pinch an exchanger works; `ACROSS` where one of its sides is on both, or the two are on
@@ -156,7 +160,7 @@ def heat_above(side: SideState, duty: Fraction, pinch: PinchPoint) -> Fraction |
         warm = side.source.side is Side.HOT and high == pinch.temperature
         return duty if warm or high > pinch.temperature else Fraction(0)
     if high == low:
-        return duty if low > pinch.temperature or low == pinch.temperature and pinch.takes_level else Fraction(0)
+        return duty if pinch.is_below(low) else Fraction(0)
     part = (high - max(low, min(high, Fraction(pinch.temperature)))) / (high - low)
     return duty * part
 

@@ -33,8 +33,7 @@ def temperatures_at(case: Case, side: Side, pinch: int) -> Temperatures:
 def heat_below(stream: Stream, pinch: PinchPoint) -> int:
     """The heat of a stream below a pinch: of a latent one at the pinch all or nothing."""
     if stream.latent:
-        below = stream.low < pinch.temperature or stream.low == pinch.temperature and not pinch.takes_level
-        return stream.load if below else 0
+        return 0 if pinch.is_below(stream.low) else stream.load
     return stream.cp * (max(stream.low, min(stream.high, pinch.temperature)) - stream.low)
 
 

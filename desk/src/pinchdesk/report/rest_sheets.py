@@ -92,7 +92,8 @@ def stands(stream: Stream, pinch: PinchPoint) -> tuple[bool, bool]:
     """Whether a stream is just above a pinch, and just below it."""
     at = pinch.temperature
     if stream.latent:
-        return stream.high == at and pinch.takes_level, stream.high == at and not pinch.takes_level
+        is_there, is_above = stream.high == at, pinch.is_below(stream.high)
+        return is_there and is_above, is_there and not is_above
     return stream.low <= at < stream.high, stream.low < at <= stream.high
 
 

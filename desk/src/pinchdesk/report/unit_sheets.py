@@ -66,9 +66,7 @@ def heat_above_place(side: SideState, duty: Fraction, place: CutPlace | None) ->
         return duty
     if not isinstance(side.source, Utility):
         return heat_above(side, duty, place.point)
-    level = shifted(side.source, side.source.level)
-    above = level > place.temperature or level == place.temperature and place.takes_level
-    return duty if above else Fraction(0)
+    return duty if place.point.is_below(shifted(side.source, side.source.level)) else Fraction(0)
 
 
 def heat_in(side: SideState, duty: Fraction, region: Region) -> Fraction:
