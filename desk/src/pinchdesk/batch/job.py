@@ -81,8 +81,7 @@ def outcome_of(job: Job, word: Word[Any]) -> JobOutcome:
 
 
 def drawing(word: Word[Any], form: str | None) -> AbstractContextManager[object]:
-    draws = word.to_file or form in PICTURES
-    if draws:
+    if word.to_file or form in PICTURES:
         return DRAWING
     return nullcontext()
 
