@@ -32,11 +32,11 @@ def question() -> Callable[[], Any]:
     desk can answer it too."""
     def has() -> Any:
         try:
-            from pinchdesk.program.digests import digests as held
+            from pinchdesk.program.digests import digests as asked
         except ImportError as fault:
             return f'it has no pinchdesk of this version ({fault})'
         try:
-            found = held()
+            found = asked()
         except Exception as fault:  # Whatever it is, it is told.
             return f'it has no pinch: {fault}'
         return found.desk, found.program
@@ -53,31 +53,31 @@ class Cluster:
         self.open: dict[Any, tuple[Job, frozenset[str]]] = {}
         self.notes: list[str] = []
         self.again: list[Job] = []
-        self.run, self.given = uuid.uuid4().hex, 0
+        self.run, self.submissions = uuid.uuid4().hex, 0
         self.looked = self.served = time.monotonic()
 
     def look(self) -> None:
         """Which workers there are; those that are new are asked what they have."""
         workers = self.client.scheduler_info()['workers']
-        self.known = {each: fault for each, fault in self.known.items() if each in workers}
-        new = [each for each in workers if each not in self.known]
+        self.known = {worker: fault for worker, fault in self.known.items() if worker in workers}
+        new = [worker for worker in workers if worker not in self.known]
         told = self.client.run(question(), workers=new, on_error='return') if new else {}
         for worker, answer in told.items():
             # One that died meanwhile, or cannot be reached, is asked again with the next look.
             if not isinstance(answer, Exception):
                 self.known[worker] = fault_of(answer, self.own)
                 self.notes += [f'{worker} is left out: {self.known[worker]}'] * bool(self.known[worker])
-        self.fit = {each: held['nthreads'] for each, held in workers.items() if self.known.get(each) == ''}
+        self.fit = {worker: told['nthreads'] for worker, told in workers.items() if self.known.get(worker) == ''}
         self.looked = time.monotonic()
         if self.fit:
             self.served = self.looked
 
     def give(self, job: Job) -> None:
         """Gives out a job to any worker that is fit now."""
-        self.given += 1
+        self.submissions += 1
         allowed = frozenset(self.fit)
-        future = self.client.submit(done, job, key=f'pinchdesk-{self.run}-{job.number}-{self.given}', pure=False,
-                                    workers=list(allowed))
+        future = self.client.submit(done, job, key=f'pinchdesk-{self.run}-{job.number}-{self.submissions}',
+                                    pure=False, workers=list(allowed))
         self.open[future] = job, allowed
 
     def fill(self, jobs: Iterator[Job]) -> None:
@@ -140,9 +140,9 @@ def fault_of(answer: Any, own: Digests) -> str:
     """Why a worker is left out; nothing where it is fit."""
     if isinstance(answer, str):
         return answer
-    for what, held, wanted in zip(('pinchdesk', 'pinch'), answer, (own.desk, own.program)):
-        if held != wanted:
-            return f'it has another {what} (digest {held[:12]}, here {wanted[:12]})'
+    for what, there, here in zip(('pinchdesk', 'pinch'), answer, (own.desk, own.program)):
+        if there != here:
+            return f'it has another {what} (digest {there[:12]}, here {here[:12]})'
     return ''
 
 
@@ -156,7 +156,7 @@ def failed(job: Job, fault: BaseException) -> JobOutcome:
 def wait_for_one(futures: Collection[Any]) -> None:
     """Waits until one of them has ended, a look long at most. What the client knows of them comes by itself."""
     until = time.monotonic() + LOOK
-    while time.monotonic() < until and not any(each.done() for each in futures):
+    while time.monotonic() < until and not any(future.done() for future in futures):
         time.sleep(PAUSE)
 
 
@@ -194,14 +194,14 @@ def quiet() -> Iterator[None]:
     package()
     loggers = [logging.getLogger(name) for name in list(logging.root.manager.loggerDict)
                if name.partition('.')[0] in ('distributed', 'tornado', 'asyncio')]
-    levels = [each.level for each in loggers]
-    for each in loggers:
-        each.setLevel(logging.CRITICAL + 1)
+    levels = [logger.level for logger in loggers]
+    for logger in loggers:
+        logger.setLevel(logging.CRITICAL + 1)
     try:
         yield
     finally:
-        for each, level in zip(loggers, levels):
-            each.setLevel(level)
+        for logger, level in zip(loggers, levels):
+            logger.setLevel(level)
 
 
 def by_cluster(jobs: Iterator[Job], address: str, notes: list[str]) -> Generator[JobOutcome, None, None]:

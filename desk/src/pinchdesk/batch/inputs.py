@@ -54,16 +54,16 @@ def listed(place: str, roles: Sequence[Role], common: Mapping[str, tuple[str, ..
 
 def natural(name: str) -> list[tuple[bool, int, str]]:
     """Names in the order that a person expects: c2 before c10."""
-    return [(each.isdecimal(), int(each) if each.isdecimal() else 0, each.lower())
-            for each in re.split(r'(\d+)', name)]
+    return [(part.isdecimal(), int(part) if part.isdecimal() else 0, part.lower())
+            for part in re.split(r'(\d+)', name)]
 
 
 def in_folder(place: str, roles: Sequence[Role], common: Mapping[str, tuple[str, ...]]) -> tuple[Listed, ...]:
     """The cases of a folder by their names; further files stand beside them, as `NAME-network.txt`."""
     first, *further = roles
-    names = [each for each in os.listdir(place) if os.path.isfile(os.path.join(place, each)) and each[0] != '.']
-    cases = [each for each in names if each.lower().endswith(ENDINGS.get(first.name, CASES))]
-    stems = {Path(each).stem for each in cases}
+    names = [name for name in os.listdir(place) if os.path.isfile(os.path.join(place, name)) and name[0] != '.']
+    cases = [name for name in names if name.lower().endswith(ENDINGS.get(first.name, CASES))]
+    stems = {Path(name).stem for name in cases}
     beside = {f'{stem}-{role.name}' for stem in stems for role in further}
     rows = []
     for name in sorted(cases, key=natural):
@@ -71,7 +71,7 @@ def in_folder(place: str, roles: Sequence[Role], common: Mapping[str, tuple[str,
             continue
         paths: dict[str, tuple[str, ...]] = {first.name: (os.path.join(place, name),), **common}
         for role in further:
-            found = [each for each in names if Path(each).stem == f'{Path(name).stem}-{role.name}']
+            found = [other for other in names if Path(other).stem == f'{Path(name).stem}-{role.name}']
             if len(found) > 1:
                 raise WordsError(f'{name} has more than one {role.name} beside it: {", ".join(sorted(found))}')
             if found and role.name not in common:
@@ -94,16 +94,14 @@ def fitting(tables: Sequence[Table], roles: Sequence[Role]) -> Table:
     """Of the readings of a text the one that has the headings, else the one with as many columns as there are
     files."""
     check_headings(tables, roles)
-    headed = [each for each in tables if head_of(each, roles)]
-    plain = [each for each in tables if width(each) <= len(roles) or roles[-1].several]
-    held = headed or plain
-    if len(held) > 1:
-        widest = max(width(each) for each in held)
-        held = [each for each in held if width(each) == widest]
-    if len(held) != 1:
-        wanted = ', '.join(each.name for each in roles)
+    headed = [table for table in tables if head_of(table, roles)]
+    readings = headed or [table for table in tables if width(table) <= len(roles) or roles[-1].several]
+    widest = max(map(width, readings), default=0)
+    readings = [table for table in readings if width(table) == widest]
+    if len(readings) != 1:
+        wanted = ', '.join(role.name for role in roles)
         raise Refused(3, '', 'columns', f'its columns are not clear: give it the headings {wanted} (and name)')
-    return held[0]
+    return readings[0]
 
 
 def width(table: Table) -> int:
@@ -151,7 +149,7 @@ def head_of(table: Table, roles: Sequence[Role]) -> TableRow | None:
 def rows_of(table: Table, roles: Sequence[Role], place: str,
             common: Mapping[str, tuple[str, ...]]) -> tuple[Listed, ...]:
     head, last = head_of(table, roles), len(roles) - 1
-    body = [each for each in table.rows if each is not head and not remark(each)]
+    body = [row for row in table.rows if row is not head and not remark(row)]
     columns = headings(head, roles) if head else {column: roles[min(column, last)].name
                                                   for column in range(width(table))}
     check_remarks(table, head, columns, place)

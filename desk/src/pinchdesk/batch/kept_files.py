@@ -19,21 +19,22 @@ def names_of(rows: Sequence[Listed], ending: str) -> list[str]:
     """The names of the files of rows. Of two with one name their folders tell them apart, and else a number."""
     short = [stem(Path(row.name).name, row) for row in rows]
     counts = Counter(short)
-    stems = [each if counts[each] == 1 else stem(row.name, row) for each, row in zip(short, rows)]
-    counts, taken = Counter(stems), {each for each, count in Counter(stems).items() if count == 1}
-    made = []
-    for each in stems:
-        made.append(each if counts[each] == 1 else numbered(each, taken))
-        taken.add(made[-1])
-    return [f'{each}.{ending}' for each in made]
+    stems = [last if counts[last] == 1 else stem(row.name, row) for last, row in zip(short, rows)]
+    counts = Counter(stems)
+    taken = {name for name, count in counts.items() if count == 1}
+    names = []
+    for name in stems:
+        names.append(name if counts[name] == 1 else numbered(name, taken))
+        taken.add(names[-1])
+    return [f'{name}.{ending}' for name in names]
 
 
 def stem(name: str, row: Listed) -> str:
     """A name without its ending, and with the scenario of its row, as a file may have it."""
     root, end = os.path.splitext(name)
-    held = (root if end.lower() in ENDINGS else name).strip('/.')
-    parts = [held, *([row.names[SCENARIO]] if SCENARIO in row.names else [])]
-    return '-'.join(cut(each.replace(os.sep, '_').replace('\0', '_')) for each in parts) or '_'
+    parts = [(root if end.lower() in ENDINGS else name).strip('/.')]
+    parts += [row.names[SCENARIO]] if SCENARIO in row.names else []
+    return '-'.join(cut(part.replace(os.sep, '_').replace('\0', '_')) for part in parts) or '_'
 
 
 def cut(text: str) -> str:
@@ -42,8 +43,8 @@ def cut(text: str) -> str:
 
 def numbered(name: str, taken: set[str]) -> str:
     """A name that is not taken: with `-2`, `-3` and so on behind it where it is."""
-    made, number = name, 1
-    while made in taken:
+    free, number = name, 1
+    while free in taken:
         number += 1
-        made = f'{name}-{number}'
-    return made
+        free = f'{name}-{number}'
+    return free

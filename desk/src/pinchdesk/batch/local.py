@@ -35,8 +35,8 @@ def work(jobs: Connection, others: list[Connection]) -> None:
     def ended(number: int, frame: FrameType | None) -> None:
         # A program that is running is ended with it.
         sys.exit(0)
-    for each in others:
-        each.close()
+    for other in others:
+        other.close()
     signal.signal(signal.SIGINT, signal.SIG_IGN)
     signal.signal(signal.SIGTERM, ended)
     sys.stdout = sys.stderr = open(os.devnull, 'w', encoding='utf-8')
@@ -48,12 +48,12 @@ def work(jobs: Connection, others: list[Connection]) -> None:
 @contextmanager
 def without_main() -> Iterator[None]:
     """A process that is spawned runs the script of this one once more, but for this: it needs nothing of it."""
-    held = sys.modules['__main__']
+    main = sys.modules['__main__']
     sys.modules['__main__'] = ModuleType('__main__')
     try:
         yield
     finally:
-        sys.modules['__main__'] = held
+        sys.modules['__main__'] = main
 
 
 class Hand:
@@ -84,12 +84,12 @@ class Hand:
     def taken(self) -> JobOutcome | None:
         """The outcome of its job; None where it died."""
         try:
-            held = self.pipe.recv()
+            outcome = self.pipe.recv()
         except (EOFError, OSError):
             return None
         self.job = None
-        assert isinstance(held, JobOutcome)
-        return held
+        assert isinstance(outcome, JobOutcome)
+        return outcome
 
     def end(self) -> str:
         """Ends the process, and says how it ended."""
@@ -122,7 +122,7 @@ class Crew:
                 return
 
     def hire(self) -> None:
-        self.hands.append(Hand([each.pipe for each in self.hands]))
+        self.hands.append(Hand([hand.pipe for hand in self.hands]))
 
     def outcomes(self, jobs: Iterator[Job]) -> Iterator[JobOutcome]:
         """All outcomes, as they come: each job has one."""

@@ -58,8 +58,8 @@ class Order:
 
     def read(self, rows: Sequence[Listed]) -> list[str]:
         """The paths of all files that are read."""
-        held = [path for row in rows for paths in row.paths.values() for path in paths]
-        return [*dict.fromkeys(held), *(each for each in (self.place, self.scenarios) if each is not None)]
+        of_rows = [path for row in rows for paths in row.paths.values() for path in paths]
+        return [*dict.fromkeys(of_rows), *(path for path in (self.place, self.scenarios) if path is not None)]
 
 
 class Work:
@@ -126,7 +126,7 @@ class Work:
             except OutputError as fault:
                 outcome = JobOutcome(outcome.number, fault.status, told=str(fault))
         self.outcomes[outcome.number] = outcome
-        bad = sum(each.status != 0 for each in self.outcomes.values())
+        bad = sum(kept.status != 0 for kept in self.outcomes.values())
         self.tell(f'{len(self.outcomes)} of {len(self.rows)}' + (f', {bad} not good' if bad else ''))
 
     def run(self, jobs: Iterator[Job]) -> None:
@@ -152,7 +152,7 @@ class Work:
         # The order of the input is that of the rows, whoever was quicker.
         done = tuple(Done(row.names, self.outcomes.get(number) or JobOutcome(number, None))
                      for number, row in enumerate(self.rows))
-        notes = [f'{each.name}: {note}' for each in done for note in each.outcome.notes]
+        notes = [f'{case.name}: {note}' for case in done for note in case.outcome.notes]
         return Results(' '.join(self.order.words), done, (*self.notes, *notes), self.stopped)
 
 

@@ -35,7 +35,7 @@ class Done:
 
     def rows(self) -> Iterator[Cells]:
         for facts in self.outcome.facts:
-            said = '; '.join(each for each in (str(facts.get(SAID) or ''), self.outcome.told) if each)
+            said = '; '.join(text for text in (str(facts.get(SAID) or ''), self.outcome.told) if text)
             yield {**self.names, ANSWER: self.answer, **self.apart(facts), SAID: said or None}
 
     def apart(self, facts: Cells) -> Cells:
@@ -58,25 +58,24 @@ class Results:
     def status(self) -> int:
         if self.stopped:
             return Status.STOPPED
-        held = (each.outcome.status for each in self.done)
-        return max((Status.FAILED if each is None else each for each in held), default=Status.GOOD)
+        statuses = (case.outcome.status for case in self.done)
+        return max((Status.FAILED if status is None else status for status in statuses), default=Status.GOOD)
 
     @property
     def told(self) -> str:
         """How many there are of each answer: `15 cases: 12 good, 3 refused`."""
-        counts = Counter(each.answer for each in self.done)
+        counts = Counter(case.answer for case in self.done)
         return f'{len(self.done)} cases: ' + ', '.join(f'{count} {answer}' for answer, count in counts.items())
 
     def sheet(self) -> Sheet:
         """The table: names, the answer in a word, what the answers say of themselves, and what is said of a row. A
         row that is not good is marked."""
-        held = [(row, each.outcome.status != 0) for each in self.done for row in each.rows()]
-        headings = list(dict.fromkeys(heading for row, _ in held for heading in row if heading != SAID))
-        if any(row[SAID] for row, _ in held):
+        rows = [(row, case.outcome.status != 0) for case in self.done for row in case.rows()]
+        headings = list(dict.fromkeys(heading for row, _ in rows for heading in row if heading != SAID))
+        if any(row[SAID] for row, _ in rows):
             headings.append(SAID)
-        rows = tuple(tuple(row.get(heading) for heading in headings) for row, _ in held)
-        return Sheet(self.word, tuple(headings), rows,
-                     frozenset(at for at, (_, bad) in enumerate(held) if bad))
+        cells = tuple(tuple(row.get(heading) for heading in headings) for row, _ in rows)
+        return Sheet(self.word, tuple(headings), cells, frozenset(at for at, (_, bad) in enumerate(rows) if bad))
 
     def frame(self) -> Any:
         """The table as a `pandas.DataFrame`; `WordsError` where pandas is not installed."""

@@ -29,11 +29,10 @@ def nowhere(number: int) -> None:
 
 def put(content: str | bytes) -> None:
     """Writes to standard output; `OutputError` where that is closed, or takes no more."""
-    held = content.encode() if isinstance(content, str) else content
     if sys.stdout is None:
         raise OutputError('standard output: cannot be written: it is closed')
     try:
-        left = memoryview(held)
+        left = memoryview(content.encode() if isinstance(content, str) else content)
         while left:
             # Without a buffer (`python -u`) a write may take a part.
             left = left[sys.stdout.buffer.write(left):]

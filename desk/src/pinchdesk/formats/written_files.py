@@ -20,14 +20,13 @@ def write_whole(path: str, content: str | bytes, inputs: Iterable[str] = ()) -> 
     cannot be written. A link is followed."""
     check_place(path, inputs)
     place = Path(os.path.realpath(path))
-    held = content.encode() if isinstance(content, str) else content
     try:
         handle, name = tempfile.mkstemp(prefix='.pinchdesk-', dir=place.parent)
     except (OSError, ValueError) as fault:
         raise OutputError(f'{path}: cannot be written: {reason(fault)}') from fault
     try:
         with os.fdopen(handle, 'wb') as opened:
-            opened.write(held)
+            opened.write(content.encode() if isinstance(content, str) else content)
         os.chmod(name, mode_of(place))
         os.replace(name, place)
     except OSError as fault:
@@ -44,7 +43,7 @@ def check_place(path: str, inputs: Iterable[str]) -> None:
     if os.path.lexists(path) and not os.path.isfile(path):
         raise OutputError(f'{path}: is no plain file, and is left alone')
     key = key_of(path)
-    if any(key_of(each) == key for each in inputs):
+    if any(key_of(read) == key for read in inputs):
         raise OutputError(f'{path}: is an input, and is left alone')
     if not os.path.isdir(Path(path).parent):
         raise OutputError(f'{path}: cannot be written: there is no folder {Path(path).parent}')
@@ -52,7 +51,7 @@ def check_place(path: str, inputs: Iterable[str]) -> None:
 
 def check_apart(outputs: Iterable[str], inputs: Iterable[str]) -> None:
     """`OutputError` where one of many outputs is an input, or two of them are one file."""
-    read = {key_of(each) for each in inputs}
+    read = {key_of(path) for path in inputs}
     taken: dict[FileKey, str] = {}
     for path in outputs:
         key = key_of(path)
@@ -65,10 +64,10 @@ def check_apart(outputs: Iterable[str], inputs: Iterable[str]) -> None:
 
 def key_of(path: str) -> FileKey:
     place = os.path.realpath(path)
-    for each, name in ((place, ''), (os.path.dirname(place), os.path.basename(place))):
+    for path_of_file, name in ((place, ''), (os.path.dirname(place), os.path.basename(place))):
         with suppress(OSError, ValueError):
-            held = os.stat(each)
-            return held.st_dev, held.st_ino, name
+            found = os.stat(path_of_file)
+            return found.st_dev, found.st_ino, name
     return 0, 0, place
 
 

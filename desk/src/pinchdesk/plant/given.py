@@ -30,7 +30,7 @@ class Written:
 FileGiven = str | bytes | os.PathLike[str] | Network | Study | Written
 
 
-def given(file: FileGiven, role: str) -> Given:
+def file_of(file: FileGiven, role: str) -> Given:
     """A file with what it holds: of a path what stands there, of a text of several lines itself. `Refused` where it
     cannot be read."""
     match file:
@@ -56,11 +56,11 @@ def as_text(number: Number) -> str:
         text = decimal(number, MOST_DIGITS)
         return as_text(Decimal(text)) if Fraction(text) == number else str(number)
     try:
-        held = Decimal(str(number))
+        value = Decimal(str(number))
     except InvalidOperation as fault:
         raise WordsError(f'{printable(str(number))[:40]} is no number') from fault
-    if not held.is_finite() or held and abs(held.adjusted()) > MOST_DIGITS:
+    if not value.is_finite() or value and abs(value.adjusted()) > MOST_DIGITS:
         raise WordsError(f'{number} is no number of a plant')
-    text = f'{held:f}'
+    text = f'{value:f}'
     # Three digits behind a point may be thousands in a text, and are none in a number.
     return text + '0' if re.fullmatch(r'-?[0-9]+\.[0-9]{3}', text) else text

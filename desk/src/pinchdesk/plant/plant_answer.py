@@ -26,7 +26,7 @@ class PlantAnswer:
         return as_html(self.sheets, self.notes)
 
     def __str__(self) -> str:
-        return '\n'.join([str(rendered(self.sheets, 'text')), *(f'note: {each}' for each in self.notes)])
+        return '\n'.join([str(rendered(self.sheets, 'text')), *(f'note: {note}' for note in self.notes)])
 
     def frame(self, table: int | str = 0) -> Any:
         """A table of the answer as a `pandas.DataFrame`: by its number, or by its title. `WordsError` where there is no
@@ -34,7 +34,7 @@ class PlantAnswer:
         return self.sheet(table).frame()
 
     def sheet(self, table: int | str) -> Sheet:
-        titles = [each.title for each in self.sheets]
+        titles = [sheet.title for sheet in self.sheets]
         at = titles.index(table) if isinstance(table, str) and table in titles else table
         if not isinstance(at, int) or not -len(titles) <= at < len(titles):
             raise WordsError(f'there is no table {table}: there are {", ".join(titles)}')
@@ -59,4 +59,4 @@ def cost_if_any(exact: Fraction | None) -> Decimal | None:
 
 
 def each_kilowatts(exact: Mapping[str, Fraction]) -> dict[str, Decimal]:
-    return {name: kilowatts(each) for name, each in exact.items()}
+    return {name: kilowatts(heat) for name, heat in exact.items()}

@@ -48,7 +48,7 @@ class PlantTargets(PlantAnswer):
 def plant_targets(case: Case, targets: Targets) -> PlantTargets:
     shown = Shown(case.basis)
     exact = ExactTargets(shown.in_kilowatts(targets.hot), shown.in_kilowatts(targets.cold),
-                         tuple(Fraction(each, 10) for each in targets.pinches))
+                         tuple(Fraction(pinch, 10) for pinch in targets.pinches))
     return PlantTargets(sheets=tuple(targets_sheets(case, targets)), text=targets.text, exact=exact)
 
 
@@ -84,7 +84,7 @@ class PlantFlow(PlantAnswer):
 def plant_flow(case: Case, flow: HeatFlow | Cut) -> PlantFlow:
     shown = Shown(case.basis)
     exact = ExactFlow(None, {}) if isinstance(flow, Cut) else \
-        ExactFlow(shown.in_cost(flow.cost), {each.name: shown.in_kilowatts(each.heat) for each in flow.uses})
+        ExactFlow(shown.in_cost(flow.cost), {use.name: shown.in_kilowatts(use.heat) for use in flow.uses})
     return PlantFlow(sheets=tuple(flow_sheets(case, flow)), text=flow.text, exact=exact, cost_unit=shown.cost_unit)
 
 
@@ -139,8 +139,8 @@ class PlantSweep(PlantAnswer):
 def plant_sweep(case: Case, sweep: Sweep, base: SweepRow | None) -> PlantSweep:
     shown = Shown(case.basis)
     points = tuple(SweepPoint(ExactPoint(
-        Fraction(each.contribution, 5), shown.in_kilowatts(each.hot), shown.in_kilowatts(each.cold),
-        None if each.cost is None else shown.in_cost(each.cost))) for each in sweep.points)
+        Fraction(point.contribution, 5), shown.in_kilowatts(point.hot), shown.in_kilowatts(point.cold),
+        None if point.cost is None else shown.in_cost(point.cost))) for point in sweep.points)
     return PlantSweep(sheets=tuple(sweep_sheets(case, sweep, base)), text=sweep.text, points=points,
                       cost_unit=shown.cost_unit, case=case, sweep=sweep)
 
@@ -163,7 +163,7 @@ class PlantPrices(PlantAnswer):
 
     @property
     def costs(self) -> Mapping[str, Decimal | None]:
-        return {name: cost_if_any(each) for name, each in self.exact.costs.items()}
+        return {name: cost_if_any(exact) for name, exact in self.exact.costs.items()}
 
     def figure(self, utility: str | None = None) -> ShownFigure:
         """The picture of the spans, of several those of this utility alone."""
@@ -173,7 +173,7 @@ class PlantPrices(PlantAnswer):
 
 def plant_prices(case: Case, prices: Prices, notes: tuple[str, ...]) -> PlantPrices:
     shown = Shown(case.basis)
-    costs = {each.name: None if each.cost is None else shown.in_cost(each.cost)
-             for each in prices.answers if isinstance(each, PriceScenarioAnswer)}
+    costs = {answer.name: None if answer.cost is None else shown.in_cost(answer.cost)
+             for answer in prices.answers if isinstance(answer, PriceScenarioAnswer)}
     return PlantPrices(sheets=tuple(prices_sheets(case, prices)), text=prices.text, notes=notes,
                        exact=ExactPrices(costs), cost_unit=shown.cost_unit, case=case, prices=prices)

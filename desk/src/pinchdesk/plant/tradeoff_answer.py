@@ -17,6 +17,7 @@ from ..report.answer_sheets import flow_sheets
 from ..report.tradeoff_sheets import network_text, tradeoff_sheets
 from ..report.unit_sheets import units_sheets
 from ..report.what_if_sheets import rounding_notes, what_if_sheets
+from ..words.tradeoff_word import STOPPED
 from .plant_answer import PlantAnswer, cost, cost_if_any, kilowatts
 
 if TYPE_CHECKING:
@@ -44,7 +45,7 @@ class PlantTradeoff(PlantAnswer):
 
     @property
     def costs(self) -> Mapping[int, Decimal]:
-        return {count: cost(each) for count, each in self.exact.costs.items()}
+        return {count: cost(exact) for count, exact in self.exact.costs.items()}
 
     @property
     def floor(self) -> Decimal:
@@ -58,10 +59,10 @@ class PlantTradeoff(PlantAnswer):
 
 def plant_tradeoff(traded: TradeOff) -> PlantTradeoff:
     shown = Shown(traded.case.basis)
-    exact = ExactTradeoff({each.exchangers: shown.in_cost(each.cost) for each in traded.rows},
+    exact = ExactTradeoff({row.exchangers: shown.in_cost(row.cost) for row in traded.rows},
                           shown.in_cost(traded.floor))
-    networks = {each.exchangers: network_text(each, traded) for each in traded.rows}
-    notes = ('the search was stopped: these are the networks that were found so far',) if traded.stopped else ()
+    networks = {row.exchangers: network_text(row, traded) for row in traded.rows}
+    notes = (STOPPED,) if traded.stopped else ()
     return PlantTradeoff(sheets=tuple(tradeoff_sheets(traded)), notes=notes, exact=exact, networks=networks,
                          cost_unit=shown.cost_unit, stopped=traded.stopped, traded=traded)
 
@@ -106,25 +107,26 @@ class PlantWhatIf(PlantAnswer):
 
     @property
     def hot_kw(self) -> Mapping[str, Decimal | None]:
-        return {name: None if each is None else kilowatts(each) for name, each in self.exact.hot_kw.items()}
+        return {name: None if heat is None else kilowatts(heat) for name, heat in self.exact.hot_kw.items()}
 
     @property
     def cold_kw(self) -> Mapping[str, Decimal | None]:
-        return {name: None if each is None else kilowatts(each) for name, each in self.exact.cold_kw.items()}
+        return {name: None if heat is None else kilowatts(heat) for name, heat in self.exact.cold_kw.items()}
 
     @property
     def costs(self) -> Mapping[str, Decimal | None]:
-        return {name: cost_if_any(each) for name, each in self.exact.costs.items()}
+        return {name: cost_if_any(exact) for name, exact in self.exact.costs.items()}
 
 
-def plant_what_if(made: WhatIf, notes: tuple[str, ...]) -> PlantWhatIf:
-    shown = Shown(made.base.case.basis)
-    held = {each.variant.name: each for each in (made.base, *made.outcomes)}
+def plant_what_if(answered: WhatIf, notes: tuple[str, ...]) -> PlantWhatIf:
+    shown = Shown(answered.base.case.basis)
+    outcomes = {outcome.variant.name: outcome for outcome in (answered.base, *answered.outcomes)}
+    targets = {name: outcome.targets for name, outcome in outcomes.items()}
     exact = ExactScenarios(
-        {name: shown.in_kilowatts(each.targets.hot) if each.targets else None for name, each in held.items()},
-        {name: shown.in_kilowatts(each.targets.cold) if each.targets else None for name, each in held.items()},
-        {name: None if each.cost is None else shown.in_cost(each.cost) for name, each in held.items()})
-    return PlantWhatIf(sheets=tuple(what_if_sheets(made)), notes=(*notes, *rounding_notes(made)), exact=exact,
-                       cases={name: each.case for name, each in held.items()},
-                       faults={name: each.fault for name, each in held.items() if each.fault},
+        {name: shown.in_kilowatts(printed.hot) if printed else None for name, printed in targets.items()},
+        {name: shown.in_kilowatts(printed.cold) if printed else None for name, printed in targets.items()},
+        {name: None if outcome.cost is None else shown.in_cost(outcome.cost) for name, outcome in outcomes.items()})
+    return PlantWhatIf(sheets=tuple(what_if_sheets(answered)), notes=(*notes, *rounding_notes(answered)), exact=exact,
+                       cases={name: outcome.case for name, outcome in outcomes.items()},
+                       faults={name: outcome.fault for name, outcome in outcomes.items() if outcome.fault},
                        cost_unit=shown.cost_unit)

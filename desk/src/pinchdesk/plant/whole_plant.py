@@ -31,7 +31,7 @@ from ..tables.cost_words import cost_of, percent_of
 from ..tables.wanted import wanted_by
 from ..words.case_word import case_text, converted
 from ..words.word import TextFile
-from .given import FileGiven, Number, as_text, given
+from .given import FileGiven, Number, as_text, file_of
 from .network_answers import PlantAudit, PlantNetwork, PlantRest, plant_audit, plant_network, plant_rest, plant_table
 from .plant_answer import PlantAnswer
 from .target_answers import (PlantFlow, PlantPrices, PlantSweep, PlantTargets, plant_flow, plant_prices, plant_sweep,
@@ -95,8 +95,8 @@ class Plant:
     def sweep(self, first: Number, last: Number, step: Number, workers: int = WORKERS) -> PlantSweep:
         """Targets and least cost at each least difference from the first to the last one, in K."""
         asked = asked_range(as_text(first), as_text(last), as_text(step), workers)
-        made = self.pinch.sweep(self.text, *asked, workers)
-        return plant_sweep(self.completed, made, as_it_is(self.pinch, self.text, self.completed))
+        printed = self.pinch.sweep(self.text, *asked, workers)
+        return plant_sweep(self.completed, printed, as_it_is(self.pinch, self.text, self.completed))
 
     def audit(self, network: FileGiven) -> PlantAudit:
         """Whether a network is valid, what it costs, and where it loses heat."""
@@ -109,7 +109,7 @@ class Plant:
 
     def judged(self, network: FileGiven) -> tuple[Followed, Verdict]:
         """A network that was followed, and what the audit says of it."""
-        file = given(network, 'network')
+        file = file_of(network, 'network')
         with about(case=self.name, network=file.path):
             return audited(self.pinch, self.text, file.content)
 
@@ -121,7 +121,7 @@ class Plant:
             raise WordsError('a network is at most at a cost, or so much above the least one, not both')
         most = None if cost is None else cost_of(as_text(cost), Shown(self.case.basis))
         percent = None if above is None else percent_of(as_text(above))
-        file = None if start is None else given(start, 'network')
+        file = None if start is None else file_of(start, 'network')
         with about(case=self.name, network=file.path if file else ''):
             found = find_network(self.text, most, percent, seconds_of(as_text(seconds)),
                                  file.content if file else None, pinch=self.pinch)
@@ -131,7 +131,7 @@ class Plant:
         """Exchangers against cost: networks of fewer and fewer exchangers, from one that is given or searched."""
         # It wants scipy, which is slow to load.
         from ..search.reduce.tradeoff import tradeoff
-        file = None if network is None else given(network, 'network')
+        file = None if network is None else file_of(network, 'network')
         with about(case=self.name, network=file.path if file else ''):
             return plant_tradeoff(tradeoff(self.case, file.content if file else None, self.pinch,
                                            float(seconds_of(as_text(seconds)))))
@@ -147,14 +147,14 @@ class Plant:
 
     def rest(self, network: FileGiven) -> PlantRest:
         """What is left of a network with open branches, and what the choice so far costs."""
-        file = given(network, 'network')
+        file = file_of(network, 'network')
         with about(case=self.name, network=file.path):
             return plant_rest(remaining(self.text, file.content, self.pinch))
 
     def prices(self, study: FileGiven, workers: int = WORKERS) -> PlantPrices:
         """The least cost at other prices, in the unit of the case's prices."""
         check_workers(workers)
-        file = given(study, 'study')
+        file = file_of(study, 'study')
         with about(case=self.name, study=file.path):
             answer = study_answer(self.pinch, self.case, file.content, workers)
         return plant_prices(answer.case, answer.prices, answer.notes)
@@ -163,7 +163,7 @@ class Plant:
                 workers: int = WORKERS) -> PlantWhatIf:
         """Scenarios of a table of changes beside the case as it is, and what a little more of each stream would do."""
         check_workers(workers)
-        file = None if changes is None else given(changes, 'changes')
+        file = None if changes is None else file_of(changes, 'changes')
         with of_file(file.path if file else self.name):
             scenarios = CaseScenarios(()) if file is None else \
                 read_changes(file.content, file.path, self.case.basis, sheet, decimal)
@@ -183,7 +183,7 @@ class Plant:
 
     def page(self, *networks: FileGiven) -> str:
         """The page for the reviewer with these networks side by side, as HTML."""
-        files = [given(network, f'network {at}') for at, network in enumerate(networks, 1)]
+        files = [file_of(network, f'network {at}') for at, network in enumerate(networks, 1)]
         return page_of(review_of(self.pinch, Given(self.name, self.name, self.text.encode()), files))
 
 
@@ -200,12 +200,12 @@ def read(source: str | os.PathLike[str] | bytes, name: str = '', *, difference: 
     asked = wanted_by(None if difference is None else as_text(difference), sheet, separator, decimal, as_text(scale),
                       None if hours is None else as_text(hours))
     if is_case(content):
-        options = [each for each in (difference, sheet, separator, decimal, hours) if each is not None]
+        options = [option for option in (difference, sheet, separator, decimal, hours) if option is not None]
         if options or asked.scale != 1:
             raise Refused(3, '', 'a case already', 'this is a case already, in tenths of °C, 10 W/K and W, and options '
                           'are of tables. If it is a table in °C, give it headings', path)
         plant = Plant(path, content.decode('utf-8', 'replace'), ('read as a case file, in tenths of °C, 10 W/K and W',))
         return plant if plant.asked_targets else plant
     pinch = Pinch()
-    made = converted(pinch, TextFile(path, content), asked)
-    return Plant(path, case_text(made), made.notes, pinch)
+    table = converted(pinch, TextFile(path, content), asked)
+    return Plant(path, case_text(table), table.notes, pinch)

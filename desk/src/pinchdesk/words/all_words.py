@@ -31,7 +31,7 @@ def word_of(names: Sequence[str]) -> Word[Any]:
     word: Word[Any] | WordGroup | None = None
     words: Sequence[Word[Any] | WordGroup] = WORDS
     for name in names:
-        word = {each.name: each for each in words}[name]
+        word = {known.name: known for known in words}[name]
         words = word.parts if isinstance(word, WordGroup) else ()
     if not isinstance(word, Word):
         raise KeyError(' '.join(names))

@@ -48,21 +48,21 @@ def converted(pinch: Pinch, file: TextFile, wanted: Wanted) -> Converted:
         return checked(case_of_table(file.content, file.name, wanted), pinch)
 
 
-def case_text(made: Converted) -> str:
-    """A case as a file, with what is told of it as comments at its head."""
-    return print_comments(made.comments) + print_case(made.case)
+def case_text(table: Converted) -> str:
+    """A case as a file, with what is told of its table as comments at its head."""
+    return print_comments(table.comments) + print_case(table.case)
 
 
-def case_told(made: Converted) -> str:
+def case_told(table: Converted) -> str:
     """What the comments of a case say: those of its table, and its basis."""
-    rows = (','.join(cell for cell in row if cell) for row in basis_rows(made.case.basis))
-    return '; '.join(text.strip('#, ') for text in (*made.comments, *rows))[:LONGEST]
+    rows = (','.join(cell for cell in row if cell) for row in basis_rows(table.case.basis))
+    return '; '.join(text.strip('#, ') for text in (*table.comments, *rows))[:LONGEST]
 
 
 def case(files: Files, options: CaseOptions = CaseOptions(), tell: Telling = nobody) -> Answer:
     file = files.one('table')
-    made = converted(Pinch(), file, options.wanted)
-    return Answer(in_form=lambda form: case_text(made), headline=case_told(made), notes=told_of(file, made.notes))
+    table = converted(Pinch(), file, options.wanted)
+    return Answer(in_form=lambda form: case_text(table), headline=case_told(table), notes=told_of(file, table.notes))
 
 
 CASE_OF_TABLE = Word('case', 'a case from a table of streams and utilities, as a spreadsheet has it',
