@@ -11,8 +11,9 @@ import pytest
 from conftest import DESK
 
 ROOT = DESK.parent
-DOCUMENTS = sorted([*ROOT.glob('*.md'), *ROOT.glob('docs/*.md'), *(ROOT / name for name in (
-    'desk/README.md', 'examples/README.md', 'checks/README.md', 'release/README.md', 'crates/pinch/README.md'))])
+PLACES = ('*.md', 'docs/*.md', 'crates/*/README.md', 'desk/README.md', 'examples/README.md', 'checks/README.md',
+          'release/README.md')
+DOCUMENTS = sorted(path for place in PLACES for path in ROOT.glob(place))
 PICTURES = ROOT / 'docs' / 'pictures'
 CODE = re.compile(r'```.*?```', re.S)
 LINK = re.compile(r'\]\(([^)\s]+)\)')
