@@ -178,7 +178,8 @@ def test_utilities_have_prices_and_all_costs_come_back(pinch: Pinch) -> None:
         == [355, 200, 0]
     assert made(held.replace('EUR/MWh', 'EUR/(kW a)'),
                 replace(TEN, hours=Fraction(8000))).case.basis.cost_unit == 'EUR/a'
-    assert 'none of a price' in refusal(held.replace('EUR/MWh', 'EUR/t'))
+    assert 'is a price per mass' in refusal(held.replace('EUR/MWh', 'EUR/t'))
+    assert 'none of a price' in refusal(held.replace('EUR/MWh', 'EUR/m3'))
     assert 'is missing' in refusal(held.replace('20 EUR/MWh', ''))
     assert '--hours' in refusal(held.replace('20 EUR/MWh', '20 EUR/(kW a)'))
     assert pinch.targets(case).hot >= 0
@@ -228,7 +229,7 @@ REFUSED = [
     ('A 150 60 2\n', 'the table has no stream'), ('hot,A,150,150,\n', 'row 1 column 6'),
     ('hot,A,150,60,\n', 'row 1 column 5'), ('hot,A,150,60,2,,,9\n', 'row 1 column 8'), ('hot,A,150,60,"2\n', 'row'),
     ('name,supply,target,colour\nA,150,60,2\n', 'row 1 column 4'),
-    ('name,supply,target,CP,CP\nA,150,60,2,2\n', 'row 1 column 5'), ('name,target,CP\nA,60,2\n', 'row 1'),
+    ('name,supply,target,CP,CP\nA,150,60,2,3\n', 'row 1 column 5'), ('name,target,CP\nA,60,2\n', 'row 1'),
     ('name,supply,target,CP (%)\nA,150,60,2\n', 'row 2 column 4: the unit `%` is not known here'),
     ('name,supply,target,duty [€]\nA,150,60,2\n', 'row 2 column 4: the unit `€` is not known here'),
     ('name,supply (°),target,CP\nA,150,60,2\n', 'row 2 column 2: the unit `°` is not known here'),

@@ -15,12 +15,18 @@ UNITS = 'name,supply °C,target °C,CP kW/K\n'
 CASE = 'cold,C1,200,1350,200,,\nhot,H2,1700,600,300,,\n'
 
 
-@pytest.mark.parametrize('words', ['All temperatures in °F', 'Temperatures in K', 'Temperature (K)', 'T [deg F]',
-                                   'Temperature / K', 'supply and target in Fahrenheit', 'CP in MW/K', 'Cp: kJ/kg K',
-                                   'heat in kcal per hour', '# kelvins', '* in °F'])
+@pytest.mark.parametrize('words', ['All temperatures in °F', 'T [deg F]', 'supply and target in Fahrenheit',
+                                   'Cp: kJ/kg K', 'heat in kcal per hour', '* in °F'])
 def test_units_in_titles_notes_and_comments_are_not_passed_over(words: str) -> None:
     for text in (f'{words},,,\nrevision 2,,,\n{HEAD}A,400,340,2\n', f'{HEAD}A,400,340,2\n{words},,,\n'):
         assert 'names a unit, and the numbers have none' in refusal(text)
+    assert streams(f'{words},,,\n{UNITS}A,150,60,2\n')[0][2:5] == (1500, 600, 200)
+
+
+@pytest.mark.parametrize('words', ['Temperatures in K', 'Temperature (K)', 'Temperature / K', '# kelvins'])
+def test_a_unit_that_words_give_to_all_temperatures_is_taken(words: str) -> None:
+    for text in (f'{words},,,\nrevision 2,,,\n{HEAD}A,423.15,333.15,2\n', f'{HEAD}A,423.15,333.15,2\n{words},,,\n'):
+        assert streams(text)[0][2:5] == (1500, 600, 200)
     assert streams(f'{words},,,\n{UNITS}A,150,60,2\n')[0][2:5] == (1500, 600, 200)
 
 

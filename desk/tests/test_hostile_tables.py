@@ -27,7 +27,7 @@ NO_NAMES = (
 NAMES = (
     ('#2', '2'), ('1', '1'), ('A (old)', 'A-old'), ('\ufeffA', 'A'), ('Summer', 'Summer'), ("'A", 'A'), ('Ä', 'Ae'))
 KIND_WORDS = (
-    'utility', 'process', 'cooling', 'steam', 'x', '1', 'hot/cold', 'HX')
+    'utility', 'cooling', 'steam', 'x', '1', 'hot/cold', 'HX')
 # Headings of the column of supplies, with numbers in °C below.
 NO_HEADINGS = (
     'Shifted supply', 'T1', 'T hot in', 'Supply (%)', 'Supply (°)', 'Supply %', 'Supply (华氏)', 'Supply (°С)',
@@ -44,7 +44,7 @@ NO_HEATS = (
     'Q (kVAh)', 'Q (MBtu/h)', 'Q (kJ)', 'Q (t/h)', 'Q (10 kJ)', 'Q x 1000', 'Q/1000', 'Q (tons)')
 # Rows below a stream, and before another one.
 NO_ROWS = (
-    f'{HEAD.strip()}', 'Stream;Supply (K);Target (K);CP (kW/K)', 'Utility;Level;Price;', ';K;K;kW/K', ';;;MW/K',
+    'Utility;Level;Price;', ';K;K;kW/K', ';;;MW/K',
     'A;;;2', 'A;150;;2', 'A;;60;2', ';150;60;2', 'A;150;60;', 'A;150;60;0', 'A;150;60;-2', 'A;150;150;2', '" ;60;2',
     'A;60;150;2;9', 'A;150;60;2;x;9', ';;;2 MW/K', 'Total;;;2 MW/K', 'Utilities;;;(2026)', 'Steam;250;250;',
     'CW;20;30;', 'A;";60;2')
@@ -101,6 +101,13 @@ def test_what_can_mean_one_thing_is_read() -> None:
     for each in PRICES:
         case = made(priced(each)).case
         assert [utility.price for utility in case.utilities][:2] == [30, 40], each
+
+
+def test_headings_that_are_repeated_begin_again() -> None:
+    assert read(f'{HEAD}A;150;60;2\n{HEAD}B;20;120;3\n') == [A, ('B', 200, 1200, 300)]
+    kelvins = 'Stream;Supply (K);Target (K);CP (kW/K)\nB;293.15;393.15;3\n'
+    assert read(f'{HEAD}A;150;60;2\n{kelvins}') == [A, ('B', 200, 1200, 300)]
+    assert read(f'{KINDS}process;A;150;60;2;;\n') == [A]
 
 
 def test_a_spoilt_least_difference_is_refused() -> None:

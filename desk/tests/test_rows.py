@@ -84,29 +84,50 @@ def test_a_sum_with_temperatures_may_be_a_stream_and_is_refused(row: str) -> Non
 
 # A title that begins as a heading does is refused as one; one that begins with a number as a stream.
 REFUSED = re.compile('names a unit, and the numbers have none|a second column|is missing|no number')
-TITLES = ['ALL TEMPERATURES IN DEG F', 'ALL TEMPERATURES IN F', 'TEMPERATURES IN FAHRENHEIT', 'TEMPERATURE / K',
-          'Temperatures in F and duties in kW', 'DEGREES KELVIN', 'Temp. F', 'units: K, kW', 'TEMPERATURES IN °F',
-          'US units', 'all in SI units', 'temperatures in tenths of °C', 'Imperial Units', 'English units']
-HEATS = ['Duties in 1000 kcal/h', 'DUTIES IN 1000 KCAL/H', '10^6 Btu/h', '10³ kcal/h', 'MMkcal/h', 'in 1e6 kcal/h',
-         'DUTIES IN MEGAWATTS', 'DUTY IN MMBTU/HR', 'HEAT IN GCAL/H', 'Duties in 1000 kW', 'duties in 10 kW',
-         'heat in KJ/H', 'Duties in thousands', 'heat in horsepower', 'BTUH', 'duty, 1 000 kcal/h',
-         'Wärme in 10 000 kcal/h', 'in HP']
+TITLES = ['ALL TEMPERATURES IN DEG F', 'ALL TEMPERATURES IN F', 'TEMPERATURES IN FAHRENHEIT',
+          'Temperatures in F and duties in kW', 'TEMPERATURES IN °F', 'all temperatures: °F',
+          'T [°F], Q [kW]', 'Temperaturen in °F']
+OPEN_TITLES = ['US units', 'all in SI units', 'temperatures in tenths of °C', 'Imperial Units', 'English units',
+               'Temp. F (old) or C', 'hot side in °F', 'temperatures in °F or in K']
+HEATS = ['Duties in 1000 kcal/h', 'DUTIES IN 1000 KCAL/H', 'Heat loads: 10^3 kcal/h', 'Q [1000 kcal/h]',
+         'Duties in 10³ kcal/h']
+OPEN_HEATS = ['DUTIES IN MEGAWATTS', 'Duties in thousands', 'duty, 1 000 kcal/h', 'Wärme in 10 000 kcal/h', 'in HP',
+              'duties in kcal/h and in 1000 kcal/h', 'US units', 'duties of the hot side in 1000 kcal/h']
+
+
+def beside_numbers(title: str, head: str, row: str) -> tuple[str, ...]:
+    """A table with words at one row: in a column of notes, or under no heading."""
+    return f'{head};Note\n{row};{title}\n', f'{head}\n{row};{title}\n'
 
 
 @pytest.mark.parametrize('title', TITLES)
-def test_a_title_that_names_a_unit_of_temperatures_is_refused(title: str) -> None:
-    for text in (f'{title};;;\nStream;Supply;Target;CP (kW/K)\nFeed;68;356;10\n',
-                 f'Stream;Supply;Target;CP (kW/K)\nFeed;68;356;10\n{title};;;\n',
-                 f'Stream;Supply;Target;CP (kW/K)\n{title};;;kW/K\nFeed;68;356;10\n',
-                 f'Stream ({title});Supply;Target;CP (kW/K)\nFeed;68;356;10\n',
-                 f'Stream;Supply;Target;CP (kW/K);Note\nFeed;68;356;10;{title}\n',
-                 f'Stream;Supply;Target;CP (kW/K)\nFeed;68;356;10;{title}\n',
-                 f'# {title};;;\nStream;Supply;Target;CP (kW/K)\nFeed;68;356;10\n'):
+def test_a_title_that_names_the_unit_of_all_temperatures_gives_it(title: str) -> None:
+    head, row = 'Stream;Supply;Target;CP (kW/K)', 'Feed;68;356;10'
+    for text in (f'{title};;;\n{head}\n{row}\n', f'{head}\n{row}\n{title};;;\n', f'# {title};;;\n{head}\n{row}\n'):
+        table = made(text, Wanted('10 K'))
+        assert [each.supply for each in table.case.streams] == [200], text
+        assert any('is taken for numbers of temperature, as' in each for each in table.notes)
+    for text in beside_numbers(title, head, row):
+        assert REFUSED.search(refusal(text)), text
+
+
+@pytest.mark.parametrize('title', OPEN_TITLES)
+def test_a_title_that_leaves_a_unit_open_is_refused(title: str) -> None:
+    head, row = 'Stream;Supply;Target;CP (kW/K)', 'Feed;68;356;10'
+    for text in (f'{title};;;\n{head}\n{row}\n', f'{head}\n{row}\n{title};;;\n', f'# {title};;;\n{head}\n{row}\n',
+                 f'Stream ({title});Supply;Target;CP (kW/K)\n{row}\n', *beside_numbers(title, head, row)):
         assert REFUSED.search(refusal(text)), text
 
 
 @pytest.mark.parametrize('title', HEATS)
-def test_a_title_that_names_a_unit_of_heats_is_refused(title: str) -> None:
+def test_a_title_that_names_the_unit_of_all_heats_gives_it(title: str) -> None:
+    for text in (f'{title};;;\n{DUTY}Feed;20;180;1600\n', f'{DUTY}Feed;20;180;1600\n{title};;;\n',
+                 f'{DUTY}{title};°C;°C;\nFeed;20;180;1600\n'):
+        assert streams(text) == FEED, text
+
+
+@pytest.mark.parametrize('title', OPEN_HEATS)
+def test_a_title_that_leaves_a_unit_of_heats_open_is_refused(title: str) -> None:
     for text in (f'{title};;;\n{DUTY}Feed;20;180;1600\n', f'{DUTY}Feed;20;180;1600\n{title};;;\n',
                  f'{DUTY}{title};°C;°C;\nFeed;20;180;1600\n'):
         assert REFUSED.search(refusal(text)), text
@@ -133,7 +154,7 @@ def test_a_remark_of_a_workbook_is_a_note() -> None:
     book.active['B1'].comment = Comment('Author:\nat the battery limit', 'me')
     said = 'sheet Sheet row 1 column B: passed over, a remark: `Author: at the battery limit`'
     assert said in made(saved(book)).notes
-    book.active['B2'].comment = Comment('all in °F', 'me')
+    book.active['B2'].comment = Comment('all temperatures in °F', 'me')
     assert 'names a unit, and the numbers have none' in refusal(saved(book))
 
 
@@ -162,7 +183,7 @@ def test_words_among_the_headings_are_told() -> None:
                                    'B. Utilities', 'Betriebsmittel', 'Hot and cold utilities'])
 def test_rows_below_a_title_that_makes_utilities_of_them_are_refused(title: str) -> None:
     table = f'{HEAD}Feed;20;180;10\n{title};;;\nCooling water;20;30;50\n'
-    assert 'a column `kind` has to say heater or cooler' in refusal(table)
+    assert 'a utility has no cp' in refusal(table)
     assert len(streams(f'Kind;{HEAD}cold;Feed;20;180;10\n{title};;;;\ncooler;Cooling water;20;;\n')) == 1
 
 

@@ -68,9 +68,9 @@ def meaning_of(text: str) -> tuple[Column | Field | None, str]:
 
 def parts_of(text: str) -> Iterator[tuple[str, str]]:
     yield text, ''
-    match = bracketed(text)
-    if match:
-        yield match[1], match[2].strip()
+    parts = bracketed(text)
+    if parts:
+        yield parts
     yield from splits(text)
 
 

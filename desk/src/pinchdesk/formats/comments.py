@@ -1,5 +1,5 @@
 """What a case says for the desk in rows that begin with `#` and that the program passes over: its scale, the units of
-its prices and costs, and the names that its table had."""
+its prices and costs, the names that its table had, and coefficients of heat transfer."""
 from __future__ import annotations
 
 from collections.abc import Iterator, Sequence
@@ -9,8 +9,19 @@ from fractions import Fraction
 from ..text import plain, read_again
 from .amounts import exact, shortened
 
+FILMS = ('#film', '#overall')
 # What a scale and a divisor are at least; at most they are one over it. Prices in odd units have long divisors.
 LEAST_SCALE, LEAST_DIVISOR, LONGEST = Fraction(1, 10 ** 6), Fraction(1, 10 ** 30), 400
+
+
+@dataclass(frozen=True)
+class Film:
+    """A coefficient of heat transfer of a source, as its table has it: that of its film, or the `overall` one."""
+
+    name: str
+    value: str
+    unit: str
+    overall: bool = False
 
 
 @dataclass(frozen=True)
@@ -19,7 +30,8 @@ class Basis:
 
     All heats, CPs and loads of the case are `scale` times the plant's. A price of the case divided by `price_divisor`
     is in `price_unit`; a cost divided by `cost_divisor` (and by the scale) is in `cost_unit`. `names` has each name
-    that was made fit, as (name in the table, name in the case)."""
+    that was made fit, as (name in the table, name in the case). `films` are coefficients of heat transfer, which no
+    number of the case is made of."""
 
     scale: Fraction = Fraction(1)
     price_unit: str = ''
@@ -27,6 +39,7 @@ class Basis:
     cost_unit: str = ''
     cost_divisor: Fraction = Fraction(1)
     names: tuple[tuple[str, str], ...] = ()
+    films: tuple[Film, ...] = ()
 
 
 def noted(basis: Basis, row: Sequence[str]) -> Basis:
@@ -35,6 +48,8 @@ def noted(basis: Basis, row: Sequence[str]) -> Basis:
     word, first, second = row[0], read_again(row[1]), row[2]
     if word == '#name':
         return replace(basis, names=(*basis.names, (first, second)))
+    if word in FILMS:
+        return replace(basis, films=(*basis.films, Film(first, second, read_again(row[3]), word == '#overall')))
     if word == '#scale':
         made = replace(basis, scale=between(first, LEAST_SCALE))
         is_first = basis.scale == 1
@@ -71,3 +86,5 @@ def basis_rows(basis: Basis) -> Iterator[list[str]]:
         yield ['#cost', plain(basis.cost_unit), str(basis.cost_divisor), '', '', '', '']
     for old, new in basis.names:
         yield ['#name', plain(old), new, '', '', '', '']
+    for film in basis.films:
+        yield [FILMS[film.overall], film.name, film.value, plain(film.unit), '', '', '']

@@ -1,7 +1,7 @@
 """From the cells of a table to exact numbers of the program's units, with what is wrong and what is told of them."""
 from __future__ import annotations
 
-from collections.abc import Iterable
+from collections.abc import Iterable, Mapping, Sequence
 from dataclasses import dataclass, field
 from decimal import Decimal
 from fractions import Fraction
@@ -9,9 +9,10 @@ from fractions import Fraction
 from ..errors import Refused
 from ..formats.amounts import rounded
 from .headings import EMPTY
+from .layouts import Layout
 from .numbers import NoNumber, Numeral, Says, numeral_of, plain, readings
 from .spreadsheet import Cell, Table, TableRow
-from .units import Kind, UnknownUnit, names_fahrenheit, of_kilowatts, unit_of
+from .units import Kind, UnknownUnit, names_fahrenheit, of_kilowatts, same_unit, unit_of
 
 EXAMPLES = {Kind.TEMPERATURE: '°C, K, °F', Kind.DIFFERENCE: 'K, °C, °F',
             Kind.FLOW: 'kW/K, MW/°C, W/K, kcal/h/K, Btu/(h °F)',
@@ -84,7 +85,8 @@ def decimal_mark(table: Table, cells: Iterable[tuple[int, int, Cell]], told: str
 class CellReader:
     """Reads the cells of a table whose decimal mark and units are known. Of a kind of numbers `taken` has where there
     was no unit, and `others` the units that stand there and are others than is taken then, with a row and a column.
-    `entered` has each number that was read, by its row and column."""
+    `entered` has each number that was read, by its row and column. Where a table has several blocks `layouts` has those
+    of each row, and the units and titles are theirs."""
 
     told: Told
     mark: str
@@ -93,6 +95,24 @@ class CellReader:
     taken: dict[Kind, str] = field(default_factory=dict)
     others: dict[tuple[Kind, str], tuple[int, int]] = field(default_factory=dict)
     entered: dict[tuple[int, int], Entered] = field(default_factory=dict)
+    layouts: Mapping[int, Sequence[Layout]] = field(default_factory=dict)
+
+    def headed(self, row: int, column: int) -> tuple[str, str]:
+        """The unit and the title of a cell's column; empty where it has none."""
+        for layout in self.layouts.get(row, ()):
+            if column in layout.titles or column in layout.columns.values():
+                return layout.units.get(column, ''), layout.titles.get(column, '')
+        return self.units.get(column, ''), self.titles.get(column, '')
+
+    def quiet(self, row: TableRow, column: int | None) -> Fraction | None:
+        """The number of a cell, in whatever unit; None where it is none, and nothing is told."""
+        cell = row.cell(column) if column is not None else Cell()
+        if cell.number is not None:
+            return Fraction(cell.number)
+        try:
+            return Fraction(numeral_of(cell.text).value(self.mark))
+        except NoNumber:
+            return None
 
     def given(self, row: TableRow, column: int | None) -> bool:
         """Whether there is something in a cell; a dash is nothing."""
@@ -137,12 +157,11 @@ class CellReader:
 
     def unit_text(self, row: TableRow, column: int, kind: Kind, own: str) -> str | None:
         """The unit of a cell: its own, else that of its column, else the usual one; None where two disagree."""
-        headed = self.units.get(column, '')
+        headed, title = self.headed(row.number, column)
         if own and headed and not same_unit(own, headed, kind):
             self.told.fault(row.number, column, f'two units, `{headed}` in the heading and `{own}` here')
             return None
         if not own and not headed:
-            title = self.titles.get(column)
             where = f'the column `{title}`' if title else f'numbers of {kind.name.lower()}'
             self.told.once(f'no unit stands with {where}: {kind.default} is taken')
             self.taken.setdefault(kind, where)
@@ -207,12 +226,3 @@ def contradicts(text: str, kind: Kind, other: Kind) -> bool:
     degrees = other is not Kind.HEAT and names_fahrenheit(unit, kind)
     heats = {kind, other} == {Kind.FLOW, Kind.HEAT} and not of_kilowatts(unit, kind)
     return kind is other or degrees or heats
-
-
-def same_unit(one: str, other: str, kind: Kind) -> bool:
-    """Whether two units are one; of an unknown one it is left to the reading of it."""
-    try:
-        first, second = unit_of(one, kind), unit_of(other, kind)
-    except UnknownUnit:
-        return one == other
-    return (first.factor, first.offset) == (second.factor, second.offset)

@@ -12,8 +12,13 @@ MOST_SHEETS = 8
 
 def told(table: Table) -> tuple[str, ...]:
     """What is told where a workbook has several sheets, and nobody said which is meant."""
+    if table.more:
+        others = f', not {", ".join(table.others)} (--sheet)' if table.others else ''
+        return (f'the sheets {", ".join((table.sheet, *table.more))} are read{others}',)
     if not table.others:
         return ()
+    if not table.first:
+        return (f'of the sheets {table.sheet} is read, which has a table, not {", ".join(table.others)} (--sheet)',)
     return (f'of the sheets the first one, {table.sheet}, is read, not {", ".join(table.others)} (--sheet)',)
 
 

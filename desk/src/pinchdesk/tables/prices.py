@@ -14,11 +14,12 @@ from math import gcd, lcm
 from ..formats.amounts import rounded
 from ..formats.case import Basis
 from .money import money_of, two_moneys
-from .units import KILOWATT, LONGEST, LONGEST_TEXT, OPEN, SIGNS, YEAR, UnknownUnit, parsed, registry
+from .units import (KILOWATT, LONGEST, LONGEST_TEXT, OPEN, SIGNS, WRITTEN, YEAR, UnknownUnit, multiple_of, parsed,
+                    registry)
 
 MOST = 1_000_000
 MONEY = re.compile(r'[^\W\d]{0,8}|[€$£¥]|[A-Za-z]{0,3}[€$£¥]')
-WATT_YEAR = re.compile(r'\b([kMG]?W)a\b')
+WATT_YEAR = re.compile(r'\b([kMG]?W)(?:a|y|yr|year)\b')
 
 
 @dataclass(frozen=True)
@@ -35,21 +36,23 @@ class PriceUnit:
 def price_unit_of(text: str) -> PriceUnit:
     """The unit that a text names, as `EUR/MWh`, `per kWh`, `€/(kW a)`, `per kW and year`; `UnknownUnit` where it is
     none."""
-    held = text.strip() if len(text) <= LONGEST_TEXT else ''
-    for sign, plain in SIGNS.items():
-        held = held.replace(sign, plain)
-    held = WATT_YEAR.sub(r'\1 a', re.sub(r'\band\b', '*', re.sub(r'(?:^|\b)per\b', '/', held)))
-    money, slash, below = (each.strip() for each in held.partition('/'))
-    below = re.sub(r'\b(?:KW|Kw|kw)[hH]\b', 'kWh', KILOWATT.sub('kW', below))
-    if not slash or not MONEY.fullmatch(money) or len(held) > LONGEST or not re.fullmatch(r'[A-Za-z/*() .]+', below) \
+    plain = text.strip() if len(text) <= LONGEST_TEXT else ''
+    for sign, letters in SIGNS.items():
+        plain = plain.replace(sign, letters)
+    plain = re.sub(r'\band\b', '*', re.sub(r'(?:^|\b)(?:per|pro|par|por)\b', '/', plain))
+    money, slash, below = (part.strip() for part in plain.partition('/'))
+    times, below = multiple_of(below.strip('() ') if below.count('(') == 1 and below.endswith(')') else below)
+    below = re.sub(r'[A-Za-z]+', lambda match: WRITTEN.get(match[0].lower(), match[0]), KILOWATT.sub('kW', below))
+    below = WATT_YEAR.sub(r'\1 a', re.sub(r'\b(?:KW|Kw|kw)(?=yr?|a)', 'kW', below)).replace('-', ' ')
+    if not slash or not MONEY.fullmatch(money) or len(plain) > LONGEST or not re.fullmatch(r'[A-Za-z/*() .]+', below) \
             or OPEN.search(below):
         raise UnknownUnit(text)
-    words = [each for each in re.split(r'[/*() .]+', below) if each]
-    years = [each for each in words if YEAR.fullmatch(each)]
-    rest = ' * '.join(each for each in words if each not in years)
+    words = [word for word in re.split(r'[/*() .]+', below) if word]
+    years = [word for word in words if YEAR.fullmatch(word)]
+    rest = ' * '.join(word for word in words if word not in years)
     if len(years) > 1 or not rest:
         raise UnknownUnit(text)
-    return PriceUnit(text.strip(), money, money_of(money), amount_of(text, rest, bool(years)), bool(years))
+    return PriceUnit(text.strip(), money, money_of(money), times * amount_of(text, rest, bool(years)), bool(years))
 
 
 def same_price_unit(one: str, other: str) -> bool:

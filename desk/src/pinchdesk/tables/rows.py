@@ -3,35 +3,40 @@ over and told with their texts."""
 from __future__ import annotations
 
 import re
-from collections.abc import Sequence
-from dataclasses import dataclass
+from collections.abc import Mapping, Sequence
+from dataclasses import dataclass, replace
 
+from .blocks import Block, Blocks
 from .cells import Told
-from .headings import EMPTY, KINDS, Heading, Layout, Words, is_comment, is_number, squeezed
+from .headings import EMPTY, KINDS, Words, is_comment, is_number
+from .layouts import Layout
 from .numbers import NoNumber, numeral_of
+from .sections import Section, kind_of, kind_of_name, section_of
 from .spreadsheet import Cell, TableRow, letters
 from .units import Kind
+from .vocabulary import Heading
 
-KIND_WORDS = {'hot': 'hot', 'h': 'hot', 'hotstream': 'hot', 'cold': 'cold', 'c': 'cold', 'coldstream': 'cold',
-              'heater': 'heater', 'hotutility': 'heater', 'hu': 'heater', 'cooler': 'cooler', 'coldutility': 'cooler',
-              'cu': 'cooler', 'contribution': 'contribution', 'forbid': 'forbid', 'forbidden': 'forbid', 'hei': 'hot',
-              'heiss': 'hot', 'warm': 'hot', 'kalt': 'cold'}
-SUM_WORDS = r'(?:sum|total|totals|subtotal|summe|gesamt|somme|average|mean|mittel|mittelwert|durchschnitt)'
+SUM_WORDS = r'(?:sum|sums|total|totals|subtotal|summe|gesamt|gesamtsumme|insgesamt|somme|suma|somma|totale|totaux|' \
+            r'grand\s+total|average|mean|mittel|mittelwert|durchschnitt|moyenne|media|promedio)'
 SUM = re.compile(rf'{SUM_WORDS}\b.*|[Σ∑].*', re.I)
 # Such a name alone is hardly that of a stream, also where temperatures stand with it.
 SUM_ALONE = re.compile(rf'(?:{SUM_WORDS}|min|max|minimum|maximum|[Σ∑])[\s.:]*', re.I)
 # What a spreadsheet writes in place of a value.
 ERROR = re.compile(r'#[A-Z0-9/]+[!?]|#N/A|#NV')
 LONGEST = 120
+BESIDE_HEADING = 'beside a heading'
 
 
 @dataclass(frozen=True)
 class Line:
-    """A row with what kind it is; `''` is a stream whose side its temperatures say."""
+    """A row with what kind it is; `''` is a stream whose side its temperatures say, and `utility` a utility whose side
+    is open yet. `layout` is that of its block, `section` what the title above it says."""
 
     row: TableRow
     kind: str
-    columns: dict[Heading, int]
+    columns: Mapping[Heading, int]
+    layout: Layout = Layout()
+    section: Section | None = None
 
     def at(self, heading: Heading) -> int | None:
         return self.columns.get(heading)
@@ -39,6 +44,11 @@ class Line:
     def cell(self, heading: Heading) -> Cell:
         column = self.at(heading)
         return Cell() if column is None else self.row.cell(column)
+
+    def has(self, heading: Heading) -> bool:
+        """Whether there is something in a column; a dash is nothing."""
+        cell = self.cell(heading)
+        return not cell.empty and not (cell.number is None and cell.text in EMPTY)
 
     def name(self) -> str:
         """The name of the row; a dash is none."""
@@ -51,18 +61,26 @@ class Line:
 
 
 @dataclass(frozen=True)
+class Passed:
+    """A row, a column or words that are passed over, with their place and why."""
+
+    row: int
+    column: int | None
+    why: str
+    text: str
+
+
+@dataclass(frozen=True)
 class Body:
     """The rows below the headings: those that say something, and the words of those that are passed over; `comments`
-    has the comments of the whole table, `others` the units that stand with numbers of sums: row, kind, column, unit."""
+    has the comments of the whole table, `others` the units that stand with numbers of sums: row, kind, column, unit;
+    `over` is all that is passed over, for who asks how the table was understood."""
 
     lines: tuple[Line, ...]
     passed: tuple[Words, ...]
     comments: tuple[str, ...]
     others: tuple[tuple[int, Kind, int, str], ...]
-
-
-def kind_of(text: str) -> str | None:
-    return KIND_WORDS.get(squeezed(text))
+    over: tuple[Passed, ...] = ()
 
 
 def joined(row: TableRow) -> str:
@@ -73,40 +91,101 @@ def shortened(text: str) -> str:
     return text if len(text) <= LONGEST else text[:LONGEST] + ' ..'
 
 
-def body_of(layout: Layout, rows: Sequence[Line | None], told: Told) -> Body:
-    """Sorts the rows of a table; `rows` has the line that each row would be, None where a fault of it is told. What is
-    passed over is told."""
-    lines: list[Line] = []
-    passed: list[Words] = []
-    comments: list[str] = []
-    others: list[tuple[int, Kind, int, str]] = []
-    for row, line in zip(told.table.rows, rows):
-        if layout.is_body(row):
-            why = why_passed(line, told, bool(lines)) if line else ''
-        elif row.number in layout.heads:
-            continue
-        else:
-            why = 'a comment' if is_comment(row) else 'above the headings'
-            if all(is_number(row.cell(layout.columns.get(each, -1))) for each in (Heading.SUPPLY, Heading.TARGET)):
-                told.fault(row.number, None, f'a stream above the headings: `{shortened(joined(row))}`')
-        if why:
-            told.note(row.number, None, f'passed over, {why}: `{shortened(joined(row))}`')
-            passed += words_of(row)
-            comments += [joined(row)] if is_comment(row) else []
-            others += units_beside(layout, row) if why == 'a sum' else []
-        elif line:
-            lines.append(line)
-    for words in remarks(told.table.rows):
-        told.note(words.row, words.column, f'passed over, a remark: `{shortened(words.text)}`')
-        passed.append(words)
-    for column, title in layout.titles.items():
-        if layout.headed and column not in layout.columns.values():
-            told.once(f'passed over, the column `{title}`')
-    if not layout.named:
-        told.once(f'no column has the heading name: {layout.titles[layout.columns[Heading.NUMBER]]} is taken')
-    for words in layout.beside:
-        told.note(words.row, words.column, f'passed over, beside a heading: `{shortened(words.text)}`')
-    return Body(tuple(lines), (*layout.beside, *passed), tuple(comments), tuple(others))
+class BodyReader:
+    """Sorts the rows of a table. What is passed over is told."""
+
+    def __init__(self, told: Told) -> None:
+        self.told = told
+        self.lines: list[Line] = []
+        self.passed: list[Words] = []
+        self.comments: list[str] = []
+        self.others: list[tuple[int, Kind, int, str]] = []
+        self.over: list[Passed] = []
+
+    def pass_over(self, row: TableRow, why: str) -> None:
+        text = shortened(joined(row))
+        self.told.note(row.number, None, f'passed over, {why}: `{text}`')
+        self.over.append(Passed(row.number, None, why, text))
+        self.passed += words_of(row)
+        self.comments += [joined(row)] if is_comment(row) else []
+
+    def above(self, blocks: Blocks) -> None:
+        """The rows above the heads, and those of other tables."""
+        for row in blocks.above:
+            if row.number < blocks.head and is_above(row, blocks.blocks[0].layout):
+                self.told.fault(row.number, None, f'a stream above the headings: `{shortened(joined(row))}`')
+            self.pass_over(row, 'a comment' if is_comment(row) else 'above the headings')
+        for row in blocks.foreign:
+            self.pass_over(row, 'of another table')
+
+    def block(self, block: Block, section: Section | None) -> Section | None:
+        """The rows of a block; gives the section with which it ends."""
+        begun = len(self.lines)
+        for row in block.rows:
+            line = headed_line(row, block.layout, section, self.told)
+            why = why_passed(line, self.told, len(self.lines) > begun) if line else ''
+            if why:
+                self.pass_over(row, why)
+                self.others += units_beside(block.layout, row) if why == 'a sum' else []
+                title = section_of(joined(row)) if why == 'a note' else None
+                section = title.at(row.number) if title else section
+            elif line:
+                self.lines.append(line)
+        return section
+
+    def plain(self, rows: Sequence[TableRow], lines: Sequence[Line | None]) -> None:
+        """The rows of a table without headings, with the line that each would be."""
+        for row, line in zip(rows, lines):
+            why = why_passed(line, self.told, bool(self.lines)) if line else ''
+            if why:
+                self.pass_over(row, why)
+                self.others += units_beside(Layout(), row) if why == 'a sum' else []
+            elif line:
+                self.lines.append(line)
+
+    def columns(self, blocks: Blocks) -> None:
+        """Tells the columns that are passed over, and what stands beside headings."""
+        for layout in (block.layout for block in blocks.blocks):
+            for column, title in layout.titles.items():
+                if column not in layout.columns.values() and column not in layout.twins:
+                    self.told.once(f'passed over, the column `{title}`')
+                    self.over.append(Passed(layout.head, column, 'a column', title))
+            if not layout.named:
+                title = layout.titles.get(layout.columns[Heading.NUMBER], 'the number')
+                self.told.once(f'no column has the heading name: {title} is taken')
+            elif layout.columns[Heading.NAME] not in layout.titles:
+                place = self.told.table.place(layout.head, layout.columns[Heading.NAME])
+                self.told.once(f'no column has the heading name: {place} is taken, which has no heading')
+            for words in layout.beside:
+                self.told.note(words.row, words.column, f'passed over, beside a heading: `{shortened(words.text)}`')
+                self.over.append(Passed(words.row, words.column, BESIDE_HEADING, words.text))
+                self.passed.append(words)
+
+    def body(self) -> Body:
+        for words in remarks(self.told.table.rows):
+            self.told.note(words.row, words.column, f'passed over, a remark: `{shortened(words.text)}`')
+            self.over.append(Passed(words.row, words.column, 'a remark', words.text))
+            self.passed.append(words)
+        return Body(tuple(self.lines), tuple(self.passed), tuple(self.comments), tuple(self.others), tuple(self.over))
+
+
+def body_of(blocks: Blocks, told: Told, plain: Sequence[Line | None] = ()) -> Body:
+    """Sorts the rows of a table; `plain` has the line that each row would be where there are no headings."""
+    reader = BodyReader(told)
+    if not blocks.headed:
+        reader.plain(told.table.rows, plain)
+        return reader.body()
+    reader.above(blocks)
+    section: Section | None = None
+    for block in blocks.blocks:
+        section = reader.block(block, block.section or (section if block.again else None))
+    reader.columns(blocks)
+    return reader.body()
+
+
+def is_above(row: TableRow, layout: Layout) -> bool:
+    """Whether a row above the headings has numbers where a stream has its temperatures."""
+    return all(is_number(row.cell(layout.columns.get(heading, -1))) for heading in (Heading.SUPPLY, Heading.TARGET))
 
 
 def remarks(rows: Sequence[TableRow]) -> list[Words]:
@@ -122,21 +201,39 @@ def words_of(row: TableRow) -> list[Words]:
     return [Words(row.number, None, joined(row)), *(Words(row.number, column, text) for column, text in cells)]
 
 
-def headed_line(row: TableRow, layout: Layout, told: Told) -> Line | None:
+def headed_line(row: TableRow, layout: Layout, section: Section | None, told: Told) -> Line | None:
     """A row below headings as a line; None where its kind is none, which is a fault."""
     column = layout.columns.get(Heading.KIND)
     text = row.cell(column).text if column is not None else ''
-    kind = kind_of(text) if text else ''
+    kind = kind_of(text) if text and text not in EMPTY else ''
     if kind is None and len(list(row.filled())) > 1 and not SUM.fullmatch(text) and not is_comment(row):
         told.fault(row.number, column, f'`{text}` is no kind: hot, cold, heater, cooler, contribution, forbid')
         return None
-    return Line(row, kind or '', dict(layout.columns))
+    line = Line(row, kind or '', layout.columns, layout, section)
+    return replace(line, kind=utility_kind(line))
+
+
+def utility_kind(line: Line) -> str:
+    """The kind of a line, where its title or its name says that it is a utility."""
+    sized = line.has(Heading.CP) or line.has(Heading.LOAD)
+    if line.kind in ('hot', 'cold') and line.section and line.section.utilities and not sized:
+        return 'heater' if line.kind == 'hot' else 'cooler'
+    if line.kind:
+        return line.kind
+    if line.section and line.section.utilities:
+        named = kind_of_name(line.name())
+        return named if named in ('heater', 'cooler') and not line.section.side else line.section.kind
+    if sized or not line.has(Heading.SUPPLY):
+        return ''
+    # What has a price or a range, and neither a CP nor a duty, is no stream.
+    priced = any(line.has(heading) for heading in (Heading.PRICE, Heading.LEAST, Heading.MOST))
+    return kind_of_name(line.name()) or ('utility' if priced and not line.has(Heading.MASS) else '')
 
 
 def has_numbers(line: Line) -> bool:
     """Whether numbers stand where a stream has them."""
-    named = {line.at(each) for each in (Heading.NAME, Heading.KIND, Heading.NUMBER)}
-    columns = {column for heading, column in line.columns.items() if column not in named}
+    named = {line.at(heading) for heading in (Heading.NAME, Heading.KIND, Heading.NUMBER)}
+    columns = {column for column in line.columns.values() if column not in named}
     return any(column in columns and is_number(cell) for column, cell in line.row.filled())
 
 
@@ -184,13 +281,13 @@ def why_comment(line: Line, told: Told) -> str:
 
 def units_beside(layout: Layout, row: TableRow) -> list[tuple[int, Kind, int, str]]:
     """The numbers of a sum that have a unit of their own."""
-    made = []
+    found = []
     for heading, column in layout.columns.items():
         cell = row.cell(column)
         if heading in KINDS and is_number(cell):
             unit = cell.unit or unit_behind(cell.text)
-            made += [(row.number, KINDS[heading], column, unit)] if unit else []
-    return made
+            found += [(row.number, KINDS[heading], column, unit)] if unit else []
+    return found
 
 
 def unit_behind(text: str) -> str:

@@ -2,21 +2,27 @@
 from __future__ import annotations
 
 import re
+from dataclasses import replace
 from fractions import Fraction
 
 from ..errors import Refused
 from ..formats.amounts import rounded
 from ..formats.case import ANY_HEAT, Side, Stream, Utility
+from ..formats.comments import Film
 from ..formats.limits import CONTRIBUTION, CP, HEAT, LOAD, TEMPERATURE, Limit, fitting_scale, outside
 from ..formats.shown import decimal
 from .cells import CellReader, Entered, Told
-from .headings import Heading
+from .headings import KINDS
 from .roundings import RoundingSpan, span_of
-from .rows import Line
-from .units import Kind
+from .rows import Line, shortened
+from .sections import side_of_utility
+from .units import Kind, size_of
+from .vocabulary import Heading
 
 # What marks a row as left out elsewhere.
 LEFT_OUT = re.compile(r'//|--|~~|[%!;]|/\*|<!|rem\b', re.I)
+# A contribution that is that of the case, as simulators call it.
+USUAL = frozenset(('global', 'default'))
 # A duty and a CP may differ by what their last digits leave open, but by no more than this part.
 MOST_APART = Fraction(1, 20)
 
@@ -29,6 +35,8 @@ class Entries:
         self.duties: list[tuple[Line, Side, Entered]] = []
         self.heats: list[tuple[Limit, Fraction]] = []
         self.too_large = False
+        # What was made of a mass flow, by the row and the other heading.
+        self.products: dict[tuple[int, Heading], Fraction] = {}
 
     def name(self, line: Line) -> str:
         cell = line.row.cell(line.columns[Heading.NAME])
@@ -46,7 +54,7 @@ class Entries:
 
     def share(self, line: Line) -> int | None:
         """The contribution of a row's own; None where it has none."""
-        if not self.given(line, Heading.CONTRIBUTION):
+        if not self.given(line, Heading.CONTRIBUTION) or line.cell(Heading.CONTRIBUTION).text.lower() in USUAL:
             return None
         return self.limited(line, Heading.CONTRIBUTION, Kind.DIFFERENCE, CONTRIBUTION)
 
@@ -104,16 +112,20 @@ class Entries:
     def exact(self, line: Line, side: Side, share: Fraction) -> RoundingSpan:
         """A stream that was made of a line, as the table has it; `share` is the contribution of the case."""
         def entered(heading: Heading) -> Fraction | None:
-            held = self.reader.entered.get((line.row.number, line.columns.get(heading, -1)))
-            return held.value if held and self.given(line, heading) else None
-        supply, target, cp = (entered(each) for each in (Heading.SUPPLY, Heading.TARGET, Heading.CP))
-        load, own = entered(Heading.LOAD), entered(Heading.CONTRIBUTION)
+            number = self.reader.entered.get((line.row.number, line.columns.get(heading, -1)))
+            return number.value if number and self.given(line, heading) else None
+        supply, target = entered(Heading.SUPPLY), entered(Heading.TARGET)
+        own = entered(Heading.CONTRIBUTION)
         assert supply is not None and target is not None
+        cp = entered(Heading.CP) or self.products.get((line.row.number, Heading.SPECIFIC))
+        load = entered(Heading.LOAD) or self.products.get((line.row.number, Heading.LATENT))
         heat = cp * abs(supply - target) if cp else abs(load or Fraction(0))
         return span_of(side, (supply, target), heat, share if own is None else own)
 
     def side(self, line: Line, supply: int, target: int) -> Side | None:
         row = line.row.number
+        if supply == target and not line.kind and line.section and line.section.side:
+            return line.section.side
         if supply == target and not line.kind:
             self.told.fault(row, None, 'supply and target are one: a column `kind` has to say hot or cold')
             return None
@@ -132,8 +144,12 @@ class Entries:
                 self.told.fault(line.row.number, flow, 'supply and target are one: such a stream has a duty and no CP')
                 return None
         if not self.given(line, Heading.LOAD):
-            self.told.fault(line.row.number, column, 'supply and target are one: the duty is missing')
-            return None
+            product = self.product(line, Heading.LATENT)
+            if product is None:
+                self.told.fault(line.row.number, column, 'supply and target are one: the duty is missing')
+                return None
+            self.check(line, Heading.LATENT, LOAD, product.value, f'the duty {product.text}')
+            return self.reader.rounded(line.row, line.at(Heading.LATENT), Kind.HEAT, product, self.scale)
         held = self.reader.measured(line.row, column, Kind.HEAT)
         if held is not None and held.value <= 0:
             self.told.fault(line.row.number, column, 'a duty is above 0 (in W): hot or cold says which way it goes')
@@ -167,12 +183,47 @@ class Entries:
             column, made, exact = load, self.flow_of(line, duty, span), abs(duty.value) / span
             what = f'the CP of the duty {duty.text}, {decimal(exact / 100, 6)} kW/K,'
         else:
-            if not self.given(line, Heading.LOAD):
-                self.told.fault(line.row.number, column, 'a CP or a duty is missing')
-            return None
-        heading = Heading.CP if column == line.at(Heading.CP) else Heading.LOAD
+            product = self.product(line, Heading.SPECIFIC) if not self.given(line, Heading.LOAD) else None
+            if product is None:
+                self.without_size(line)
+                return None
+            column, exact, what = line.at(Heading.SPECIFIC), product.value, f'the CP {product.text}'
+            made = self.reader.rounded(line.row, column, Kind.FLOW, product, self.scale)
+        heading = next(found for found, at in line.columns.items() if at == column)
         self.check(line, heading, CP, exact, what if made else f'the CP is 0 in 10 W/K: {what}')
         return made
+
+    def without_size(self, line: Line) -> None:
+        """Tells a fault for a stream that has neither a CP nor a duty."""
+        if self.given(line, Heading.LOAD) or (line.row.number, Heading.SPECIFIC) in self.products:
+            return
+        if self.given(line, Heading.SPECIFIC) or self.given(line, Heading.MASS):
+            column = line.at(Heading.SPECIFIC if self.given(line, Heading.SPECIFIC) else Heading.MASS)
+            cause = 'a CP or a duty is missing: a specific heat needs a mass flow beside it, both with their units'
+            self.told.fault(line.row.number, column, cause)
+        else:
+            self.told.fault(line.row.number, line.at(Heading.CP), 'a CP or a duty is missing')
+
+    def product(self, line: Line, heading: Heading) -> Entered | None:
+        """A mass flow times a specific heat, as a CP, or times a latent heat, as a duty; None where one is missing, or
+        has no unit that goes with the other's."""
+        kind = Kind.FLOW if heading is Heading.SPECIFIC else Kind.HEAT
+        columns = [line.at(Heading.MASS), line.at(heading)]
+        numbers = [self.reader.number(line.row, column) for column in columns
+                   if column is not None and self.reader.given(line.row, column)]
+        if len(numbers) < 2:
+            return None
+        (mass, mass_slack, mass_own), (specific, slack, own) = (number or (Fraction(0), Fraction(0), '')
+                                                                for number in numbers)
+        units = [named or self.reader.headed(line.row.number, column or 0)[0]
+                 for named, column in zip((mass_own, own), columns)]
+        factor = product_of(units[0], units[1], heading)
+        if factor is None:
+            return None
+        value = mass * specific * factor
+        entered = Entered(value, (mass_slack * abs(specific) + slack * abs(mass)) * factor, kind.shown(value))
+        self.products[line.row.number, heading] = value
+        return entered
 
     def flow_of(self, line: Line, duty: Entered, span: int) -> int:
         """A CP from the duty between both temperatures."""
@@ -200,23 +251,58 @@ class Entries:
         self.told.fault(line.row.number, line.at(Heading.LOAD), what)
         return False
 
+    def with_side(self, line: Line) -> Line | None:
+        """A utility with its side: by its temperatures, else by its name; None where both leave it open, which is a
+        fault."""
+        if line.kind != 'utility':
+            return line
+        level, end = (self.reader.quiet(line.row, line.at(heading)) for heading in (Heading.SUPPLY, Heading.TARGET))
+        side = side_of_utility(line.name())
+        if level is not None and end is not None and level != end:
+            runs = Side.HOT if level > end else Side.COLD
+            if side and side is not runs:
+                way = 'cools down' if runs is Side.HOT else 'warms up'
+                self.told.fault(line.row.number, line.at(Heading.TARGET), f'{line.name()} {way}: a column `kind` has '
+                                'to say heater or cooler')
+                return None
+            side = runs
+        if side is None:
+            title = f'it stands below `{shortened(line.section.text)}`' if line.section else 'it is a utility'
+            self.told.fault(line.row.number, None, f'{title}: a column `kind` has to say heater or cooler, or hot or '
+                            'cold')
+            return None
+        return replace(line, kind='heater' if side is Side.HOT else 'cooler')
+
+    def level(self, line: Line) -> int | None:
+        """The one temperature of a utility: of a range that which is worth less, which is told."""
+        level = self.temperature(line, Heading.SUPPLY)
+        if not self.given(line, Heading.TARGET):
+            return level
+        end = self.temperature(line, Heading.TARGET)
+        if level is None or end is None or level == end:
+            return level
+        column = line.at(Heading.TARGET)
+        if (level > end) != (line.kind == 'heater'):
+            self.told.fault(line.row.number, column, f'a {line.kind} runs the other way')
+            return None
+        first, last = (self.reader.entered[line.row.number, line.columns[heading]].text
+                       for heading in (Heading.SUPPLY, Heading.TARGET))
+        self.told.note(line.row.number, column, f'a utility has one temperature: of {first} to {last} the end that is '
+                       f'worth less is taken, {last}')
+        return end
+
     def utility(self, line: Line) -> tuple[Utility, int | None] | None:
         """A heater or a cooler, without its price, with the contribution of its own."""
-        name, level, share = self.name(line), self.temperature(line, Heading.SUPPLY), self.share(line)
+        name, level, share = self.name(line), self.level(line), self.share(line)
         self.none_of(line, 'a utility', (Heading.CP, Heading.LOAD))
-        if self.given(line, Heading.TARGET):
-            end = self.temperature(line, Heading.TARGET)
-            if level is not None and end is not None and end != level:
-                what = 'a utility has one temperature: enter the one that is worth less (docs/HOW_TO_ENTER.md)'
-                self.told.fault(line.row.number, line.at(Heading.TARGET), what)
         if level is None:
             return None
         least, most = self.bound(line, Heading.LEAST, 0), self.bound(line, Heading.MOST, ANY_HEAT)
         if least is None or most is None:
             return None
         if least > most:
-            low, high = (self.reader.entered[line.row.number, line.columns[each]].text
-                         for each in (Heading.LEAST, Heading.MOST))
+            low, high = (self.reader.entered[line.row.number, line.columns[heading]].text
+                         for heading in (Heading.LEAST, Heading.MOST))
             self.told.fault(line.row.number, line.at(Heading.LEAST), f'the least {low} is above the most {high}')
         side = Side.HOT if line.kind == 'heater' else Side.COLD
         return Utility(name, side, level, least, most, 0, 0), share
@@ -225,3 +311,36 @@ class Entries:
         if not self.given(line, heading):
             return usual
         return self.limited(line, heading, Kind.HEAT, HEAT)
+
+    def check_twins(self, line: Line) -> None:
+        """Tells a fault where a second column of a heading, in another unit, says something else than the first."""
+        for column, heading in line.layout.twins.items():
+            first = self.reader.entered.get((line.row.number, line.columns[heading]))
+            if first is None or not self.reader.given(line.row, column):
+                continue
+            second = self.reader.measured(line.row, column, KINDS[heading])
+            if second and abs(first.value - second.value) > first.slack + second.slack:
+                cause = f'{second.text} and {first.text} in the column before it are not the same'
+                self.told.fault(line.row.number, column, cause)
+
+    def film(self, line: Line, heading: Heading) -> Film | None:
+        """The coefficient of a row, with its unit as the table has it."""
+        if not self.given(line, heading):
+            return None
+        number = self.reader.number(line.row, line.at(heading))
+        if number is None:
+            return None
+        value, _, own = number
+        unit = own or self.reader.headed(line.row.number, line.columns[heading])[0]
+        name = self.names.get(line.name(), line.name())
+        return Film(name, decimal(value, 12), unit, heading is Heading.OVERALL)
+
+
+def product_of(mass: str, specific: str, heading: Heading) -> Fraction | None:
+    """What the number of a mass flow times that of a specific or a latent heat is in the program's unit."""
+    per_kelvin = '/K' if heading is Heading.SPECIFIC else ''
+    for amount in ('kg', 'mol'):
+        flow, heat = size_of(mass, f'{amount}/s'), size_of(specific, f'J/{amount}{per_kelvin}')
+        if flow is not None and heat is not None:
+            return flow * heat / 10 if heading is Heading.SPECIFIC else flow * heat
+    return None

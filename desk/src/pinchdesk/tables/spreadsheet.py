@@ -10,7 +10,7 @@ import io
 import math
 import re
 import warnings
-from collections.abc import Iterable, Iterator
+from collections.abc import Iterable, Iterator, Sequence
 from dataclasses import dataclass, replace
 from decimal import Decimal
 from typing import Any
@@ -24,6 +24,8 @@ from .workbook_bounds import MOST_CELLS, MOST_COLUMNS, MOST_PLACES, MOST_ROWS, M
 SEPARATORS = {';': '`;`', '\t': 'a tab', ',': '`,`', '|': '`|`'}
 # The fields of a text, filled or not; an empty line is one.
 MOST_FIELDS, LONGEST_SHOWN = 1_000_000, 40
+# The rows of one sheet are counted below this.
+SHEET_ROWS = 1_000_000
 HINT = re.compile(r'sep=(.)(\r\n|\r|\n)')
 # What a format writes as it is: in quotes, behind `\`, as a currency; then what it leaves room for, and conditions.
 LITERAL = re.compile(r'"([^"]*)"|\\(.)|\[\$([^\]-]*)[^\]]*\]|[_*].|\[[^\]]*\]')
@@ -69,18 +71,29 @@ class TableRow:
 class Table:
     """The rows of a table that are not empty. `sheet` is the name of the sheet, and empty of a text, which has a
     `separator`; `merged` has the columns that a merged cell covers, by its row and its first column, `hidden` those
-    that are not shown, `others` the sheets that are shown beside it."""
+    that are not shown, each with the number of its sheet, `others` the sheets that are shown beside it. Of several
+    sheets the rows of the second one are counted from `SHEET_ROWS` on, and so on; `more` has their names."""
 
     sheet: str
     rows: tuple[TableRow, ...]
     merged: tuple[tuple[int, int, int], ...] = ()
     separator: str = ''
-    hidden: tuple[int, ...] = ()
+    hidden: frozenset[tuple[int, int]] = frozenset()
     others: tuple[str, ...] = ()
+    more: tuple[str, ...] = ()
+    first: bool = True
+
+    def sheet_of(self, row: int) -> str:
+        """The sheet on which a row stands."""
+        return (self.sheet, *self.more)[row // SHEET_ROWS]
+
+    def hides(self, row: int, column: int) -> bool:
+        """Whether the column of a cell is not shown."""
+        return (row // SHEET_ROWS, column) in self.hidden
 
     def place(self, row: int, column: int | None = None) -> str:
         """A place in words: `sheet Streams row 4 column C`."""
-        where = f'sheet {self.sheet} row {row}' if self.sheet else f'row {row}'
+        where = f'sheet {self.sheet_of(row)} row {row % SHEET_ROWS}' if self.sheet else f'row {row}'
         if column is None:
             return where
         return f'{where} column {letters(column)}' if self.sheet else f'{where} column {column + 1}'
@@ -103,7 +116,7 @@ def letters(column: int) -> str:
 def read_table(content: bytes, name: str, sheet: str | None = None, separator: str | None = None) -> tuple[Table, ...]:
     """The table of a file: a workbook by what it begins with, else a text. Of a text there is one reading for each
     separator that it may have. `Refused` where it is neither."""
-    if content.startswith(b'PK\x03\x04'):
+    if is_workbook(content):
         return (workbook_table(content, sheet),)
     if content.startswith(b'\xd0\xcf\x11\xe0') or name.lower().endswith(('.xlsx', '.xlsm')):
         raise Refused(3, '', 'no workbook', 'this is no .xlsx workbook: save it as .xlsx, or as text (.csv)')
@@ -189,24 +202,55 @@ def clean(text: str) -> str:
     return ' '.join(text.replace('\u00a0', ' ').split())
 
 
+def is_workbook(content: bytes) -> bool:
+    return content.startswith(b'PK\x03\x04')
+
+
 def workbook_table(content: bytes, sheet: str | None) -> Table:
     """A sheet of a workbook: the first one that is shown, or the one of this name."""
     check_bounds(content)
     values, formulas = opened(content, True), opened(content, False)
-    shown = [each.title for each in values.worksheets if each.sheet_state == 'visible']
+    shown = [page.title for page in values.worksheets if page.sheet_state == 'visible']
     wanted = sheet if sheet is not None else shown[0] if shown else ''
-    if wanted not in [each.title for each in values.worksheets]:
-        names = ', '.join(each.title for each in values.worksheets)
+    if wanted not in [page.title for page in values.worksheets]:
+        names = ', '.join(page.title for page in values.worksheets)
         raise Refused(3, f'sheet {wanted}', 'no such sheet', f'there is no sheet {wanted}: the workbook has {names}')
-    page = values[wanted]
+    others = tuple(name for name in shown if name != wanted and is_filled(values[name])) if sheet is None else ()
+    return replace(sheet_table(values[wanted], formulas[wanted]), others=others)
+
+
+def workbook_tables(content: bytes) -> tuple[Table, ...]:
+    """All sheets of a workbook that are shown and have something."""
+    check_bounds(content)
+    values, formulas = opened(content, True), opened(content, False)
+    pages = [page for page in values.worksheets if page.sheet_state == 'visible' and is_filled(page)]
+    return tuple(sheet_table(page, formulas[page.title]) for page in pages)
+
+
+def is_filled(page: Any) -> bool:
+    return page.dimensions != 'A1:A1' or page['A1'].value is not None
+
+
+def sheet_table(page: Any, formulas: Any) -> Table:
+    """The table of one sheet, by its values and by what is written there."""
     if page.max_row > MOST_ROWS or page.max_column > MOST_COLUMNS:
         raise too_large()
-    merged = tuple((each.min_row, each.min_col - 1, each.max_col) for each in page.merged_cells.ranges)
-    columns = [each for each in page.column_dimensions.values() if each.hidden and each.min and each.max]
-    hidden = tuple(column - 1 for each in columns for column in range(each.min, min(each.max, MOST_COLUMNS) + 1))
-    others = tuple(each for each in shown if each != wanted and values[each].dimensions != 'A1:A1'
-                   or each != wanted and values[each]['A1'].value is not None) if sheet is None else ()
-    return Table(wanted, tuple(rows_of(page, formulas[wanted])), merged, hidden=hidden, others=others)
+    merged = tuple((area.min_row, area.min_col - 1, area.max_col) for area in page.merged_cells.ranges)
+    columns = [column for column in page.column_dimensions.values() if column.hidden and column.min and column.max]
+    hidden = frozenset((0, at - 1) for column in columns for at in range(column.min, min(column.max, MOST_COLUMNS) + 1))
+    return Table(page.title, tuple(rows_of(page, formulas)), merged, hidden=hidden)
+
+
+def joined_sheets(tables: Sequence[Table]) -> Table:
+    """Several sheets as one table, whose rows say on which of them they stand."""
+    first, *rest = tables
+    rows, merged, hidden = list(first.rows), list(first.merged), set(first.hidden)
+    for at, table in enumerate(rest, 1):
+        rows += [replace(row, number=row.number + at * SHEET_ROWS) for row in table.rows]
+        merged += [(row + at * SHEET_ROWS, begin, end) for row, begin, end in table.merged]
+        hidden |= {(at, column) for _, column in table.hidden}
+    return replace(first, rows=tuple(rows), merged=tuple(merged), hidden=frozenset(hidden),
+                   more=tuple(table.sheet for table in rest))
 
 
 def check_bounds(content: bytes) -> None:

@@ -48,12 +48,22 @@ class Unit:
         return (number + self.offset) * self.factor
 
 
-LONGEST, LONGEST_TEXT = 40, 200
-SIGNS = {'º': '°', '˚': '°', '℃': '°C', '℉': '°F', '\u212a': 'K', '·': '*', '⋅': '*', '×': '*', '−': '-',
-         '⁻¹': '^-1', 'µ': 'micro', 'μ': 'micro'}
-ALLOWED = re.compile(r'[A-Za-z°_/*^() .-]*(?:(?:\^|\*\*)-?1[A-Za-z°_/*^() .-]*)*')
+LONGEST, LONGEST_TEXT = 60, 200
+SIGNS = {'º': '°', '˚': '°', '℃': '°C', '℉': '°F', '\u212a': 'K', '·': '*', '⋅': '*', '•': '*', '∙': '*', '×': '*',
+         '−': '-', '‐': '-', '‑': '-', '⁻¹': '^-1', '²': '^2', '³': '^3', 'µ': 'micro', 'μ': 'micro'}
+ALLOWED = re.compile(r'[A-Za-z°_/*^() ]*(?:(?:\^|\*\*)-?[123](?!\s*(?:\^|\*\*))[A-Za-z°_/*^() ]*)*')
+# Units as they are written in capitals, or in short.
+WRITTEN = {'btu': 'Btu', 'btus': 'Btu', 'mmbtu': 'MMBtu', 'kbtu': 'kBtu', 'btuh': 'Btu/hour', 'mbh': 'MBH',
+           'kcal': 'kcal', 'gcal': 'Gcal', 'mmkcal': 'MMkcal', 'kj': 'kJ', 'gj': 'GJ', 'h': 'hour', 'hr': 'hour',
+           'hrs': 'hour', 'std': 'hour', 'stunde': 'hour', 'heure': 'hour', 'hora': 'hour', 'ora': 'hour', 'sec': 's',
+           'kgmole': 'kmol', 'kgmol': 'kmol', 'lbs': 'lb', 'te': 't', 'kwh': 'kWh'}
 DEGREES = re.compile(r'(?:\b(?:deg(?:ree)?s?|grad)\b\.?|\bdeg(?=[CFKR]\b)|°|\bo(?=[CF]\b))\s*'
                      r'(?:([CFKR])\b|(celsius|fahrenheit|kelvin)\b)', re.I)
+# An exponent behind a unit, as in `kW K-1` and `m2`; a hyphen or a point between two units is a product.
+BEHIND = re.compile(r'(?<=[A-Za-z])\^?(-1)(?![0-9])')
+SQUARE = re.compile(r'\b(m|cm|ft)\^?([23])(?![0-9])')
+PRODUCT = re.compile(r'(?<=[A-Za-z0-9)])\s*[-.]\s*(?=[A-Za-z°(])')
+MILLIONS = re.compile(r'MM\s*(?=(?:btu|k?cal|kj|kw|w)\b)', re.I)
 LETTER = re.compile(r'(?<![A-Za-z_°])([CF])(?![A-Za-z_])')
 NAMED = re.compile(r'\b(celsius|fahrenheit)\b', re.I)
 KELVIN = re.compile(r'\bkelvins?\b', re.I)
@@ -82,6 +92,7 @@ def registry() -> Any:
     made = pint.UnitRegistry(non_int_type=Fraction)
     made.define('MMBtu = 1000000 * Btu = MMBTU')
     made.define('MMkcal = 1000000000 * calorie')
+    made.define('MBH = 1000 * Btu / hour')
     return made
 
 
@@ -89,6 +100,9 @@ def multiple_of(text: str) -> tuple[int, str]:
     """How many of a unit a text names, and the unit: 1000 and `kcal/h` of `1000 kcal/h`, else 1."""
     if len(text) > LONGEST_TEXT:
         return 1, text
+    millions = MILLIONS.match(text.strip())
+    if millions:
+        return 10 ** 6, text.strip()[millions.end():]
     held = RAISED.sub(lambda match: '^' + ''.join(str('⁰¹²³⁴⁵⁶⁷⁸⁹'.index(each)) for each in match[0]), text.strip())
     match = TIMES.fullmatch(held.replace('×', 'x').replace('·', '*').replace('⋅', '*'))
     if not match:
@@ -99,17 +113,27 @@ def multiple_of(text: str) -> tuple[int, str]:
 
 def normal(text: str) -> str:
     """A unit as it is written, in the letters that pint reads; `UnknownUnit` where it cannot be one."""
-    held = text.strip() if len(text) <= LONGEST_TEXT else ''
-    for sign, plain in SIGNS.items():
-        held = held.replace(sign, plain)
-    held = KILOWATT.sub('kW', re.sub(r'\bper\b', '/', held))
-    held = re.sub(r'/\s*h(?:ou)?rs?\b', '/hour', held)
-    held = DEGREES.sub(lambda match: '°' + (match[1] or match[2][0]).upper(), held)
-    held = NAMED.sub(lambda match: '°' + match[1][0].upper(), LETTER.sub(r'°\1', KELVIN.sub('K', held)))
-    held = held.replace('°K', 'K').replace('°R', 'degR')
-    if not held or len(held) > LONGEST or not ALLOWED.fullmatch(held) or OPEN.search(held):
+    plain = text.strip() if len(text) <= LONGEST_TEXT else ''
+    for sign, letters in SIGNS.items():
+        plain = plain.replace(sign, letters)
+    plain = KILOWATT.sub('kW', re.sub(r'\b(?:per|pro|par|por)\b', '/', plain))
+    plain = DEGREES.sub(lambda match: '°' + (match[1] or match[2][0]).upper(), plain)
+    plain = SQUARE.sub(r'\1^\2 ', BEHIND.sub(r'^\1', plain))
+    plain = PRODUCT.sub('*', plain.rstrip('. '))
+    plain = re.sub(r'[A-Za-z]+', lambda match: WRITTEN.get(match[0].lower(), match[0]), plain)
+    plain = NAMED.sub(lambda match: '°' + match[1][0].upper(), LETTER.sub(r'°\1', KELVIN.sub('K', plain)))
+    plain = plain.replace('°K', 'K').replace('°R', 'degR')
+    if not plain or len(plain) > LONGEST or not ALLOWED.fullmatch(plain) or OPEN.search(plain):
         raise UnknownUnit(text)
-    return held
+    return plain
+
+
+def readings(plain: str) -> tuple[str, ...]:
+    """The ways to read a unit: `kJ/h*K` as it stands, and with all that follows the line below it."""
+    above, line, below = plain.partition('/')
+    if not line or not re.search(r'[*\s]', below.strip()) or below.count('(') != below.count(')'):
+        return (plain,)
+    return plain, f'{above}/({below.replace("/", "*")})'
 
 
 @lru_cache(maxsize=None)
@@ -117,20 +141,47 @@ def unit_of(text: str, kind: Kind) -> Unit:
     """The unit that a text names; `UnknownUnit` where it names none of this kind. A heat over a year or a month is no
     power."""
     times, single = multiple_of(text)
-    held = normal(single)
-    if kind in (Kind.HEAT, Kind.FLOW) and (YEAR.search(held) or MONTH.search(held)):
+    plain = normal(single)
+    if kind in (Kind.HEAT, Kind.FLOW) and (YEAR.search(plain) or MONTH.search(plain)):
         raise UnknownUnit(text)
-    if kind is not Kind.TEMPERATURE:
-        held = held.replace('°C', 'delta_degC').replace('°F', 'delta_degF')
+    if kind is Kind.TEMPERATURE:
+        try:
+            return temperature_unit(text, '' if times > 1 else plain)
+        except Exception as fault:
+            # pint has no error of its own for each text that it cannot read.
+            raise UnknownUnit(text) from fault
+    factor = factor_of(plain, DIMENSIONS[kind])
+    if factor is None:
+        raise UnknownUnit(text)
+    return Unit(text, times * factor * IN_PROGRAM[kind])
+
+
+def factor_of(plain: str, dimension: str) -> Fraction | None:
+    """How many of a unit of the SI another one is, where it measures the same."""
     known = registry()
+    for reading in readings(plain.replace('°C', 'delta_degC').replace('°F', 'delta_degF')):
+        try:
+            return Fraction(known.Quantity(Fraction(1), parsed(reading)).to(dimension).magnitude)
+        except Exception:
+            # pint has no error of its own for each text that it cannot read.
+            continue
+    return None
+
+
+@lru_cache(maxsize=None)
+def size_of(text: str, dimension: str) -> Fraction | None:
+    """How many of a unit of the SI, as `kg/s`, the unit is that a text names; None where it measures something
+    else."""
+    times, single = multiple_of(text)
     try:
-        if kind is Kind.TEMPERATURE:
-            return temperature_unit(text, '' if times > 1 else held)
-        one = known.Quantity(Fraction(times), parsed(held)).to(DIMENSIONS[kind])
-        return Unit(text, Fraction(one.magnitude) * IN_PROGRAM[kind])
-    except Exception as fault:
-        # pint has no error of its own for each text that it cannot read.
-        raise UnknownUnit(text) from fault
+        factor = factor_of(normal(single), dimension)
+    except UnknownUnit:
+        return None
+    return None if factor is None else times * factor
+
+
+def measures(text: str, dimension: str) -> bool:
+    return size_of(text, dimension) is not None
 
 
 def parsed(text: str) -> Any:
@@ -150,12 +201,24 @@ def temperature_unit(text: str, held: str) -> Unit:
     return Unit(text, factor * IN_PROGRAM[Kind.TEMPERATURE], (zero - ZERO_CELSIUS) / factor)
 
 
-def is_unit(text: str, kind: Kind) -> bool:
+def unit_or_none(text: str, kind: Kind) -> Unit | None:
     try:
-        unit_of(text, kind)
+        unit: Unit = unit_of(text, kind)
     except UnknownUnit:
-        return False
-    return True
+        return None
+    return unit
+
+
+def is_unit(text: str, kind: Kind) -> bool:
+    return unit_or_none(text, kind) is not None
+
+
+def same_unit(one: str, other: str, kind: Kind) -> bool:
+    """Whether two units are one; of an unknown one it is left to the reading of it."""
+    first, second = unit_or_none(one, kind), unit_or_none(other, kind)
+    if first is None or second is None:
+        return one == other
+    return (first.factor, first.offset) == (second.factor, second.offset)
 
 
 def names_fahrenheit(unit: Unit, kind: Kind) -> bool:

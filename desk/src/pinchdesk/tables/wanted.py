@@ -5,7 +5,7 @@ from fractions import Fraction
 
 from ..errors import WordsError
 from ..formats.amounts import exact, shortened
-from .convert import Wanted
+from .conversion import Wanted
 
 SCALES = [Fraction(10) ** power for power in range(-3, 4)]
 MARKS = ('.', ',')

@@ -7,10 +7,12 @@ from collections.abc import Sequence
 from decimal import Decimal
 
 from .cells import Told
-from .headings import EMPTY, Heading
+from .headings import EMPTY
 from .numbers import LONGEST, NoNumber, numeral_of
-from .rows import Line, kind_of
+from .rows import Line
+from .sections import kind_of
 from .spreadsheet import Cell, TableRow
+from .vocabulary import Heading
 
 STREAM_COLUMNS = (Heading.NAME, Heading.SUPPLY, Heading.TARGET, Heading.CP, Heading.LOAD, Heading.CONTRIBUTION)
 UTILITY_COLUMNS = (Heading.NAME, Heading.SUPPLY, Heading.LEAST, Heading.MOST, Heading.PRICE, Heading.CONTRIBUTION)

@@ -1,0 +1,40 @@
+"""What is asked of a table, and what comes of it."""
+from __future__ import annotations
+
+from dataclasses import dataclass
+from fractions import Fraction
+
+from ..formats.case import Case
+from .blocks import Blocks
+from .roundings import RoundingSpan
+from .rows import Body
+from .spreadsheet import Table
+
+
+@dataclass(frozen=True)
+class Wanted:
+    """How a table is to be read: the least difference, the sheet, the separator, the decimal mark, what all heats are
+    taken times, and the hours of a year for prices; None is what the table says."""
+
+    difference: str | None = None
+    sheet: str | None = None
+    separator: str | None = None
+    decimal: str | None = None
+    scale: Fraction = Fraction(1)
+    hours: Fraction | None = None
+
+
+@dataclass(frozen=True)
+class Converted:
+    """A case that was made of a table: `origins` has the row of the table behind each row of the case, `notes` is
+    told, `exact` are its streams before anything was rounded; `blocks` and `body` are the table as it was
+    understood."""
+
+    case: Case
+    table: Table
+    origins: tuple[int, ...]
+    notes: tuple[str, ...]
+    comments: tuple[str, ...] = ()
+    exact: tuple[RoundingSpan, ...] = ()
+    blocks: Blocks = Blocks()
+    body: Body = Body((), (), (), ())

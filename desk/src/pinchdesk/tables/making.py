@@ -1,0 +1,220 @@
+"""Puts the lines of a table together to a case."""
+from __future__ import annotations
+
+from dataclasses import replace
+from fractions import Fraction
+
+from ..errors import Refused
+from ..formats.case import Case, Forbid, Side, Stream, Utility
+from ..formats.comments import Basis, Film, basis_rows
+from ..formats.limits import CONTRIBUTION, MOST_COLD, MOST_FORBIDS, MOST_HOT, MOST_UTILITIES
+from ..formats.shown import Shown, decimal
+from .blocks import Blocks
+from .cells import CellReader, Told
+from .conversion import Converted, Wanted
+from .doubts import below_titles, note_words, two_units, units_in_words
+from .least_difference import half, is_bare, said_difference
+from .prices import PriceFault, PriceUnit, Priced, priced
+from .rows import Body, Line
+from .sources import Entries
+from .units import Kind
+from .utility_prices import PriceReader
+from .vocabulary import Heading
+
+
+class Maker:
+    """Puts the lines of a table together to a case."""
+
+    def __init__(self, told: Told, reader: CellReader, entries: Entries, blocks: Blocks, wanted: Wanted) -> None:
+        self.told, self.reader, self.entries, self.blocks, self.wanted = told, reader, entries, blocks, wanted
+        self.prices = PriceReader(told, reader)
+        self.contributions: list[tuple[int, int, Fraction]] = []
+        self.streams: list[tuple[int, Stream, int | None]] = []
+        self.stream_lines: list[tuple[Line, Side]] = []
+        self.utilities: list[tuple[int, Utility, int | None]] = []
+        self.priced: list[tuple[int, Line, Fraction | None, PriceUnit | None]] = []
+        self.forbids: list[tuple[int, Forbid]] = []
+        self.films: list[Film] = []
+
+    def made(self, body: Body, names: dict[str, str]) -> Converted:
+        for line in body.lines:
+            self.take(line)
+        share, exact_share, share_row = self.contribution(body)
+        self.settle(body)
+        if not self.streams:
+            raise Refused(3, '', 'no stream', 'the table has no stream: is its separator another one (--separator)?')
+        utilities, basis = self.with_prices(share)
+        changed = tuple((old, new) for old, new in names.items() if old != new)
+        basis = replace(basis, scale=self.wanted.scale, names=changed, films=tuple(self.films))
+        streams = tuple(replace(stream, contribution=share if own is None else own) for _, stream, own in self.streams)
+        self.told.settle()
+        case = Case(share, streams, tuple(utilities), tuple(forbid for _, forbid in self.forbids), basis)
+        rows = [share_row] * (len(list(basis_rows(basis))) + 1)
+        rows += [row for row, _, _ in self.streams] + [row for row, _, _ in self.utilities]
+        rows += [row for row, _ in self.forbids]
+        exact = tuple(self.entries.exact(line, side, exact_share) for line, side in self.stream_lines)
+        return Converted(case, self.told.table, tuple(rows), tuple(self.told.notes), body.comments, exact, self.blocks,
+                         body)
+
+    def settle(self, body: Body) -> None:
+        """Tells a fault for what stands beside the numbers and contradicts what was taken of them."""
+        for seen in body.others:
+            self.reader.seen(*seen)
+        two_units(self.blocks, body, self.told)
+        self.reader.settle_units()
+        units_in_words((*body.passed, *note_words(body.lines)), self.told, self.reader.taken)
+        self.entries.check_signs()
+        self.entries.check_scale()
+        self.check_counts()
+        below_titles(body.lines, {id(line): side for line, side in self.stream_lines}, self.told)
+        self.told.settle()
+
+    def check_counts(self) -> None:
+        """Tells a fault for the first source and the first pair that are too many."""
+        hot, cold = ([row for row, each, _ in self.streams if each.side is side] for side in Side)
+        for rows, most, what in ((hot, MOST_HOT, 'hot streams'), (cold, MOST_COLD, 'cold streams'),
+                                 ([row for row, _, _ in self.utilities], MOST_UTILITIES, 'heaters and coolers'),
+                                 ([row for row, _ in self.forbids], MOST_FORBIDS, 'forbidden matches')):
+            if len(rows) > most:
+                end = {1: 'st', 2: 'nd', 3: 'rd'}.get((most + 1) % 10 if most + 1 != 13 else 0, 'th')
+                self.told.fault(rows[most], None, f'a case has at most {most} {what}, and this is the {most + 1}{end}')
+
+    def take(self, line: Line) -> None:
+        if line.kind == 'contribution':
+            self.take_contribution(line)
+        elif line.kind == 'forbid':
+            self.take_forbid(line)
+        elif line.is_stream:
+            self.take_stream(line)
+        else:
+            self.take_utility(line)
+
+    def take_stream(self, line: Line) -> None:
+        stream = self.entries.stream(line)
+        if stream:
+            self.streams.append((line.row.number, *stream))
+            self.stream_lines.append((line, stream[0].side))
+            self.take_beside(line)
+
+    def take_utility(self, line: Line) -> None:
+        sided = self.entries.with_side(line)
+        if sided is None:
+            return
+        utility, price = self.entries.utility(sided), self.prices.price(sided)
+        if utility:
+            self.utilities.append((line.row.number, *utility))
+            self.priced.append((line.row.number, sided, *price))
+            self.take_beside(sided)
+
+    def take_beside(self, line: Line) -> None:
+        """What a row has beside the numbers of its source."""
+        self.entries.check_twins(line)
+        films = [self.entries.film(line, heading) for heading in (Heading.FILM, Heading.OVERALL)]
+        self.films += [film for film in films if film]
+
+    def take_contribution(self, line: Line) -> None:
+        """The contribution of the case: the one number of its row."""
+        heading = Heading.CONTRIBUTION if self.entries.given(line, Heading.CONTRIBUTION) else Heading.SUPPLY
+        used = {line.at(each) for each in (heading, Heading.KIND, Heading.NUMBER)}
+        for column in sorted(set(line.columns.values()) - used):
+            if self.reader.given(line.row, column):
+                cause = f'`{line.row.cell(column).text}`: a contribution of the case has one number and no name'
+                self.told.fault(line.row.number, column, cause)
+        share = self.entries.limited(line, heading, Kind.DIFFERENCE, CONTRIBUTION)
+        entered = self.reader.entered.get((line.row.number, line.columns[heading]))
+        self.contributions.append((line.row.number, share or 0, entered.value if entered else Fraction(0)))
+
+    def take_forbid(self, line: Line) -> None:
+        """A pair that may not exchange heat: the hot name in the column of names, the cold one in the next one that is
+        filled."""
+        at = line.at(Heading.NAME)
+        behind = [cell.text for column, cell in line.row.filled() if at is not None and column > at]
+        if not line.name() or len(behind) != 1:
+            self.told.fault(line.row.number, at, 'a forbidden match has two names, the hot one and the cold one')
+            return
+        hot, cold = (self.entries.names.get(each, each) for each in (line.name(), behind[0]))
+        self.forbids.append((line.row.number, Forbid(hot, cold)))
+
+    def contribution(self, body: Body) -> tuple[int, Fraction, int]:
+        """The contribution of the case, rounded and exact, and its row: of the table, or half of the least difference
+        that is told, or that a title has."""
+        difference = self.wanted.difference
+        if len(self.contributions) > 1:
+            self.told.fault(self.contributions[1][0], None, 'a second contribution')
+        if self.contributions and difference is not None:
+            self.told.fault(self.contributions[0][0], None, 'the table has a contribution, and -d gives one too')
+        if self.contributions:
+            row, share, exact = self.contributions[0]
+            return share, exact, row
+        said = said_difference(body.passed) if difference is None else None
+        if said:
+            self.told.note(said.row, said.column, f'the least difference is taken, {said.text}')
+            difference = said.text
+        if difference is None:
+            cause = 'no contribution: say the least difference, as -d 10'
+            self.told.faults.append(Refused(3, '', 'no contribution', cause))
+            return 0, Fraction(0), 0
+        if self.reader.fahrenheit and is_bare(difference):
+            cause = f'the least difference {difference} has no unit, and the table has degrees Fahrenheit: say ' \
+                    f'-d "{difference} °F", or in kelvins as -d "10 K"'
+            self.told.faults.append(Refused(3, '', 'no unit', cause))
+            return 0, Fraction(0), 0
+        return *half(difference, self.told), said.row if said else 0
+
+    def with_prices(self, share: int) -> tuple[list[Utility], Basis]:
+        """The utilities with whole prices, and the basis that turns them back."""
+        given = [(value, unit) for _, _, value, unit in self.priced if value is not None]
+        self.without_price()
+        self.told.settle()
+        try:
+            made = priced([value for value, _ in given], [unit for _, unit in given], self.wanted.hours)
+        except PriceFault as fault:
+            row, line = next((row, line) for row, line, value, _ in self.priced if value is not None)
+            raise self.told.table.refusal(row, line.at(Heading.PRICE), str(fault)) from fault
+        if self.wanted.hours is not None and not (given and given[0][1]):
+            self.told.once('--hours changes nothing, since no price has a unit')
+        if given and given[0][1] is None:
+            self.told.once('no unit stands with the prices: they are taken per W, in their proportion')
+        self.tell_rounded(made)
+        if given and not any(line.kind == 'heater' for _, line, _, _ in self.priced):
+            self.without_heater(made.basis)
+        whole = iter(made.prices)
+        usual = {'heater': 0 if given else 1, 'cooler': 0}
+        prices = [usual[line.kind] if value is None else next(whole) for _, line, value, _ in self.priced]
+        return [replace(each, price=price, contribution=share if own is None else own)
+                for (_, each, own), price in zip(self.utilities, prices)], made.basis
+
+    def tell_rounded(self, made: Priced) -> None:
+        """Tells the prices that are not what the table has, since they have to be whole and within the limits."""
+        shown = Shown(made.basis)
+        held = [(row, line) for row, line, value, _ in self.priced if value is not None]
+        for at, (row, line) in enumerate(held):
+            if made.rounded(at):
+                was, price = decimal(made.exact[at], 9), f'{shown.price(made.prices[at])} {shown.price_unit}'
+                self.told.note(row, line.at(Heading.PRICE), f'the price {was} is rounded to {price}')
+
+    def without_price(self) -> None:
+        """Where no price stands at all a heater costs 1 and a cooler nothing; where some do all coolers may be without,
+        and then cost nothing. That is told, and a fault where another one of the side has a price."""
+        names = {kind: [line.name() for _, line, value, _ in self.priced if line.kind == kind and value is not None]
+                 for kind in ('heater', 'cooler')}
+        free = [(row, line) for row, line, value, _ in self.priced if value is None]
+        for row, line in free:
+            if names[line.kind] or line.kind == 'heater' and any(names.values()):
+                other = next(each for each in (*names[line.kind], *names['cooler']))
+                self.told.fault(row, line.at(Heading.PRICE), f'the price of {line.name()} is missing, and {other} has '
+                                'one')
+        coolers = [line.name() for _, line in free if line.kind == 'cooler']
+        if not any(names.values()) and free:
+            self.told.once('no price stands with the utilities: a heater costs 1 per W, and a cooler nothing')
+        elif any(names.values()) and coolers:
+            self.told.once(f'no price stands with {", ".join(coolers)}: a cooler costs nothing')
+        elif any(names.values()) and not names['cooler']:
+            self.told.once('no cooler is given: COLD stands in, and costs nothing')
+
+    def without_heater(self, basis: Basis) -> None:
+        """Where prices stand and no heater does, `HOT` stands in at the price 1 per W, which no unit of prices has."""
+        if basis.price_unit:
+            row = self.priced[0][0]
+            raise self.told.table.refusal(row, None, 'there are prices, and no heater with one: add the heater')
+        self.told.once('no heater is given: HOT stands in, at the price 1')
