@@ -1,5 +1,5 @@
 """What a case says for the desk in rows that begin with `#` and that the program passes over: its scale, the units of
-its prices and costs, the names that its table had, and coefficients of heat transfer."""
+its prices and costs, and the names that its table had."""
 from __future__ import annotations
 
 from collections.abc import Iterator, Sequence
@@ -8,20 +8,10 @@ from fractions import Fraction
 
 from ..text import plain, read_again
 from .amounts import exact, shortened
+from .cost_rows import CostRow, printed_cost_row, read_cost_row, with_row
 
-FILMS = ('#film', '#overall')
 # What a scale and a divisor are at least; at most they are one over it. Prices in odd units have long divisors.
 LEAST_SCALE, LEAST_DIVISOR, LONGEST = Fraction(1, 10 ** 6), Fraction(1, 10 ** 30), 400
-
-
-@dataclass(frozen=True)
-class Film:
-    """A coefficient of heat transfer of a source, as its table has it: that of its film, or the `overall` one."""
-
-    name: str
-    value: str
-    unit: str
-    overall: bool = False
 
 
 @dataclass(frozen=True)
@@ -30,8 +20,7 @@ class Basis:
 
     All heats, CPs and loads of the case are `scale` times the plant's. A price of the case divided by `price_divisor`
     is in `price_unit`; a cost divided by `cost_divisor` (and by the scale) is in `cost_unit`. `names` has each name
-    that was made fit, as (name in the table, name in the case). `films` are coefficients of heat transfer, which no
-    number of the case is made of."""
+    that was made fit, as (name in the table, name in the case); `cost_rows` what is said of areas and money."""
 
     scale: Fraction = Fraction(1)
     price_unit: str = ''
@@ -39,17 +28,18 @@ class Basis:
     cost_unit: str = ''
     cost_divisor: Fraction = Fraction(1)
     names: tuple[tuple[str, str], ...] = ()
-    films: tuple[Film, ...] = ()
+    cost_rows: tuple[CostRow, ...] = ()
 
 
 def noted(basis: Basis, row: Sequence[str]) -> Basis:
     """The basis with what a comment row of the desk says; any other comment says nothing. A `ValueError` where its
     number is none that there can be, or another one than a row above says."""
     word, first, second = row[0], read_again(row[1]), row[2]
+    cost_row = read_cost_row(row)
+    if cost_row:
+        return replace(basis, cost_rows=with_row(basis.cost_rows, cost_row))
     if word == '#name':
         return replace(basis, names=(*basis.names, (first, second)))
-    if word in FILMS:
-        return replace(basis, films=(*basis.films, Film(first, second, read_again(row[3]), word == '#overall')))
     if word == '#scale':
         made = replace(basis, scale=between(first, LEAST_SCALE))
         is_first = basis.scale == 1
@@ -86,5 +76,4 @@ def basis_rows(basis: Basis) -> Iterator[list[str]]:
         yield ['#cost', plain(basis.cost_unit), str(basis.cost_divisor), '', '', '', '']
     for old, new in basis.names:
         yield ['#name', plain(old), new, '', '', '', '']
-    for film in basis.films:
-        yield [FILMS[film.overall], film.name, film.value, plain(film.unit), '', '', '']
+    yield from (printed_cost_row(row) for row in basis.cost_rows)

@@ -6,7 +6,8 @@ from fractions import Fraction
 
 from ..errors import Refused
 from ..formats.case import Case, Forbid, Side, Stream, Utility
-from ..formats.comments import Basis, Film, basis_rows
+from ..formats.comments import Basis, basis_rows
+from ..formats.cost_rows import CostRow
 from ..formats.limits import CONTRIBUTION, MOST_COLD, MOST_FORBIDS, MOST_HOT, MOST_UTILITIES
 from ..formats.shown import Shown, decimal
 from .blocks import Blocks
@@ -34,7 +35,7 @@ class Maker:
         self.utilities: list[tuple[int, Utility, int | None]] = []
         self.priced: list[tuple[int, Line, Fraction | None, PriceUnit | None]] = []
         self.forbids: list[tuple[int, Forbid]] = []
-        self.films: list[Film] = []
+        self.cost_rows: list[CostRow] = []
 
     def made(self, body: Body, names: dict[str, str]) -> Converted:
         for line in body.lines:
@@ -45,7 +46,7 @@ class Maker:
             raise Refused(3, '', 'no stream', 'the table has no stream: is its separator another one (--separator)?')
         utilities, basis = self.with_prices(share)
         changed = tuple((old, new) for old, new in names.items() if old != new)
-        basis = replace(basis, scale=self.wanted.scale, names=changed, films=tuple(self.films))
+        basis = replace(basis, scale=self.wanted.scale, names=changed, cost_rows=tuple(self.cost_rows))
         streams = tuple(replace(stream, contribution=share if own is None else own) for _, stream, own in self.streams)
         self.told.settle()
         case = Case(share, streams, tuple(utilities), tuple(forbid for _, forbid in self.forbids), basis)
@@ -94,7 +95,7 @@ class Maker:
         if stream:
             self.streams.append((line.row.number, *stream))
             self.stream_lines.append((line, stream[0].side))
-            self.take_beside(line)
+            self.take_beside(line, stream[0].side)
 
     def take_utility(self, line: Line) -> None:
         sided = self.entries.with_side(line)
@@ -104,13 +105,13 @@ class Maker:
         if utility:
             self.utilities.append((line.row.number, *utility))
             self.priced.append((line.row.number, sided, *price))
-            self.take_beside(sided)
+            self.take_beside(sided, utility[0].side)
 
-    def take_beside(self, line: Line) -> None:
+    def take_beside(self, line: Line, side: Side) -> None:
         """What a row has beside the numbers of its source."""
         self.entries.check_twins(line)
-        films = [self.entries.film(line, heading) for heading in (Heading.FILM, Heading.OVERALL)]
-        self.films += [film for film in films if film]
+        films = [self.entries.film(line, heading, side) for heading in (Heading.FILM, Heading.OVERALL)]
+        self.cost_rows += [film for film in films if film]
 
     def take_contribution(self, line: Line) -> None:
         """The contribution of the case: the one number of its row."""

@@ -1,0 +1,51 @@
+"""Capital and annual cost: of an exchanger by its law, of a target by its area spread evenly."""
+from __future__ import annotations
+
+from dataclasses import dataclass
+from fractions import Fraction
+from math import ceil
+
+from ..formats.cost_rows import Build, CostLaw, Per
+from .cost_data import CostData, square_metres
+from .enclosure import Enclosure, power, total
+
+
+@dataclass(frozen=True)
+class AnnualCost:
+    """What a network or a target costs, in the money of the capital: the capital itself, what of it is a cost of a
+    year, and the energy of a year, which is exact."""
+
+    capital: Enclosure
+    capital_a_year: Enclosure
+    energy: Fraction
+
+    @property
+    def whole(self) -> Enclosure:
+        """Both together, a year."""
+        return self.capital_a_year + self.energy
+
+
+def annual_cost(data: CostData, capital: Enclosure, cost: int | Fraction) -> AnnualCost:
+    """The annual cost of a capital, and of a cost of the program, price times W."""
+    return AnnualCost(capital, capital * data.annual_factor, cost * data.year_of_cost)
+
+
+def price_of(data: CostData, law: CostLaw, area: Enclosure, count: int = 1) -> Enclosure:
+    """The installed price of so many exchangers or shells of one law that share an area in m² evenly."""
+    metres = square_metres(Fraction(1), law.unit, 'the unit of area of a cost law')
+    share = area / (metres * count)
+    each_price = law.factor * power(share, law.exponent) + law.fixed if law.factor else law.fixed
+    return each_price * (count * data.capital.installation * data.capital.index) + total([])
+
+
+def at_most(build: Build, area: Enclosure) -> int:
+    """How many shells an area needs since none is larger than the most; 1 where there is no most."""
+    if build.most is None:
+        return 1
+    most = square_metres(build.most.value, build.most.unit, 'the most area of a shell')
+    return max(1, ceil(area.high / most))
+
+
+def priced_parts(build: Build, exchangers: int, shells: int) -> int:
+    """How many prices are paid: one a shell, or one an exchanger."""
+    return shells if build.per is Per.SHELL else exchangers

@@ -1,0 +1,135 @@
+"""Balanced composite curves: all hot and all cold sources, utilities with their uses, over one axis of heat, cut at each
+corner of either curve. Temperatures are actual, in tenths of °C; heats in W of the plant; all of it exact."""
+from __future__ import annotations
+
+from collections.abc import Iterable, Iterator, Mapping, Sequence
+from dataclasses import dataclass
+from fractions import Fraction
+
+from ..formats.case import Side, Source, Utility
+from .cost_data import CostData, EndTemperatures
+
+
+@dataclass(frozen=True)
+class Carrier:
+    """A source, or a part of it, with the heat that it gives or takes over its range."""
+
+    source: Source
+    ends: EndTemperatures
+    heat: Fraction
+    resistance: Fraction
+
+    @property
+    def flat(self) -> bool:
+        return self.ends.high == self.ends.low
+
+
+@dataclass(frozen=True)
+class CurvePiece:
+    """A straight piece of a composite curve, from its cold end up: temperatures, places on the axis of heat, the
+    resistance of a watt, and how many sources there are in it."""
+
+    low: Fraction
+    high: Fraction
+    begin: Fraction
+    end: Fraction
+    resistance: Fraction
+    sources: int
+
+    def at(self, heat: Fraction) -> Fraction:
+        """The temperature at a place."""
+        return self.low + (heat - self.begin) / (self.end - self.begin) * (self.high - self.low)
+
+
+@dataclass(frozen=True)
+class HeatInterval:
+    """An interval of heat in which both curves are straight. `cold_end` and `warm_end` are the differences there, in
+    K."""
+
+    begin: Fraction
+    end: Fraction
+    hot: EndTemperatures
+    cold: EndTemperatures
+    resistance: Fraction
+    sources: int
+
+    @property
+    def heat(self) -> Fraction:
+        return self.end - self.begin
+
+    @property
+    def cold_end(self) -> Fraction:
+        return (self.hot.low - self.cold.low) / 10
+
+    @property
+    def warm_end(self) -> Fraction:
+        return (self.hot.high - self.cold.high) / 10
+
+
+def carriers(data: CostData, uses: Mapping[str, int | Fraction]) -> tuple[Carrier, ...]:
+    """All streams, and the utilities with their uses in W of the case; `Refused` where one has no film."""
+    found: list[Carrier] = []
+    for source in data.case.sources:
+        heat = uses.get(source.name, 0) if isinstance(source, Utility) else source.heat
+        if heat:
+            found.append(Carrier(source, data.ends(source), data.watts(heat), data.resistance(source)))
+    return tuple(found)
+
+
+def composite(members: Iterable[Carrier]) -> tuple[CurvePiece, ...]:
+    """The composite curve of carriers of one side, from its cold end up; what stands at one temperature is a piece of
+    its own."""
+    changes: dict[Fraction, tuple[Fraction, Fraction, int]] = {}
+    flats: dict[Fraction, list[Carrier]] = {}
+    for member in members:
+        if member.flat:
+            flats.setdefault(member.ends.low, []).append(member)
+            continue
+        flow = member.heat / (member.ends.high - member.ends.low)
+        for temperature, sign in ((member.ends.low, 1), (member.ends.high, -1)):
+            before = changes.get(temperature, (Fraction(0), Fraction(0), 0))
+            changes[temperature] = (before[0] + sign * flow, before[1] + sign * flow * member.resistance,
+                                    before[2] + sign)
+    return tuple(pieces_of(changes, flats))
+
+
+def pieces_of(changes: Mapping[Fraction, tuple[Fraction, Fraction, int]],
+              flats: Mapping[Fraction, Sequence[Carrier]]) -> Iterator[CurvePiece]:
+    place, flow, resisting, sources = Fraction(0), Fraction(0), Fraction(0), 0
+    below: Fraction | None = None
+    for temperature in sorted({*changes, *flats}):
+        if sources and below is not None:
+            end = place + flow * (temperature - below)
+            yield CurvePiece(below, temperature, place, end, resisting / flow, sources)
+            place = end
+        level = flats.get(temperature, ())
+        if level:
+            heat = sum((member.heat for member in level), Fraction(0))
+            weighed = sum((member.heat * member.resistance for member in level), Fraction(0))
+            yield CurvePiece(temperature, temperature, place, place + heat, weighed / heat, len(level))
+            place += heat
+        more = changes.get(temperature, (Fraction(0), Fraction(0), 0))
+        flow, resisting, sources, below = flow + more[0], resisting + more[1], sources + more[2], temperature
+
+
+def intervals_of(members: Sequence[Carrier]) -> tuple[HeatInterval, ...]:
+    """The intervals of the balanced curves of these carriers, from the cold end up; a `ValueError` where what is given
+    is not what is taken."""
+    hot, cold = (composite(member for member in members if member.source.side is side)
+                 for side in (Side.HOT, Side.COLD))
+    ends = {curve[-1].end if curve else Fraction(0) for curve in (hot, cold)}
+    if len(ends) > 1:
+        raise ValueError('the heats of both sides do not balance')
+    return tuple(merged_pieces(hot, cold))
+
+
+def merged_pieces(hot: Sequence[CurvePiece], cold: Sequence[CurvePiece]) -> Iterator[HeatInterval]:
+    place, upper, lower = Fraction(0), 0, 0
+    while upper < len(hot) and lower < len(cold):
+        above, below = hot[upper], cold[lower]
+        end = min(above.end, below.end)
+        if end > place:
+            yield HeatInterval(place, end, EndTemperatures(above.at(end), above.at(place)),
+                               EndTemperatures(below.at(place), below.at(end)), above.resistance + below.resistance,
+                               above.sources + below.sources)
+        place, upper, lower = end, upper + (above.end == end), lower + (below.end == end)

@@ -1,0 +1,216 @@
+"""What a case says of areas and money, in W, m² and K, exactly. What is missing is refused by its name, when it is
+asked for; nothing is assumed."""
+from __future__ import annotations
+
+from collections.abc import Callable
+from dataclasses import dataclass
+from fractions import Fraction
+from functools import cached_property
+from typing import TypeVar
+
+from ..errors import Refused
+from ..formats.case import Case, Side, Source, Stream, Utility
+from ..formats.cost_rows import (Annual, AnnualForm, Build, Capital, CostLaw, CostRow, Film, Material, Overall,
+                                 UtilityRange, Service)
+from ..tables.money import two_moneys
+from ..tables.units import Kind, UnknownUnit, unit_of
+from .cost_units import NoUnit, area_factor, coefficient_factor, fouling_resistance
+
+Row = TypeVar('Row', bound=CostRow)
+Result = TypeVar('Result')
+
+
+def refused(what: str, cause: str) -> Refused:
+    """A refusal of what the case says, or does not say, of areas and money."""
+    return Refused(3, f'case, {what}', 'cost data', f'case, {what}: {cause}')
+
+
+def missing(what: str, enter: str) -> Refused:
+    return refused(what, f'it is missing: enter a row `{enter}`')
+
+
+@dataclass(frozen=True)
+class EndTemperatures:
+    """The two ends of a source in tenths of °C: where it enters and where it leaves."""
+
+    inlet: Fraction
+    outlet: Fraction
+
+    @property
+    def high(self) -> Fraction:
+        return max(self.inlet, self.outlet)
+
+    @property
+    def low(self) -> Fraction:
+        return min(self.inlet, self.outlet)
+
+
+@dataclass(frozen=True)
+class CostData:
+    """The rows of a case, resolved. The case is completed, so that `HOT` and `COLD` may be in it."""
+
+    case: Case
+
+    @cached_property
+    def films(self) -> dict[str, Fraction]:
+        """The resistance of each film with its fouling, in m² K/W."""
+        return {row.source: self.resolved(f'#film of {row.source}', resistance_of, row) for row in self.rows(Film)}
+
+    @cached_property
+    def overalls(self) -> dict[tuple[str, str], Fraction]:
+        """The overall coefficients that are given, in W/(m² K); an empty name stands for every source."""
+        return {(row.hot, row.cold): self.resolved(f'#overall of {row.hot or "all"} and {row.cold or "all"}',
+                                                   overall_of_row, row) for row in self.rows(Overall)}
+
+    @cached_property
+    def ranges(self) -> dict[str, EndTemperatures]:
+        """The real ends of the utilities that have some."""
+        return {row.utility: self.resolved(f'#range of {row.utility}', self.range_of, row)
+                for row in self.rows(UtilityRange)}
+
+    def rows(self, kind: type[Row]) -> list[Row]:
+        """The rows of a kind; `Refused` where one names a source that is not in the case."""
+        found = [row for row in self.case.basis.cost_rows if isinstance(row, kind)]
+        known = {source.name for source in self.case.sources}
+        for row in found:
+            for name in names_of(row):
+                if name and name not in known:
+                    raise refused(f'#{kind.__name__.lower()} of {name}', 'the case has no such source')
+        return found
+
+    def resolved(self, what: str, reading: Callable[[Row], Result], row: Row) -> Result:
+        try:
+            return reading(row)
+        except (NoUnit, UnknownUnit) as fault:
+            raise refused(what, str(fault)) from fault
+
+    def range_of(self, row: UtilityRange) -> EndTemperatures:
+        utility = self.case.source(row.utility)
+        if not isinstance(utility, Utility):
+            raise refused(f'#range of {row.utility}', 'it is no utility')
+        unit = unit_of(row.unit, Kind.TEMPERATURE)
+        ends = EndTemperatures(unit.exact(row.supply), unit.exact(row.target))
+        if (ends.inlet > ends.outlet) != (utility.side is Side.HOT):
+            way = 'cools down' if utility.side is Side.HOT else 'warms up'
+            raise refused(f'#range of {row.utility}', f'a {utility.side.value} utility {way}: supply {row.supply}, '
+                          f'target {row.target}')
+        return ends
+
+    def ends(self, source: Source) -> EndTemperatures:
+        """Where a source enters and leaves; `Refused` of a utility that the program added, since it is none of a
+        plant."""
+        if isinstance(source, Stream):
+            return EndTemperatures(Fraction(source.supply), Fraction(source.target))
+        if source.invented:
+            row = 'heater' if source.side is Side.HOT else 'cooler'
+            raise refused(source.name, f'the program added this utility, and it has no temperature of a plant: enter '
+                          f'a row `{row},NAME,LEVEL,LEAST,MOST,PRICE,`')
+        return self.ranges.get(source.name) or EndTemperatures(Fraction(source.level), Fraction(source.level))
+
+    def resistance(self, source: Source) -> Fraction:
+        """The resistance of a source's film, in m² K/W."""
+        if source.name not in self.films:
+            raise missing(f'the film coefficient of {source.name}', f'#film,{source.name},VALUE,kW/m2K,,,')
+        return self.films[source.name]
+
+    def coefficient(self, hot: Source, cold: Source) -> Fraction:
+        """The overall coefficient of a pair in W/(m² K): the one that is given for it, or that of both films."""
+        for pair in ((hot.name, cold.name), (hot.name, ''), ('', cold.name), ('', '')):
+            if pair in self.overalls:
+                return self.overalls[pair]
+        return 1 / (self.resistance(hot) + self.resistance(cold))
+
+    def law(self, service: Service, materials: str = '') -> CostLaw:
+        """The cost law of a kind of exchangers, of a material or of two, as `X+Y`."""
+        names = {materials, '+'.join(reversed(materials.split('+')))}
+        laws = [row for row in self.rows(CostLaw) if row.material in names and row.service in (service, None)]
+        if not laws:
+            kind = service.value + (f' of {materials}' if materials else '')
+            raise missing(f'the cost law of a {kind}', f'#law,{service.value},{materials},FIXED,FACTOR,EXPONENT,m2')
+        return next((law for law in laws if law.service is service), laws[0])
+
+    def materials(self, hot: Source, cold: Source) -> str:
+        """The material of an exchanger of two sources: empty, one, or two."""
+        found = {row.source: row.material for row in self.rows(Material)}
+        both = sorted({found[source.name] for source in (hot, cold) if source.name in found})
+        return '+'.join(both)
+
+    def build(self, service: Service) -> Build:
+        """How exchangers of a kind are built."""
+        builds = [row for row in self.rows(Build) if row.service in (service, None)]
+        if not builds:
+            raise missing(f'how a {service.value} is built', '#build,,counter-current,,,,exchanger')
+        return next((build for build in builds if build.service is service), builds[0])
+
+    @cached_property
+    def capital(self) -> Capital:
+        found = self.rows(Capital)
+        if not found:
+            raise missing('the money of the cost laws', '#capital,CURRENCY,INSTALLATION FACTOR,,,,')
+        return found[0]
+
+    @cached_property
+    def annual(self) -> Annual:
+        found = self.rows(Annual)
+        if not found:
+            raise missing('how a capital becomes a cost a year', '#annual,recovery,INTEREST,YEARS,HOURS A YEAR,,')
+        return found[0]
+
+    @cached_property
+    def annual_factor(self) -> Fraction:
+        """What of a capital is a cost of a year."""
+        annual = self.annual
+        if annual.form is AnnualForm.FACTOR:
+            return annual.rate
+        grown = (1 + annual.rate) ** annual.years
+        if annual.form is AnnualForm.COMPOUND:
+            return grown / annual.years
+        return annual.rate * grown / (grown - 1) if annual.rate else Fraction(1, annual.years)
+
+    @cached_property
+    def year_of_cost(self) -> Fraction:
+        """What a cost of the program, price times W, is a year in the money of the capital."""
+        basis = self.case.basis
+        money, _, time = basis.cost_unit.replace('per ', '/').partition('/')
+        if time not in ('a', 'h') or money == 'price times W':
+            raise refused('the prices', 'they have no unit, so their cost has none that could be added to a capital: '
+                          'enter rows `#price,EUR/MWh,DIVISOR,,,,` and `#cost,EUR/h,DIVISOR,,,,`, or make the case of '
+                          'a table with a unit of prices')
+        fault = two_moneys(money.strip(), self.capital.currency)
+        if fault:
+            raise refused('the money of the prices', fault)
+        if time == 'h' and self.annual.hours is None:
+            raise missing('how many hours a year it is running', f'#annual,{self.annual.form.value},..,HOURS,,')
+        hours = self.annual.hours if time == 'h' and self.annual.hours else Fraction(1)
+        return hours / basis.cost_divisor / basis.scale
+
+    def watts(self, heat: int | Fraction) -> Fraction:
+        """A heat of the case as the plant has it."""
+        return Fraction(heat) / self.case.basis.scale
+
+
+def names_of(row: CostRow) -> tuple[str, ...]:
+    """The sources that a row names."""
+    match row:
+        case Film(source=name) | Material(source=name) | UtilityRange(utility=name):
+            return (name,)
+        case Overall(hot, cold):
+            return (hot, cold)
+    return ()
+
+
+def resistance_of(row: Film) -> Fraction:
+    film = 1 / (row.coefficient.value * coefficient_factor(row.coefficient.unit))
+    return film + (fouling_resistance(row.fouling.value, row.fouling.unit) if row.fouling else 0)
+
+
+def overall_of_row(row: Overall) -> Fraction:
+    return row.coefficient.value * coefficient_factor(row.coefficient.unit)
+
+
+def square_metres(value: Fraction, unit: str, what: str) -> Fraction:
+    """An area in m²; `Refused` where its unit is none."""
+    try:
+        return value * area_factor(unit)
+    except NoUnit as fault:
+        raise refused(what, str(fault)) from fault

@@ -1,0 +1,123 @@
+"""Targets of a case before it has a network: area, units, shells, capital and annual cost, at the uses of the utilities
+that `pinch flow` printed."""
+from __future__ import annotations
+
+from collections.abc import Iterator, Sequence
+from dataclasses import dataclass
+from fractions import Fraction
+
+from ..analysis.cuts import Piece, Region
+from ..analysis.least_units import RegionUnits, Units, least_units
+from ..formats.case import Side, Utility, actual
+from ..formats.cost_rows import Build, CostLaw, Flow, Service
+from ..program.answers import Cut, HeatFlow
+from ..program.run import CaseText, Pinch
+from .annual import AnnualCost, annual_cost, at_most, price_of, priced_parts
+from .area_target import AreaTarget, area_target, check_differences
+from .balanced import Carrier, intervals_of
+from .cost_data import CostData, EndTemperatures
+from .enclosure import Enclosure, total
+from .shells import Duty, correction_at, shells_of, whole_shells
+
+
+@dataclass(frozen=True)
+class ShellTarget:
+    """How many 1-2 shells a case needs, a real number for each region between its pinches and a whole one in all, and
+    the area that they have together, in m²."""
+
+    regions: tuple[Enclosure, ...]
+    shells: int
+    area: Enclosure
+
+
+@dataclass(frozen=True)
+class CostTarget:
+    """The targets of a case. `shells` is None where exchangers are counter-current; `remarks` is what they leave out."""
+
+    data: CostData
+    flow: HeatFlow
+    area: AreaTarget
+    units: int
+    shells: ShellTarget | None
+    parts: int
+    cost: AnnualCost
+    remarks: tuple[str, ...]
+
+    @property
+    def built_area(self) -> Enclosure:
+        """The area that is paid for: that of the shells where there are some."""
+        return self.shells.area if self.shells else self.area.area
+
+
+def cost_target(case: CaseText, pinch: Pinch | None = None) -> CostTarget | Cut:
+    """The targets of a case, or the proof that there is no heat flow. `Refused` where something is missing that they
+    need."""
+    units = least_units(case, pinch)
+    return units if isinstance(units, Cut) else target_of_units(CostData(units.case), units)
+
+
+def target_of_units(data: CostData, units: Units) -> CostTarget:
+    """The targets of a case whose answers are known."""
+    regions = units.at_pinches
+    area = area_target(data, {use.name: use.heat for use in units.flow.uses})
+    return priced_target(data, units.flow, area, [region.region for region in regions], units_in(regions))
+
+
+def units_in(regions: Sequence[RegionUnits]) -> int:
+    """The least units of the regions between the pinches together."""
+    return sum(region.least for region in regions)
+
+
+def priced_target(data: CostData, flow: HeatFlow, area: AreaTarget, regions: Sequence[Region], units: int) -> CostTarget:
+    """The targets with their price: the area is spread evenly, as in the books, which is the dearest way where the
+    exponent of the law is below 1."""
+    build, law = data.build(Service.EXCHANGER), data.law(Service.EXCHANGER)
+    shells = shell_target(data, build, regions, units) if build.flow is Flow.ONE_TWO else None
+    built = shells.area if shells else area.area
+    parts = priced_parts(build, units, max(shells.shells if shells else units, at_most(build, built)))
+    capital = price_of(data, law, built, parts)
+    return CostTarget(data, flow, area, units, shells, parts, annual_cost(data, capital, flow.cost),
+                      tuple(left_out(data, law, build)))
+
+
+def shell_target(data: CostData, build: Build, regions: Sequence[Region], units: int) -> ShellTarget:
+    """The shells on each side of each pinch, rounded up there, and at least one a unit."""
+    assert build.part is not None
+    counts: list[Enclosure] = []
+    areas: list[Enclosure] = []
+    for region in regions:
+        shells: list[Enclosure] = []
+        for interval in intervals_of([carrier_of(data, piece) for piece in region.pieces]):
+            check_differences(interval)
+            duty = Duty(interval.hot, interval.cold)
+            shells.append(shells_of(duty, build.part) * (interval.sources - 1))
+            area = interval.heat * interval.resistance / duty.mean
+            areas.append(area if duty.flat else area / correction_at(duty.ratio, build.part))
+        counts.append(total(shells))
+    area = total(areas)
+    whole = sum(whole_shells(count) for count in counts)
+    return ShellTarget(tuple(counts), max(whole, units, at_most(build, area)), area)
+
+
+def carrier_of(data: CostData, piece: Piece) -> Carrier:
+    """A piece of a source with its actual ends; a utility has its own."""
+    source = piece.source
+    if isinstance(source, Utility):
+        ends = data.ends(source)
+    else:
+        high, low = (Fraction(actual(source, end)) for end in (piece.high, piece.low))
+        ends = EndTemperatures(high, low) if source.side is Side.HOT else EndTemperatures(low, high)
+    return Carrier(source, ends, data.watts(piece.heat), data.resistance(source))
+
+
+def left_out(data: CostData, law: CostLaw, build: Build) -> Iterator[str]:
+    """What the case says and a target cannot use, since it has no exchangers yet."""
+    others = [row for row in data.rows(CostLaw) if row is not law]
+    if others:
+        told = ', '.join(' '.join(word for word in (row.service.value if row.service else 'all', row.material) if word)
+                         for row in others)
+        yield f'the cost laws of {told} are those of single exchangers: the target has the one law for all of its area'
+    if [row for row in data.rows(Build) if row is not build]:
+        yield 'the target has all exchangers built as those between streams'
+    if data.overalls:
+        yield 'overall coefficients of pairs are those of single exchangers: the target has the film coefficients'

@@ -1,0 +1,38 @@
+"""The logarithmic mean of two differences, without cancellation where they are nearly equal."""
+from __future__ import annotations
+
+from fractions import Fraction
+
+from .enclosure import PRECISION, Enclosure, Number, between, enclosed, logarithm
+
+# Below this square of (a - b) / (a + b) a difference of logarithms loses digits, and a series is short.
+NEAR = Fraction(1, 400)
+
+
+def log_mean(first: Number, second: Number) -> Enclosure:
+    """The logarithmic mean of two differences above 0; a `ValueError` where one is not."""
+    if first <= 0 or second <= 0:
+        raise ValueError('a difference is not above 0')
+    if first == second:
+        return enclosed(first)
+    part = Fraction(first - second) / (first + second)
+    if part ** 2 < NEAR:
+        return enclosed(Fraction(first + second) / 2) / series(part ** 2)
+    return enclosed(Fraction(first - second)) / logarithm(Fraction(first) / second)
+
+
+def series(square: Fraction) -> Enclosure:
+    """artanh(p) / p by the square of p: the sum of square^k / (2k + 1), and what is left of it."""
+    bits = square.denominator.bit_length() - square.numerator.bit_length()
+    terms = PRECISION // max(1, bits - 1) + 1
+    step, low, power = enclosed(square), enclosed(1), enclosed(1)
+    for term in range(1, terms):
+        power *= step
+        low += power / (2 * term + 1)
+    rest = power * step / (2 * terms + 1) / (1 - step)
+    return between(low, low + rest)
+
+
+def log_mean_between(first: Enclosure, second: Enclosure) -> Enclosure:
+    """The logarithmic mean of two enclosures above 0: it rises with both."""
+    return between(log_mean(first.low, second.low), log_mean(first.high, second.high))

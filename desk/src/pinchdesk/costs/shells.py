@@ -1,0 +1,91 @@
+"""Exchangers of 1-2 shells: how many are needed so that each reaches a part X of the greatest effectiveness that it can
+have, and by what their area is more than that of counter-current (Ahmad, Linnhoff and Smith 1988).
+
+With P and R of the whole, s = √(R² + 1) and D = R + 1 + s the books have two formulas, for R = 1 and for other R; with
+logarithmic means there is one, without cancellation. Hot and cold may be exchanged: R becomes 1/R and P becomes PR."""
+from __future__ import annotations
+
+from dataclasses import dataclass
+from fractions import Fraction
+from math import ceil
+
+from .cost_data import EndTemperatures
+from .enclosure import Enclosure, enclosed, logarithm, power, square_root
+from .log_mean import log_mean, log_mean_between
+
+
+@dataclass(frozen=True)
+class Duty:
+    """The four ends of an exchanger, or of an interval: temperatures in tenths of °C with differences above 0."""
+
+    hot: EndTemperatures
+    cold: EndTemperatures
+
+    @property
+    def flat(self) -> bool:
+        """Whether a side has one temperature, so that the order of flow changes nothing."""
+        return self.hot.high == self.hot.low or self.cold.high == self.cold.low
+
+    @property
+    def ratio(self) -> Fraction:
+        """R: what the hot side cools down for each K that the cold one warms up."""
+        return (self.hot.high - self.hot.low) / (self.cold.high - self.cold.low)
+
+    @property
+    def effectiveness(self) -> Fraction:
+        """P: what the cold side warms up of what it could."""
+        return (self.cold.high - self.cold.low) / (self.hot.high - self.cold.low)
+
+    @property
+    def mean(self) -> Enclosure:
+        """The logarithmic mean of its differences, in K."""
+        return log_mean((self.hot.high - self.cold.high) / 10, (self.hot.low - self.cold.low) / 10)
+
+
+def shells_of(duty: Duty, part: Fraction) -> Enclosure:
+    """How many shells are needed, a real number; 0 where a side is flat, since its order of flow changes nothing. It
+    adds up along a straight piece, however that is cut."""
+    if duty.flat:
+        return enclosed(0)
+    ratio = duty.ratio
+    base = ratio + 1 + square_root(ratio ** 2 + 1)
+    warmed = (duty.cold.high - duty.cold.low) / 10
+    mean = log_mean_between(base - 2 * ratio * part, base - 2 * part)
+    return warmed * mean / (2 * part * duty.mean)
+
+
+def whole_shells(shells: Enclosure) -> int:
+    """So many shells, and at least one. Where the number is whole as far as its digits tell it is taken as whole."""
+    nearest = round(shells.middle)
+    return max(1, nearest if nearest in shells else ceil(shells.high))
+
+
+def correction(duty: Duty, shells: int) -> Enclosure | None:
+    """Ft of so many shells in series, by which the logarithmic mean is multiplied; None where they cannot do it."""
+    if duty.flat:
+        return enclosed(1)
+    whole, ratio = duty.effectiveness, duty.ratio
+    step = power((1 - ratio * whole) / (1 - whole), Fraction(1, shells))
+    ladder, rung = enclosed(1), enclosed(1)
+    for _ in range(shells - 1):
+        rung *= step
+        ladder += rung
+    return factor_at(whole / (whole + (1 - whole) * ladder), ratio)
+
+
+def correction_at(ratio: Fraction, part: Fraction) -> Enclosure:
+    """Ft of a shell that reaches this part of the greatest effectiveness: that of a target, whose shells are real
+    numbers, so that it does not depend on where curves are cut."""
+    factor = factor_at(2 * part / (ratio + 1 + square_root(ratio ** 2 + 1)), ratio)
+    assert factor is not None
+    return factor
+
+
+def factor_at(effectiveness: Enclosure, ratio: Fraction) -> Enclosure | None:
+    """Ft of one shell; None where it cannot reach this effectiveness."""
+    root = square_root(ratio ** 2 + 1)
+    left, below = 2 - effectiveness * (ratio + 1 - root), 2 - effectiveness * (ratio + 1 + root)
+    if below.low <= 0:
+        return None
+    mean = log_mean_between(1 - effectiveness, 1 - effectiveness * ratio)
+    return root * effectiveness / (mean * logarithm(left / below))

@@ -1,0 +1,66 @@
+"""Cases with areas and money, in the short form of a line for each source: name, supply, target, CP in kW/K and film
+coefficient in kW/m²K."""
+from __future__ import annotations
+
+from collections.abc import Iterable
+
+LARGE = 10 ** 12
+
+
+def tenths(text: str) -> str:
+    whole = round(float(text) * 10)
+    assert abs(whole - float(text) * 10) < 1e-9
+    return str(whole)
+
+
+def stream_rows(line: str) -> list[str]:
+    """`H1 150 50 2 0.5`, in °C, kW/K and kW/m²K; the film may be left out."""
+    name, supply, target, flow, *film = line.split()
+    side = 'hot' if float(supply) > float(target) else 'cold'
+    size = round(float(flow) * 100)
+    assert abs(size - float(flow) * 100) < 1e-9
+    return [f'{side},{name},{tenths(supply)},{tenths(target)},{size},,', *film_rows(name, film)]
+
+
+def utility_rows(line: str, side: str) -> list[str]:
+    """`S 200 200 100 2`: a utility with its ends in °C, a price per kW and year, and its film; a level has both ends
+    alike. `S/0` has a contribution of its own, in K."""
+    called, supply, target, price, *film = line.split()
+    name, _, own = called.partition('/')
+    ranged = [] if supply == target else [f'#range,{name},{supply},{target},C,,']
+    return [f'{side},{name},{tenths(supply)},0,{LARGE},{round(float(price) * 1000)},{own and tenths(own)}',
+            *ranged, *film_rows(name, film)]
+
+
+def film_rows(name: str, film: Iterable[str]) -> list[str]:
+    return [f'#film,{name},{value},kW/m2K,,,' for value in film]
+
+
+def costed_case(difference: float, streams: str, heaters: str, coolers: str, *rows: str) -> str:
+    """A case at a least difference in K. Prices are per kW and year in `$`; streams and utilities stand in lines or
+    between commas."""
+    made = ['#price,$/(kW a),1000,,,,', '#cost,$/a,1000000,,,,', f'contribution,,{round(difference * 5)},,,,']
+    for text, reading in ((streams, stream_rows), (heaters, heater_rows), (coolers, cooler_rows)):
+        for line in text.replace('\n', ',').split(','):
+            if line.strip():
+                made += reading(line)
+    return '\n'.join([*made, *rows]) + '\n'
+
+
+def heater_rows(line: str) -> list[str]:
+    return utility_rows(line, 'heater')
+
+
+def cooler_rows(line: str) -> list[str]:
+    return utility_rows(line, 'cooler')
+
+
+def law_rows(fixed: str, factor: str, exponent: str, *annual: str, flow: str = 'counter-current') -> tuple[str, ...]:
+    """A cost law for all, how exchangers are built, and what a year costs."""
+    part = '0.9' if flow == '1-2' else ''
+    return (f'#law,,,{fixed},{factor},{exponent},m2', f'#build,,{flow},{part},,,' + ('shell' if part else 'exchanger'),
+            '#capital,$,1,,,,', '#annual,' + ','.join([*annual, '', '', '', '', ''][:6]))
+
+
+SMALL = costed_case(10, 'H 150 50 2 0.5, C 40 160 1.5 0.4', 'S 200 200 100 2', 'W 20 30 10 1',
+                    *law_rows('10000', '400', '0.8', 'recovery', '0.1', '5'))
