@@ -14,16 +14,19 @@ from ..formats.shown import decimal
 from .balanced import Carrier, HeatInterval, carriers, intervals_of
 from .cost_data import CostData, refused
 from .enclosure import Enclosure, total
-from .log_mean import log_mean
+from .log_mean import log_mean, over_log_mean
 
 
 @dataclass(frozen=True)
 class IntervalArea:
-    """An interval of heat with its area in m², and the logarithmic mean of its differences in K."""
+    """An interval of heat with its area in m²; `mean` is the logarithmic mean of its differences in K."""
 
     interval: HeatInterval
-    mean: Enclosure
     area: Enclosure
+
+    @property
+    def mean(self) -> Enclosure:
+        return log_mean(self.interval.warm_end, self.interval.cold_end)
 
 
 @dataclass(frozen=True)
@@ -49,8 +52,8 @@ def target_of(members: Sequence[Carrier]) -> AreaTarget:
 
 def interval_area(interval: HeatInterval) -> IntervalArea:
     check_differences(interval)
-    mean = log_mean(interval.warm_end, interval.cold_end)
-    return IntervalArea(interval, mean, interval.heat * interval.resistance / mean)
+    needed = interval.heat * interval.resistance
+    return IntervalArea(interval, over_log_mean(needed, interval.warm_end, interval.cold_end))
 
 
 def check_differences(interval: HeatInterval) -> None:

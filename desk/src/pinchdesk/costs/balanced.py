@@ -1,5 +1,5 @@
-"""Balanced composite curves: all hot and all cold sources, utilities with their uses, over one axis of heat, cut at each
-corner of either curve. Temperatures are actual, in tenths of °C; heats in W of the plant; all of it exact."""
+"""Balanced composite curves: all hot and all cold sources, utilities with their uses, over one axis of heat, cut at
+each corner of either curve. Temperatures are actual, in tenths of °C; heats in W of the plant; all of it exact."""
 from __future__ import annotations
 
 from collections.abc import Iterable, Iterator, Mapping, Sequence
@@ -125,11 +125,19 @@ def intervals_of(members: Sequence[Carrier]) -> tuple[HeatInterval, ...]:
 
 def merged_pieces(hot: Sequence[CurvePiece], cold: Sequence[CurvePiece]) -> Iterator[HeatInterval]:
     place, upper, lower = Fraction(0), 0, 0
+    warm, cool = (curve[0].low if curve else Fraction(0) for curve in (hot, cold))
     while upper < len(hot) and lower < len(cold):
         above, below = hot[upper], cold[lower]
-        end = min(above.end, below.end)
-        if end > place:
-            yield HeatInterval(place, end, EndTemperatures(above.at(end), above.at(place)),
-                               EndTemperatures(below.at(place), below.at(end)), above.resistance + below.resistance,
-                               above.sources + below.sources)
-        place, upper, lower = end, upper + (above.end == end), lower + (below.end == end)
+        is_last_above, is_last_below = above.end <= below.end, below.end <= above.end
+        end = above.end if is_last_above else below.end
+        warmer = above.high if is_last_above else above.at(end)
+        cooler = below.high if is_last_below else below.at(end)
+        yield HeatInterval(place, end, EndTemperatures(warmer, warm), EndTemperatures(cool, cooler),
+                           above.resistance + below.resistance, above.sources + below.sources)
+        place, warm, cool = end, warmer, cooler
+        if is_last_above:
+            upper += 1
+            warm = hot[upper].low if upper < len(hot) else warm
+        if is_last_below:
+            lower += 1
+            cool = cold[lower].low if lower < len(cold) else cool

@@ -125,8 +125,8 @@ class CostData:
         names = {materials, '+'.join(reversed(materials.split('+')))}
         laws = [row for row in self.rows(CostLaw) if row.material in names and row.service in (service, None)]
         if not laws:
-            kind = service.value + (f' of {materials}' if materials else '')
-            raise missing(f'the cost law of a {kind}', f'#law,{service.value},{materials},FIXED,FACTOR,EXPONENT,m2')
+            kind = said_of(service) + (f' of {materials}' if materials else '')
+            raise missing(f'the cost law of {kind}', f'#law,{service.value},{materials},FIXED,FACTOR,EXPONENT,m2')
         return next((law for law in laws if law.service is service), laws[0])
 
     def materials(self, hot: Source, cold: Source) -> str:
@@ -139,7 +139,7 @@ class CostData:
         """How exchangers of a kind are built."""
         builds = [row for row in self.rows(Build) if row.service in (service, None)]
         if not builds:
-            raise missing(f'how a {service.value} is built', '#build,,counter-current,,,,exchanger')
+            raise missing(f'how {said_of(service)} is built', '#build,,counter-current,,,,exchanger')
         return next((build for build in builds if build.service is service), builds[0])
 
     @cached_property
@@ -187,6 +187,10 @@ class CostData:
     def watts(self, heat: int | Fraction) -> Fraction:
         """A heat of the case as the plant has it."""
         return Fraction(heat) / self.case.basis.scale
+
+
+def said_of(service: Service) -> str:
+    return ('an ' if service is Service.EXCHANGER else 'a ') + service.value
 
 
 def names_of(row: CostRow) -> tuple[str, ...]:

@@ -14,7 +14,7 @@ from ..program.answers import Cut, HeatFlow
 from ..program.run import CaseText, Pinch
 from .annual import AnnualCost, annual_cost, at_most, price_of, priced_parts
 from .area_target import AreaTarget, area_target, check_differences
-from .balanced import Carrier, intervals_of
+from .balanced import Carrier, HeatInterval, intervals_of
 from .cost_data import CostData, EndTemperatures
 from .enclosure import Enclosure, total
 from .shells import Duty, correction_at, shells_of, whole_shells
@@ -22,8 +22,8 @@ from .shells import Duty, correction_at, shells_of, whole_shells
 
 @dataclass(frozen=True)
 class ShellTarget:
-    """How many 1-2 shells a case needs, a real number for each region between its pinches and a whole one in all, and
-    the area that they have together, in m²."""
+    """How many 1-2 shells a case needs: a real number for each region between its pinches, a whole one in all, and the
+    area that they have together, in m²."""
 
     regions: tuple[Enclosure, ...]
     shells: int
@@ -32,7 +32,7 @@ class ShellTarget:
 
 @dataclass(frozen=True)
 class CostTarget:
-    """The targets of a case. `shells` is None where exchangers are counter-current; `remarks` is what they leave out."""
+    """The targets of a case. `shells` is None where exchangers are counter-current; `remarks` say what is left out."""
 
     data: CostData
     flow: HeatFlow
@@ -68,11 +68,12 @@ def units_in(regions: Sequence[RegionUnits]) -> int:
     return sum(region.least for region in regions)
 
 
-def priced_target(data: CostData, flow: HeatFlow, area: AreaTarget, regions: Sequence[Region], units: int) -> CostTarget:
+def priced_target(data: CostData, flow: HeatFlow, area: AreaTarget, regions: Sequence[Region],
+                  units: int) -> CostTarget:
     """The targets with their price: the area is spread evenly, as in the books, which is the dearest way where the
     exponent of the law is below 1."""
     build, law = data.build(Service.EXCHANGER), data.law(Service.EXCHANGER)
-    shells = shell_target(data, build, regions, units) if build.flow is Flow.ONE_TWO else None
+    shells = shell_target(data, build, area, regions, units) if build.flow is Flow.ONE_TWO else None
     built = shells.area if shells else area.area
     parts = priced_parts(build, units, max(shells.shells if shells else units, at_most(build, built)))
     capital = price_of(data, law, built, parts)
@@ -80,23 +81,29 @@ def priced_target(data: CostData, flow: HeatFlow, area: AreaTarget, regions: Seq
                       tuple(left_out(data, law, build)))
 
 
-def shell_target(data: CostData, build: Build, regions: Sequence[Region], units: int) -> ShellTarget:
+def shell_target(data: CostData, build: Build, area: AreaTarget, regions: Sequence[Region],
+                 units: int) -> ShellTarget:
     """The shells on each side of each pinch, rounded up there, and at least one a unit."""
     assert build.part is not None
     counts: list[Enclosure] = []
-    areas: list[Enclosure] = []
     for region in regions:
-        shells: list[Enclosure] = []
-        for interval in intervals_of([carrier_of(data, piece) for piece in region.pieces]):
-            check_differences(interval)
-            duty = Duty(interval.hot, interval.cold)
-            shells.append(shells_of(duty, build.part) * (interval.sources - 1))
-            area = interval.heat * interval.resistance / duty.mean
-            areas.append(area if duty.flat else area / correction_at(duty.ratio, build.part))
-        counts.append(total(shells))
-    area = total(areas)
+        intervals = intervals_of([carrier_of(data, piece) for piece in region.pieces])
+        counts.append(total(shells_of(duty_of_interval(interval), build.part) * (interval.sources - 1)
+                            for interval in intervals))
+    built = one_two_area(area, build.part)
     whole = sum(whole_shells(count) for count in counts)
-    return ShellTarget(tuple(counts), max(whole, units, at_most(build, area)), area)
+    return ShellTarget(tuple(counts), max(whole, units, at_most(build, built)), built)
+
+
+def one_two_area(area: AreaTarget, part: Fraction) -> Enclosure:
+    """The area of a target in 1-2 shells, each of which reaches this part of the greatest effectiveness."""
+    return total(interval.area if duty.flat else interval.area / correction_at(duty.ratio, part)
+                 for interval in area.intervals for duty in [duty_of_interval(interval.interval)])
+
+
+def duty_of_interval(interval: HeatInterval) -> Duty:
+    check_differences(interval)
+    return Duty(interval.hot, interval.cold)
 
 
 def carrier_of(data: CostData, piece: Piece) -> Carrier:

@@ -1,8 +1,8 @@
 """Enclosures: two numbers between which another one lies for certain.
 
 Heats and temperatures are fractions, and what decides is decided in them; a logarithm or a power is enclosed last. The
-arithmetic is mpmath's of intervals, by its functions that are told the precision (`mpmath.iv` has one for everybody, and
-takes the float 0.6 for three fifths)."""
+arithmetic is mpmath's of intervals, by its functions that are told the precision (`mpmath.iv` has one for everybody,
+and takes the float 0.6 for three fifths)."""
 from __future__ import annotations
 
 from collections.abc import Iterable
@@ -81,8 +81,8 @@ class Enclosure:
 
 def fraction_of(end: Any) -> Fraction:
     sign, mantissa, exponent, _ = end
-    number = Fraction(int(mantissa)) * Fraction(2) ** exponent
-    return -number if sign else number
+    above = -int(mantissa) if sign else int(mantissa)
+    return Fraction(above << exponent) if exponent >= 0 else Fraction(above, 1 << -exponent)
 
 
 def ends_of(number: Enclosure | Number) -> Any:

@@ -21,6 +21,14 @@ def log_mean(first: Number, second: Number) -> Enclosure:
     return enclosed(Fraction(first - second)) / logarithm(Fraction(first) / second)
 
 
+def over_log_mean(number: Number, first: Number, second: Number) -> Enclosure:
+    """An exact number over the logarithmic mean of two differences above 0."""
+    gap = Fraction(first - second)
+    if first <= 0 or second <= 0 or (gap / (first + second)) ** 2 < NEAR:
+        return enclosed(number) / log_mean(first, second)
+    return number / gap * logarithm(Fraction(first) / second)
+
+
 def series(square: Fraction) -> Enclosure:
     """artanh(p) / p by the square of p: the sum of square^k / (2k + 1), and what is left of it."""
     bits = square.denominator.bit_length() - square.numerator.bit_length()

@@ -310,7 +310,7 @@ def fields_of(row: CostRow) -> Sequence[object]:
         case Build(service, flow, part, most, per):
             return '#build', service and service.value, flow.value, part, *pair(most), per.value
         case Capital(currency, installation, index):
-            ratio = [None, None] if index == 1 else [index, 1]
+            ratio: Sequence[object] = () if index == 1 else (index, 1)
             return '#capital', plain(currency), installation, *ratio
         case Annual(form, rate, years, hours):
             return '#annual', form.value, rate, years or None, hours

@@ -60,6 +60,15 @@ def flow_of(text: str) -> HeatFlow | Cut:
     return HeatFlow(int(one(lines, 'cost')), uses, moves_of(lines), gives, takes, text)
 
 
+def uses_of(text: str) -> HeatFlow | Cut:
+    """The cost and the uses of a heat flow alone, without its transfers and prices."""
+    if text.startswith('infeasible'):
+        return flow_of(text)
+    lines = lines_of(text[:max(0, text.find('\nmove '))] or text)
+    uses = tuple(Use(name, int(heat)) for name, heat in those(lines, 'use'))
+    return HeatFlow(int(one(lines, 'cost')), uses, (), (), (), text)
+
+
 def curves_of(text: str) -> Curves:
     lines = lines_of(text)
     hot, cold, net = (points_of(lines, word) for word in ('hot', 'cold', 'net'))

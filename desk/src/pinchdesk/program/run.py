@@ -75,6 +75,10 @@ class Pinch:
         """A heat flow of least cost with its proof, or the proof that there is none."""
         return self.answer(printed.flow_of, ['flow', 'case'], {'case': case_bytes(case)})
 
+    def uses(self, case: CaseText) -> HeatFlow | Cut:
+        """As `flow`, but with the cost and the uses alone: for many of them."""
+        return self.answer(printed.uses_of, ['flow', 'case'], {'case': case_bytes(case)})
+
     def curves(self, case: CaseText) -> Curves:
         """The composite curves and the grand one."""
         return self.answer(printed.curves_of, ['curves', 'case'], {'case': case_bytes(case)})

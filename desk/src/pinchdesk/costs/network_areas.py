@@ -1,0 +1,208 @@
+"""Areas and costs of the exchangers of a network, beside the targets at its own uses of the utilities.
+
+Only an accepted network has them. A utility that the case has at one level, and a comment with its real ends, is taken
+with these: where an exchanger then comes closer than its approach, that is said beside the verdict."""
+from __future__ import annotations
+
+from collections.abc import Iterator, Sequence
+from dataclasses import dataclass, replace
+from fractions import Fraction
+from functools import cached_property
+
+from ..analysis.findings import headline
+from ..analysis.follow import Passage, SideState, follow
+from ..errors import DeskError
+from ..formats.case import Case, Utility, completed, read_case
+from ..formats.cost_rows import Flow, Service
+from ..formats.network import Network, read_network
+from ..formats.shown import decimal
+from ..program.run import CaseText, NetworkText, Pinch
+from ..program.verdicts import Accepted, Rejected, TooFine, ending
+from .annual import AnnualCost, annual_cost, at_most, price_of, priced_parts
+from .area_target import AreaTarget, area_target
+from .cost_data import CostData, EndTemperatures, refused
+from .enclosure import Enclosure, total
+from .log_mean import log_mean
+from .shells import Duty, correction, shells_of, whole_shells
+
+# Of so many of the costliest exchangers it is said what a kelvin would gain.
+COSTLIEST = 5
+
+
+class NoAreas(DeskError):
+    """The network is not accepted: what is said of it, and its verdict."""
+
+    def __init__(self, told: str, verdict: Rejected | TooFine) -> None:
+        super().__init__(f'the network is {told}: only an accepted one has areas')
+        self.status, self.no = ending([verdict])
+
+
+@dataclass(frozen=True)
+class ApproachFault:
+    """An exchanger that comes closer than its approach once its utilities have their real ends: in K."""
+
+    exchanger: str
+    end: str
+    found: Fraction
+    wanted: Fraction
+
+    def __str__(self) -> str:
+        return f'exchanger {self.exchanger}: at its {self.end} end the difference is {decimal(self.found, 2)} K with ' \
+               f'the real ends of its utility, and {decimal(self.wanted, 2)} K are needed'
+
+
+@dataclass(frozen=True)
+class ExchangerArea:
+    """An exchanger with its area in m². `duty` is in W of the plant, `coefficient` in W/(m² K), `mean` in K; `factor`
+    is Ft, 1 where the flow is counter-current or a side is flat. `gain` is by how much its cost of a year would fall
+    with 1 K more at both of its ends."""
+
+    name: str
+    service: Service
+    ends: Duty
+    duty: Fraction
+    coefficient: Fraction
+    mean: Enclosure
+    factor: Enclosure
+    shells: int
+    area: Enclosure
+    price: Enclosure
+    gain: Enclosure | None = None
+
+
+@dataclass(frozen=True)
+class NetworkAreas:
+    """The exchangers of an accepted network, in their order, with the sums; `target` is the formula's area at the uses
+    of this network, None where the case has no films for it."""
+
+    data: CostData
+    verdict: Accepted
+    exchangers: tuple[ExchangerArea, ...]
+    cost: AnnualCost
+    target: AreaTarget | None
+    faults: tuple[ApproachFault, ...]
+
+    @cached_property
+    def area(self) -> Enclosure:
+        return total(exchanger.area for exchanger in self.exchangers)
+
+    @property
+    def shells(self) -> int:
+        return sum(exchanger.shells for exchanger in self.exchangers)
+
+    @property
+    def efficiency(self) -> Enclosure | None:
+        """The target's area over that of the network, at the same uses."""
+        return self.target.area / self.area if self.target else None
+
+    @property
+    def costliest(self) -> tuple[ExchangerArea, ...]:
+        """The exchangers of which it is said what a kelvin would gain, the costliest first."""
+        gaining = [exchanger for exchanger in self.exchangers if exchanger.gain]
+        return tuple(sorted(gaining, key=lambda exchanger: -exchanger.price.middle))
+
+
+def network_areas(case: CaseText, network: NetworkText, pinch: Pinch | None = None) -> NetworkAreas:
+    """The areas of a network; `NoAreas` where it is not accepted, `Refused` where something is missing that they
+    need."""
+    whole = completed(case if isinstance(case, Case) else read_case(case))
+    statements = network if isinstance(network, Network) else read_network(network)
+    verdict = (pinch or Pinch()).audit(whole, statements)
+    followed = follow(whole, statements)
+    if not isinstance(verdict, Accepted):
+        raise NoAreas(headline(followed, verdict), verdict)
+    return areas_of(CostData(whole), followed.passages, verdict)
+
+
+def areas_of(data: CostData, passages: Sequence[Passage], verdict: Accepted) -> NetworkAreas:
+    """The areas of the exchangers of an accepted network."""
+    faults = tuple(fault for passage in passages for fault in approach_faults(data, passage))
+    exchangers = [exchanger_area(data, passage, duty_of(data, passage)) for passage in passages]
+    costliest = sorted(range(len(exchangers)), key=lambda at: -exchangers[at].price.middle)[:COSTLIEST]
+    for at in costliest:
+        exchangers[at] = with_gain(data, passages[at], exchangers[at])
+    capital = total(exchanger.price for exchanger in exchangers)
+    return NetworkAreas(data, verdict, tuple(exchangers), annual_cost(data, capital, verdict.cost),
+                        target_beside(data, passages), faults)
+
+
+def duty_of(data: CostData, passage: Passage) -> Duty:
+    return Duty(side_ends(data, passage.hot), side_ends(data, passage.cold))
+
+
+def side_ends(data: CostData, side: SideState) -> EndTemperatures:
+    """Where a side enters and leaves; a utility with real ends runs through all of them."""
+    if isinstance(side.source, Utility):
+        return data.ends(side.source)
+    assert side.inlet is not None and side.outlet is not None
+    return EndTemperatures(side.inlet, side.outlet)
+
+
+def differences(duty: Duty) -> tuple[tuple[str, Fraction], tuple[str, Fraction]]:
+    """The differences at the hot and at the cold end, in K."""
+    return (('hot', (duty.hot.inlet - duty.cold.outlet) / 10), ('cold', (duty.hot.outlet - duty.cold.inlet) / 10))
+
+
+def approach_faults(data: CostData, passage: Passage) -> Iterator[ApproachFault]:
+    """Where the real ends of a utility come closer than the approach."""
+    wanted = Fraction(passage.approach, 10)
+    if any(side.source.name in data.ranges for side in (passage.hot, passage.cold)):
+        for end, found in differences(duty_of(data, passage)):
+            if found < wanted:
+                yield ApproachFault(passage.exchanger.name, end, found, wanted)
+
+
+def exchanger_area(data: CostData, passage: Passage, duty: Duty, warmer: int = 0) -> ExchangerArea:
+    """An exchanger with its area and its price. `warmer` is by how many K both differences are taken larger."""
+    name, hot, cold = passage.exchanger.name, passage.hot.source, passage.cold.source
+    for end, found in differences(duty):
+        if found <= 0:
+            raise refused(f'exchanger {name}', f'at its {end} end the difference is {decimal(found, 2)} K: no area is '
+                          'large enough')
+    service, heat = service_of(passage), data.watts(passage.exchanger.duty)
+    wide = Duty(EndTemperatures(duty.hot.inlet + 10 * warmer, duty.hot.outlet + 10 * warmer), duty.cold)
+    build, coefficient = data.build(service), data.coefficient(hot, cold)
+    shells, factor = 1, total([1])
+    if build.flow is Flow.ONE_TWO:
+        assert build.part is not None
+        shells = whole_shells(shells_of(wide, build.part))
+        found_factor = correction(wide, shells)
+        if found_factor is None:
+            raise refused(f'exchanger {name}', f'{shells} shells of 1-2 flow cannot do its duty: take it '
+                          'counter-current')
+        factor = found_factor
+    mean = log_mean(*(difference for _, difference in differences(wide)))
+    area = heat / (coefficient * factor * mean)
+    shells = max(shells, at_most(build, area))
+    price = price_of(data, data.law(service, data.materials(hot, cold)), area, priced_parts(build, 1, shells))
+    return ExchangerArea(name, service, duty, heat, coefficient, mean, factor, shells, area, price)
+
+
+def with_gain(data: CostData, passage: Passage, exchanger: ExchangerArea) -> ExchangerArea:
+    """The exchanger with what it would gain a year with 1 K more at both of its ends."""
+    wider = exchanger_area(data, passage, exchanger.ends, 1)
+    return replace(exchanger, gain=(exchanger.price - wider.price) * data.annual_factor)
+
+
+def service_of(passage: Passage) -> Service:
+    if isinstance(passage.hot.source, Utility):
+        return Service.HEATER
+    return Service.COOLER if isinstance(passage.cold.source, Utility) else Service.EXCHANGER
+
+
+def uses_in(passages: Sequence[Passage]) -> dict[str, Fraction]:
+    """What these exchangers have of each utility, in W of the case."""
+    uses: dict[str, Fraction] = {}
+    for passage in passages:
+        for side in (passage.hot, passage.cold):
+            if isinstance(side.source, Utility):
+                name = side.source.name
+                uses[name] = uses.get(name, Fraction(0)) + passage.exchanger.duty
+    return uses
+
+
+def target_beside(data: CostData, passages: Sequence[Passage]) -> AreaTarget | None:
+    """The formula's area at the uses of these exchangers; None where some film is not given."""
+    uses = uses_in(passages)
+    named = {source.name for source in data.case.streams} | set(uses)
+    return area_target(data, uses) if named <= set(data.films) else None

@@ -1,0 +1,212 @@
+"""Energy, area, units, shells and cost over the least difference (*supertargeting*): the uses are those that `pinch
+flow` printed at each difference, and between two of them the desk finds the least cost with uses in proportion, which
+is marked, since no answer of the program stands behind it."""
+from __future__ import annotations
+
+from collections.abc import Mapping, Sequence
+from concurrent.futures import ThreadPoolExecutor
+from dataclasses import dataclass, replace
+from fractions import Fraction
+
+from ..analysis.cuts import CutPlace, Region, cascade, regions, whole_pieces
+from ..analysis.independent_sets import Member, partition
+from ..errors import Refused, WordsError
+from ..formats.case import Case, Side, Utility, completed, read_case
+from ..formats.cost_rows import Flow, Service
+from ..program.answers import Cut, HeatFlow, Targets
+from ..program.run import CaseText, Pinch
+from .annual import AnnualCost, annual_cost, at_most, price_of, priced_parts
+from .area_target import area_target
+from .cost_data import CostData
+from .cost_target import one_two_area, priced_target
+from .enclosure import Enclosure
+
+# With more sources the independent sets would take longer than all the rest: units are then sources less one.
+MOST_IN_SETS = 16
+MOST_CONTRIBUTION, SEARCHED, WORKERS = 1000, 10, 4
+FLAT, FIFTH = Fraction(101, 100), Fraction(1, 5)
+
+
+@dataclass(frozen=True)
+class SupertargetPoint:
+    """The targets at a least difference in K: heats in W of the case, the area that is paid for in m². `found` where
+    the desk found it between two answers of the program."""
+
+    difference: Fraction
+    uses: Mapping[str, Fraction]
+    hot: Fraction
+    cold: Fraction
+    area: Enclosure
+    units: int
+    shells: int | None
+    parts: int
+    program_cost: Fraction
+    cost: AnnualCost
+    found: bool = False
+
+    def at_energy(self, factor: Fraction) -> Enclosure:
+        """The annual cost where energy costs so many times as much."""
+        return self.cost.capital_a_year + self.cost.energy * factor
+
+
+@dataclass(frozen=True)
+class LeastCost:
+    """The difference of least annual cost where energy costs `factor` times as much, and the least and the largest of
+    the differences beside it whose cost is within one per cent."""
+
+    factor: Fraction
+    point: SupertargetPoint
+    flat: tuple[Fraction, Fraction]
+
+    @property
+    def annual(self) -> Enclosure:
+        return self.point.at_energy(self.factor)
+
+
+@dataclass(frozen=True)
+class Supertarget:
+    """The points of a supertarget by rising difference, those at which there is no heat flow or the curves touch, and
+    the least with energy as it is, a fifth cheaper and a fifth dearer; `by_sets` where units are by independent sets,
+    else sources less one on each side of each pinch."""
+
+    data: CostData
+    points: tuple[SupertargetPoint, ...]
+    without: tuple[tuple[Fraction, str], ...]
+    least: LeastCost
+    cheaper: LeastCost
+    dearer: LeastCost
+    by_sets: bool
+
+
+def supertarget(case: CaseText, first: int, last: int, step: int, pinch: Pinch | None = None,
+                workers: int = WORKERS) -> Supertarget:
+    """The supertarget of a case over contributions from the first to the last one, in tenths of °C; own contributions
+    are shifted alike. `WordsError` where there is no such range, `Refused` where something is missing."""
+    whole = completed(case if isinstance(case, Case) else read_case(case))
+    asked = pinch or Pinch()
+    if not 0 <= first <= last <= MOST_CONTRIBUTION or step < 1:
+        raise WordsError('a supertarget goes from a least difference of at least 0 K to one of at most 200 K, in steps '
+                         'of at least 0.2 K')
+    data, by_sets = CostData(whole), len(whole.sources) <= MOST_IN_SETS
+    shifts = range(first, last + 1, step)
+    with ThreadPoolExecutor(workers) as pool:
+        answers = pool.map(lambda contribution: answers_at(asked, at_contribution(whole, contribution)), shifts)
+        found = [point_at(data, contribution, answer, by_sets) for contribution, answer in zip(shifts, answers)]
+    points = tuple(point for point in found if isinstance(point, SupertargetPoint))
+    without = tuple((Fraction(contribution, 5), point) for contribution, point in zip(shifts, found)
+                    if isinstance(point, str))
+    if not points:
+        raise Refused(3, 'case', 'no supertarget', f'case: no difference of the range has a cost: {without[0][1]}')
+    least, cheaper, dearer = (least_cost(data, points, 1 + change) for change in (Fraction(0), -FIFTH, FIFTH))
+    return Supertarget(data, points, without, least, cheaper, dearer, by_sets)
+
+
+def at_contribution(case: Case, contribution: int) -> Case:
+    """The case with another contribution; its sources keep what they have more or less than the case, down to 0."""
+    shift = contribution - case.contribution
+
+    def share(own: int) -> int:
+        return min(MOST_CONTRIBUTION, max(0, own + shift))
+    streams = tuple(replace(stream, contribution=share(stream.contribution)) for stream in case.streams)
+    utilities = tuple(replace(utility, contribution=share(utility.contribution)) for utility in case.utilities)
+    return replace(case, contribution=contribution, streams=streams, utilities=utilities)
+
+
+def answers_at(pinch: Pinch, case: Case) -> tuple[Case, Targets, HeatFlow] | None:
+    """A case with its answers; None where it has no heat flow."""
+    flow = pinch.uses(case)
+    return None if isinstance(flow, Cut) else (case, pinch.targets(case), flow)
+
+
+def point_at(data: CostData, contribution: int, answer: tuple[Case, Targets, HeatFlow] | None,
+             by_sets: bool) -> SupertargetPoint | str:
+    """The point of a contribution, or why there is none."""
+    if answer is None:
+        return 'there is no heat flow'
+    case, targets, flow = answer
+    uses = {use.name: use.heat for use in flow.uses}
+    try:
+        area = area_target(data, uses)
+    except Refused as fault:
+        if fault.place == 'case, the balanced curves':
+            return fault.text
+        raise
+    parts = cut_regions(case, targets, flow)
+    units = sum(units_of_region(region, by_sets) for region in parts)
+    target = priced_target(data, flow, area, parts, units)
+    return SupertargetPoint(Fraction(contribution, 5), {name: Fraction(heat) for name, heat in uses.items()},
+                            side_use(data, uses, Side.HOT), side_use(data, uses, Side.COLD), target.built_area, units,
+                            target.shells.shells if target.shells else None, target.parts, Fraction(flow.cost),
+                            target.cost)
+
+
+def side_use(data: CostData, uses: Mapping[str, int | Fraction], side: Side) -> Fraction:
+    return sum((Fraction(uses[utility.name]) for utility in data.case.utilities
+                if utility.side is side and utility.name in uses), Fraction(0))
+
+
+def cut_regions(case: Case, targets: Targets, flow: HeatFlow) -> tuple[Region, ...]:
+    """What lies between the pinches across which no heat goes."""
+    pieces = whole_pieces(case, flow)
+    places = [CutPlace(pinch, takes, True) for pinch in sorted(targets.pinches, reverse=True)
+              for takes in (False, True)]
+    return regions(pieces, [place for place in places if cascade(pieces, place) == 0])
+
+
+def units_of_region(region: Region, by_sets: bool) -> int:
+    """The least units of a region: sources less independent sets, or less one."""
+    if not by_sets:
+        return len(region.pieces) - 1
+    members = [Member(piece.source.name, piece.signed, isinstance(piece.source, Utility)) for piece in region.pieces]
+    return partition(members).least_exchangers
+
+
+def least_cost(data: CostData, points: Sequence[SupertargetPoint], factor: Fraction) -> LeastCost:
+    """The least of the points, and of what the desk finds between it and its neighbours."""
+    def cost(point: SupertargetPoint) -> Fraction:
+        return point.at_energy(factor).middle
+    at = min(range(len(points)), key=lambda place: cost(points[place]))
+    best = points[at]
+    near = points[max(0, at - 1):at + 2]
+    for low, high in zip(near, near[1:]):
+        between = searched(data, low, high, factor)
+        best = between if cost(between) < cost(best) else best
+    first = last = at
+    while first and cost(points[first - 1]) <= cost(best) * FLAT:
+        first -= 1
+    while last + 1 < len(points) and cost(points[last + 1]) <= cost(best) * FLAT:
+        last += 1
+    return LeastCost(factor, best, (points[first].difference, points[last].difference))
+
+
+def searched(data: CostData, low: SupertargetPoint, high: SupertargetPoint, factor: Fraction) -> SupertargetPoint:
+    """The least between two points, with thirds of what is left."""
+    begin, end = Fraction(0), Fraction(1)
+    best = low
+    for _ in range(SEARCHED):
+        thirds = [begin + (end - begin) * part / 3 for part in (1, 2)]
+        first, second = (proportional(data, low, high, part) for part in thirds)
+        if first.at_energy(factor).middle <= second.at_energy(factor).middle:
+            end, better = thirds[1], first
+        else:
+            begin, better = thirds[0], second
+        if better.at_energy(factor).middle < best.at_energy(factor).middle:
+            best = better
+    return best
+
+
+def proportional(data: CostData, low: SupertargetPoint, high: SupertargetPoint, part: Fraction) -> SupertargetPoint:
+    """A point between two, with uses in proportion and the units and shells of the one that has more."""
+    def mixed(first: Fraction, second: Fraction) -> Fraction:
+        return first + part * (second - first)
+    uses = {name: mixed(low.uses.get(name, Fraction(0)), high.uses.get(name, Fraction(0)))
+            for name in {**low.uses, **high.uses}}
+    area, build = area_target(data, uses), data.build(Service.EXCHANGER)
+    built = one_two_area(area, build.part) if build.flow is Flow.ONE_TWO and build.part else area.area
+    units = max(low.units, high.units)
+    shells = max(low.shells, high.shells) if low.shells and high.shells else None
+    parts = priced_parts(build, units, max(shells or units, at_most(build, built)))
+    program_cost = mixed(low.program_cost, high.program_cost)
+    cost = annual_cost(data, price_of(data, data.law(Service.EXCHANGER), built, parts), program_cost)
+    return SupertargetPoint(mixed(low.difference, high.difference), uses, mixed(low.hot, high.hot),
+                            mixed(low.cold, high.cold), built, units, shells, parts, program_cost, cost, True)

@@ -1,0 +1,99 @@
+"""Areas and costs of the exchangers of a network: by hand, beside the targets, and refused where they cannot be."""
+from __future__ import annotations
+
+from fractions import Fraction
+
+import pytest
+from conftest import example
+from costed import SMALL
+from test_cost_targets import AROMATICS, near
+
+from pinchdesk import Pinch, Refused
+from pinchdesk.costs.network_areas import NetworkAreas, NoAreas, network_areas
+from pinchdesk.formats.cost_rows import Service
+
+NETWORK = '''exchanger E H C 150000
+exchanger S1 S C 30000
+exchanger W1 H W 50000
+pass H E a
+pass a W1 b
+end b
+pass C E c
+pass c S1 d
+end d
+'''
+
+
+def areas(case: str, pinch: Pinch) -> NetworkAreas:
+    return network_areas(case, NETWORK, pinch)
+
+
+def test_the_exchangers_of_the_small_case_are_as_by_hand(pinch: Pinch) -> None:
+    found = areas(SMALL, pinch)
+    assert [exchanger.service for exchanger in found.exchangers] == [Service.EXCHANGER, Service.HEATER, Service.COOLER]
+    assert [near(exchanger.area, number) for exchanger, number
+            in zip(found.exchangers, ('33.825', '1.825', '4.055'))] == [True] * 3
+    assert [exchanger.coefficient for exchanger in found.exchangers] == [Fraction(2000, 9), Fraction(1000, 3),
+                                                                         Fraction(1000, 3)]
+    assert near(found.area, '39.704') and near(found.cost.capital, '38563')
+    assert found.efficiency and 1 in found.efficiency
+    assert found.cost.energy == 3500 and near(found.cost.whole, '13673')
+
+
+def test_the_costliest_gain_most_with_a_kelvin(pinch: Pinch) -> None:
+    found = areas(SMALL, pinch)
+    assert [exchanger.name for exchanger in found.costliest] == ['E', 'W1', 'S1']
+    gains = [exchanger.gain.middle for exchanger in found.costliest if exchanger.gain]
+    assert gains == sorted(gains, reverse=True) and near(found.costliest[0].gain or found.area, '76.1')
+
+
+def test_1_2_shells_of_a_network(pinch: Pinch) -> None:
+    found = areas(SMALL.replace('counter-current,,,,exchanger', '1-2,0.9,,,shell'), pinch)
+    assert [exchanger.shells for exchanger in found.exchangers] == [4, 1, 1]
+    assert near(found.exchangers[0].factor, '0.7552') and near(found.exchangers[0].area, '44.8')
+
+
+def test_the_network_of_the_aromatics_plant(pinch: Pinch) -> None:
+    """14 exchangers by hand, 17,672 m² by a second program."""
+    found = network_areas(AROMATICS, example('aromatics-network.txt'), pinch)
+    assert len(found.exchangers) == 14 and len(found.costliest) == 5
+    assert near(found.area, '17672')
+
+
+def test_coefficients_of_pairs_and_laws_of_kinds_and_materials_come_first(pinch: Pinch) -> None:
+    case = SMALL + ('#overall,S,,1,kW/m2K,,\n#law,heater,,0,1000,0.6,m2\n#material,H,SS,,,,\n#material,W,CU,,,,\n'
+                    '#law,,SS,0,2,1,ft2\n#law,,CU+SS,5,0,1,m2\n')
+    found = areas(case, pinch)
+    exchanger, heater, cooler = found.exchangers
+    assert heater.coefficient == 1000
+    assert near(exchanger.price, '728.17')
+    assert cooler.price.low == cooler.price.high == 5
+
+
+def test_a_material_without_a_law_is_refused(pinch: Pinch) -> None:
+    with pytest.raises(Refused, match='the cost law of an exchanger of SS'):
+        areas(SMALL + '#material,H,SS,,,,\n', pinch)
+
+
+def test_an_approach_that_real_ends_do_not_leave_is_reported(pinch: Pinch) -> None:
+    """The case has its water at 20 °C; it leaves at 70, and the hot side enters at 75."""
+    found = areas(SMALL.replace('#range,W,20,30', '#range,W,20,70'), pinch)
+    assert [str(fault) for fault in found.faults] == [
+        'exchanger W1: at its hot end the difference is 5 K with the real ends of its utility, and 10 K are needed']
+
+
+def test_a_difference_of_0_is_refused_with_its_place(pinch: Pinch) -> None:
+    with pytest.raises(Refused, match='exchanger W1: at its hot end the difference is 0 K: no area is large enough'):
+        areas(SMALL.replace('#range,W,20,30', '#range,W,20,75'), pinch)
+
+
+def test_a_network_that_is_not_accepted_has_no_areas(pinch: Pinch) -> None:
+    with pytest.raises(NoAreas, match='rejected'):
+        network_areas(SMALL, NETWORK.replace('50000', '40000'), pinch)
+
+
+def test_without_films_there_is_no_target_beside(pinch: Pinch) -> None:
+    rows = [row for row in SMALL.split('\n') if not row.startswith('#film')]
+    found = areas('\n'.join([*rows[:-1], '#overall,,,0.5,kW/m2K,,', '']), pinch)
+    assert found.target is None and found.efficiency is None
+    assert near(found.exchangers[0].area, '15.033')

@@ -1,0 +1,353 @@
+"""Targets of area, units, shells and cost before a network: by hand, as published, and what has to hold of any case."""
+from __future__ import annotations
+
+from fractions import Fraction
+
+import pytest
+from costed import SMALL, costed_case, law_rows
+from hypothesis import given, settings
+from hypothesis import strategies as st
+
+from pinchdesk import Cut, Pinch, Refused, completed, print_case, read_case
+from pinchdesk.costs.area_target import AreaTarget, area_target, interval_area, target_of
+from pinchdesk.costs.balanced import Carrier, HeatInterval, carriers, intervals_of
+from pinchdesk.costs.cost_data import CostData, EndTemperatures
+from pinchdesk.costs.cost_target import CostTarget, cost_target
+from pinchdesk.costs.enclosure import Enclosure, total
+from pinchdesk.costs.shells import Duty, correction, correction_at, shells_of, whole_shells
+from pinchdesk.formats.case import Side, Stream
+
+ONE_TWO = 'counter-current,,,,exchanger', '1-2,0.9,,,shell'
+
+
+def near(enclosure: Enclosure, number: str) -> bool:
+    """Whether an enclosure lies within the last digit of a number that is rounded."""
+    last = Fraction(1, 10 ** len(number.partition('.')[2])) / 2
+    return Fraction(number) - last <= enclosure.low and enclosure.high <= Fraction(number) + last
+
+
+def targets(case: str, pinch: Pinch) -> CostTarget:
+    found = cost_target(case, pinch)
+    assert isinstance(found, CostTarget)
+    return found
+
+
+def data_of(case: str) -> CostData:
+    return CostData(completed(read_case(case)))
+
+
+def uses_of(case: str, pinch: Pinch) -> dict[str, int]:
+    flow = pinch.flow(case)
+    assert not isinstance(flow, Cut)
+    return {use.name: use.heat for use in flow.uses}
+
+
+def test_the_small_case_is_as_it_was_worked_by_hand(pinch: Pinch) -> None:
+    found = targets(SMALL, pinch)
+    rows = [(area.interval.heat, area.interval.cold_end, area.interval.warm_end) for area in found.area.intervals]
+    assert rows == [(50000, 30, 45), (150000, 35, 10), (30000, 60, 40)]
+    for area, mean, metres in zip(found.area.intervals, ('36.995', '19.956', '49.326'), ('4.055', '33.825', '1.825')):
+        assert near(area.mean, mean) and near(area.area, metres)
+    assert near(found.area.area, '39.704') and not found.area.bound
+    assert found.units == 3 and found.shells is None
+    assert near(found.cost.capital, '39474') and found.cost.energy == 3500
+    assert near(found.cost.whole, '13913')
+
+
+def test_two_reactors_as_in_smith_2005(pinch: Pinch) -> None:
+    """Chapter 17, from memory: 7,410 m², 3.985 million of capital, 1.051 million of it a year, 1.0 million of energy.
+    The CPs are in kW/K a thousandth of the book's MW/K, so that everything but the charges is a thousandth."""
+    streams = 'H1 250 40 150 1, H2 200 80 250 0.8, C1 20 180 200 0.6, C2 140 230 300 0.8'
+    case = costed_case(10, streams, 'S 240 239 120 3', 'CW 20 30 10 1',
+                       *law_rows('40000', '500', '1', 'recovery', '0.1', '5'))
+    found = targets(case, pinch)
+    assert near(found.area.area, '7410')
+    assert found.units == 7
+    assert near(found.cost.capital / 10 ** 6, '3.985')
+    assert near(found.cost.capital_a_year / 10 ** 6, '1.051')
+    assert found.cost.energy == 1_000_000
+
+
+AROMATICS = costed_case(
+    26, 'H1 327 40 100 .5, H2 220 160 160 .4, H3 220 60 60 .14, H4 160 45 400 .3, C1 100 300 100 .35, '
+        'C2 35 164 70 .7, C3 85 138 350 .5, C4 60 170 60 .14, C5 140 300 200 .6',
+    'HOT/0 330 250 60 .5', 'COLD/0 15 30 6 .5', *law_rows('10000', '350', '1', 'factor', '0.2'))
+
+
+def test_the_aromatics_plant_of_linnhoff_and_ahmad_1990(pinch: Pinch) -> None:
+    """Worked by a second program; what the paper has is not sure."""
+    found = targets(AROMATICS, pinch)
+    assert near(found.area.area, '16984')
+    assert found.units == 15
+
+
+def test_the_formula_is_no_bound_where_films_differ() -> None:
+    """Four levels: vertical 22 m², and crossed 17.333."""
+    case = costed_case(0, 'X 1 0 1', 'A 200 200 1 0.1, B 150 150 1 1', 'C 100 100 1 1, D 50 50 1 0.1')
+    data = data_of(case)
+    levels = [Carrier(source, data.ends(source), Fraction(100_000), data.resistance(source))
+              for source in data.case.utilities]
+    area = total(interval_area(interval).area for interval in intervals_of(levels))
+    assert Fraction(22) in area
+
+
+def test_shells_are_those_that_were_worked_by_hand() -> None:
+    second = Duty(EndTemperatures(Fraction(1500), Fraction(750)), EndTemperatures(Fraction(400), Fraction(1400)))
+    shells = shells_of(second, Fraction(9, 10))
+    assert near(shells, '3.934') and whole_shells(shells) == 4
+    factor = correction(second, 4)
+    assert factor and near(factor, '0.7552')
+    first = Duty(EndTemperatures(Fraction(750), Fraction(500)), EndTemperatures(Fraction(200), Fraction(300)))
+    assert near(shells_of(first, Fraction(9, 10)), '0.425')
+    factor = correction(first, 1)
+    assert factor and near(factor, '0.9685')
+
+
+def test_equal_flows_are_no_case_of_their_own() -> None:
+    """R = 1, P = 0.5: Bowman, Mueller and Nagle (1940) have 0.80."""
+    duty = Duty(EndTemperatures(Fraction(1000), Fraction(500)), EndTemperatures(Fraction(0), Fraction(500)))
+    assert near(shells_of(duty, Fraction(9, 10)), '0.897')
+    factor = correction(duty, 1)
+    assert factor and near(factor, '0.8023')
+
+
+def test_a_shell_that_cannot_do_its_duty_has_no_factor() -> None:
+    duty = Duty(EndTemperatures(Fraction(1500), Fraction(750)), EndTemperatures(Fraction(400), Fraction(1400)))
+    assert correction(duty, 1) is None
+
+
+def test_a_flat_side_has_no_correction_and_needs_no_shell_of_its_own() -> None:
+    duty = Duty(EndTemperatures(Fraction(2000), Fraction(2000)), EndTemperatures(Fraction(400), Fraction(1400)))
+    assert shells_of(duty, Fraction(9, 10)).high == 0
+    factor = correction(duty, 1)
+    assert factor and factor.low == factor.high == 1
+
+
+ENDS = st.integers(1, 2000)
+
+
+@st.composite
+def duties(draw: st.DrawFn) -> Duty:
+    cold, warming, gap, other, cooling = (draw(ENDS) for _ in range(5))
+    low = Fraction(cold + gap)
+    high = max(Fraction(cold + warming + other), low + cooling)
+    return Duty(EndTemperatures(high, low), EndTemperatures(Fraction(cold), Fraction(cold + warming)))
+
+
+def mirrored(duty: Duty) -> Duty:
+    """Hot and cold exchanged."""
+    return Duty(*(EndTemperatures(-side.inlet, -side.outlet) for side in (duty.cold, duty.hot)))
+
+
+def meet(one: Enclosure, other: Enclosure) -> bool:
+    return one.low <= other.high and other.low <= one.high
+
+
+@settings(max_examples=20)
+@given(duties())
+def test_shells_and_factors_are_those_of_the_mirrored_exchanger(duty: Duty) -> None:
+    part = Fraction(9, 10)
+    shells = shells_of(duty, part)
+    assert meet(shells, shells_of(mirrored(duty), part))
+    count = whole_shells(shells)
+    factor, other = correction(duty, count), correction(mirrored(duty), count)
+    assert factor and other and meet(factor, other)
+    assert 0 < factor.low and factor.high <= 1 + Fraction(1, 10 ** 20)
+    assert correction_at(duty.ratio, part).low <= factor.high + Fraction(1, 10 ** 20)
+
+
+@given(duties(), st.fractions(min_value=Fraction(1, 50), max_value=Fraction(49, 50), max_denominator=100))
+def test_shells_add_up_along_a_straight_piece(duty: Duty, share: Fraction) -> None:
+    middle_hot = duty.hot.low + share * (duty.hot.high - duty.hot.low)
+    middle_cold = duty.cold.low + share * (duty.cold.high - duty.cold.low)
+    lower = Duty(EndTemperatures(middle_hot, duty.hot.low), EndTemperatures(duty.cold.low, middle_cold))
+    upper = Duty(EndTemperatures(duty.hot.high, middle_hot), EndTemperatures(middle_cold, duty.cold.high))
+    part = Fraction(9, 10)
+    assert meet(shells_of(lower, part) + shells_of(upper, part), shells_of(duty, part))
+
+
+def test_shells_of_a_case_are_rounded_up_on_each_side_of_the_pinch(pinch: Pinch) -> None:
+    found = targets(SMALL.replace(*ONE_TWO), pinch)
+    assert found.shells is not None
+    assert [near(count, number) for count, number in zip(found.shells.regions, ('0', '4.359'))] == [True, True]
+    assert found.shells.shells == 6 and found.parts == 6
+    assert found.shells.area.low > found.area.area.high
+
+
+def test_no_shell_is_larger_than_the_most(pinch: Pinch) -> None:
+    case = SMALL.replace('counter-current,,,,exchanger', 'counter-current,,5,m2,shell')
+    found = targets(case, pinch)
+    assert found.parts == 8
+    assert targets(case.replace('m2,shell', 'm2,exchanger'), pinch).parts == 3
+
+
+@pytest.mark.parametrize(('row', 'factor'), [('recovery,0.1,5', '0.26380'), ('compound,0.1,5', '0.32210'),
+                                             ('factor,0.322,', '0.32200'), ('recovery,0,5', '0.20000')])
+def test_both_annual_factors_of_books_are_told_apart(row: str, factor: str) -> None:
+    data = data_of(SMALL.replace('recovery,0.1,5', row))
+    assert abs(data.annual_factor - Fraction(factor)) <= Fraction(1, 2 * 10 ** 5)
+
+
+def test_installation_and_index_multiply_the_capital(pinch: Pinch) -> None:
+    plain = targets(SMALL, pinch).cost.capital
+    dear = targets(SMALL.replace('#capital,$,1,,,,', '#capital,$,2.5,600,400,,'), pinch).cost.capital
+    assert meet(dear, plain * Fraction(15, 4))
+
+
+def test_prices_an_hour_need_the_hours_of_a_year(pinch: Pinch) -> None:
+    hourly = SMALL.replace('#cost,$/a', '#cost,$/h')
+    with pytest.raises(Refused, match='how many hours a year it is running: it is missing'):
+        targets(hourly, pinch)
+    found = targets(hourly.replace('recovery,0.1,5,,,', 'recovery,0.1,5,8000,,'), pinch)
+    assert found.cost.energy == 3500 * 8000
+
+
+@pytest.mark.parametrize(('row', 'place'), [
+    ('#film,C,0.4,kW/m2K,,,', 'the film coefficient of C'), ('#law,,,10000,400,0.8,m2', 'the cost law of an exchanger'),
+    ('#build,,counter-current,,,,exchanger', 'how an exchanger is built'), ('#capital,$,1,,,,', 'the money'),
+    ('#annual,recovery,0.1,5,,,', 'how a capital becomes a cost a year'), ('#cost,$/a,1000000,,,,', 'the prices')])
+def test_what_is_missing_is_refused_by_its_name(row: str, place: str, pinch: Pinch) -> None:
+    with pytest.raises(Refused, match=place):
+        targets(SMALL.replace(row + '\n', ''), pinch)
+
+
+def test_two_moneys_are_refused(pinch: Pinch) -> None:
+    with pytest.raises(Refused, match=r'two moneys|another money'):
+        targets(SMALL.replace('#capital,$', '#capital,EUR'), pinch)
+
+
+def test_a_utility_that_the_program_added_is_refused(pinch: Pinch) -> None:
+    rows = [row for row in SMALL.split('\n') if not row.startswith(('heater,', '#film,S'))]
+    with pytest.raises(Refused, match='HOT: the program added this utility.*heater,NAME,LEVEL'):
+        targets('\n'.join(rows), pinch)
+
+
+def test_curves_that_touch_are_refused_with_their_place(pinch: Pinch) -> None:
+    touching = SMALL.replace('contribution,,50', 'contribution,,0')
+    with pytest.raises(Refused, match='kW from the cold end the difference is 0 K'):
+        targets(touching, pinch)
+
+
+def test_real_ends_of_a_utility_that_cross_are_refused(pinch: Pinch) -> None:
+    with pytest.raises(Refused, match='no area is large enough'):
+        targets(SMALL.replace('#range,W,20,30', '#range,W,20,300'), pinch)
+
+
+def test_units_may_be_mixed(pinch: Pinch) -> None:
+    """0.4 kW/m²K in other units, and with a fouling that is given as a resistance or as a coefficient."""
+    plain = targets(SMALL, pinch).area.area
+    for row in ('#film,C,400,W/(m2 K),,,', '#film,C,1440,kJ/(h m2 °C),,,', '#film,C,0.5,kW/m2K,0.5,m2K/kW,',
+                '#film,C,0.5,kW/m2K,2000,W/m2K,'):
+        assert meet(targets(SMALL.replace('#film,C,0.4,kW/m2K,,,', row), pinch).area.area, plain)
+
+
+def test_the_scale_of_a_case_changes_no_area(pinch: Pinch) -> None:
+    scaled = SMALL.replace(',200,,', ',2000,,').replace(',150,,', ',1500,,')
+    found = targets('#scale,10,,,,,\n' + scaled, pinch)
+    assert meet(found.area.area, targets(SMALL, pinch).area.area)
+    assert found.cost.energy == 3500
+
+
+def test_what_is_said_of_areas_is_kept_by_a_case() -> None:
+    case = read_case(SMALL)
+    assert len(case.basis.cost_rows) == 9
+    assert read_case(print_case(case)) == case
+
+
+@pytest.mark.parametrize(('row', 'cause'), [
+    ('#film,H,0.7,kW/m2K,,,', 'a row above says another one'), ('#film,K,0,kW/m2K,,,', 'above 0'),
+    ('#film,K,0.7,,,,', 'has no unit'), ('#law,pump,,1,1,1,m2', 'no kind of exchangers'),
+    ('#law,,X,1,1,2,m2', 'the exponent 2 is above 1'), ('#build,cooler,1-2,,,,shell', 'as 0.9'),
+    ('#annual,recovery,10,5,,,', 'another one|10 % are 0.1'), ('#range,W,20,30,,,', 'unit of temperature is missing')])
+def test_a_row_that_says_what_cannot_be_is_refused(row: str, cause: str) -> None:
+    with pytest.raises(Refused, match=cause):
+        read_case(SMALL + row + '\n')
+
+
+@pytest.mark.parametrize(('row', 'cause'), [
+    ('#film,K,0.7,kW/m2K,,,', 'no such source'), ('#range,H,20,30,C,,', 'it is no utility'),
+    ('#range,S,20,30,C,,', 'a hot utility cools down'), ('#overall,H,C,1,kW/K,,', 'no unit of this kind')])
+def test_a_row_that_does_not_fit_its_case_is_refused(row: str, cause: str) -> None:
+    data = data_of(SMALL + row + '\n')
+    with pytest.raises(Refused, match=cause):
+        assert data.films and data.ranges and data.overalls
+
+
+@st.composite
+def plants(draw: st.DrawFn, equal: bool = False) -> str:
+    """Small cases with utilities that reach."""
+    films = st.sampled_from(['0.1', '0.5', '1', '2.5'])
+    film = draw(films)
+    lines: list[str] = []
+    for name in ('H1', 'H2', 'C1', 'C2'):
+        low, width, flow = draw(st.integers(30, 250)), draw(st.integers(1, 150)), draw(st.integers(1, 40))
+        ends = (low + width, low) if name[0] == 'H' else (low, low + width)
+        lines.append(f'{name} {ends[0]} {ends[1]} {flow} {film if equal else draw(films)}')
+    difference = draw(st.integers(1, 20))
+    return costed_case(difference, ', '.join(lines), f'S 450 450 100 {film}', f'W 5 5 10 {film}',
+                       *law_rows('1000', '400', '0.8', 'factor', '0.2'))
+
+
+def area_of(case: str, pinch: Pinch) -> AreaTarget:
+    return area_target(data_of(case), uses_of(case, pinch))
+
+
+@settings(max_examples=15)
+@given(plants(), st.lists(st.fractions(min_value=0, max_value=1, max_denominator=1000), max_size=4))
+def test_a_finer_cut_changes_nothing(pinch: Pinch, case: str, shares: list[Fraction]) -> None:
+    found = area_of(case, pinch)
+    whole = max(area.interval.end for area in found.intervals)
+    cut = [piece for area in found.intervals for piece in cut_at(area.interval, [share * whole for share in shares])]
+    finer = total(interval_area(interval).area for interval in cut)
+    assert meet(finer, found.area)
+    assert found.area.high - found.area.low < found.area.low / 10 ** 20
+
+
+def cut_at(interval: HeatInterval, places: list[Fraction]) -> list[HeatInterval]:
+    """An interval in pieces that end at these places."""
+    ends = sorted({interval.begin, interval.end, *(place for place in places if interval.begin < place < interval.end)})
+    return [HeatInterval(begin, end, between(interval, interval.hot, begin, end),
+                         between(interval, interval.cold, begin, end), interval.resistance, interval.sources)
+            for begin, end in zip(ends, ends[1:])]
+
+
+def between(interval: HeatInterval, side: EndTemperatures, *places: Fraction) -> EndTemperatures:
+    return EndTemperatures(*(side.low + (place - interval.begin) / interval.heat * (side.high - side.low)
+                             for place in places))
+
+
+@settings(max_examples=15)
+@given(plants())
+def test_mirroring_hot_and_cold_changes_nothing(pinch: Pinch, case: str) -> None:
+    members = carriers(data_of(case), uses_of(case, pinch))
+    mirror = intervals_of([mirrored_carrier(member) for member in members])
+    assert meet(total(interval_area(interval).area for interval in mirror), target_of(members).area)
+
+
+def mirrored_carrier(carrier: Carrier) -> Carrier:
+    side = Side.COLD if carrier.source.side is Side.HOT else Side.HOT
+    source = Stream(carrier.source.name, side, 0, 0, 0, 0, 0)
+    return Carrier(source, EndTemperatures(-carrier.ends.inlet, -carrier.ends.outlet), carrier.heat, carrier.resistance)
+
+
+@settings(max_examples=15)
+@given(plants(equal=True), st.integers(1, 200))
+def test_a_warmer_hot_utility_never_raises_the_area(pinch: Pinch, case: str, warmer: int) -> None:
+    """With equal films and the same uses."""
+    warm = case.replace('heater,S,4500', f'heater,S,{4500 + warmer}')
+    uses = uses_of(case, pinch)
+    assert area_target(data_of(warm), uses).area.low <= area_target(data_of(case), uses).area.high
+
+
+def test_a_latent_stream_is_a_flat_piece(pinch: Pinch) -> None:
+    """A vapour of 100 °C that gives 100 kW to a boiling liquid of 60 °C: 100/(0.25 · 40) = 10 m²."""
+    case = costed_case(10, '', 'S 200 200 100 2', 'W 20 20 10 1', 'hot,V,1000,1000,0,100000,',
+                       'cold,B,600,600,0,100000,', '#film,V,0.5,kW/m2K,,,', '#film,B,0.5,kW/m2K,,,')
+    assert Fraction(10) in area_of(case, pinch).area
+
+
+def test_the_remarks_say_what_a_target_leaves_out(pinch: Pinch) -> None:
+    found = targets(SMALL + '#law,heater,,1,1,1,m2\n#overall,S,,0.9,kW/m2K,,\n', pinch)
+    assert [remark.split(':')[0] for remark in found.remarks] == [
+        'the cost laws of heater are those of single exchangers',
+        'overall coefficients of pairs are those of single exchangers']
