@@ -1,4 +1,4 @@
-"""The floor of the area: by hand, under every network, rising with finer slices, and proved whatever the solver says."""
+"""The floor of the area: by hand, under each network, rising with finer slices, proved whatever the solver says."""
 from __future__ import annotations
 
 from fractions import Fraction

@@ -7,7 +7,7 @@ from math import ceil
 
 from ..formats.cost_rows import Build, CostLaw, Per
 from .cost_data import CostData, square_metres
-from .enclosure import Enclosure, power, total
+from .enclosure import Enclosure, enclosed, power
 
 
 @dataclass(frozen=True)
@@ -34,8 +34,8 @@ def price_of(data: CostData, law: CostLaw, area: Enclosure, count: int = 1) -> E
     """The installed price of so many exchangers or shells of one law that share an area in m² evenly."""
     metres = square_metres(Fraction(1), law.unit, 'the unit of area of a cost law')
     share = area / (metres * count)
-    each_price = law.factor * power(share, law.exponent) + law.fixed if law.factor else law.fixed
-    return each_price * (count * data.capital.installation * data.capital.index) + total([])
+    price = enclosed(law.fixed) + (law.factor * power(share, law.exponent) if law.factor else 0)
+    return price * (count * data.capital.installation * data.capital.index)
 
 
 def at_most(build: Build, area: Enclosure) -> int:

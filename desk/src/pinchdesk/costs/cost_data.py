@@ -6,7 +6,7 @@ from collections.abc import Callable
 from dataclasses import dataclass
 from fractions import Fraction
 from functools import cached_property
-from typing import TypeVar
+from typing import TypeVar, cast
 
 from ..errors import Refused
 from ..formats.case import Case, Side, Source, Stream, Utility
@@ -70,7 +70,7 @@ class CostData:
 
     def rows(self, kind: type[Row]) -> list[Row]:
         """The rows of a kind; `Refused` where one names a source that is not in the case."""
-        found = [row for row in self.case.basis.cost_rows if isinstance(row, kind)]
+        found = [cast(Row, row) for row in self.case.basis.cost_rows if type(row) is kind]
         known = {source.name for source in self.case.sources}
         for row in found:
             for name in names_of(row):

@@ -1,0 +1,84 @@
+"""Where the area of a target goes: the balanced composite curves with the area of each interval below them, and the
+driving forces."""
+from __future__ import annotations
+
+from collections.abc import Sequence
+
+from matplotlib.axes import Axes
+from matplotlib.figure import Figure
+
+from ..costs.area_target import AreaTarget, IntervalArea
+from ..costs.network_areas import NetworkAreas
+from .axes import entitled, fitted, legend_below, spaced
+from .style import ACROSS, COLD, HOT, NEUTRAL, PALE, blank, framed, said, styled
+
+# So many intervals have their area written beside them, the largest first.
+WRITTEN = 5
+
+
+def area_figure(target: AreaTarget) -> Figure:
+    """The balanced composite curves, and below them the area of each interval as a bar as wide as its heat and as high
+    as its m² a kW, so that what is seen is the area."""
+    with styled():
+        figure = blank(8, 7)
+        curves, bars = figure.subplots(2, 1, sharex=True, gridspec_kw={'height_ratios': (3, 2)})
+        put_curves(curves, target.intervals)
+        put_bars(bars, target.intervals)
+        entitled(curves, '', 'temperature in °C', f'Area by the formula: {target.area.shown(1)} m²')
+        entitled(bars, 'heat in kW', 'm² a kW')
+        legend_below(bars, curves.get_legend_handles_labels()[0])
+        fitted(figure)
+        spaced(bars)
+    return figure
+
+
+def put_curves(axes: Axes, intervals: Sequence[IntervalArea]) -> None:
+    pieces = [area.interval for area in intervals]
+    across = [float(place) / 1000 for piece in pieces for place in (piece.begin, piece.end)]
+    for label, colour, ends in (('hot, utilities with it', HOT, [piece.hot for piece in pieces]),
+                                ('cold, utilities with it', COLD, [piece.cold for piece in pieces])):
+        upright = [float(temperature) / 10 for end in ends for temperature in (end.low, end.high)]
+        axes.plot(across, upright, color=colour, linewidth=1.6, label=label)
+    for piece in pieces:
+        axes.plot([float(piece.end) / 1000] * 2, [float(piece.cold.high) / 10, float(piece.hot.high) / 10], color=PALE,
+                  linewidth=0.5)
+    framed(axes)
+
+
+def put_bars(axes: Axes, intervals: Sequence[IntervalArea]) -> None:
+    lefts = [float(area.interval.begin) / 1000 for area in intervals]
+    wide = [float(area.interval.heat) / 1000 for area in intervals]
+    areas = [float(area.area.middle) for area in intervals]
+    axes.bar(lefts, [area / width for area, width in zip(areas, wide)], wide, align='edge', color=ACROSS, alpha=0.35,
+             edgecolor=ACROSS, linewidth=0.5)
+    for at in sorted(range(len(areas)), key=lambda place: -areas[place])[:WRITTEN]:
+        axes.annotate(f'{intervals[at].area.shown(1)} m²', (lefts[at] + wide[at] / 2, areas[at] / wide[at]),
+                      xytext=(0, 2), textcoords='offset points', ha='center', fontsize=7.5)
+    axes.margins(y=0.15)
+    framed(axes)
+
+
+def driving_forces_figure(target: AreaTarget, network: NetworkAreas | None = None) -> Figure:
+    """The difference of the balanced curves over the cold temperature, and that of the exchangers of a network: those
+    that lie off the curve use the driving forces worse (Linnhoff and Vredeveld 1984)."""
+    with styled():
+        figure = blank(8, 5.4)
+        axes = figure.subplots()
+        pieces = [area.interval for area in target.intervals]
+        axes.plot([float(end) / 10 for piece in pieces for end in (piece.cold.low, piece.cold.high)],
+                  [float(gap) for piece in pieces for gap in (piece.cold_end, piece.warm_end)], color=NEUTRAL,
+                  linewidth=1.6, label='balanced composite curves')
+        for exchanger in network.exchangers if network else ():
+            hot, cold = exchanger.ends.hot, exchanger.ends.cold
+            ends = ((cold.low, hot.low - cold.low), (cold.high, hot.high - cold.high))
+            axes.plot([float(end) / 10 for end, _ in ends], [float(gap) / 10 for _, gap in ends], color=ACROSS,
+                      linewidth=1.2, marker='o', markersize=3)
+            axes.annotate(said(exchanger.name), [float(number) / 10 for number in ends[1]], xytext=(3, 2),
+                          textcoords='offset points', fontsize=7.5, color=ACROSS)
+        axes.set_ylim(bottom=0)
+        entitled(axes, 'cold temperature in °C', 'difference in K', 'Driving forces')
+        legend_below(axes)
+        framed(axes)
+        fitted(figure)
+        spaced(axes)
+    return figure

@@ -1,0 +1,69 @@
+"""What energy, capital and both cost a year over the least difference."""
+from __future__ import annotations
+
+from collections.abc import Callable
+from fractions import Fraction
+
+from matplotlib.axes import Axes
+from matplotlib.figure import Figure
+
+from ..costs.supertarget import Supertarget, SupertargetPoint
+from ..formats.shown import decimal
+from .axes import entitled, fitted, legend_below, plainly, spaced
+from .style import ACROSS, COLD, HOT, INK, PALE, blank, framed, said, styled
+
+
+def supertarget_figure(found: Supertarget) -> Figure:
+    """Energy, capital and both a year, with the least and where it is within one per cent, and the area (right
+    scale)."""
+    with styled():
+        figure = blank(8, 5.8)
+        axes = figure.subplots()
+        across = [float(point.difference) for point in found.points]
+        for label, colour, cost in curves_of():
+            axes.plot(across, [float(cost(point)) for point in found.points], color=colour, linewidth=1.5, label=label)
+        put_least(axes, found)
+        put_area(axes.twinx(), found, across)
+        money = said(found.data.capital.currency)
+        entitled(axes, 'least difference in K', f'{money} a year', headline_of(found, money))
+        axes.set_ylim(bottom=0)
+        plainly(axes)
+        framed(axes)
+        legend_below(axes, [line for part in figure.axes for line in part.get_lines()
+                            if not line.get_label().startswith('_')])
+        fitted(figure)
+        spaced(axes)
+    return figure
+
+
+def curves_of() -> tuple[tuple[str, str, Callable[[SupertargetPoint], Fraction]], ...]:
+    return (('energy', HOT, lambda point: point.cost.energy),
+            ('capital', COLD, lambda point: point.cost.capital_a_year.middle),
+            ('both', INK, lambda point: point.cost.whole.middle))
+
+
+def put_least(axes: Axes, found: Supertarget) -> None:
+    """The least, and the range in which the cost is within one per cent of it."""
+    least = found.least
+    first, last = (float(difference) for difference in least.flat)
+    axes.axvspan(first, last, color=PALE, alpha=0.12, linewidth=0)
+    marked = 'least, found between two answers' if least.point.found else 'least'
+    axes.plot([float(least.point.difference)], [float(least.annual.middle)], 'o', color=INK, markersize=5,
+              label=f'{marked}; grey: within 1 %')
+
+
+def put_area(axes: Axes, found: Supertarget, across: list[float]) -> None:
+    axes.plot(across, [float(point.area.middle) for point in found.points], color=ACROSS, linewidth=1.0,
+              linestyle='--', label='area (right scale)')
+    axes.set_ylabel('area in m²', color=ACROSS)
+    axes.set_ylim(bottom=0)
+    plainly(axes)
+    axes.grid(False)
+    axes.spines['top'].set_visible(False)
+
+
+def headline_of(found: Supertarget, money: str) -> str:
+    least = found.least
+    first, last = (decimal(difference, 1) for difference in least.flat)
+    return f'Least annual cost {least.annual.shown(0)} {money} at {decimal(least.point.difference, 2)} K, within 1 % ' \
+           f'from {first} to {last} K'
