@@ -53,7 +53,7 @@ print(tradeoff)
 what_if = plant.what_if('scenario,source,field,value\n5 K hotter,H2,supply,+5 K\n10 K hotter,H2,supply,+10 K\n')
 print(what_if)
 
-# %% Does the network still hold there? All at once, by the processors here (or by a cluster, with `scheduler='tcp:..'`).
+# %% Does the network still hold there? All at once, by the processors here (or a cluster: `scheduler='tcp:..'`).
 still = pinchdesk.many('audit', {name: (case, by_hand.read_text()) for name, case in what_if.cases.items()})
 print(*((case.name, case.answer) for case in still.done), sep='\n')
 

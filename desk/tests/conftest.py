@@ -33,7 +33,8 @@ settings.register_profile('all', settings.get_profile('desk'), max_examples=100)
 
 def few_of(names: Iterable[str], few: Collection[str] = FEW) -> list[Any]:
     """The names as parameters of a test: all but a few of them are long."""
-    return [pytest.param(name, marks=[] if name in few else [pytest.mark.long]) for name in names]
+    return [pytest.param(name, id=name if len(name) <= 40 else f'{name[:30]}.. of {len(name)}',
+                         marks=[] if name in few else [pytest.mark.long]) for name in names]
 
 
 def pytest_addoption(parser: pytest.Parser) -> None:
