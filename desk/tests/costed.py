@@ -3,6 +3,16 @@ coefficient in kW/m²K."""
 from __future__ import annotations
 
 from collections.abc import Iterable
+from fractions import Fraction
+
+from hypothesis import strategies as st
+
+from pinchdesk.costs.cost_data import CostData
+from pinchdesk.costs.cost_target import CostTarget, cost_target
+from pinchdesk.costs.enclosure import Enclosure
+from pinchdesk.formats.case import completed, read_case
+from pinchdesk.program.answers import HeatFlow
+from pinchdesk.program.run import Pinch
 
 LARGE = 10 ** 12
 
@@ -64,3 +74,45 @@ def law_rows(fixed: str, factor: str, exponent: str, *annual: str, flow: str = '
 
 SMALL = costed_case(10, 'H 150 50 2 0.5, C 40 160 1.5 0.4', 'S 200 200 100 2', 'W 20 30 10 1',
                     *law_rows('10000', '400', '0.8', 'recovery', '0.1', '5'))
+AROMATICS = costed_case(
+    26, 'H1 327 40 100 .5, H2 220 160 160 .4, H3 220 60 60 .14, H4 160 45 400 .3, C1 100 300 100 .35, '
+        'C2 35 164 70 .7, C3 85 138 350 .5, C4 60 170 60 .14, C5 140 300 200 .6',
+    'HOT/0 330 250 60 .5', 'COLD/0 15 30 6 .5', *law_rows('10000', '350', '1', 'factor', '0.2'))
+ONE_TWO = 'counter-current,,,,exchanger', '1-2,0.9,,,shell'
+
+
+def near(enclosure: Enclosure, number: str) -> bool:
+    """Whether an enclosure lies within the last digit of a number that is rounded."""
+    last = Fraction(1, 10 ** len(number.partition('.')[2])) / 2
+    return Fraction(number) - last <= enclosure.low and enclosure.high <= Fraction(number) + last
+
+
+def targets(case: str, pinch: Pinch) -> CostTarget:
+    found = cost_target(case, pinch)
+    assert isinstance(found, CostTarget)
+    return found
+
+
+def data_of(case: str) -> CostData:
+    return CostData(completed(read_case(case)))
+
+
+def uses_of(case: str, pinch: Pinch) -> dict[str, int]:
+    flow = pinch.flow(case)
+    assert isinstance(flow, HeatFlow)
+    return {use.name: use.heat for use in flow.uses}
+
+
+@st.composite
+def plants(draw: st.DrawFn, equal: bool = False) -> str:
+    """Small cases with utilities that reach."""
+    films = st.sampled_from(['0.1', '0.5', '1', '2.5'])
+    film = draw(films)
+    lines: list[str] = []
+    for name in ('H1', 'H2', 'C1', 'C2'):
+        low, width, flow = draw(st.integers(30, 250)), draw(st.integers(1, 150)), draw(st.integers(1, 40))
+        ends = (low + width, low) if name[0] == 'H' else (low, low + width)
+        lines.append(f'{name} {ends[0]} {ends[1]} {flow} {film if equal else draw(films)}')
+    difference = draw(st.integers(1, 20))
+    return costed_case(difference, ', '.join(lines), f'S 450 450 100 {film}', f'W 5 5 10 {film}',
+                       *law_rows('1000', '400', '0.8', 'factor', '0.2'))

@@ -6,18 +6,18 @@ from fractions import Fraction
 import numpy
 import pytest
 from conftest import example
-from costed import costed_case, law_rows
+from costed import AROMATICS, costed_case, data_of, law_rows, plants, uses_of
 from hypothesis import given, settings
 from hypothesis import strategies as st
-from test_cost_targets import AROMATICS, data_of, plants, uses_of
 
-from pinchdesk import Design, Pinch, completed, follow, read_case, read_network
+from pinchdesk import Pinch, completed, follow, read_case, read_network
 from pinchdesk.costs.area_floor import area_floor, planned, proof_of, sliced
 from pinchdesk.costs.area_target import area_target
 from pinchdesk.costs.balanced import carriers
-from pinchdesk.costs.network_areas import exchanger_area, duty_of, network_areas, uses_in
 from pinchdesk.costs.enclosure import total
+from pinchdesk.costs.network_areas import duty_of, exchanger_area, network_areas, uses_in
 from pinchdesk.formats.case import Side
+from pinchdesk.program.answers import Design
 
 LEVELS = costed_case(0, '', '', '', 'hot,A,2000,2000,0,100000,', 'hot,B,1500,1500,0,100000,',
                      'cold,C,1000,1000,0,100000,', 'cold,D,500,500,0,100000,',

@@ -5,8 +5,7 @@ from fractions import Fraction
 
 import pytest
 from conftest import example
-from costed import SMALL
-from test_cost_targets import AROMATICS, near
+from costed import AROMATICS, SMALL, near
 
 from pinchdesk import Pinch, Refused
 from pinchdesk.costs.network_areas import NetworkAreas, NoAreas, network_areas
@@ -61,13 +60,20 @@ def test_the_network_of_the_aromatics_plant(pinch: Pinch) -> None:
 
 
 def test_coefficients_of_pairs_and_laws_of_kinds_and_materials_come_first(pinch: Pinch) -> None:
-    case = SMALL + ('#overall,S,,1,kW/m2K,,\n#law,heater,,0,1000,0.6,m2\n#material,H,SS,,,,\n#material,W,CU,,,,\n'
+    case = SMALL + ('#overall,S,1,kW/m2K,,,\n#law,heater,,0,1000,0.6,m2\n#material,H,SS,,,,\n#material,W,CU,,,,\n'
                     '#law,,SS,0,2,1,ft2\n#law,,CU+SS,5,0,1,m2\n')
     found = areas(case, pinch)
     exchanger, heater, cooler = found.exchangers
     assert heater.coefficient == 1000
     assert near(exchanger.price, '728.17')
     assert cooler.price.low == cooler.price.high == 5
+
+
+def test_two_coefficients_of_a_pair_are_refused(pinch: Pinch) -> None:
+    case = SMALL + '#overall,H,0.5,kW/m2K,,,\n#overall,C,0.6,kW/m2K,,,\n'
+    with pytest.raises(Refused, match='they have two: enter a row `#overall,H,VALUE,kW/m2K,C,,`'):
+        areas(case, pinch)
+    assert areas(case + '#overall,C,0.7,kW/m2K,H,,\n', pinch).exchangers[0].coefficient == 700
 
 
 def test_a_material_without_a_law_is_refused(pinch: Pinch) -> None:
@@ -94,6 +100,6 @@ def test_a_network_that_is_not_accepted_has_no_areas(pinch: Pinch) -> None:
 
 def test_without_films_there_is_no_target_beside(pinch: Pinch) -> None:
     rows = [row for row in SMALL.split('\n') if not row.startswith('#film')]
-    found = areas('\n'.join([*rows[:-1], '#overall,,,0.5,kW/m2K,,', '']), pinch)
+    found = areas('\n'.join([*rows[:-1], '#overall,,0.5,kW/m2K,,,', '']), pinch)
     assert found.target is None and found.efficiency is None
     assert near(found.exchangers[0].area, '15.033')

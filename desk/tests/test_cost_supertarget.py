@@ -4,8 +4,7 @@ from __future__ import annotations
 from fractions import Fraction
 
 import pytest
-from costed import SMALL, costed_case, law_rows
-from test_cost_targets import ONE_TWO, near, targets
+from costed import ONE_TWO, SMALL, costed_case, law_rows, near, targets
 
 from pinchdesk import Pinch, Refused, WordsError, completed, print_case, read_case
 from pinchdesk.costs.supertarget import Supertarget, at_contribution, supertarget

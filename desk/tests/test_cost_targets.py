@@ -4,42 +4,16 @@ from __future__ import annotations
 from fractions import Fraction
 
 import pytest
-from costed import SMALL, costed_case, law_rows
+from costed import AROMATICS, ONE_TWO, SMALL, costed_case, data_of, law_rows, near, plants, targets, uses_of
 from hypothesis import given, settings
 from hypothesis import strategies as st
 
-from pinchdesk import Cut, Pinch, Refused, completed, print_case, read_case
+from pinchdesk import Pinch, Refused, Side, Stream, print_case, read_case
 from pinchdesk.costs.area_target import AreaTarget, area_target, interval_area, target_of
 from pinchdesk.costs.balanced import Carrier, HeatInterval, carriers, intervals_of
-from pinchdesk.costs.cost_data import CostData, EndTemperatures
-from pinchdesk.costs.cost_target import CostTarget, cost_target
+from pinchdesk.costs.cost_data import EndTemperatures
 from pinchdesk.costs.enclosure import Enclosure, total
 from pinchdesk.costs.shells import Duty, correction, correction_at, shells_of, whole_shells
-from pinchdesk.formats.case import Side, Stream
-
-ONE_TWO = 'counter-current,,,,exchanger', '1-2,0.9,,,shell'
-
-
-def near(enclosure: Enclosure, number: str) -> bool:
-    """Whether an enclosure lies within the last digit of a number that is rounded."""
-    last = Fraction(1, 10 ** len(number.partition('.')[2])) / 2
-    return Fraction(number) - last <= enclosure.low and enclosure.high <= Fraction(number) + last
-
-
-def targets(case: str, pinch: Pinch) -> CostTarget:
-    found = cost_target(case, pinch)
-    assert isinstance(found, CostTarget)
-    return found
-
-
-def data_of(case: str) -> CostData:
-    return CostData(completed(read_case(case)))
-
-
-def uses_of(case: str, pinch: Pinch) -> dict[str, int]:
-    flow = pinch.flow(case)
-    assert not isinstance(flow, Cut)
-    return {use.name: use.heat for use in flow.uses}
 
 
 def test_the_small_case_is_as_it_was_worked_by_hand(pinch: Pinch) -> None:
@@ -66,12 +40,6 @@ def test_two_reactors_as_in_smith_2005(pinch: Pinch) -> None:
     assert near(found.cost.capital / 10 ** 6, '3.985')
     assert near(found.cost.capital_a_year / 10 ** 6, '1.051')
     assert found.cost.energy == 1_000_000
-
-
-AROMATICS = costed_case(
-    26, 'H1 327 40 100 .5, H2 220 160 160 .4, H3 220 60 60 .14, H4 160 45 400 .3, C1 100 300 100 .35, '
-        'C2 35 164 70 .7, C3 85 138 350 .5, C4 60 170 60 .14, C5 140 300 200 .6',
-    'HOT/0 330 250 60 .5', 'COLD/0 15 30 6 .5', *law_rows('10000', '350', '1', 'factor', '0.2'))
 
 
 def test_the_aromatics_plant_of_linnhoff_and_ahmad_1990(pinch: Pinch) -> None:
@@ -255,8 +223,8 @@ def test_what_is_said_of_areas_is_kept_by_a_case() -> None:
 
 
 @pytest.mark.parametrize(('row', 'cause'), [
-    ('#film,H,0.7,kW/m2K,,,', 'a row above says another one'), ('#film,K,0,kW/m2K,,,', 'above 0'),
-    ('#film,K,0.7,,,,', 'has no unit'), ('#law,pump,,1,1,1,m2', 'no kind of exchangers'),
+    ('#film,H,0.7,kW/m2K,,,', 'a row above says another one'), ('#film,K,x,kW/m2K,,,', 'x is no number'),
+    ('#film,,0.7,kW/m2K,,,', 'the source is missing'), ('#law,pump,,1,1,1,m2', 'no kind of exchangers'),
     ('#law,,X,1,1,2,m2', 'the exponent 2 is above 1'), ('#build,cooler,1-2,,,,shell', 'as 0.9'),
     ('#annual,recovery,10,5,,,', 'another one|10 % are 0.1'), ('#range,W,20,30,,,', 'unit of temperature is missing')])
 def test_a_row_that_says_what_cannot_be_is_refused(row: str, cause: str) -> None:
@@ -266,26 +234,12 @@ def test_a_row_that_says_what_cannot_be_is_refused(row: str, cause: str) -> None
 
 @pytest.mark.parametrize(('row', 'cause'), [
     ('#film,K,0.7,kW/m2K,,,', 'no such source'), ('#range,H,20,30,C,,', 'it is no utility'),
-    ('#range,S,20,30,C,,', 'a hot utility cools down'), ('#overall,H,C,1,kW/K,,', 'no unit of this kind')])
+    ('#range,S,20,30,C,,', 'a hot utility cools down'), ('#overall,H,1,kW/K,C,,', 'no unit of this kind'),
+    ('#overall,H,1,,,,', '1 has no unit'), ('#overall,H,0,kW/m2K,,,', 'has to be above 0')])
 def test_a_row_that_does_not_fit_its_case_is_refused(row: str, cause: str) -> None:
     data = data_of(SMALL + row + '\n')
     with pytest.raises(Refused, match=cause):
         assert data.films and data.ranges and data.overalls
-
-
-@st.composite
-def plants(draw: st.DrawFn, equal: bool = False) -> str:
-    """Small cases with utilities that reach."""
-    films = st.sampled_from(['0.1', '0.5', '1', '2.5'])
-    film = draw(films)
-    lines: list[str] = []
-    for name in ('H1', 'H2', 'C1', 'C2'):
-        low, width, flow = draw(st.integers(30, 250)), draw(st.integers(1, 150)), draw(st.integers(1, 40))
-        ends = (low + width, low) if name[0] == 'H' else (low, low + width)
-        lines.append(f'{name} {ends[0]} {ends[1]} {flow} {film if equal else draw(films)}')
-    difference = draw(st.integers(1, 20))
-    return costed_case(difference, ', '.join(lines), f'S 450 450 100 {film}', f'W 5 5 10 {film}',
-                       *law_rows('1000', '400', '0.8', 'factor', '0.2'))
 
 
 def area_of(case: str, pinch: Pinch) -> AreaTarget:
@@ -347,7 +301,7 @@ def test_a_latent_stream_is_a_flat_piece(pinch: Pinch) -> None:
 
 
 def test_the_remarks_say_what_a_target_leaves_out(pinch: Pinch) -> None:
-    found = targets(SMALL + '#law,heater,,1,1,1,m2\n#overall,S,,0.9,kW/m2K,,\n', pinch)
+    found = targets(SMALL + '#law,heater,,1,1,1,m2\n#overall,S,0.9,kW/m2K,,,\n', pinch)
     assert [remark.split(':')[0] for remark in found.remarks] == [
         'the cost laws of heater are those of single exchangers',
         'overall coefficients of pairs are those of single exchangers']

@@ -5,7 +5,7 @@ from dataclasses import dataclass
 from fractions import Fraction
 from math import ceil
 
-from ..formats.cost_rows import Build, CostLaw, Per
+from ..formats.cost_rows import Build, CostLaw, Measured, Per
 from .cost_data import CostData, square_metres
 from .enclosure import Enclosure, enclosed, power
 
@@ -32,7 +32,7 @@ def annual_cost(data: CostData, capital: Enclosure, cost: int | Fraction) -> Ann
 
 def price_of(data: CostData, law: CostLaw, area: Enclosure, count: int = 1) -> Enclosure:
     """The installed price of so many exchangers or shells of one law that share an area in m² evenly."""
-    metres = square_metres(Fraction(1), law.unit, 'the unit of area of a cost law')
+    metres = square_metres(Measured(Fraction(1), law.unit), 'the unit of area of a cost law')
     share = area / (metres * count)
     price = enclosed(law.fixed) + (law.factor * power(share, law.exponent) if law.factor else 0)
     return price * (count * data.capital.installation * data.capital.index)
@@ -42,7 +42,7 @@ def at_most(build: Build, area: Enclosure) -> int:
     """How many shells an area needs since none is larger than the most; 1 where there is no most."""
     if build.most is None:
         return 1
-    most = square_metres(build.most.value, build.most.unit, 'the most area of a shell')
+    most = square_metres(build.most, 'the most area of a shell')
     return max(1, ceil(area.high / most))
 
 
