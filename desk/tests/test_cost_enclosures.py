@@ -55,7 +55,7 @@ def test_nearly_equal_differences_lose_no_digit(first: Fraction, step: Fraction)
 
 def test_equal_differences_are_their_mean_exactly() -> None:
     mean = log_mean(20, 20)
-    assert (mean.low, mean.high, mean.told) == (20, 20, '20')
+    assert mean.low == mean.high == 20 and mean.told == '20'
 
 
 @pytest.mark.parametrize(('first', 'second'), [(0, 10), (10, 0), (0, 0), (-5, 10), (10, -5)])

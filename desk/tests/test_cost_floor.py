@@ -6,7 +6,7 @@ from fractions import Fraction
 import numpy
 import pytest
 from conftest import example
-from costed import AROMATICS, costed_case, data_of, law_rows, plants, uses_of
+from costed import AROMATICS, costed_case, data_of, plants, uses_of
 from hypothesis import given, settings
 from hypothesis import strategies as st
 
@@ -38,12 +38,12 @@ def test_a_forbidden_match_raises_the_floor() -> None:
     assert Fraction(22) - Fraction(1, 10 ** 6) < floor.area <= 22
 
 
-@given(st.lists(st.floats(-10 ** 3, 10 ** 3), min_size=2, max_size=2))
+@given(st.lists(st.floats(), min_size=2, max_size=2))
 def test_what_is_proved_holds_whatever_the_solver_says(prices: list[float]) -> None:
     data = data_of(LEVELS)
     members = carriers(data, {})
     hot, cold = (sliced(members, side, Fraction(40)) for side in (Side.HOT, Side.COLD))
-    plan = planned(data.case, hot, cold, [])
+    plan = planned(data, hot, cold, [])
     plan.proved = Fraction(-10 ** 9)
     proof_of(plan, numpy.array(prices))
     assert plan.proved <= Fraction(52, 3)
@@ -78,8 +78,11 @@ def test_no_network_of_the_program_is_under_the_floor(pinch: Pinch, case: str) -
     assert area_floor(data, uses_in(passages), 20, Fraction(40)).area <= area.high
 
 
-def test_the_floor_needs_no_cost_law() -> None:
-    assert not [row for row in LEVELS.split('\n') if row in law_rows('1', '1', '1', 'factor', '1')]
+def test_coefficients_of_pairs_count_in_the_floor() -> None:
+    """One of 0.5 kW/m²K for all: the vertical plan, 100/(0.5 · 100) m² twice, is the least."""
+    rows = [row for row in LEVELS.split('\n') if not row.startswith('#film')]
+    floor = area_floor(data_of('\n'.join([*rows, '#overall,,0.5,kW/m2K,,,', ''])), {})
+    assert 4 - Fraction(1, 10 ** 6) < floor.area <= 4
 
 
 @pytest.mark.parametrize('width', [3, 7])

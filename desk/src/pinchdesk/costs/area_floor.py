@@ -17,9 +17,9 @@ from math import ceil, floor
 from time import monotonic
 from typing import TYPE_CHECKING, Any
 
-from ..formats.case import Case, Side, Source
-from .area_target import target_of
-from .balanced import Carrier, carriers
+from ..formats.case import Side, Source
+from .area_target import check_differences, target_of
+from .balanced import Carrier, carriers, intervals_of
 from .cost_data import CostData
 
 if TYPE_CHECKING:
@@ -32,8 +32,10 @@ if TYPE_CHECKING:
 # solver's optimum the proof has to come.
 STEPS, PARTS, CLOSE = 1000, 1 << 30, 1e-4
 FIRST_SLICE, MOST_SLICES, MOST_ROUNDS, MORE_PAIRS = 40, 4000, 40, 3
-# A pair that may not exchange heat has a cost that no plan pays.
-BARRED = 1 << 61
+# A pair that may not exchange heat has a cost that no plan pays; what a plan has less than this of, in kW, it has not.
+BARRED, NEVER, LEAST_FLOW = 1 << 61, 1 << 40, 1e-9
+# No price of a solver is taken for more than this, in m² a kW, so that whole numbers hold all sums.
+MOST_PRICE, FIRST_SECONDS = 1 << 20, 600
 
 
 @dataclass(frozen=True)
@@ -70,24 +72,25 @@ class Plan:
 def area_floor(data: CostData, uses: Mapping[str, int | Fraction], seconds: float = 10.0,
                widest: Fraction | None = None) -> AreaFloor:
     """The floor at these uses, with slices that are halved until the time is up, or until the widest is at most so many
-    K. `Refused` where a film is missing, or where the balanced curves touch."""
-    members = carriers(data, uses)
-    formula = target_of(members)
-    if formula.bound:
-        return AreaFloor(formula.area.low, None, 0)
+    K. `Refused` where a coefficient is missing, or where the balanced curves touch."""
+    members = carriers(data, uses, bool(data.overalls))
+    for interval in intervals_of(members):
+        check_differences(interval)
+    if len({member.resistance for member in members}) < 2 and not data.overalls:
+        return AreaFloor(target_of(members).area.low, None, 0)
     end, width, best = monotonic() + seconds, Fraction(FIRST_SLICE), AreaFloor(Fraction(0), None, 0)
     pairs: list[tuple[Slice, Slice]] = []
     while True:
         began = monotonic()
         hot, cold = (sliced(members, side, width) for side in (Side.HOT, Side.COLD))
-        plan = planned(data.case, hot, cold, pairs)
-        flows = improved(plan, end if best.slices else began + 600)
+        plan = planned(data, hot, cold, pairs)
+        used = improved(plan, end if best.slices else began + FIRST_SECONDS)
         if plan.proved >= best.area:
             best = AreaFloor(plan.proved, width_of(hot + cold), len(hot) + len(cold))
-        pairs = [(hot[above], cold[below]) for above, below in flows]
+        pairs = [(hot[above], cold[below]) for above, below in used]
         done = widest is not None and width_of(hot + cold) <= widest
         # The next one has twice the slices, and takes some six times as long.
-        if done or monotonic() + 6 * (monotonic() - began) > end or 2 * best.slices > MOST_SLICES:
+        if done or monotonic() + 6 * (monotonic() - began) > end or 2 * (len(hot) + len(cold)) > MOST_SLICES:
             return best
         width /= 2
 
@@ -113,19 +116,28 @@ def width_of(slices: list[Slice]) -> Fraction:
     return Fraction(max(part.high - part.low for part in slices), STEPS)
 
 
-def planned(case: Case, hot: list[Slice], cold: list[Slice], coarse: list[tuple[Slice, Slice]]) -> Plan:
+def planned(data: CostData, hot: list[Slice], cold: list[Slice], coarse: list[tuple[Slice, Slice]]) -> Plan:
     """The transport of slices with the pairs to begin with: those of the vertical plan, and those that lie in the pairs
     of a coarser plan."""
     pairs = set(vertical(hot, cold))
+    uppers, lowers = by_source(hot), by_source(cold)
     for above, below in coarse:
-        uppers, lowers = inside(hot, above), inside(cold, below)
-        pairs |= {(upper, lower) for upper in uppers for lower in lowers}
-    return Plan(hot, cold, costs_of(case, hot, cold), pairs)
+        pairs |= {(upper, lower) for upper in inside(uppers, above) for lower in inside(lowers, below)}
+    return Plan(hot, cold, costs_of(data, hot, cold), pairs)
 
 
-def inside(slices: list[Slice], whole: Slice) -> list[int]:
-    return [at for at, part in enumerate(slices) if part.carrier == whole.carrier and part.low >= whole.low - 1
-            and part.high <= whole.high + 1]
+def by_source(slices: list[Slice]) -> dict[str, list[tuple[int, Slice]]]:
+    """The slices of each source with their places."""
+    found: dict[str, list[tuple[int, Slice]]] = {}
+    for at, part in enumerate(slices):
+        found.setdefault(part.carrier.source.name, []).append((at, part))
+    return found
+
+
+def inside(slices: dict[str, list[tuple[int, Slice]]], whole: Slice) -> list[int]:
+    """The places of the slices that lie in one of a coarser plan."""
+    return [at for at, part in slices[whole.carrier.source.name]
+            if part.low >= whole.low - 1 and part.high <= whole.high + 1]
 
 
 def vertical(hot: list[Slice], cold: list[Slice]) -> list[tuple[int, int]]:
@@ -146,23 +158,32 @@ def vertical(hot: list[Slice], cold: list[Slice]) -> list[tuple[int, int]]:
         left = [left[0] or hot[above].heat, left[1] or cold[below].heat]
 
 
-def costs_of(case: Case, hot: list[Slice], cold: list[Slice]) -> Whole:
+def costs_of(data: CostData, hot: list[Slice], cold: list[Slice]) -> Whole:
     """What a kW of each pair of slices costs at least, in whole parts of m²; `BARRED` where the two may not meet."""
     import numpy
-    barred = {(pair.hot, pair.cold) for pair in case.forbids}
-    films = {part.carrier.source.name: floor(part.carrier.resistance * 1000 * STEPS * PARTS) for part in hot + cold}
-    resisting = numpy.array([films[part.carrier.source.name] for part in hot])[:, None] + \
-        numpy.array([films[part.carrier.source.name] for part in cold])[None, :]
+    sources = [list({part.carrier.source.name: part.carrier.source for part in side}.values()) for side in (hot, cold)]
+    places = [[names.index(part.carrier.source) for part in side] for names, side in zip(sources, (hot, cold))]
+    chosen = numpy.ix_(*places)
+    resisting = numpy.array([[resistance_parts(data, above, below) for below in sources[1]] for above in sources[0]])
+    least = numpy.array([[least_difference(data, above, below) for below in sources[1]] for above in sources[0]])
     differences = numpy.array([part.high for part in hot])[:, None] - numpy.array([part.low for part in cold])[None, :]
-    least = numpy.array([[least_difference(above.carrier.source, below.carrier.source, barred) for below in cold]
-                         for above in hot])
-    meet = differences >= numpy.maximum(least, 1)
-    return numpy.where(meet, resisting // numpy.where(meet, differences, 1), BARRED)
+    meet = differences >= least[chosen]
+    costs: Whole = numpy.where(meet, resisting[chosen] // numpy.where(meet, differences, 1), BARRED)
+    return costs
 
 
-def least_difference(hot: Source, cold: Source, barred: set[tuple[str, str]]) -> int:
-    """How close the two may come, in thousandths of a K; more than any difference where they may not meet."""
-    return 10 ** 12 if (hot.name, cold.name) in barred else (hot.contribution + cold.contribution) * STEPS // 10
+def resistance_parts(data: CostData, hot: Source, cold: Source) -> int:
+    """The resistance of a kW of a pair in whole parts, rounded down, and of no more than what a whole number holds."""
+    return min(BARRED >> 2, floor(1000 * STEPS * PARTS / data.coefficient(hot, cold)))
+
+
+def least_difference(data: CostData, hot: Source, cold: Source) -> int:
+    """How close the two may come, in thousandths of a K; more than any difference where they may not meet. The audit
+    knows nothing of the real ends of a utility: that has to be warmer, or colder, alone."""
+    if any((pair.hot, pair.cold) == (hot.name, cold.name) for pair in data.case.forbids):
+        return NEVER
+    ranged = hot.name in data.ranges or cold.name in data.ranges
+    return 1 if ranged else max(1, (hot.contribution + cold.contribution) * STEPS // 10)
 
 
 def improved(plan: Plan, end: float) -> list[tuple[int, int]]:
@@ -186,9 +207,9 @@ def solved(plan: Plan) -> tuple[float, Floats, list[tuple[int, int]]]:
     from scipy.sparse import coo_matrix
     pairs = numpy.array(sorted(plan.pairs))
     above, below = pairs[:, 0], pairs[:, 1]
-    held = plan.costs[above, below]
-    largest = float(held[held < BARRED].max(initial=PARTS)) / PARTS
-    costs = numpy.where(held < BARRED, held / PARTS, 100 * largest)
+    whole = plan.costs[above, below]
+    largest = float(whole[whole < BARRED].max(initial=PARTS)) / PARTS
+    costs = numpy.where(whole < BARRED, whole / PARTS, 100 * largest)
     count = numpy.arange(len(pairs))
     ones = numpy.ones(len(pairs))
     rows = coo_matrix((numpy.concatenate((ones, ones)), (numpy.concatenate((above, below + len(plan.hot))),
@@ -196,17 +217,19 @@ def solved(plan: Plan) -> tuple[float, Floats, list[tuple[int, int]]]:
     heats = [float(part.heat) for part in plan.hot + plan.cold]
     found: Any = linprog(costs, A_eq=rows.tocsr(), b_eq=heats, method='highs')
     if found.x is None:
-        return float('inf'), numpy.zeros(len(plan.cold)), [tuple(pair) for pair in pairs.tolist()]
-    used = [tuple(pair) for pair in pairs[found.x > 1e-9].tolist()]
-    return float(found.fun), numpy.asarray(found.eqlin.marginals)[len(plan.hot):], used
+        return float('inf'), numpy.zeros(len(plan.cold)), sorted(plan.pairs)
+    used = [pair for pair, flow in zip(sorted(plan.pairs), found.x.tolist()) if flow > LEAST_FLOW]
+    prices: Floats = numpy.asarray(found.eqlin.marginals, dtype=numpy.float64)[len(plan.hot):]
+    return float(found.fun), prices, used
 
 
 def proof_of(plan: Plan, prices: Floats) -> Whole:
     """Keeps what the prices of the cold slices prove, in whole numbers: each hot slice gets the most that no pair
     forbids, and then each cold one. How much each pair is above or below its cost at the prices of the solver."""
     import numpy
-    cold = numpy.round(prices * PARTS).astype(numpy.int64)
-    gaps = plan.costs - cold[None, :]
+    bounded = numpy.clip(numpy.nan_to_num(prices), -MOST_PRICE, MOST_PRICE)
+    cold = numpy.round(bounded * PARTS).astype(numpy.int64)
+    gaps: Whole = plan.costs - cold[None, :]
     hot = gaps.min(axis=1)
     lifted = (plan.costs - hot[:, None]).min(axis=0)
     value = sum((int(price) * part.heat for price, part in zip(hot, plan.hot)), Fraction(0)) + \

@@ -66,13 +66,15 @@ class HeatInterval:
         return (self.hot.high - self.cold.high) / 10
 
 
-def carriers(data: CostData, uses: Mapping[str, int | Fraction]) -> tuple[Carrier, ...]:
-    """All streams, and the utilities with their uses in W of the case; `Refused` where one has no film."""
+def carriers(data: CostData, uses: Mapping[str, int | Fraction], by_pairs: bool = False) -> tuple[Carrier, ...]:
+    """All streams, and the utilities with their uses in W of the case; `Refused` where one has no film. Where
+    coefficients are given `by_pairs` one without a film has the resistance 0, which nothing is made of."""
     found: list[Carrier] = []
     for source in data.case.sources:
         heat = uses.get(source.name, 0) if isinstance(source, Utility) else source.heat
         if heat:
-            found.append(Carrier(source, data.ends(source), data.watts(heat), data.resistance(source)))
+            resistance = data.films.get(source.name, Fraction(0)) if by_pairs else data.resistance(source)
+            found.append(Carrier(source, data.ends(source), data.watts(heat), resistance))
     return tuple(found)
 
 

@@ -114,11 +114,16 @@ class CostData:
         return self.films[source.name]
 
     def coefficient(self, hot: Source, cold: Source) -> Fraction:
-        """The overall coefficient of a pair in W/(m² K): the one that is given for it, or that of both films."""
-        for pair in ((hot.name, cold.name), (hot.name, ''), ('', cold.name), ('', '')):
-            if pair in self.overalls:
-                return self.overalls[pair]
-        return 1 / (self.resistance(hot) + self.resistance(cold))
+        """The overall coefficient of a pair in W/(m² K): the one that is given for it, for one of both, or for all;
+        else that of both films."""
+        pair = self.overalls.get(frozenset((hot.name, cold.name)))
+        own = {self.overalls[frozenset((source.name,))] for source in (hot, cold)
+               if frozenset((source.name,)) in self.overalls}
+        if pair is None and len(own) > 1:
+            raise refused(f'#overall of {hot.name} and {cold.name}', 'they have two: enter a row '
+                          f'`#overall,{hot.name},VALUE,kW/m2K,{cold.name},,`')
+        found = pair or next(iter(own), None) or self.overalls.get(frozenset())
+        return found or 1 / (self.resistance(hot) + self.resistance(cold))
 
     def law(self, service: Service, materials: str = '') -> CostLaw:
         """The cost law of a kind of exchangers, of a material or of two, as `X+Y`."""
