@@ -10,8 +10,8 @@ from typing import TypeVar, cast
 
 from ..errors import Refused
 from ..formats.case import Case, Side, Source, Stream, Utility
-from ..formats.cost_rows import (Annual, AnnualForm, Build, Capital, CostLaw, CostRow, Film, Material, Overall,
-                                 UtilityRange, Service)
+from ..formats.cost_rows import (Annual, AnnualForm, Build, Capital, CostLaw, CostRow, Film, Material, Measured,
+                                 Overall, UtilityRange, Service)
 from ..tables.money import two_moneys
 from ..tables.units import Kind, UnknownUnit, unit_of
 from .cost_units import NoUnit, area_factor, coefficient_factor, fouling_resistance
@@ -57,10 +57,10 @@ class CostData:
         return {row.source: self.resolved(f'#film of {row.source}', resistance_of, row) for row in self.rows(Film)}
 
     @cached_property
-    def overalls(self) -> dict[tuple[str, str], Fraction]:
-        """The overall coefficients that are given, in W/(m² K); an empty name stands for every source."""
-        return {(row.hot, row.cold): self.resolved(f'#overall of {row.hot or "all"} and {row.cold or "all"}',
-                                                   overall_of_row, row) for row in self.rows(Overall)}
+    def overalls(self) -> dict[frozenset[str], Fraction]:
+        """The overall coefficients that are given, in W/(m² K), by one source, by two, or by none for all."""
+        return {frozenset({row.source, row.other} - {''}):
+                self.resolved(f'#overall of {row.source or "all"}', overall_of_row, row) for row in self.rows(Overall)}
 
     @cached_property
     def ranges(self) -> dict[str, EndTemperatures]:
@@ -203,23 +203,32 @@ def names_of(row: CostRow) -> tuple[str, ...]:
     match row:
         case Film(source=name) | Material(source=name) | UtilityRange(utility=name):
             return (name,)
-        case Overall(hot, cold):
-            return (hot, cold)
+        case Overall(source, other):
+            return (source, other)
     return ()
 
 
 def resistance_of(row: Film) -> Fraction:
-    film = 1 / (row.coefficient.value * coefficient_factor(row.coefficient.unit))
-    return film + (fouling_resistance(row.fouling.value, row.fouling.unit) if row.fouling else 0)
+    film = 1 / (checked(row.coefficient) * coefficient_factor(row.coefficient.unit))
+    return film + (fouling_resistance(checked(row.fouling), row.fouling.unit) if row.fouling else 0)
 
 
 def overall_of_row(row: Overall) -> Fraction:
-    return row.coefficient.value * coefficient_factor(row.coefficient.unit)
+    return checked(row.coefficient) * coefficient_factor(row.coefficient.unit)
 
 
-def square_metres(value: Fraction, unit: str, what: str) -> Fraction:
+def checked(number: Measured) -> Fraction:
+    """A number above 0 that has a unit; `NoUnit` where it has none."""
+    if number.value <= 0:
+        raise NoUnit(f'it is {number.value}, and has to be above 0')
+    if not number.unit:
+        raise NoUnit(f'{number.value} has no unit')
+    return number.value
+
+
+def square_metres(number: Measured, what: str) -> Fraction:
     """An area in m²; `Refused` where its unit is none."""
     try:
-        return value * area_factor(unit)
+        return checked(number) * area_factor(number.unit)
     except NoUnit as fault:
         raise refused(what, str(fault)) from fault

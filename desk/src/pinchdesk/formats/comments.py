@@ -1,5 +1,5 @@
 """What a case says for the desk in rows that begin with `#` and that the program passes over: its scale, the units of
-its prices and costs, and the names that its table had."""
+its prices and costs, the names that its table had, and what it says of areas and money (`cost_rows`)."""
 from __future__ import annotations
 
 from collections.abc import Iterator, Sequence

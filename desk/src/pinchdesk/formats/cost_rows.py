@@ -8,14 +8,13 @@ from __future__ import annotations
 import enum
 from collections.abc import Callable, Mapping, Sequence
 from dataclasses import dataclass
-from decimal import Decimal
 from fractions import Fraction
 
 from ..text import plain, read_again
 from .amounts import exact
 
-# How many fields a row has, and how many decimals a number before it is written as a fraction.
-FIELDS, MOST_PLACES = 7, 12
+# How many fields a row has, and in what parts a number is written as a decimal.
+FIELDS, PLACES = 7, 10 ** 12
 
 
 class Service(enum.Enum):
@@ -71,10 +70,10 @@ class Film:
 
 @dataclass(frozen=True)
 class Overall:
-    """The overall coefficient of a pair; an empty name stands for every source of its side."""
+    """The overall coefficient of the exchangers of a source, or of two; an empty name stands for every source."""
 
-    hot: str
-    cold: str
+    source: str
+    other: str
     coefficient: Measured
 
 
@@ -161,10 +160,10 @@ def from_zero(text: str, what: str) -> Fraction:
     return number
 
 
-def measured(value: str, unit: str, what: str) -> Measured:
-    if not unit:
-        raise ValueError(f'the {what} {value} has no unit')
-    return Measured(above_zero(value, what), unit)
+def measured(value: str, unit: str) -> Measured:
+    """A number with its unit. A table may have none, or a number that is none of a coefficient: that is refused where
+    it is needed."""
+    return Measured(exact(value), read_again(unit))
 
 
 def needed(text: str, what: str) -> str:
@@ -181,12 +180,12 @@ def service_of(text: str) -> Service | None:
 
 
 def film_of(fields: Sequence[str]) -> Film:
-    fouling = measured(fields[3], fields[4], 'fouling') if fields[3] or fields[4] else None
-    return Film(needed(fields[0], 'source'), measured(fields[1], fields[2], 'film coefficient'), fouling)
+    fouling = measured(fields[3], fields[4]) if fields[3] or fields[4] else None
+    return Film(needed(fields[0], 'source'), measured(fields[1], fields[2]), fouling)
 
 
 def overall_of(fields: Sequence[str]) -> Overall:
-    return Overall(fields[0], fields[1], measured(fields[2], fields[3], 'overall coefficient'))
+    return Overall(fields[0], fields[3], measured(fields[1], fields[2]))
 
 
 def material_of(fields: Sequence[str]) -> Material:
@@ -211,7 +210,7 @@ def build_of(fields: Sequence[str]) -> Build:
     part = exact(fields[2]) if fields[2] else None
     if part is None and fields[1] == Flow.ONE_TWO.value or part is not None and not 0 < part < 1:
         raise ValueError('a 1-2 shell needs the part of the greatest effectiveness that it may reach, as 0.9')
-    most = measured(fields[3], fields[4], 'most area of a shell') if fields[3] or fields[4] else None
+    most = measured(fields[3], fields[4]) if fields[3] or fields[4] else None
     return Build(service_of(fields[0]), flows[fields[1]], part, most, pers[fields[5]])
 
 
@@ -261,8 +260,8 @@ def subject(row: CostRow) -> tuple[object, ...]:
     match row:
         case Film(source=name) | Material(source=name) | UtilityRange(utility=name):
             return (type(row), name)
-        case Overall(hot, cold):
-            return (Overall, hot, cold)
+        case Overall(source, other):
+            return (Overall, frozenset((source, other)))
         case CostLaw(service, material):
             return (CostLaw, service, material)
         case Build(service):
@@ -283,26 +282,24 @@ def with_row(rows: tuple[CostRow, ...], row: CostRow) -> tuple[CostRow, ...]:
 def printed_cost_row(row: CostRow) -> list[str]:
     """A row of seven fields; reading it gives the same."""
     word, *fields = fields_of(row)
-    texts = ['' if field is None else numeral(field) if isinstance(field, Fraction) else str(field)
-             for field in fields]
+    texts = ['' if field is None else written(field) for field in fields]
     return [str(word), *texts, *[''] * (FIELDS - 1 - len(texts))]
 
 
-def numeral(value: Fraction) -> str:
-    """A number as people write it, where few digits hold it; else as a fraction."""
-    for places in range(MOST_PLACES + 1):
-        scaled = value * 10 ** places
-        if scaled.denominator == 1:
-            return f'{Decimal(scaled.numerator).scaleb(-places):f}'
-    return str(value)
+def written(field: object) -> str:
+    """A field as a text: a number as a decimal where its places hold it."""
+    if not isinstance(field, Fraction) or (field * PLACES).denominator > 1:
+        return str(field)
+    whole, rest = divmod(abs(int(field * PLACES)), PLACES)
+    return f'{"-" * (field < 0)}{whole}.{rest:0{len(str(PLACES)) - 1}}'.rstrip('0').rstrip('.')
 
 
 def fields_of(row: CostRow) -> Sequence[object]:
     match row:
         case Film(source, coefficient, fouling):
             return '#film', source, *pair(coefficient), *pair(fouling)
-        case Overall(hot, cold, coefficient):
-            return '#overall', hot, cold, *pair(coefficient)
+        case Overall(source, other, coefficient):
+            return '#overall', source, *pair(coefficient), other
         case Material(source, material):
             return '#material', source, plain(material)
         case CostLaw(service, material, fixed, factor, exponent, unit):
@@ -319,4 +316,4 @@ def fields_of(row: CostRow) -> Sequence[object]:
 
 
 def pair(number: Measured | None) -> tuple[object, object]:
-    return (number.value, number.unit) if number else (None, None)
+    return (number.value, plain(number.unit)) if number else (None, None)

@@ -35,7 +35,7 @@ class Maker:
         self.utilities: list[tuple[int, Utility, int | None]] = []
         self.priced: list[tuple[int, Line, Fraction | None, PriceUnit | None]] = []
         self.forbids: list[tuple[int, Forbid]] = []
-        self.cost_rows: list[CostRow] = []
+        self.coefficients: list[CostRow] = []
 
     def made(self, body: Body, names: dict[str, str]) -> Converted:
         for line in body.lines:
@@ -46,7 +46,7 @@ class Maker:
             raise Refused(3, '', 'no stream', 'the table has no stream: is its separator another one (--separator)?')
         utilities, basis = self.with_prices(share)
         changed = tuple((old, new) for old, new in names.items() if old != new)
-        basis = replace(basis, scale=self.wanted.scale, names=changed, cost_rows=tuple(self.cost_rows))
+        basis = replace(basis, scale=self.wanted.scale, names=changed, cost_rows=tuple(self.coefficients))
         streams = tuple(replace(stream, contribution=share if own is None else own) for _, stream, own in self.streams)
         self.told.settle()
         case = Case(share, streams, tuple(utilities), tuple(forbid for _, forbid in self.forbids), basis)
@@ -95,7 +95,7 @@ class Maker:
         if stream:
             self.streams.append((line.row.number, *stream))
             self.stream_lines.append((line, stream[0].side))
-            self.take_beside(line, stream[0].side)
+            self.take_beside(line)
 
     def take_utility(self, line: Line) -> None:
         sided = self.entries.with_side(line)
@@ -105,13 +105,13 @@ class Maker:
         if utility:
             self.utilities.append((line.row.number, *utility))
             self.priced.append((line.row.number, sided, *price))
-            self.take_beside(sided, utility[0].side)
+            self.take_beside(sided)
 
-    def take_beside(self, line: Line, side: Side) -> None:
+    def take_beside(self, line: Line) -> None:
         """What a row has beside the numbers of its source."""
         self.entries.check_twins(line)
-        films = [self.entries.film(line, heading, side) for heading in (Heading.FILM, Heading.OVERALL)]
-        self.cost_rows += [film for film in films if film]
+        found = [self.entries.coefficient(line, heading) for heading in (Heading.FILM, Heading.OVERALL)]
+        self.coefficients += [coefficient for coefficient in found if coefficient]
 
     def take_contribution(self, line: Line) -> None:
         """The contribution of the case: the one number of its row."""

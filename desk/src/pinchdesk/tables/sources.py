@@ -323,23 +323,18 @@ class Entries:
                 cause = f'{second.text} and {first.text} in the column before it are not the same'
                 self.told.fault(line.row.number, column, cause)
 
-    def film(self, line: Line, heading: Heading, side: Side) -> Film | Overall | None:
-        """The coefficient of a row, with its unit as the table has it: an overall one is that with every source of the
-        other side. Without a unit it is not kept."""
-        number = self.reader.number(line.row, line.at(heading)) if self.given(line, heading) else None
+    def coefficient(self, line: Line, heading: Heading) -> Film | Overall | None:
+        """The coefficient of heat transfer of a row, with its unit as the table has it."""
+        if not self.given(line, heading):
+            return None
+        number = self.reader.number(line.row, line.at(heading))
         if number is None:
             return None
         value, _, own = number
         unit = own or self.reader.headed(line.row.number, line.columns[heading])[0]
-        if value <= 0:
-            self.told.fault(line.row.number, line.at(heading), f'a coefficient of {decimal(value, 12)} is not above 0')
-        if value <= 0 or not unit:
-            self.told.note(line.row.number, line.at(heading), 'the coefficient has no unit, and is not kept')
-            return None
-        name, measured = self.names.get(line.name(), line.name()), Measured(value, unit)
-        if heading is Heading.FILM:
-            return Film(name, measured)
-        return Overall(name, '', measured) if side is Side.HOT else Overall('', name, measured)
+        name = self.names.get(line.name(), line.name())
+        measured = Measured(Fraction(decimal(value, 12)), unit)
+        return Overall(name, '', measured) if heading is Heading.OVERALL else Film(name, measured)
 
 
 def product_of(mass: str, specific: str, heading: Heading) -> Fraction | None:
