@@ -34,8 +34,8 @@ def cost(shown: Shown, value: Number) -> Decimal:
 def targets_sheets(case: Case, targets: Targets) -> list[Sheet]:
     """Both targets, and each pinch on the shifted scale and where the streams of both sides stand at it."""
     shown = Shown(case.basis)
-    pinches = tuple((celsius(shown, each), *(side_cell(case, side, each, shown) for side in (Side.HOT, Side.COLD)))
-                    for each in targets.pinches)
+    pinches = tuple((celsius(shown, pinch), *(side_cell(case, side, pinch, shown) for side in (Side.HOT, Side.COLD)))
+                    for pinch in targets.pinches)
     title = 'Pinches' if pinches else 'No pinch'
     headings = ('shifted °C', 'hot side °C', 'cold side °C') if pinches else ()
     return [lines_sheet('Targets', utility_facts(targets, shown)), Sheet(title, headings, pinches)]
@@ -56,17 +56,18 @@ def targets_facts(case: Case, targets: Targets) -> FactRow:
 
 
 def side_cell(case: Case, side: Side, pinch: int, shown: Shown) -> Cell:
-    held = temperatures_at(case, side, pinch)
-    return celsius(shown, held.low) if held.low == held.high else held.told(shown)
+    there = temperatures_at(case, side, pinch)
+    return celsius(shown, there.low) if there.low == there.high else there.told(shown)
 
 
 def uses_sheet(case: Case, flow: HeatFlow, shown: Shown) -> Sheet:
     """What each utility gives or takes, and what that costs."""
     rows: list[tuple[Cell, ...]] = []
-    for each in case.utilities:
-        heat, side = flow.use(each.name), 'gives' if each.side is Side.HOT else 'takes'
-        rows.append((each.name, side, None if each.invented else celsius(shown, each.level), kilowatts(shown, heat),
-                     Decimal(shown.price(each.price)), cost(shown, heat * each.price)))
+    for utility in case.utilities:
+        heat, side = flow.use(utility.name), 'gives' if utility.side is Side.HOT else 'takes'
+        level = None if utility.invented else celsius(shown, utility.level)
+        rows.append((utility.name, side, level, kilowatts(shown, heat), Decimal(shown.price(utility.price)),
+                     cost(shown, heat * utility.price)))
     rows.append(('all', '', None, None, None, cost(shown, flow.cost)))
     headings = ('utility', '', 'level °C', 'use kW', f'price {shown.price_unit}', f'cost {shown.cost_unit}')
     return Sheet('Least cost', headings, tuple(rows))
@@ -78,12 +79,12 @@ def flow_sheets(case: Case, flow: HeatFlow | Cut) -> list[Sheet]:
     shown = Shown(case.basis)
     if isinstance(flow, Cut):
         return [cut_sheet(flow, shown)]
-    moves = tuple((each.hot.name, celsius(shown, each.hot.high), celsius(shown, each.hot.low), each.cold.name,
-                   celsius(shown, each.cold.high), celsius(shown, each.cold.low), kilowatts(shown, each.heat))
-                  for each in flow.moves)
-    prices = tuple((word, each.part.name, celsius(shown, each.part.high), celsius(shown, each.part.low),
-                    Decimal(shown.price(each.price)))
-                   for word, parts in (('gives', flow.gives), ('takes', flow.takes)) for each in parts)
+    moves = tuple((move.hot.name, celsius(shown, move.hot.high), celsius(shown, move.hot.low), move.cold.name,
+                   celsius(shown, move.cold.high), celsius(shown, move.cold.low), kilowatts(shown, move.heat))
+                  for move in flow.moves)
+    prices = tuple((word, price.part.name, celsius(shown, price.part.high), celsius(shown, price.part.low),
+                    Decimal(shown.price(price.price)))
+                   for word, parts in (('gives', flow.gives), ('takes', flow.takes)) for price in parts)
     headings = ('hot', 'hot from °C', 'hot to °C', 'cold', 'cold from °C', 'cold to °C', 'kW')
     return [uses_sheet(case, flow, shown), Sheet('Heat flow, shifted °C', headings, moves),
             Sheet('Prices that prove it, shifted °C', ('', 'part', 'from °C', 'to °C', f'price {shown.price_unit}'),
@@ -165,7 +166,7 @@ def penalties_told(too_fine: TooFine) -> str:
 def penalties_sheet(verdict: Accepted, shown: Shown) -> Sheet:
     if verdict.too_fine:
         return Sheet('Penalties are too fine', (), ((penalties_told(verdict.too_fine),),))
-    rows = tuple((str(each.place), kilowatts(shown, each.heat)) for each in verdict.penalties if each.heat)
+    rows = tuple((str(penalty.place), kilowatts(shown, penalty.heat)) for penalty in verdict.penalties if penalty.heat)
     title = 'Penalties: where it loses heat' if rows else 'No penalty: it loses no heat'
     return Sheet(title, ('', 'kW') if rows else (), rows)
 

@@ -11,7 +11,7 @@ from decimal import Decimal, localcontext
 from fractions import Fraction
 
 from ..analysis.findings import Finding, finding_of, headline, stream_at
-from ..analysis.follow import Followed, Passage, PinchPoint, StreamEnd
+from ..analysis.follow import Followed, Passage, PinchPoint, SideState, StreamEnd
 from ..formats.case import Side, Stream, Utility
 from ..formats.shown import Shown
 from ..program.verdicts import Accepted, Place, PlaceKind, Rejected, Verdict
@@ -25,17 +25,23 @@ HEADINGS = ('exchanger', 'hot', 'hot branch', 'cold', 'cold branch', 'duty kW', 
 def mean_difference(passage: Passage) -> Decimal | None:
     """The logarithmic mean of the differences at both ends, in K; None where an end has none, or a level is
     invented."""
-    invented = any(isinstance(each.source, Utility) and each.source.invented for each in (passage.hot, passage.cold))
     first, second = passage.hot_end, passage.cold_end
-    if invented or first is None or second is None or first <= 0 or second <= 0:
+    if is_invented(passage.hot) or is_invented(passage.cold):
+        return None
+    if first is None or second is None or first <= 0 or second <= 0:
         return None
     with localcontext() as context:
         context.prec = 50
-        one, other = (Decimal(each.numerator) / Decimal(each.denominator) / 10 for each in (first, second))
+        at_hot, at_cold = (Decimal(end.numerator) / Decimal(end.denominator) / 10 for end in (first, second))
         # Where both are nearly one the quotient of differences says nothing.
-        if abs(one - other) <= one * Decimal('1e-12'):
-            return one
-        return (one - other) / (one / other).ln()
+        if abs(at_hot - at_cold) <= at_hot * Decimal('1e-12'):
+            return at_hot
+        return (at_hot - at_cold) / (at_hot / at_cold).ln()
+
+
+def is_invented(side: SideState) -> bool:
+    """Whether a side is a utility that stands in, at a level that nobody gave."""
+    return isinstance(side.source, Utility) and side.source.invented
 
 
 def conductance(passage: Passage, shown: Shown) -> Decimal | None:
@@ -47,48 +53,46 @@ def conductance(passage: Passage, shown: Shown) -> Decimal | None:
 
 def branch_of(side: object, passage: Passage) -> str:
     """The branch that a side leads through, where it is not the whole stream."""
-    held = passage.hot if side == 'hot' else passage.cold
-    return held.before.name if held.before and held.before.name != held.source.name else ''
+    state = passage.hot if side == 'hot' else passage.cold
+    return state.before.name if state.before and state.before.name != state.source.name else ''
 
 
 def temperatures(passage: Passage, shown: Shown) -> list[Cell]:
-    ends = (passage.hot.inlet, passage.hot.outlet, passage.cold.inlet, passage.cold.outlet)
-    invented = [isinstance(each.source, Utility) and each.source.invented
-                for each in (passage.hot, passage.hot, passage.cold, passage.cold)]
-    return [None if end is None or made else Decimal(shown.celsius(end)) for end, made in zip(ends, invented)]
+    return [None if end is None or is_invented(side) else Decimal(shown.celsius(end))
+            for side in (passage.hot, passage.cold) for end in (side.inlet, side.outlet)]
 
 
 def sides(passage: Passage, pinches: tuple[PinchPoint, ...]) -> str:
     """The side of the pinch, of several pinches each."""
-    held = [passage.side_of(each) for each in pinches]
-    return ' '.join(each.value if each else '?' for each in held)
+    return ' '.join(side.value if side else '?' for side in map(passage.side_of, pinches))
 
 
 def crossing(passage: Passage, pinches: tuple[PinchPoint, ...], shown: Shown) -> Cell:
     """What is carried down across the pinches, of the one across which it is most."""
-    held = [each for each in (passage.crossing(pinch) for pinch in pinches) if each]
-    return Decimal(shown.kilowatts(max(held, key=abs))) if held else None
+    heats = [heat for heat in map(passage.crossing, pinches) if heat]
+    return Decimal(shown.kilowatts(max(heats, key=abs))) if heats else None
 
 
 def row_of(passage: Passage, pinches: tuple[PinchPoint, ...], verdict: Verdict, shown: Shown) -> tuple[Cell, ...]:
-    least, made = passage.least_difference, conductance(passage, shown)
-    invented = any(isinstance(each.source, Utility) and each.source.invented for each in (passage.hot, passage.cold))
+    least, size = passage.least_difference, conductance(passage, shown)
+    invented = is_invented(passage.hot) or is_invented(passage.cold)
     place = Place(PlaceKind.EXCHANGER, passage.exchanger.name)
     lost = verdict.penalty(place) if isinstance(verdict, Accepted) else None
     return (passage.exchanger.name, passage.hot.source.name, branch_of('hot', passage), passage.cold.source.name,
             branch_of('cold', passage), Decimal(shown.kilowatts(passage.exchanger.duty)), *temperatures(passage, shown),
             None if least is None or invented else Decimal(shown.celsius(least)),
             Decimal(shown.celsius(passage.approach)),
-            made.quantize(Decimal('0.001')) if made is not None else None, sides(passage, pinches),
+            size.quantize(Decimal('0.001')) if size is not None else None, sides(passage, pinches),
             crossing(passage, pinches, shown), Decimal(shown.kilowatts(lost)) if lost is not None else None)
 
 
 def exchangers_sheet(followed: Followed, pinches: tuple[PinchPoint, ...], verdict: Verdict) -> Sheet:
     """One row for each exchanger; of a rejected network the row of the fault is marked."""
     shown = Shown(followed.case.basis)
-    rows = tuple(row_of(each, pinches, verdict, shown) for each in followed.passages)
+    rows = tuple(row_of(passage, pinches, verdict, shown) for passage in followed.passages)
     finding = finding_of(followed, verdict, shown) if isinstance(verdict, Rejected) else None
-    marked = frozenset(at for at, each in enumerate(followed.passages) if finding and is_at(each, finding, verdict))
+    marked = frozenset(at for at, passage in enumerate(followed.passages)
+                       if finding and is_at(passage, finding, verdict))
     return with_fault(Sheet('Exchangers', HEADINGS, rows, marked), finding)
 
 
@@ -111,8 +115,9 @@ def streams_sheet(followed: Followed, verdict: Verdict) -> Sheet:
     """Where each stream ends: its target, what is reached there, and how much heat it exchanged."""
     shown = Shown(followed.case.basis)
     finding = finding_of(followed, verdict, shown) if isinstance(verdict, Rejected) else None
-    rows = tuple(stream_row(each, followed.ends[each.name], shown) for each in followed.case.streams)
-    marked = frozenset(at for at, each in enumerate(followed.case.streams) if finding and finding.stream == each.name)
+    streams = followed.case.streams
+    rows = tuple(stream_row(stream, followed.ends[stream.name], shown) for stream in streams)
+    marked = frozenset(at for at, stream in enumerate(streams) if finding and finding.stream == stream.name)
     headings = ('stream', 'side', 'supply °C', 'target °C', 'reached °C', 'CP kW/K', 'load kW', 'exchanged kW')
     return with_fault(Sheet('Streams', headings, rows, marked), finding)
 
@@ -170,8 +175,8 @@ def verdict_sheet(followed: Followed, verdict: Verdict) -> Sheet:
 def mixes_sheets(followed: Followed, verdict: Verdict) -> list[Sheet]:
     """The mixes that lose heat, by their statements; no sheet where none does."""
     shown = Shown(followed.case.basis)
-    held = verdict.penalties if isinstance(verdict, Accepted) else ()
-    lost = [each for each in held if each.place.kind is PlaceKind.LINE and each.heat]
-    rows = tuple((str(each.place), stream_at(followed, each.place.line), Decimal(shown.kilowatts(each.heat)))
-                 for each in lost)
+    penalties = verdict.penalties if isinstance(verdict, Accepted) else ()
+    lost = [penalty for penalty in penalties if penalty.place.kind is PlaceKind.LINE and penalty.heat]
+    rows = tuple((str(mix.place), stream_at(followed, mix.place.line), Decimal(shown.kilowatts(mix.heat)))
+                 for mix in lost)
     return [Sheet('Mixes that lose heat', ('statement', 'stream', 'penalty kW'), rows)] if rows else []

@@ -54,7 +54,8 @@ def network_row(row: TradeOffRow, traded: TradeOff, shown: Shown) -> FactRow:
 
 def listed(exchangers: tuple[Exchanger, ...], shown: Shown) -> str:
     """Exchangers with their sources and duties."""
-    return ', '.join(f'{each.name} {each.hot}-{each.cold} {shown.kilowatts(each.duty)} kW' for each in exchangers)
+    return ', '.join(f'{exchanger.name} {exchanger.hot}-{exchanger.cold} {shown.kilowatts(exchanger.duty)} kW'
+                     for exchanger in exchangers)
 
 
 def proved(traded: TradeOff) -> str:
@@ -75,5 +76,5 @@ def network_text(row: TradeOffRow, traded: TradeOff) -> str:
     shown = Shown(traded.case.basis)
     head = (f'# {row.exchangers} exchangers, {row.judged.splits} splits',
             f'# cost {shown.with_unit(row.cost)}, floor {shown.with_unit(traded.floor)}, '
-            f'excess {shown.kilowatts(row.excess)} kW', *(f'# {each}' for each in shown.scale_remarks()))
+            f'excess {shown.kilowatts(row.excess)} kW', *(f'# {remark}' for remark in shown.scale_remarks()))
     return '\n'.join(head) + '\n' + print_network(row.network)
