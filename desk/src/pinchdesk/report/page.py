@@ -40,8 +40,8 @@ class Given:
     @property
     def text(self) -> str:
         """What is shown of it: signs that would steer a terminal or a page are `?`."""
-        held = self.content.decode('utf-8', 'replace').replace('\r\n', '\n').replace('\r', '\n')
-        return ''.join(each if each.isprintable() or each in '\n\t' else '?' for each in held)
+        text = self.content.decode('utf-8', 'replace').replace('\r\n', '\n').replace('\r', '\n')
+        return ''.join(sign if sign.isprintable() or sign in '\n\t' else '?' for sign in text)
 
 
 @dataclass(frozen=True)
@@ -102,12 +102,12 @@ def answers_of(pinch: Pinch, case: Given, networks: Sequence[Given]) -> tuple[An
     with ThreadPoolExecutor(4) as pool:
         targets, curves = pool.submit(pinch.targets, content), pool.submit(pinch.curves, content)
         flow = pool.submit(pinch.flow, content)
-        audits = [pool.submit(pinch.audit, content, each.content) for each in networks]
+        audits = [pool.submit(pinch.audit, content, network.content) for network in networks]
         with about(case=case.path):
             answered = Answered(completed(read_case(content)), targets.result(), curves.result(), flow.result())
         verdicts = []
-        for each, audit in zip(networks, audits):
-            with about(case=case.path, network=each.path):
+        for network, audit in zip(networks, audits):
+            with about(case=case.path, network=network.path):
                 verdicts.append(audit.result())
     return answered, verdicts
 
@@ -148,18 +148,18 @@ def case_streams(case: Case) -> Sheet:
     """The streams in engineers' units, with the names that their table had."""
     shown = Shown(case.basis)
     rows: list[tuple[Cell, ...]] = []
-    for each in case.streams:
-        size = None if each.latent else Decimal(shown.kilowatts_per_kelvin(each.cp))
-        rows.append((each.name, each.side.value, Decimal(shown.celsius(each.supply)),
-                     Decimal(shown.celsius(each.target)), size, Decimal(shown.kilowatts(each.heat)),
-                     Decimal(shown.celsius(each.contribution)), 'latent' if each.latent else ''))
+    for stream in case.streams:
+        size = None if stream.latent else Decimal(shown.kilowatts_per_kelvin(stream.cp))
+        rows.append((stream.name, stream.side.value, Decimal(shown.celsius(stream.supply)),
+                     Decimal(shown.celsius(stream.target)), size, Decimal(shown.kilowatts(stream.heat)),
+                     Decimal(shown.celsius(stream.contribution)), 'latent' if stream.latent else ''))
     headings = ('stream', 'side', 'supply °C', 'target °C', 'CP kW/K', 'load kW', 'contribution K', '')
     return with_names(Sheet('Streams', headings, tuple(rows)), case)
 
 
 def with_names(sheet: Sheet, case: Case) -> Sheet:
     """A sheet of sources with the names that their table had, where one of them had another."""
-    old = {new: each for each, new in case.basis.names}
+    old = {new: name for name, new in case.basis.names}
     if not any(row[0] in old for row in sheet.rows):
         return sheet
     rows = tuple((*row, old.get(str(row[0]), '')) for row in sheet.rows)
@@ -167,18 +167,18 @@ def with_names(sheet: Sheet, case: Case) -> Sheet:
 
 
 def case_utilities(case: Case, flow: HeatFlow | Cut) -> Sheet:
-    """The utilities, with what the heat flow of least cost uses of each and what that costs."""
+    """The utilities, with what the heat flow of least cost uses of utility and what that costs."""
     shown = Shown(case.basis)
     rows: list[tuple[Cell, ...]] = []
-    for each in case.utilities:
-        used = None if isinstance(flow, Cut) else flow.use(each.name)
-        most: Cell = 'any' if each.most >= ANY_HEAT else Decimal(shown.kilowatts(each.most))
-        rows.append((each.name, 'heater' if each.side is Side.HOT else 'cooler',
-                     None if each.invented else Decimal(shown.celsius(each.level)),
-                     Decimal(shown.kilowatts(each.least)), most, Decimal(shown.price(each.price)),
-                     Decimal(shown.celsius(each.contribution)),
+    for utility in case.utilities:
+        used = None if isinstance(flow, Cut) else flow.use(utility.name)
+        most: Cell = 'any' if utility.most >= ANY_HEAT else Decimal(shown.kilowatts(utility.most))
+        rows.append((utility.name, 'heater' if utility.side is Side.HOT else 'cooler',
+                     None if utility.invented else Decimal(shown.celsius(utility.level)),
+                     Decimal(shown.kilowatts(utility.least)), most, Decimal(shown.price(utility.price)),
+                     Decimal(shown.celsius(utility.contribution)),
                      None if used is None else Decimal(shown.kilowatts(used)),
-                     None if used is None else Decimal(shown.cost(used * each.price))))
+                     None if used is None else Decimal(shown.cost(used * utility.price))))
     if not isinstance(flow, Cut):
         rows.append(('least cost', '', None, None, None, None, None, None, Decimal(shown.cost(flow.cost))))
     headings = ('utility', '', 'level °C', 'least kW', 'most kW', f'price, {shown.price_unit}', 'contribution K',
@@ -188,7 +188,7 @@ def case_utilities(case: Case, flow: HeatFlow | Cut) -> Sheet:
 
 def case_sheets(answered: Answered) -> list[Sheet]:
     case = answered.case
-    forbids = tuple((each.hot, each.cold) for each in case.forbids)
+    forbids = tuple((forbid.hot, forbid.cold) for forbid in case.forbids)
     return [case_streams(case), case_utilities(case, answered.flow),
             *([Sheet('May not exchange heat', ('hot', 'cold'), forbids)] if forbids else [])]
 
@@ -200,21 +200,21 @@ COMPARED = ('verdict', 'exchangers', 'hot utility kW', 'cold utility kW', 'exces
 def compared(networks: Sequence[Reviewed], shown: Shown) -> Sheet:
     """The networks side by side, each in a column."""
     columns: list[list[Cell]] = []
-    for each in networks:
-        verdict, count = each.verdict, Decimal(len(each.followed.passages))
-        word = 'accepted' if each.good else 'rejected' if isinstance(verdict, Rejected) else 'too fine'
-        held: list[Cell] = [word, count]
+    for network in networks:
+        verdict, count = network.verdict, Decimal(len(network.followed.passages))
+        word = 'accepted' if network.good else 'rejected' if isinstance(verdict, Rejected) else 'too fine'
+        cells: list[Cell] = [word, count]
         if isinstance(verdict, Accepted):
-            lost = sum((one.heat for one in verdict.penalties), start=verdict.excess * 0)
-            held += [Decimal(shown.kilowatts(heat)) for heat in (verdict.hot, verdict.cold, verdict.excess)]
+            lost = sum((penalty.heat for penalty in verdict.penalties), start=verdict.excess * 0)
+            cells += [Decimal(shown.kilowatts(heat)) for heat in (verdict.hot, verdict.cold, verdict.excess)]
             costs: tuple[Fraction | int, ...] = (verdict.cost, verdict.floor, verdict.cost - verdict.floor)
-            held += [Decimal(shown.cost(cost)) for cost in costs]
-            held.append('too fine' if verdict.too_fine else Decimal(shown.kilowatts(lost)))
-        columns.append([*held, *[None] * (len(COMPARED) - len(held))])
+            cells += [Decimal(shown.cost(cost)) for cost in costs]
+            cells.append('too fine' if verdict.too_fine else Decimal(shown.kilowatts(lost)))
+        columns.append([*cells, *[None] * (len(COMPARED) - len(cells))])
     unit = shown.cost_unit
-    names = [f'{each}, {unit}' if 'cost' in each else each for each in COMPARED]
+    names = [f'{name}, {unit}' if 'cost' in name else name for name in COMPARED]
     rows = tuple((name, *(column[at] for column in columns)) for at, name in enumerate(names))
-    return Sheet('Networks side by side', ('', *(each.given.name for each in networks)), rows)
+    return Sheet('Networks side by side', ('', *(network.given.name for network in networks)), rows)
 
 
 @dataclass(frozen=True)
@@ -257,10 +257,10 @@ def bars(network: Reviewed) -> list[tuple[str, str, str]]:
     if not isinstance(network.verdict, Accepted):
         return []
     shown = Shown(network.followed.case.basis)
-    held = [each for each in network.verdict.penalties if each.heat]
-    most = max((abs(each.heat) for each in held), default=network.verdict.excess)
-    return [(str(each.place), shown.kilowatts(each.heat), Shown().celsius(abs(each.heat) / most * 1000, 1))
-            for each in held]
+    penalties = [penalty for penalty in network.verdict.penalties if penalty.heat]
+    most = max((abs(penalty.heat) for penalty in penalties), default=network.verdict.excess)
+    return [(str(penalty.place), shown.kilowatts(penalty.heat), Shown().celsius(abs(penalty.heat) / most * 1000, 1))
+            for penalty in penalties]
 
 
 def is_number(cell: Cell) -> bool:
@@ -270,7 +270,7 @@ def is_number(cell: Cell) -> bool:
 def template() -> Any:
     """The page's template; what is written into it is escaped."""
     from jinja2 import Environment, PackageLoader, StrictUndefined
-    made = Environment(loader=PackageLoader('pinchdesk.report'), autoescape=True, undefined=StrictUndefined,
-                       trim_blocks=True, lstrip_blocks=True)
-    made.tests['number'] = is_number
-    return made.get_template('page.html')
+    environment = Environment(loader=PackageLoader('pinchdesk.report'), autoescape=True, undefined=StrictUndefined,
+                              trim_blocks=True, lstrip_blocks=True)
+    environment.tests['number'] = is_number
+    return environment.get_template('page.html')

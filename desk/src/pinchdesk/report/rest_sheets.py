@@ -34,12 +34,12 @@ def rest_facts(rest: Rest) -> FactRow:
     """What stands, what is left, and what it costs above the targets of the whole; what lies between two numbers is a
     text."""
     shown = Shown(rest.followed.case.basis)
-    hots, colds = ([each.hot if side is Side.HOT else each.cold for each in (rest.easier, rest.harder) if each] or
-                   [Fraction(0)] for side in (Side.HOT, Side.COLD))
+    posed = [part for part in (rest.easier, rest.harder) if part]
+    hots, colds = ([part.hot for part in posed] or [Fraction(0)], [part.cold for part in posed] or [Fraction(0)])
     used, least, most = rest.hot_used, min(hots), max(hots)
 
     def heat(low: Fraction, high: Fraction) -> Cell:
-        return between(low, high, lambda each: shown.kilowatts(each, 6))
+        return between(low, high, lambda watts: shown.kilowatts(watts, 6))
     return (Fact('exchangers so far', Decimal(len(rest.followed.passages))),
             Fact('hot utility that they use', heat(used, used), 'kW'),
             Fact('hot target of the rest', heat(least, most), 'kW'),
@@ -58,12 +58,12 @@ def excess_words(rest: Rest) -> str:
 
 def cost_facts(rest: Rest, shown: Shown) -> Iterator[Fact]:
     """Costs, by the least-cost heat flows of the rest and of the whole; none where one of them has none."""
-    posed = [each for each in (rest.easier, rest.harder) if each]
-    costs = [each.cost for each in posed if each.cost is not None]
+    posed = [part for part in (rest.easier, rest.harder) if part]
+    costs = [part.cost for part in posed if part.cost is not None]
     if isinstance(rest.whole_flow, Cut) or len(costs) < len(posed):
         return
     floor, unit = rest.whole_flow.cost, shown.cost_unit
-    low, high = (rest.cost_used + each for each in (min(costs, default=Fraction(0)), max(costs, default=Fraction(0))))
+    low, high = (rest.cost_used + cost for cost in (min(costs, default=Fraction(0)), max(costs, default=Fraction(0))))
     yield Fact('cost of the utilities used', Decimal(shown.cost(rest.cost_used)), unit)
     yield Fact('least cost of the rest', between(low - rest.cost_used, high - rest.cost_used, shown.cost), unit)
     yield Fact('floor of the whole', Decimal(shown.cost(floor)), unit)
@@ -73,7 +73,7 @@ def cost_facts(rest: Rest, shown: Shown) -> Iterator[Fact]:
 def open_sheet(rest: Rest) -> Sheet:
     """Each open branch: where it stands, where it has to go, and what is left of it."""
     shown = Shown(rest.followed.case.basis)
-    rows = tuple(open_row(each, shown) for each in rest.left)
+    rows = tuple(open_row(left, shown) for left in rest.left)
     title = 'Open branches' if rows else 'No open branch: every stream is ended'
     headings = ('stream', 'branch', 'in the rest', 'side', 'CP kW/K', 'from °C', 'to °C', 'left kW')
     return Sheet(title, headings if rows else (), rows)
@@ -102,7 +102,7 @@ def pinch_sheets(posed: Posed, rest: Rest) -> list[Sheet]:
     # The case of the rest has its own scale, which the CPs are divided by again.
     basis = rest.followed.case.basis
     shown = Shown(replace(basis, scale=basis.scale * posed.scale.sizes))
-    lefts = {each.name: each for each in rest.left}
+    lefts = {left.name: left for left in rest.left}
     rows = tuple(pinch_row(posed, pinch, stream, lefts[stream.name], shown) for pinch in posed.pinches
                  for stream in posed.case.streams if any(stands(stream, pinch)))
     if not rows:
@@ -126,13 +126,13 @@ def counts_sheet(posed: Posed, shown: Shown) -> Sheet:
     rows: list[tuple[Cell, ...]] = []
     for pinch in posed.pinches:
         for at, word in enumerate(SIDES):
-            there = [each for each in posed.case.streams if stands(each, pinch)[at]]
-            hot, cold = ([each for each in there if each.side is side] for side in (Side.HOT, Side.COLD))
+            there = [stream for stream in posed.case.streams if stands(stream, pinch)[at]]
+            hot, cold = ([stream for stream in there if stream.side is side] for side in (Side.HOT, Side.COLD))
             few = len(hot) > len(cold) if word == 'above' else len(cold) > len(hot)
             if there:
                 place = Decimal(shown.celsius(posed.scale.back(pinch.temperature)))
                 rows.append((place, word, Decimal(len(hot)), Decimal(len(cold)),
-                             *(Decimal(shown.kilowatts_per_kelvin(sum(each.cp for each in side), 6))
+                             *(Decimal(shown.kilowatts_per_kelvin(sum(stream.cp for stream in side), 6))
                                for side in (hot, cold)), SPLITS.get((word, few), '')))
     headings = ('pinch, shifted °C', 'side', 'hot', 'cold', 'hot CP kW/K', 'cold CP kW/K', 'to pair each')
     return Sheet('Numbers at the pinch', headings, tuple(rows))
@@ -143,10 +143,10 @@ def lost_sheets(rest: Rest) -> list[Sheet]:
     if not isinstance(rest.verdict, Accepted):
         return []
     shown = Shown(rest.followed.case.basis)
-    names = {each.exchanger.name for each in rest.followed.passages}
+    names = {passage.exchanger.name for passage in rest.followed.passages}
     lines = len(rest.followed.network.statements)
-    rows = tuple((str(each.place), Decimal(shown.kilowatts(each.heat))) for each in rest.verdict.penalties
-                 if each.heat and (each.place.name in names or 0 < each.place.line <= lines))
+    rows = tuple((str(penalty.place), Decimal(shown.kilowatts(penalty.heat))) for penalty in rest.verdict.penalties
+                 if penalty.heat and (penalty.place.name in names or 0 < penalty.place.line <= lines))
     return [Sheet('Penalties so far', ('', 'kW'), rows)] if rows else []
 
 
@@ -181,8 +181,8 @@ def rest_sheets(rest: Rest) -> list[Sheet]:
 def unserved_sheet(posed: Posed, cut: Cut) -> Sheet:
     """The parts of the rest that cannot be served, in the temperatures of the whole."""
     shown = Shown(posed.case.basis)
-    rows = tuple((each.name, *(Decimal(shown.celsius(posed.scale.back(end))) for end in (each.high, each.low)))
-                 for each in cut.parts)
+    rows = tuple((part.name, *(Decimal(shown.celsius(posed.scale.back(end))) for end in (part.high, part.low)))
+                 for part in cut.parts)
     return replace(cut_sheet(cut, shown), rows=rows)
 
 
@@ -191,15 +191,15 @@ def rounding_notes(rest: Rest) -> Iterator[str]:
     if rest.exact:
         return
     shown = Shown(rest.followed.case.basis)
-    scale = next(each.scale for each in (rest.harder, rest.easier) if each)
-    for left in (each for each in rest.left if each.heat):
+    scale = next(posed.scale for posed in (rest.harder, rest.easier) if posed)
+    for left in (left for left in rest.left if left.heat):
         where, latent = f'branch {left.branch.name} of {left.stream.name}', left.stream.latent
         times = scale.factor if latent else scale.sizes
         if (left.size * times).denominator != 1:
             show = shown.in_kilowatts if latent else shown.in_kilowatts_per_kelvin
             yield f'{where}: {both(left.size, times, show, "kW" if latent else "kW/K")}'
         if not latent and (left.state * scale.degrees).denominator != 1:
-            yield f'{where}: {both(left.state, scale.degrees, lambda each: each / 10, "°C")}'
+            yield f'{where}: {both(left.state, scale.degrees, lambda tenths: tenths / 10, "°C")}'
     yield 'the exact targets of the rest lie between those of both'
 
 
@@ -211,12 +211,12 @@ def both(value: Fraction, times: int, show: Callable[[Fraction], Fraction], unit
 
 def file_notes(rest: Rest) -> Iterator[str]:
     """What the case of the rest as a file has rounded, to the side on which it needs more hot utility."""
-    scale = next((each.scale for each in (rest.harder, rest.easier) if each), None)
+    scale = next((posed.scale for posed in (rest.harder, rest.easier) if posed), None)
     if scale is None:
         return
     if scale.sizes > 1:
         yield f'in the case of the rest all heats and CPs are taken {scale.sizes} times (#scale)'
-    for left in (each for each in rest.left if each.heat and not each.stream.latent):
+    for left in (left for left in rest.left if left.heat and not left.stream.latent):
         if left.state.denominator != 1:
             low = decimal(Fraction(rounded(left.state, False), 10), 1)
             yield (f'in the case of the rest branch {left.branch.name} of {left.stream.name} begins at {low} °C, '

@@ -21,7 +21,7 @@ LEFT_OUT = ('the number is that of sources less independent sets: it counts heat
 
 def title_of(region: Region, shown: Shown) -> str:
     """`above 85 °C`, `85 to 60 °C`, `below 60 °C`, shifted."""
-    upper, lower = (shown.celsius(each.temperature) if each else '' for each in (region.upper, region.lower))
+    upper, lower = (shown.celsius(place.temperature) if place else '' for place in (region.upper, region.lower))
     if upper and lower:
         return f'{upper} to {lower} °C'
     return f'above {lower} °C' if lower else f'below {upper} °C' if upper else 'the whole, without a cut'
@@ -29,13 +29,14 @@ def title_of(region: Region, shown: Shown) -> str:
 
 def number_of(counted: RegionUnits) -> Cell:
     """The least number, or both bounds of it where the sources are too many."""
-    held = counted.partition
-    return Decimal(held.least_exchangers) if held.exact else f'{held.least_exchangers} to {held.found_exchangers}'
+    partition = counted.partition
+    least, found = partition.least_exchangers, partition.found_exchangers
+    return Decimal(least) if partition.exact else f'{least} to {found}'
 
 
 def sets_of(counted: RegionUnits) -> Cell:
-    held = counted.partition
-    return Decimal(len(held.sets)) if held.exact else f'{len(held.sets)} to {held.most_sets}'
+    partition = counted.partition
+    return Decimal(len(partition.sets)) if partition.exact else f'{len(partition.sets)} to {partition.most_sets}'
 
 
 def joined_facts(counted: Sequence[RegionUnits], parted: bool) -> FactRow:
@@ -51,11 +52,11 @@ def region_facts(title: str, sources: int, sets: Cell, exchangers: Cell) -> Fact
 
 def summed(title: str, counted: Sequence[RegionUnits]) -> FactRow:
     """Sources, sets and exchangers of all regions together."""
-    partitions = [each.partition for each in counted]
-    least, found = sum(each.least_exchangers for each in partitions), sum(each.found_exchangers for each in partitions)
-    sets, most = sum(len(each.sets) for each in partitions), sum(each.most_sets for each in partitions)
-    exact = all(each.exact for each in partitions)
-    return region_facts(title, sum(each.members for each in partitions),
+    parts = [region.partition for region in counted]
+    least, found = sum(part.least_exchangers for part in parts), sum(part.found_exchangers for part in parts)
+    sets, most = sum(len(part.sets) for part in parts), sum(part.most_sets for part in parts)
+    exact = all(part.exact for part in parts)
+    return region_facts(title, sum(part.members for part in parts),
                         Decimal(sets) if exact else f'{sets} to {most}',
                         Decimal(least) if exact else f'{least} to {found}')
 
@@ -79,9 +80,9 @@ def heat_in(side: SideState, duty: Fraction, region: Region) -> Fraction:
 def exchangers_in(passages: Sequence[Passage], region: Region) -> tuple[int, int]:
     """How many exchangers work in a region alone, and how many partly."""
     whole = partly = 0
-    for each in passages:
-        duty = each.exchanger.duty
-        heats = [heat_in(side, duty, region) for side in (each.hot, each.cold)]
+    for passage in passages:
+        duty = passage.exchanger.duty
+        heats = [heat_in(side, duty, region) for side in (passage.hot, passage.cold)]
         if heats == [duty, duty]:
             whole += 1
         elif any(heats):
@@ -90,7 +91,7 @@ def exchangers_in(passages: Sequence[Passage], region: Region) -> tuple[int, int
 
 
 def all_counted(units: Units) -> Sequence[RegionUnits]:
-    return [units.whole, *(each for level in units.levels for each in level)]
+    return [units.whole, *(counted for level in units.levels for counted in level)]
 
 
 def found_in(followed: Followed | None, region: Region) -> FactRow:
@@ -103,26 +104,28 @@ def found_in(followed: Followed | None, region: Region) -> FactRow:
 def units_table(units: Units, followed: Followed | None = None) -> FactTable:
     """A row for each region, the sum of each way to cut, and the exchangers of a network in each."""
     shown = Shown(units.case.basis)
-    parted = not all(one.joinable for each in all_counted(units) for one in each.sets)
+    parted = not all(independent.joinable for counted in all_counted(units) for independent in counted.sets)
     whole = units.whole.region
     rows: list[FactRow] = [(*summed(title_of(whole, shown), [units.whole]), *joined_facts([units.whole], parted),
                             *found_in(followed, whole))]
     for level in units.levels:
-        utility = any(not each.region.lower.process for each in level if each.region.lower)
-        rows.extend((*region_facts(title_of(each.region, shown), each.sources, sets_of(each), number_of(each)),
-                     *joined_facts([each], parted), *found_in(followed, each.region)) for each in level)
+        utility = any(not counted.region.lower.process for counted in level if counted.region.lower)
+        rows.extend((*region_facts(title_of(counted.region, shown), counted.sources, sets_of(counted),
+                                   number_of(counted)),
+                     *joined_facts([counted], parted), *found_in(followed, counted.region)) for counted in level)
         title = 'all, utility pinches too' if utility else 'all sides of the pinch'
         rows.append((*summed(title, level), *joined_facts(level, parted)))
     return FactTable('Least number of exchangers', tuple(rows))
 
 
 def sum_of(pieces: Iterable[Piece], shown: Shown) -> str:
-    return ' + '.join(f'{each.source.name} {shown.kilowatts(each.heat, 9)}' for each in pieces)
+    return ' + '.join(f'{piece.source.name} {shown.kilowatts(piece.heat, 9)}' for piece in pieces)
 
 
-def sum_text(one: IndependentSet, shown: Shown) -> str:
+def sum_text(independent: IndependentSet, shown: Shown) -> str:
     """`hot: H2 90 + H4 60 = cold: C1 150`, in kW."""
-    hot, cold = ([each for each in one.pieces if each.source.side is side] for side in (Side.HOT, Side.COLD))
+    hot, cold = ([piece for piece in independent.pieces if piece.source.side is side]
+                 for side in (Side.HOT, Side.COLD))
     return f'hot: {sum_of(hot, shown)} = cold: {sum_of(cold, shown)}'
 
 
@@ -143,8 +146,8 @@ def sets_table(units: Units) -> FactTable:
         for row, (_, independent) in zip(rows, sets)), marked)
 
 
-def parted_text(one: IndependentSet) -> str:
-    groups = ' | '.join(' '.join(each) for each in one.parts)
+def parted_text(independent: IndependentSet) -> str:
+    groups = ' | '.join(' '.join(names) for names in independent.parts)
     return f'forbidden matches or temperatures part it: {groups}'
 
 
@@ -152,13 +155,13 @@ def units_notes(units: Units, followed: Followed | None = None) -> list[str]:
     """What the rule leaves out, and what was not cut or not counted to the end."""
     shown = Shown(units.case.basis)
     told = [LEFT_OUT]
-    counted = all_counted(units)
-    for each in counted:
-        if not each.exact:
-            told.append(f'{title_of(each.region, shown)}: the rule\'s number is from {each.least} to '
-                        f'{each.partition.found_exchangers}: there are more than {MOST_SOURCES} sources or '
+    regions = all_counted(units)
+    for counted in regions:
+        if not counted.exact:
+            told.append(f'{title_of(counted.region, shown)}: the rule\'s number is from {counted.least} to '
+                        f'{counted.partition.found_exchangers}: there are more than {MOST_SOURCES} sources or '
                         f'{MOST_SUBSETS} sums that balance, too many for the most sets to be known')
-    if any(not one.joinable for each in counted for one in each.sets):
+    if any(not independent.joinable for counted in regions for independent in counted.sets):
         told.append('a set that is marked balances and cannot be joined: the rule\'s number cannot be reached; beside '
                     'it is the number with sets that can, where it is known')
     for cross in units.crossed:

@@ -18,24 +18,24 @@ REFUSED, INFEASIBLE = 'refused', 'no heat flow'
 CELSIUS = (Field.SUPPLY, Field.TARGET, Field.LEVEL)
 
 
-def what_if_sheets(made: WhatIf) -> list[Sheet]:
-    return [table.sheet() for table in what_if_tables(made)]
+def what_if_sheets(answered: WhatIf) -> list[Sheet]:
+    return [table.sheet() for table in what_if_tables(answered)]
 
 
-def what_if_tables(made: WhatIf) -> list[FactTable]:
+def what_if_tables(answered: WhatIf) -> list[FactTable]:
     """The scenarios, what they change, and the plus-minus numbers of the case as it is."""
-    scenarios = [scenarios_table(made), steps_table(made)] if made.outcomes else []
-    return [*scenarios, plus_minus_table(made)]
+    scenarios = [scenarios_table(answered), steps_table(answered)] if answered.outcomes else []
+    return [*scenarios, plus_minus_table(answered)]
 
 
-def scenarios_table(made: WhatIf) -> FactTable:
+def scenarios_table(answered: WhatIf) -> FactTable:
     """A row for the base and each scenario, with the differences from the base; one that is refused or has no heat
     flow is marked."""
-    shown = Shown(made.base.case.basis)
-    outcomes = (made.base, *made.outcomes)
+    shown = Shown(answered.base.case.basis)
+    outcomes = (answered.base, *answered.outcomes)
     marked = frozenset(at for at, outcome in enumerate(outcomes) if outcome.fault or isinstance(outcome.flow, Cut))
-    rows = [scenario_row(outcome, made.base, shown) for outcome in outcomes]
-    if made.refused:
+    rows = [scenario_row(outcome, answered.base, shown) for outcome in outcomes]
+    if answered.refused:
         rows = [(*row, Fact('fault', outcome.fault)) for row, outcome in zip(rows, outcomes)]
     return FactTable('What if', tuple(rows), marked)
 
@@ -64,19 +64,20 @@ def with_more(watts: int, base: int, is_base: bool, shown: Shown) -> list[Cell]:
 
 def pinches_of(pinches: tuple[int, ...], shown: Shown) -> Cell:
     """One pinch as a number, several as a text."""
-    held = [shown.celsius(each) for each in pinches]
-    return Decimal(held[0]) if len(held) == 1 else ' '.join(held) or 'none'
+    texts = [shown.celsius(pinch) for pinch in pinches]
+    return Decimal(texts[0]) if len(texts) == 1 else ' '.join(texts) or 'none'
 
 
 def kilowatts(watts: int, shown: Shown) -> Decimal:
     return Decimal(shown.kilowatts(watts))
 
 
-def steps_table(made: WhatIf) -> FactTable:
+def steps_table(answered: WhatIf) -> FactTable:
     """What each scenario changes, from what and to what."""
-    shown = Shown(made.base.case.basis)
-    return FactTable('What is changed', tuple(step_row(step, outcome.variant.name if at == 0 else '', shown)
-                                              for outcome in made.outcomes for at, step in enumerate(outcome.steps)))
+    shown = Shown(answered.base.case.basis)
+    rows = tuple(step_row(step, outcome.variant.name if at == 0 else '', shown)
+                 for outcome in answered.outcomes for at, step in enumerate(outcome.steps))
+    return FactTable('What is changed', rows)
 
 
 def step_row(step: Step, scenario: str, shown: Shown) -> FactRow:
@@ -105,10 +106,10 @@ def unit_of(field: Field, shown: Shown) -> str:
     return 'kW/K' if field is Field.CP else shown.price_unit if field is Field.PRICE else 'kW'
 
 
-def rounding_notes(made: WhatIf) -> Iterator[str]:
+def rounding_notes(answered: WhatIf) -> Iterator[str]:
     """What was rounded, since a case has whole numbers."""
-    shown = Shown(made.base.case.basis)
-    for outcome in made.outcomes:
+    shown = Shown(answered.base.case.basis)
+    for outcome in answered.outcomes:
         for step in outcome.steps:
             if step.exact != step.behind:
                 yield rounding_note(step, shown)
@@ -116,15 +117,15 @@ def rounding_notes(made: WhatIf) -> Iterator[str]:
 
 def rounding_note(step: Step, shown: Shown) -> str:
     field, unit = step.change.field, unit_of(step.change.field, shown)
-    exact, held = number(step.exact, field, shown), number(step.behind, field, shown)
-    return f'{step.change.place}: {field.word} of {step.change.source}: {exact} {unit} is rounded to {held} {unit}'
+    exact, taken = number(step.exact, field, shown), number(step.behind, field, shown)
+    return f'{step.change.place}: {field.word} of {step.change.source}: {exact} {unit} is rounded to {taken} {unit}'
 
 
-def plus_minus_table(made: WhatIf) -> FactTable:
+def plus_minus_table(answered: WhatIf) -> FactTable:
     """By how much the hot target rises with a little more of each stream: what makes it smaller is worth trying."""
-    shown = Shown(made.base.case.basis)
-    latent = any(risen.stream.latent for risen in made.plus_minus)
-    rows = tuple(plus_minus_row(risen, latent, shown) for risen in made.plus_minus)
+    shown = Shown(answered.base.case.basis)
+    latent = any(risen.stream.latent for risen in answered.plus_minus)
+    rows = tuple(plus_minus_row(risen, latent, shown) for risen in answered.plus_minus)
     return FactTable('Plus and minus: more hot kW', rows)
 
 
