@@ -23,7 +23,7 @@ BEGINNING = (Heading.NAME, Heading.NUMBER, Heading.KIND, Heading.SUPPLY)
 
 
 @dataclass(frozen=True)
-class Block:
+class TableBlock:
     """A head with its rows. `section` is what the titles above it say of them; `again` where its head is that of the
     block before, on another page."""
 
@@ -42,7 +42,7 @@ class Block:
 class Blocks:
     """The blocks of a table in their order, the rows that stand above a head, and those of tables of something else."""
 
-    blocks: tuple[Block, ...] = ()
+    blocks: tuple[TableBlock, ...] = ()
     above: tuple[TableRow, ...] = ()
     foreign: tuple[TableRow, ...] = ()
 
@@ -70,7 +70,7 @@ class Band:
 
 def blocks_of(table: Table) -> Blocks:
     """The blocks of a table; none where no row has headings. `Refused` where those of its only block are not enough."""
-    blocks: list[Block] = []
+    blocks: list[TableBlock] = []
     above: list[TableRow] = []
     foreign: list[TableRow] = []
     bands = [bands_of(table, list(rows)) for _, rows in groupby(table.rows, lambda row: row.number // SHEET_ROWS)]
@@ -198,7 +198,7 @@ def is_named(band: Band, group: range) -> bool:
                for column in range(group.start, first))
 
 
-def block_of(table: Table, band: Band, group: range, beside: bool, again: bool) -> Block:
+def block_of(table: Table, band: Band, group: range, beside: bool, again: bool) -> TableBlock:
     """A block of a band; `beside` another one its rows are cut to its columns."""
     rows = [cut(row, group) for row in band.rows] if beside else band.rows
     rows = [row for row in rows if any(not cell.empty for cell in row.cells)]
@@ -210,7 +210,7 @@ def block_of(table: Table, band: Band, group: range, beside: bool, again: bool) 
     section = next((found for found in map(title_section, reversed(titles)) if found), None) or layout.section
     if section is None and table.more:
         section = section_of(table.sheet_of(band.draft.row.number))
-    return Block(layout, tuple(rows), section, again)
+    return TableBlock(layout, tuple(rows), section, again)
 
 
 def title_section(row: TableRow) -> Section | None:

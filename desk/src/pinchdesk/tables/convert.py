@@ -129,6 +129,8 @@ def numbers_of(lines: Iterable[Line]) -> Iterable[tuple[int, int, Cell]]:
             words = line.kind == 'forbid' or heading in (Heading.NAME, Heading.NUMBER, Heading.KIND)
             if not words and cell.number is None and not cell.fault:
                 yield line.row.number, column, cell
+        for column in line.layout.twins:
+            yield line.row.number, column, line.row.cell(column)
 
 
 def checked(made: Converted, pinch: Pinch) -> Converted:

@@ -41,8 +41,9 @@ def said_difference(passed: Iterable[Words]) -> Words | None:
     """The least difference that titles and notes of a table say, with its place; None where there is none, or more
     than one."""
     found = [Words(words.row, words.column, match['value'].strip(' .;)]')) for words in passed
-             for match in [SAID.fullmatch(words.text)] if match and is_difference(match['value'].strip(' .;)]'))]
-    return found[0] if len({words.text for words in found}) == 1 else None
+             for match in [SAID.fullmatch(words.text)] if match]
+    agreed = len({words.text for words in found}) == 1 and is_difference(found[0].text)
+    return found[0] if agreed else None
 
 
 def is_difference(text: str) -> bool:

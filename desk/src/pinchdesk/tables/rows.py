@@ -6,7 +6,7 @@ import re
 from collections.abc import Mapping, Sequence
 from dataclasses import dataclass, replace
 
-from .blocks import Block, Blocks
+from .blocks import Blocks, TableBlock
 from .cells import Told
 from .headings import EMPTY, KINDS, Words, is_comment, is_number
 from .layouts import Layout
@@ -118,7 +118,7 @@ class BodyReader:
         for row in blocks.foreign:
             self.pass_over(row, 'of another table')
 
-    def block(self, block: Block, section: Section | None) -> Section | None:
+    def block(self, block: TableBlock, section: Section | None) -> Section | None:
         """The rows of a block; gives the section with which it ends."""
         begun = len(self.lines)
         for row in block.rows:
@@ -249,6 +249,8 @@ def why_passed(line: Line, told: Told, below: bool) -> str:
         return 'a note'
     if line.kind in ('contribution', 'forbid'):
         return ''
+    if not line.name() and below and is_sum_beside(line):
+        return 'a sum'
     if not (line.cell(Heading.SUPPLY).empty and line.cell(Heading.TARGET).empty):
         if SUM_ALONE.fullmatch(line.name()):
             told.fault(row.number, line.at(Heading.NAME), f'`{line.name()}` may be a sum or a stream: take the row '
@@ -261,6 +263,13 @@ def why_passed(line: Line, told: Told, below: bool) -> str:
                    'the heading, and a sum below the streams')
         return ''
     return 'a sum'
+
+
+def is_sum_beside(line: Line) -> bool:
+    """Whether the one text of a row calls it a sum, in a column of numbers."""
+    texts = [cell.text for _, cell in line.row.filled() if not is_number(cell)]
+    ends = any(is_number(line.cell(heading)) for heading in (Heading.SUPPLY, Heading.TARGET))
+    return len(texts) == 1 and SUM_ALONE.fullmatch(texts[0]) is not None and not ends
 
 
 def why_comment(line: Line, told: Told) -> str:

@@ -5,7 +5,7 @@ import re
 from collections.abc import Iterator, Mapping, Sequence
 from dataclasses import replace
 
-from .blocks import Block, Blocks
+from .blocks import Blocks, TableBlock
 from .headings import Words, bracketed
 from .layouts import Layout
 from .rows import BESIDE_HEADING, Body, shortened
@@ -98,7 +98,7 @@ def with_said(blocks: Blocks, body: Body) -> tuple[Blocks, list[tuple[Kind, Word
                 units[column] = said[kind].text
                 used[kind] = said[kind]
         return replace(layout, units=units)
-    made: tuple[Block, ...] = tuple(replace(block, layout=layout_of(block.layout)) for block in blocks.blocks)
+    made: tuple[TableBlock, ...] = tuple(replace(block, layout=layout_of(block.layout)) for block in blocks.blocks)
     return replace(blocks, blocks=made), list(used.items())
 
 

@@ -14,14 +14,16 @@ class Heading(enum.Enum):
     NAME = ('name stream streams streamname strom strome bezeichnung stoffstrom flux courant nom corriente nombre '
             'corrente flusso nome utility utilities utilite utilites servicio servicios utilidad processstream '
             'hotstream hotstreams coldstream coldstreams hotutility hotutilities coldutility coldutilities '
-            'heizmedium kuhlmedium heizmittel kuhlmittel fluxchauds fluxfroids courantschauds courantsfroids utilitechaude utilitefroide '
+            'heizmedium kuhlmedium '
+            'heizmittel kuhlmittel fluxchauds fluxfroids courantschauds courantsfroids utilitechaude utilitefroide '
             'corrientescalientes corrientesfrias correnticalde correntifredde heissestrome warmestrome kaltestrome '
             'designation denominacion denominazione streamidentification')
     NUMBER = 'no nr n num number id tag streamno streamnumber streamid numero nummer nro pos'
     SUPPLY = ('supply supplied ts tin in inlet level t temperature temp temperatur temperatura from start starting '
-              'initial source entry entrance eintritt eintritts ein eingang eingangs anfang anfangs vorlauf zulauf entree '
-              'initiale depart entrada inicial suministro ingresso iniziale entrata partenza '
-              'niveau starttemperatur niveltermico tein')
+              'initial source entry entrance eintritt eintritts ein eingang eingangs anfang anfangs vorlauf zulauf '
+              'entree '
+              'initiale depart entrada inicial suministro ingresso iniziale entrata partenza niveau '
+              'starttemperatur niveltermico tein')
     TARGET = ('target tt tout out outlet to end ending final exit austritt austritts aus ausgang ausgangs ende ziel '
               'rucklauf ablauf sortie finale cible arrivee salida objetivo uscita obiettivo arrivo taus')
     CP = ('cp mcp fcp wcp mdotcp mxcp gcp heatcapacityflow heatcapacityflowrate heatcapacityrate heatcapacity flowcp '
@@ -33,7 +35,8 @@ class Heading(enum.Enum):
             'warmeleistung warmelast warme warmemenge warmebedarf enthalpiestrom enthalpie puissance chargethermique '
             'puissancethermique fluxthermique chaleur charge carga cargatermica calor potencia potenciatermica '
             'entalpia carico caricotermico calore potenza potenzatermica heatcontent heatrequirement heatavailable '
-            'enthalpyflow thermalload thermalduty thermalpower heatpower qdot flussotermico flujodecalor')
+            'enthalpyflow '
+            'thermalload thermalduty thermalpower heatpower qdot flussotermico flujodecalor')
     CONTRIBUTION = ('contribution dtcont dtcontribution dtmin2 deltatmin2 deltatcont deltatcontribution dt2 '
                     'dtmincontribution dtmincont')
     LEAST = 'least minimum min leastload minload leastheat minheat minimumload minduty'
