@@ -112,11 +112,16 @@ def bands_of(table: Table, rows: list[TableRow]) -> list[Band]:
 
 def is_head(row: TableRow, bands: Sequence[Band]) -> bool:
     """Whether a row is that of headings; below others it has to have temperatures, or to begin another table."""
-    found = known_in(row)
+    found = known_in(row) if not is_titled(row) else set()
     if not bands or len(found) < 2:
         return len(found) > 1
     texts = [(column, cell.text) for column, cell in row.filled()]
     return Heading.SUPPLY in found or len(found) >= OTHER_TABLE or any(texts == band.texts for band in bands)
+
+
+def is_titled(row: TableRow) -> bool:
+    """Whether a row has titles alone that say what the rows below are, as `Streams to be cooled`."""
+    return all(section_of(cell.text) for _, cell in row.filled())
 
 
 def drafted(table: Table, rows: list[TableRow], at: int) -> tuple[Draft, int]:
@@ -126,8 +131,7 @@ def drafted(table: Table, rows: list[TableRow], at: int) -> tuple[Draft, int]:
     taken = at
     for below in range(at + 1, min(at + 1 + MOST_HEADS, len(rows))):
         row = rows[below]
-        titled = len(list(row.filled())) == 1 and section_of(next(row.filled())[1].text)
-        if not titled and draft.is_more(row):
+        if not is_titled(row) and draft.is_more(row):
             draft.take(row)
             taken = below
         elif not is_comment(row):

@@ -49,13 +49,14 @@ def heading_of(text: str) -> tuple[Heading | None, str]:
         sign = SIGN.fullmatch(text) if has_unit(whole) else None
         return whole, (sign[1] or sign[2]) if sign else ''
     parts = bracketed(text)
-    if parts:
-        return reading(*parts)
-    for name, unit in splits(text):
-        heading, own = reading(name, unit) if unit and not MONEY.search(name) else (None, '')
-        if heading:
-            return heading, own
-    return None, ''
+    heading, unit = reading(*parts) if parts else (None, '')
+    if heading:
+        return heading, unit
+    found = [(read, own) for name, behind in splits(text) if behind and not MONEY.search(name)
+             for read, own in [reading(name, behind)] if read]
+    # `CP, W/K` is a CP in W/K, and not `CP, W` in K.
+    fitting = [(read, own) for read, own in found if not own or fits(read, own)]
+    return (fitting or found or [(None, unit)])[0]
 
 
 def reading(name: str, unit: str) -> tuple[Heading | None, str]:

@@ -107,7 +107,7 @@ class Draft:
             if heading:
                 self.headings[column], self.titles[column] = heading, cell.text
             elif has_unit(self.headings.get(column, Heading.NAME)) and cell.text not in EMPTY:
-                unit = unit or stripped(cell.text)
+                unit = stripped(cell.text)
             else:
                 unit = ''
                 self.beside.append(Words(row.number, column, cell.text))
@@ -229,7 +229,9 @@ def merged_end(table: Table, row: TableRow, column: int) -> int:
 
 
 def stripped(text: str) -> str:
-    return text.strip().strip('()[]').strip()
+    """A unit without the brackets around it."""
+    parts = bracketed(text)
+    return parts[1] if parts and not parts[0] else text.strip()
 
 
 def named_with_unit(title: str) -> tuple[str, str]:
@@ -267,7 +269,7 @@ def named_columns(columns: Mapping[Heading, int], titles: Mapping[int, str],
     for column in free:
         if column not in titles and lines and counts(row.cell(column).text for row in lines):
             found.setdefault(Heading.NUMBER, column)
-    if Heading.NAME in found or not lines:
+    if Heading.NAME in found or Heading.NUMBER in columns or not lines:
         return found
     for column in free:
         texts = [row.cell(column).text for row in lines]

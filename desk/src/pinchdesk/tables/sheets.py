@@ -9,6 +9,7 @@ from decimal import Decimal
 from ..errors import Refused
 from ..formats.case import Side
 from .blocks import Band, bands_of, groups_of, is_block
+from .headings import is_number
 from .layouts import SIZES
 from .numbers import NoNumber, numeral_of
 from .spreadsheet import Cell, Table, TableRow, joined_sheets, workbook_tables
@@ -62,9 +63,15 @@ def are_parts(streams: Sequence[SheetSummary]) -> bool:
 def summary_of(table: Table) -> SheetSummary:
     bands = [band for band in bands_of(table, list(table.rows))
              if any(is_block(band.draft, group) for group in groups_of(band))]
-    streams = [band for band in bands if set(SIZES) & set(band.draft.headings.values())]
+    streams = [band for band in bands if has_sizes(band)]
     sides = frozenset(side for band in streams for row in band.rows for side in sides_of(band, row))
     return SheetSummary(table, bool(streams), bool(bands) and not streams, sides)
+
+
+def has_sizes(band: Band) -> bool:
+    """Whether a row has a CP or a duty, which no utility has."""
+    columns = [column for column, heading in band.draft.headings.items() if heading in SIZES]
+    return any(is_number(row.cell(column)) for row in band.rows for column in columns)
 
 
 def sides_of(band: Band, row: TableRow) -> list[Side]:
