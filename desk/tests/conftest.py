@@ -73,8 +73,9 @@ def command(*words: str, cwd: Path | None = None) -> Done:
 def pinchdesk(*words: str, cwd: Path | None = None) -> Done:
     """The same in this process, where it need not be loaded anew."""
     out, err = io.BytesIO(), io.BytesIO()
-    with (chdir(cwd or os.curdir), redirect_stdout(io.TextIOWrapper(out, 'utf-8', write_through=True)),
-          redirect_stderr(io.TextIOWrapper(err, 'utf-8', write_through=True))):
+    # A stream that is let go closes what it writes into.
+    streams = [io.TextIOWrapper(content, 'utf-8', write_through=True) for content in (out, err)]
+    with chdir(cwd or os.curdir), redirect_stdout(streams[0]), redirect_stderr(streams[1]):
         status = main(list(words))
     return Done(status, out.getvalue().decode('utf-8', 'replace'), err.getvalue().decode('utf-8', 'replace'))
 
