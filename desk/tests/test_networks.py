@@ -8,7 +8,7 @@ from fractions import Fraction
 from pathlib import Path
 
 import pytest
-from conftest import EXAMPLES, example, pinchdesk
+from conftest import EXAMPLES, example, few_of, pinchdesk
 
 from pinchdesk import Accepted, Cut, Pinch, completed, find_network, read_case, read_network, tradeoff
 from pinchdesk.formats.case import Basis
@@ -24,7 +24,7 @@ FEW = {'four-stream': 6, 'tc3': 7, 'two-reactors': 7, 'own-contributions': 7, 'c
        'two-steam-levels': 10, 'two-reactors-steam': 10, 'three-levels': 11}
 
 
-@pytest.mark.parametrize('name', FEW)
+@pytest.mark.parametrize('name', few_of(FEW, ('four-stream', 'tc3', 'preheater')))
 def test_as_few_as_published_at_the_least_cost(pinch: Pinch, name: str) -> None:
     found = find_network(example(f'{name}.csv'), pinch=pinch, seconds=300)
     assert found.bound <= found.exchangers <= FEW[name]
@@ -102,9 +102,11 @@ HEAT = 'Stream;Kind;Supply (°C);Target (°C);CP (kW/K);Price (EUR/MWh)\nH1;;150
 # A table, what its heats are taken times, its cost, and that cost's unit.
 PRICED = [(HEAT + 'LP;heater;180;;;30,05\n', '10', '2.479', 'EUR/h'), (HEAT, '10', '82500', 'price times W'),
           (HEAT.replace('EUR/MWh', 'EUR/(kW a)') + 'LP;heater;180;;;20\n', '0.1', '1650', 'EUR/a')]
+UNITS = [pytest.param(*row, id=unit, marks=[pytest.mark.long] if unit != 'per MWh' else [])
+         for row, unit in zip(PRICED, ('per MWh', 'no price', 'per kW and year'))]
 
 
-@pytest.mark.parametrize('table, scale, cost, unit', PRICED, ids=['per MWh', 'no price', 'per kW and year'])
+@pytest.mark.parametrize('table, scale, cost, unit', UNITS)
 def test_a_network_is_told_in_the_units_of_its_case(table: str, scale: str, cost: str, unit: str,
                                                     tmp_path: Path) -> None:
     plant, case, out = tmp_path / 'plant.csv', tmp_path / 'case.csv', tmp_path / 'case-network.txt'
@@ -127,7 +129,7 @@ def test_a_network_is_told_in_the_units_of_its_case(table: str, scale: str, cost
     assert other['cost price times W'] == '107500' and other['said'].startswith('bound: at least ')
 
 
-@pytest.mark.parametrize('table, scale, cost, unit', PRICED, ids=['per MWh', 'no price', 'per kW and year'])
+@pytest.mark.parametrize('table, scale, cost, unit', UNITS)
 def test_what_a_network_may_cost_is_asked_in_the_unit_that_is_told(table: str, scale: str, cost: str, unit: str,
                                                                    tmp_path: Path) -> None:
     plant, case = tmp_path / 'plant.csv', tmp_path / 'case.csv'

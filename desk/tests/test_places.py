@@ -9,7 +9,7 @@ from dataclasses import replace
 from pathlib import Path
 
 import pytest
-from conftest import Done, example
+from conftest import Done, example, few_of
 from hypothesis import given
 from hypothesis import strategies as st
 
@@ -149,7 +149,8 @@ def test_an_answer_that_cannot_be_written_is_one_row(desk: Desk, here: Path) -> 
     assert 'cannot be made a folder' in desk('many', 'targets', 'list', '--into', 'tc3.csv').err
 
 
-@pytest.mark.parametrize('name', ['.', '..', '/', 'x' * 300, 'ü' * 300, 'a/../b', '~', 'v1.2', ' ', '-', 'a\tb'])
+@pytest.mark.parametrize('name', few_of(('.', '..', '/', 'x' * 300, 'ü' * 300, 'a/../b', '~', 'v1.2', ' ', '-', 'a\tb'),
+                                        ('..', '/', 'ü' * 300, 'a\tb')))
 def test_any_name_of_a_case_is_kept(name: str, desk: Desk, here: Path) -> None:
     Path('list').write_text(f'name;case\n{name};tc3.csv\n{name};steam.csv\n')
     ended = desk('many', 'targets', 'list', '--into', 'r')
