@@ -5,7 +5,7 @@ import io
 import os
 import subprocess
 import sys
-from collections.abc import Collection, Iterable
+from collections.abc import Collection, Iterable, Iterator
 from contextlib import chdir, redirect_stderr, redirect_stdout
 from dataclasses import dataclass
 from pathlib import Path
@@ -16,6 +16,7 @@ from hypothesis import HealthCheck, settings
 
 from pinchdesk import Pinch
 from pinchdesk.cli.main import main
+from pinchdesk.search.tasks import Task
 
 DESK = Path(__file__).resolve().parents[1]
 EXAMPLES = DESK.parent / 'examples'
@@ -92,3 +93,31 @@ def held(*values: object) -> tuple[object, ...]:
 
 def example(name: str) -> bytes:
     return (EXAMPLES / name).read_bytes()
+
+
+class SearchHere:
+    """Stands in for the process of a search: the task is done in this one, whatever time it takes."""
+
+    def told(self, task: Task, until: float) -> Iterator[object]:
+        del until
+        messages: list[object] = []
+        task.run(messages.append)
+        yield from messages
+
+    def __enter__(self) -> SearchHere:
+        return self
+
+    def __exit__(self, *_: object) -> None:
+        pass
+
+
+def search_here(monkeypatch: pytest.MonkeyPatch) -> None:
+    """Searches are done in this process, and wider structures are not tried: the same answers on each machine."""
+    for module in ('pinchdesk.search.find', 'pinchdesk.search.reduce.tradeoff'):
+        monkeypatch.setattr(f'{module}.SearchProcess', SearchHere)
+    monkeypatch.setattr('pinchdesk.search.reduce.fewer.TRIES', 0)
+
+
+@pytest.fixture
+def searched_here(monkeypatch: pytest.MonkeyPatch) -> None:
+    search_here(monkeypatch)

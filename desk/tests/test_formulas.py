@@ -85,9 +85,10 @@ def hostile(tmp_path: Path, monkeypatch: pytest.MonkeyPatch) -> Path:
 
 
 WORDS = ['targets', 'flow', 'audit', 'table', 'sweep 0 20 10', 'prices', 'units', 'rest', 'whatif',
-         'network --seconds 0.3', 'tradeoff --seconds 0.3']
+         'network --seconds 30', 'tradeoff --seconds 30']
 
 
+@pytest.mark.usefixtures('searched_here')
 @pytest.mark.parametrize('words', few_of(WORDS, ('targets', 'table', 'units')))
 def test_no_word_writes_a_formula(words: str, hostile: Path, capfd: pytest.CaptureFixture[str]) -> None:
     word, *more = words.split()

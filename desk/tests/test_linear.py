@@ -2,12 +2,14 @@
 from __future__ import annotations
 
 from fractions import Fraction
+from pathlib import Path
 
 import pytest
 from hypothesis import given, settings
 from hypothesis import strategies as some
 
 from pinchdesk import ProgramError
+from pinchdesk.search import child
 from pinchdesk.search.solver import linear, process
 from pinchdesk.search.solver.elimination import Elimination, Inconsistent
 from pinchdesk.search.solver.linear import LinearRow, Program, Terms
@@ -60,8 +62,8 @@ def test_a_program_of_many_choices_is_solved_apart(monkeypatch: pytest.MonkeyPat
     here = linear.solve(program)
     with process.Apart() as apart:
         there = apart.solve(program, 60)
-        assert apart.process is not None and here is not None and there is not None and there.aim == here.aim
-    monkeypatch.setattr(process, 'BEGIN', 'raise SystemExit(1)')
+        assert apart.child is not None and here is not None and there is not None and there.aim == here.aim
+    monkeypatch.setattr(child, 'SOURCE', Path('/nowhere'))
     with pytest.raises(ProgramError, match='ends when it begins'):
         process.Apart().solve(program, 60)
 

@@ -88,9 +88,9 @@ def test_the_command_in_a_process_of_its_own_says_the_same(tmp_path: Path) -> No
 
 
 def test_the_program_is_started_in_one_place_and_no_shell_is() -> None:
-    """The browser that makes a PDF, and this Python for the solver, are the only other programs."""
+    """The browser that makes a PDF, and this Python for a search and its solver, are the only other programs."""
     sources = {path.name: path.read_text() for path in (DESK / 'src').rglob('*.py')}
-    assert {name for name, text in sources.items() if 'subprocess' in text} == {'run.py', 'pdf.py', 'process.py'}
+    assert {name for name, text in sources.items() if 'subprocess' in text} == {'run.py', 'pdf.py', 'child.py'}
     assert not [name for name, text in sources.items() if re.search(r'shell=|os\.(system|popen|exec|spawn)', text)]
 
 

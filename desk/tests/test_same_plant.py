@@ -27,11 +27,12 @@ TABLES = ['targets {case.csv}', 'flow {case.csv}', 'audit {case.csv} {case-netwo
           'prices {case.csv} {case-study.txt}', 'site {site.csv}', 'units {case.csv}',
           'units {case.csv} {case-network.txt}', 'rest {case.csv} {begun.txt}', 'rest {case.csv} {bad.txt}',
           'whatif {case.csv}', 'whatif {case.csv} {changes.csv}']
-SEARCHES = ['tradeoff {case.csv} {case-network.txt} --seconds 0.01', 'network {case.csv} --seconds 0.3']
+SEARCHES = ['tradeoff {case.csv} {case-network.txt} --seconds 30', 'network {case.csv} --seconds 30']
 PICTURES = ['curves {case.csv}', 'composite {case.csv}', 'balanced {case.csv}', 'grand {case.csv}',
             'grid {case.csv} {case-network.txt}', 'grid {case.csv} {bad.txt}', 'site {site.csv}',
             'sweep {case.csv} 4 16 4', 'prices {case.csv} {case-study.txt}']
 PAGES = ['{case.csv}', '{case.csv} {case-network.txt} {bad.txt}']
+pytestmark = pytest.mark.usefixtures('searched_here')
 
 
 @pytest.fixture(scope='module')
@@ -143,7 +144,7 @@ def test_a_page_is_that_of_the_same_plant(words: str, plain: Files, other: Files
 
 
 MANY = ['targets', 'flow', 'audit', 'table', 'sweep 4 16 4', 'prices', 'units', 'rest', 'whatif', 'site',
-        'network --seconds 0.3', 'tradeoff --seconds 0.01']
+        'network --seconds 30', 'tradeoff --seconds 30']
 
 
 def many_of(files: Files, words: str) -> Parts:
@@ -180,7 +181,7 @@ def test_cases_of_different_units_share_no_column_of_costs(plain: Files, other: 
     names = ('case.csv', 'case-network.txt', 'case-study.txt')
     rows = [[files.path(name) for name in names] for files in (plain, other)]
     (tmp_path / 'list').write_text('\n'.join(['case;network;study', *map(';'.join, rows), '']))
-    for words in ('flow', 'audit', 'rest', 'sweep 4 8 4', 'prices', 'network --seconds 0.3', 'tradeoff --seconds 0.01'):
+    for words in ('flow', 'audit', 'rest', 'sweep 4 8 4', 'prices', 'network --seconds 30', 'tradeoff --seconds 30'):
         word, *more = words.split()
         main(['many', word, str(tmp_path / 'list'), *more, '--form', 'csv', '--processes', '2'])
         headings, held = csv_cells(capfd.readouterr().out)

@@ -11,7 +11,7 @@ from pathlib import Path
 import pytest
 from branched import THREE, THREE_NETWORK
 from captured import Captured
-from conftest import EXAMPLES, NETWORKS, example
+from conftest import EXAMPLES, NETWORKS, example, search_here
 from hypothesis import given
 from hypothesis import strategies as st
 from looking import cut_off, overlapping, svg_texts
@@ -22,9 +22,9 @@ from pinchdesk.figures import tradeoff_figure
 from pinchdesk.formats.network import Exchanger
 from pinchdesk.search.accepted import Judge, Judged, NotAccepted
 from pinchdesk.search.find import NoNetwork
-from pinchdesk.search.reduce.least_cost import Costed, cheapest, cheapest_of
+from pinchdesk.search.reduce.least_cost import cheapest, cheapest_of
 from pinchdesk.search.reduce.moves import later, structures, unsplit, with_ends
-from pinchdesk.search.reduce.network_structure import duties_of, network_of, structure_of
+from pinchdesk.search.reduce.network_structure import Costed, duties_of, network_of, structure_of
 from pinchdesk.search.reduce.paths import Shift, shifts
 from pinchdesk.search.reduce.shares import reshared
 from pinchdesk.search.reduce.simplify import simpler
@@ -41,7 +41,9 @@ def those(name: str) -> tuple[Case, Network]:
 
 @pytest.fixture(scope='module')
 def traded(pinch: Pinch) -> TradeOff:
-    return tradeoff(*those('tc3'), pinch, seconds=0.01)
+    with pytest.MonkeyPatch.context() as patch:
+        search_here(patch)
+        return tradeoff(*those('tc3'), pinch, seconds=30)
 
 
 @pytest.fixture
@@ -243,7 +245,7 @@ def test_control_c_gives_the_rows_so_far(pinch: Pinch) -> None:
 
 def test_other_pairs_and_places_are_tried(pinch: Pinch) -> None:
     # With S1 on S4, which needs no split, five cost less than what is left of the network by hand.
-    made = tradeoff(*those('tc3'), pinch, seconds=3)
+    made = tradeoff(*those('tc3'), pinch, seconds=8)
     costs = {row.exchangers: row.cost for row in made.rows}
     assert costs[6] <= 111500 and costs[5] <= 172500 and costs[4] <= 307500
     for row in made.rows:
@@ -251,7 +253,7 @@ def test_other_pairs_and_places_are_tried(pinch: Pinch) -> None:
 
 
 def test_without_a_network_one_is_searched(pinch: Pinch) -> None:
-    made = tradeoff(those('preheater')[0], None, pinch, seconds=0.5)
+    made = tradeoff(those('preheater')[0], None, pinch, seconds=30)
     assert {row.exchangers: int(row.cost) for row in made.rows} == {3: 2000, 2: 4000}
     little = read_case(example('too-little-cooling.csv'))
     with pytest.raises(NoNetwork, match='no heat flow'):
@@ -267,8 +269,9 @@ def test_a_picture_has_each_network(traded: TradeOff) -> None:
     assert overlapping(figure) == [] and cut_off(figure) == []
 
 
+@pytest.mark.usefixtures('searched_here')
 def test_a_picture_of_long_costs_and_many_networks_has_room(pinch: Pinch) -> None:
-    made = tradeoff(*those('three-levels'), pinch, seconds=0.01)
+    made = tradeoff(*those('three-levels'), pinch, seconds=10)
     assert made.left_begun
     for rows in (made.rows, made.rows + made.rows[-1:] * 4):
         figure = tradeoff_figure(replace(made, rows=rows))
@@ -276,9 +279,10 @@ def test_a_picture_of_long_costs_and_many_networks_has_room(pinch: Pinch) -> Non
     assert 'the network at the beginning: 11, 105500000 price times W' in svg_texts(figure)
 
 
+@pytest.mark.usefixtures('searched_here')
 def test_the_word_gives_a_table_and_the_networks(desk: Captured, tmp_path: Path, pinch: Pinch) -> None:
     folder = tmp_path / 'networks'
-    done = desk('tradeoff', *TC3, '--seconds', '0.01', '--form', 'csv', '--networks', str(folder))
+    done = desk('tradeoff', *TC3, '--seconds', '30', '--form', 'csv', '--networks', str(folder))
     assert done.status == 0
     assert done.out.startswith('exchangers,cost price times W,above the floor price times W,excess kW,splits,')
     rows = [line.split(',') for line in done.out.split('\r\n')[1:]]

@@ -4,6 +4,7 @@ from __future__ import annotations
 import enum
 from collections.abc import Iterator
 from contextlib import contextmanager
+from typing import Any
 
 
 class Status(enum.IntEnum):
@@ -60,6 +61,10 @@ class Refused(DeskError):
 
     def __str__(self) -> str:
         return f'{self.file}: {self.text}' if self.file else self.text
+
+    def __reduce__(self) -> tuple[Any, ...]:
+        """How it goes from process to process."""
+        return Refused, (self.answered, self.place, self.cause, self.text, self.file)
 
 
 @contextmanager

@@ -3,6 +3,7 @@ from __future__ import annotations
 
 from argparse import Namespace
 from collections.abc import Mapping, Sequence
+from dataclasses import replace
 from pathlib import Path
 from typing import Any
 
@@ -34,11 +35,16 @@ def answered(word: Word[Any], _: tuple[str, ...], parsed: Namespace) -> int:
         files = read_files(paths)
         others = [*inputs, *([parsed.output] if parsed.output is not None else [])]
         places = further_places(word, parsed, others)
-        answer = word.run(files, options_of(word, parsed), tell)
+        answer = word.run(files, counted(options_of(word, parsed), parsed.begun), tell)
         content = answer.content(form)
         notes = with_further(word, answer, places, others)
     write(content, notes, parsed.output, inputs)
     return answer.status
+
+
+def counted(options: Any, begun: float) -> Any:
+    """Options whose seconds, if they have any, count from when the command was started."""
+    return replace(options, begun=begun) if hasattr(options, 'begun') else options
 
 
 def further_places(word: Word[Any], parsed: Namespace, others: Sequence[str]) -> Mapping[str, str]:

@@ -2,6 +2,8 @@
 from __future__ import annotations
 
 import sys
+import time
+from argparse import Namespace
 from collections.abc import Sequence
 from contextlib import suppress
 from typing import NoReturn
@@ -12,6 +14,7 @@ from ..program.causes import lines_of
 from .answering import answered, done_over_many
 from .parsing import parser
 from .standard_streams import fill, say
+from .start_time import started
 
 
 def main(arguments: Sequence[str] | None = None) -> int:
@@ -20,7 +23,8 @@ def main(arguments: Sequence[str] | None = None) -> int:
     if hasattr(sys.stderr, 'reconfigure'):
         sys.stderr.reconfigure(errors='backslashreplace')
     try:
-        parsed = parser(answered, done_over_many).parse_args(arguments)
+        begun = started() if arguments is None else time.monotonic()
+        parsed = parser(answered, done_over_many).parse_args(arguments, Namespace(begun=begun))
         return int(parsed.doing(parsed))
     except SystemExit as ended:
         return int(ended.code or 0)

@@ -8,11 +8,10 @@ from ..analysis.findings import headline
 from ..analysis.follow import follow
 from ..errors import DeskError, Refused
 from ..formats.case import Case, completed, read_case
-from ..formats.network import Network, read_network
+from ..formats.network import Network, Split, read_network
 from ..program.run import CaseText, NetworkText, Pinch
 from ..program.verdicts import Accepted, Rejected, TooFine, ending
-from .reduce.least_cost import Costed
-from .reduce.network_structure import Duties, duties_of, network_of, structure_of
+from .reduce.network_structure import Costed, Duties, duties_of, network_of, structure_of
 from .reduce.structure import Structure, splits
 
 
@@ -25,21 +24,36 @@ class NotAccepted(DeskError):
 
 
 @dataclass(frozen=True)
-class Judged:
-    """A network that was accepted. Its cost is the one of the audit."""
+class AcceptedNetwork:
+    """A network with the verdict of `pinch audit` that accepted it."""
 
-    structure: Structure
-    duties: Duties
     network: Network
     verdict: Accepted
 
     @property
     def count(self) -> int:
-        return len(self.duties)
+        return len(self.network.exchangers)
 
     @property
     def cost(self) -> Fraction:
         return self.verdict.cost
+
+    @property
+    def splits(self) -> int:
+        return sum(isinstance(statement, Split) for statement in self.network.statements)
+
+    @property
+    def rank(self) -> tuple[int, Fraction, int]:
+        """What is less is better: exchangers, then the cost, then statements."""
+        return (self.count, self.cost, len(self.network.statements))
+
+
+@dataclass(frozen=True)
+class Judged(AcceptedNetwork):
+    """An accepted network with its structure."""
+
+    structure: Structure
+    duties: Duties
 
     @property
     def splits(self) -> int:
@@ -63,15 +77,20 @@ class Judge:
     pinch: Pinch
     case: Case
 
-    def given(self, text: NetworkText) -> Judged:
-        """A network that somebody has, which the program reads first; `NotAccepted` where it is not accepted, `Refused`
-        where it has no structure."""
+    def accepted(self, text: NetworkText) -> AcceptedNetwork:
+        """A network that somebody has, which the program reads first; `NotAccepted` where it is not accepted."""
         verdict = self.pinch.audit(self.case, text)
         network = held_network(text)
         if not isinstance(verdict, Accepted):
             told = headline(follow(self.case, network), verdict)
             raise NotAccepted(told, verdict)
-        return Judged(structure_of(self.case, network), duties_of(network), network, verdict)
+        return AcceptedNetwork(network, verdict)
+
+    def given(self, text: NetworkText) -> Judged:
+        """The same with its structure; `Refused` where it has none."""
+        found = self.accepted(text)
+        structure, duties = structure_of(self.case, found.network), duties_of(found.network)
+        return Judged(found.network, found.verdict, structure, duties)
 
     def of(self, costed: Costed | None) -> Judged | None:
         """What was found, where it is accepted at the cost that was worked out; None where it is not, or its fractions
@@ -85,4 +104,4 @@ class Judge:
             return None
         if not isinstance(verdict, Accepted) or verdict.cost != costed.cost:
             return None
-        return Judged(costed.structure, costed.duties, network, verdict)
+        return Judged(network, verdict, costed.structure, costed.duties)

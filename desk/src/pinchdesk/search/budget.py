@@ -1,4 +1,4 @@
-"""How long a search may take, and what it tells on the way."""
+"""How long a search may take."""
 from __future__ import annotations
 
 import math
@@ -7,6 +7,9 @@ from collections.abc import Callable
 from dataclasses import dataclass, field
 
 Telling = Callable[[str], None]
+# What of the time of a search is kept, as a share and at most in seconds, for making its last answer exact and for the
+# last audit; and how long after the time its process is ended.
+KEPT, MOST_KEPT, GRACE = 0.1, 1.0, 0.5
 
 
 class TimeOver(Exception):
@@ -17,15 +20,17 @@ def nobody(text: str) -> None:
     del text
 
 
+def for_search(seconds: float) -> float:
+    """What of its time a search has for searching."""
+    return seconds - min(KEPT * seconds, MOST_KEPT)
+
+
 @dataclass
 class Effort:
-    """The time of a search, its best number of exchangers, and the bound."""
+    """The time of a search, from a time by `time.monotonic` on."""
 
     seconds: float
-    tell: Telling = nobody
     begun: float = field(default_factory=time.monotonic)
-    best: int | None = None
-    bound: int = 0
 
     @property
     def spent(self) -> float:
@@ -40,11 +45,6 @@ class Effort:
         if self.left <= 0:
             raise TimeOver
         return max(0.2, min(seconds, self.left))
-
-    def told(self) -> None:
-        """Tells how far it is."""
-        best = 'none yet' if self.best is None else str(self.best)
-        self.tell(f'{best} exchangers, at least {self.bound}')
 
 
 def rounded_up(bound: float) -> int:

@@ -1,7 +1,9 @@
 """A network of few exchangers for a case: the call behind the word `network`."""
 from __future__ import annotations
 
+import time
 from collections.abc import Callable
+from concurrent.futures import ThreadPoolExecutor
 from dataclasses import dataclass
 from fractions import Fraction
 
@@ -11,10 +13,13 @@ from ..errors import INFEASIBLE, DeskError, Status
 from ..formats.case import Basis, Case, completed, read_case
 from ..formats.network import Network, print_network, read_network
 from ..formats.shown import Shown, decimal_up
-from ..program.answers import Cut, Design
+from ..program.answers import Cut, Design, HeatFlow
 from ..program.run import CaseText, NetworkText, Pinch
 from ..program.verdicts import Accepted, ending
-from .budget import Effort, nobody
+from .accepted import AcceptedNetwork
+from .budget import GRACE, for_search, nobody
+from .search_state import INTERRUPTED, TIME_OVER, SearchState, each_stream_has_one
+from .tasks import NetworkTask, SearchProcess
 
 SECONDS = 60.0
 
@@ -67,31 +72,56 @@ class FewExchangers:
 
 def find_network(case: CaseText, most_cost: Fraction | int | None = None, above: Fraction | int | None = None,
                  seconds: Fraction | float = SECONDS, start: NetworkText | None = None,
-                 tell: Callable[[str], None] = nobody, pinch: Pinch | None = None) -> FewExchangers:
+                 tell: Callable[[str], None] = nobody, pinch: Pinch | None = None,
+                 begun: float | None = None) -> FewExchangers:
     """A network with as few exchangers as were found in the time, at the least cost; or at most at this cost (price
     times W), or so many percent above the least. `start` is a network to be bettered. `NoNetwork` where there is none.
-    An interruption from the keyboard ends the search, and the best so far is given."""
-    pinch = pinch or Pinch()
-    effort = Effort(float(seconds), tell)
+
+    The time counts from the call, or from `begun` by `time.monotonic`. When it is over, or at an interruption from the
+    keyboard, the best so far is given: at least that of `pinch design`."""
+    pinch, begun = pinch or Pinch(), time.monotonic() if begun is None else begun
+    with SearchProcess() as process, ThreadPoolExecutor(1) as beside:
+        designing = beside.submit(designed, pinch, case)
+        flow = flow_of(pinch, case)
+        asked = completed(case if isinstance(case, Case) else read_case(case))
+        limit = limit_of(flow.cost, most_cost, above, Shown(asked.basis))
+        first = best_of(limit, bettered(pinch, asked, start), designing.result())
+        task = task_of(pinch, asked, flow, limit, first, begun, float(seconds))
+        state, ended = SearchState(task.best, each_stream_has_one(asked)), TIME_OVER
+        try:
+            for message in process.told(task, begun + float(seconds) + GRACE):
+                assert isinstance(message, SearchState)
+                state = message
+                tell(str(state))
+        except KeyboardInterrupt:
+            ended = INTERRUPTED
+    return found_in(state, state.ended or ended, asked.basis)
+
+
+def flow_of(pinch: Pinch, case: CaseText) -> HeatFlow:
+    """The heat flow of a case; `NoNetwork` where there is none."""
     flow = pinch.flow(case)
     if isinstance(flow, Cut):
         raise NoNetwork('there is no heat flow, so there is no network (`pinchdesk flow` says why)')
-    held = completed(case if isinstance(case, Case) else read_case(case))
-    limit = limit_of(flow.cost, most_cost, above, Shown(held.basis))
-    # The solver takes a while to load, which no other word should wait for.
-    from .staged.staged_search import Search
-    search = Search(pinch, held, flow.cost, limit, effort)
-    ended = 'interrupted'
-    try:
-        search.run({each.name: each.heat for each in flow.uses}, first_of(pinch, held, start))
-        ended = 'time over' if effort.left <= 0 else 'searched to the end'
-    except KeyboardInterrupt:
-        pass
-    best = search.best
-    if best is None:
+    return flow
+
+
+def task_of(pinch: Pinch, case: Case, flow: HeatFlow, limit: Fraction, best: AcceptedNetwork | None, begun: float,
+            seconds: float) -> NetworkTask:
+    """The search in a completed case with a heat flow of least cost."""
+    uses = {use.name: use.heat for use in flow.uses}
+    return NetworkTask(pinch.path, case, flow.cost, uses, limit, best, begun, for_search(seconds))
+
+
+def found_in(state: SearchState, ended: str, basis: Basis) -> FewExchangers:
+    """What a search found until it ended; `NoNetwork` where that is nothing."""
+    best = state.best
+    if best is None and ended == INTERRUPTED:
         raise NoNetwork('interrupted before there was a network', Status.STOPPED)
-    staged = search.staged if search.staged is not None and search.staged[0] <= best.exchangers else None
-    return FewExchangers(best.network, best.verdict, min(effort.bound, best.exchangers), staged, ended, held.basis)
+    if best is None:
+        raise NoNetwork('no network was found in the time, and `pinch design` has none', Status.FAILED)
+    staged = state.staged if state.staged is not None and state.staged[0] <= best.count else None
+    return FewExchangers(best.network, best.verdict, min(state.bound, best.count), staged, ended, basis)
 
 
 def limit_of(floor: int, most_cost: Fraction | int | None, above: Fraction | int | None, shown: Shown) -> Fraction:
@@ -106,14 +136,24 @@ def limit_of(floor: int, most_cost: Fraction | int | None, above: Fraction | int
     return limit
 
 
-def first_of(pinch: Pinch, case: Case, start: NetworkText | None) -> list[Network]:
-    """Networks to begin with: that of `design`, and the one that is to be bettered."""
+def designed(pinch: Pinch, case: CaseText) -> AcceptedNetwork | None:
+    """The network of `pinch design`; None where there is none."""
     design = pinch.design(case)
-    first = [read_network(design.text)] if isinstance(design, Design) else []
+    verdict = pinch.audit(case, design.text) if isinstance(design, Design) else None
+    return AcceptedNetwork(read_network(design.text), verdict) if isinstance(verdict, Accepted) else None
+
+
+def bettered(pinch: Pinch, case: Case, start: NetworkText | None) -> AcceptedNetwork | None:
+    """The network that is to be bettered, if any; `NoNetwork` where it is not accepted."""
     if start is None:
-        return first
-    verdict = pinch.audit(case, start)
-    held = start if isinstance(start, Network) else read_network(start)
+        return None
+    network, verdict = start if isinstance(start, Network) else read_network(start), pinch.audit(case, start)
     if not isinstance(verdict, Accepted):
-        raise NoNetwork(f'the network to begin with is {headline(follow(case, held), verdict)}', *ending([verdict]))
-    return [held, *first]
+        raise NoNetwork(f'the network to begin with is {headline(follow(case, network), verdict)}', *ending([verdict]))
+    return AcceptedNetwork(network, verdict)
+
+
+def best_of(limit: Fraction, *found: AcceptedNetwork | None) -> AcceptedNetwork | None:
+    """The best of some networks that costs no more than it may."""
+    within = [network for network in found if network and network.cost <= limit]
+    return min(within, key=lambda network: network.rank) if within else None

@@ -22,16 +22,19 @@ DECLARED = (
     Option('cost', 'what it may cost at most, in the unit of the costs of the case, which may stand with it: 90 or '
            '"90 EUR/h" (the least cost)', ('--cost',), metavar='MOST', alone='cost'),
     Option('above', 'how far above the least cost it may be', ('--above',), metavar='PERCENT', alone='cost'),
-    Option('seconds', 'how long it may search (60 unless given)', ('--seconds',), default='60', metavar='S'))
+    Option('seconds', 'how long it takes at most, but for a moment (60 unless given)', ('--seconds',), default='60',
+           metavar='S'))
 
 
 @dataclass(frozen=True)
 class NetworkOptions:
-    """What a network may cost, at most or above the least cost, and how long it may be searched."""
+    """What a network may cost, at most or above the least cost, and how long it may be searched, from a time by
+    `time.monotonic` on, else from the call."""
 
     cost: str | None = None
     above: str | None = None
     seconds: str = '60'
+    begun: float | None = None
 
 
 def network(files: Files, options: NetworkOptions = NetworkOptions(), tell: Telling = nobody) -> Answer:
@@ -42,7 +45,8 @@ def network(files: Files, options: NetworkOptions = NetworkOptions(), tell: Tell
         pinch = Pinch()
         pinch.targets(case.content)
         most = None if options.cost is None else cost_of(options.cost, Shown(read_case(case.content).basis))
-        found = find_network(case.content, most, above, seconds, start.content if start else None, tell, pinch)
+        found = find_network(case.content, most, above, seconds, start.content if start else None, tell, pinch,
+                             options.begun)
     return Answer(in_form=lambda form: found.text, facts=(network_facts(found),), headline=found.bounds)
 
 

@@ -24,28 +24,29 @@ if TYPE_CHECKING:
 
 BEGUN = Role(NETWORK.name, 'a network text to begin with; without it one of the least cost is searched', needed=False)
 NETWORKS = FurtherOutput('networks', '--networks', 'where the networks are written, one file for each row', folder=True)
-SECONDS = Option('seconds', 'how long it searches at most; it ends earlier where nothing more is gained, and Control-C '
-                 'ends it with what was found', ('--seconds',), default='30', metavar='S')
+SECONDS = Option('seconds', 'how long it takes at most, but for a moment; it ends earlier where nothing more is '
+                 'gained, and Control-C ends it with what was found', ('--seconds',), default='30', metavar='S')
 STOPPED = 'the search was stopped: these are the networks that were found so far'
 
 
 @dataclass(frozen=True)
 class TradeoffOptions:
-    """How long networks may be searched."""
+    """How long networks may be searched, from a time by `time.monotonic` on, else from the call."""
 
     seconds: str = '30'
+    begun: float | None = None
 
 
 def tradeoff(files: Files, options: TradeoffOptions = TradeoffOptions(), tell: Telling = nobody) -> Answer:
     case, network = files.one('case'), files.get('network')
     seconds = float(seconds_of(options.seconds))
-    # It wants scipy, which is slow to load.
     from ..search.reduce.tradeoff import tradeoff as searched
     with about(case=case.name, network=network.name if network else ''):
         pinch = Pinch()
         pinch.targets(case.content)
         read = read_case(case.content)
-        traded = searched(read, network.content if network else None, pinch, seconds, told_on(read, tell))
+        traded = searched(read, network.content if network else None, pinch, seconds, told_on(read, tell),
+                          options.begun)
     sheets, tables = tradeoff_sheets(traded), tradeoff_tables(traded)
     return Answer(tuple(sheets), in_form(traded), rows_of_tables(tables), proved(traded),
                   notes=(STOPPED,) if traded.stopped else (),

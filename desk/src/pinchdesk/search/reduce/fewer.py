@@ -6,32 +6,29 @@ Then structures with more pairs and places are tried in the same way, as long as
 from __future__ import annotations
 
 import time
-from collections.abc import Callable, Iterator
+from collections.abc import Iterator
 from dataclasses import dataclass, field
 from fractions import Fraction
 from random import Random
 
 from ...formats.case import Case
 from ..accepted import Judge, Judged
-from .least_cost import Costed, cheapest_of
+from .least_cost import cheapest_of
 from .moves import with_ends
+from .network_structure import Costed
 from .shares import reshared
 from .simplify import kinds, simplified, without_splits
 from .structure import Structure
+from .tradeoff import Telling, nobody, on_the_front
 from .widen import pairs_of, widened
 
 # How often a number is tried without a gain, and how many seconds one program may take.
 TRIES, SLICE = 10, 5.0
 # The parts of the time at which what costs no more, wider structures, and then shares are over; the least seconds for
-# what comes first, and for what comes last.
-PLAIN, WIDE, SHARED, FIRST, LAST = 0.2, 0.75, 0.9, 10.0, 5.0
+# what comes first, where there are so many.
+PLAIN, WIDE, SHARED, FIRST = 0.2, 0.75, 0.9, 10.0
 # How many exchangers a wider structure has more: the fewest and the most.
 MORE = (4, 10)
-Telling = Callable[[Judged], None]
-
-
-def nobody(judged: Judged) -> None:
-    del judged
 
 
 @dataclass
@@ -60,8 +57,8 @@ class Fewer:
         return self.begun.verdict.floor
 
     def until(self, part: float, least: float = 0.0) -> float:
-        """When so much of the time is over, or at least so many seconds from the start."""
-        return self.start + max(self.seconds * part, least)
+        """When so much of the time is over, or at least so many seconds from the start, where there are so many."""
+        return self.start + max(self.seconds * part, min(least, self.seconds * SHARED))
 
     def left(self, part: float = 1.0, least: float = 0.0) -> float:
         return self.until(part, least) - time.monotonic()
@@ -141,16 +138,12 @@ class Fewer:
 
     def rows(self) -> list[Judged]:
         """The networks of which none has both fewer exchangers and no higher cost, the most exchangers first."""
-        rows: list[Judged] = []
-        for count in sorted(self.best):
-            if not rows or self.best[count].cost < rows[-1].cost:
-                rows.append(self.best[count])
-        return rows[::-1]
+        return on_the_front(self.best)
 
     def near(self) -> list[Judged]:
         """The rows, each made from the one before where that costs no more: so that few things change."""
         rows = self.rows()
-        end = max(self.until(1.0), time.monotonic() + LAST)
+        end = self.until(1.0)
         for at, judged in enumerate(rows[1:], 1):
             if time.monotonic() > end:
                 break

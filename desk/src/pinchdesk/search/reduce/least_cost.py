@@ -3,26 +3,16 @@ at all."""
 from __future__ import annotations
 
 import math
-from dataclasses import dataclass
 from fractions import Fraction
 
 from ...formats.case import Case
 from ..solver.linear import OutOfTime, Program, exact, solve
 from .balances import DutyModel
-from .network_structure import Duties
+from .network_structure import Costed
 from .structure import Structure, reduced
 
 # Two costs that differ by less than this part of the greatest are one to the solver.
 FINE = 10 ** 6
-
-
-@dataclass(frozen=True)
-class Costed:
-    """A structure with duties above 0 and what its utilities cost, in price times W. No audit has seen it yet."""
-
-    structure: Structure
-    duties: Duties
-    cost: Fraction
 
 
 def cheapest(case: Case, structure: Structure) -> Costed | None:

@@ -14,6 +14,15 @@ LONGEST = 16
 
 
 @dataclass(frozen=True)
+class Costed:
+    """A structure with duties above 0 and what its utilities cost, in price times W. No audit has seen it yet."""
+
+    structure: Structure
+    duties: Duties
+    cost: Fraction
+
+
+@dataclass(frozen=True)
 class Edge:
     """What a branch passes between two places where it is divided or joined."""
 

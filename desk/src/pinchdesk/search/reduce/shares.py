@@ -11,8 +11,8 @@ from fractions import Fraction
 from itertools import combinations
 
 from ...formats.case import Case
-from .least_cost import Costed, cheapest, least_cost
-from .network_structure import Duties, shares_of
+from .least_cost import cheapest, least_cost
+from .network_structure import Costed, Duties, shares_of
 from .structure import Course, Parting, Structure, Through
 
 FIRST_STEP, HALVINGS = 0.1, 12

@@ -3,21 +3,32 @@ paths that pay for it."""
 from __future__ import annotations
 
 import time
-from collections.abc import Iterator, Mapping
-from dataclasses import dataclass
+from collections.abc import Callable, Iterator, Mapping
+from concurrent.futures import ThreadPoolExecutor
+from dataclasses import dataclass, field
 from fractions import Fraction
 
+from ...errors import Status
 from ...formats.case import Case, Stream
 from ...formats.network import Exchanger, Network
 from ...program.run import CaseText, NetworkText, Pinch
-from ..accepted import Judge, Judged, case_of
-from ..find import find_network
-from .fewer import Fewer, Telling, nobody
-from .least_cost import Costed
+from ..accepted import AcceptedNetwork, Judge, Judged, case_of
+from ..budget import GRACE
+from ..find import NoNetwork, designed, flow_of, task_of
+from ..search_state import SearchState
+from ..tasks import Begun, SearchProcess, TradeoffTask
 from .moves import letter_of, next_name, taken_names
+from .network_structure import Costed
 from .paths import Shift, shifts
-from .simplify import simpler
 from .structure import Course, Lane, Parting, Structure, Through
+
+# How many audits are asked side by side.
+AUDITS = 4
+Telling = Callable[[Judged], None]
+
+
+def nobody(judged: Judged) -> None:
+    del judged
 
 
 @dataclass(frozen=True)
@@ -25,7 +36,7 @@ class TradeOffRow:
     """A network of a trade-off, and how it differs from the one before it: the exchangers that went, those that came,
     and the loops and paths along which heat was moved. Of the first row nothing is said."""
 
-    judged: Judged
+    judged: AcceptedNetwork
     gone: tuple[Exchanger, ...] = ()
     come: tuple[Exchanger, ...] = ()
     shifts: tuple[Shift, ...] = ()
@@ -57,44 +68,99 @@ class TradeOff:
 
     case: Case
     floor: int
-    begun: Judged
+    begun: AcceptedNetwork
     rows: tuple[TradeOffRow, ...]
     stopped: bool = False
 
     @property
     def left_begun(self) -> bool:
         """Whether the network from which the search went out is in no row."""
-        return all(each.judged is not self.begun for each in self.rows)
+        return all(row.judged != self.begun for row in self.rows)
 
 
 def tradeoff(case: CaseText, network: NetworkText | None = None, pinch: Pinch | None = None, seconds: float = 30.0,
-             tell: Telling = nobody) -> TradeOff:
+             tell: Telling = nobody, begun: float | None = None) -> TradeOff:
     """The trade-off of a case, from a network or from one that is searched. `NotAccepted` where the network is not,
-    `NoNetwork` where the case has none. Control-C ends the search with what was found."""
-    judge = Judge(pinch or Pinch(), case_of(case))
-    start = time.monotonic()
-    if network is None:
-        few = find_network(judge.case, seconds=seconds / 3, pinch=judge.pinch)
-        network = simpler(judge.case, few.network, judge.pinch)
-    begun = judge.given(network)
-    search, stopped = Fewer(judge, begun, seconds, tell, start), False
-    try:
-        search.run()
-        found = search.near()
-    except KeyboardInterrupt:
-        found, stopped = search.rows(), True
-    return TradeOff(judge.case, begun.verdict.floor, begun, tuple(rows_of(judge, begun, found)), stopped)
+    `NoNetwork` where the case has none.
+
+    The time counts from the call, or from `begun` by `time.monotonic`. When it is over, or at an interruption from the
+    keyboard, what was found is given: at least the network to begin with, or that of `pinch design`."""
+    judge, begun = Judge(pinch or Pinch(), case_of(case)), time.monotonic() if begun is None else begun
+    with SearchProcess() as process, ThreadPoolExecutor(1) as beside:
+        beginning = beside.submit(designed, judge.pinch, judge.case) if network is None else \
+            beside.submit(judge.accepted, network)
+        flow = flow_of(judge.pinch, judge.case)
+        first = beginning.result()
+        task = TradeoffTask(task_of(judge.pinch, judge.case, flow, Fraction(flow.cost), first, begun, seconds),
+                            first.network if first and network is not None else None)
+        found = FoundSoFar(first)
+        try:
+            for message in process.told(task, begun + seconds + GRACE):
+                found.take(message, tell)
+        except KeyboardInterrupt:
+            found.stopped = True
+    return found.traded(judge, flow.cost)
+
+
+@dataclass
+class FoundSoFar:
+    """What a search told: with which network it begins, the cheapest of each number, and at its end the rows."""
+
+    first: AcceptedNetwork | None
+    begun: Judged | None = None
+    best: dict[int, Judged] = field(default_factory=dict)
+    rows: tuple[TradeOffRow, ...] = ()
+    stopped: bool = False
+
+    def take(self, message: object, tell: Telling) -> None:
+        match message:
+            case SearchState(best):
+                self.first = best
+            case Begun(judged):
+                self.begun, self.best = judged, {judged.count: judged}
+            case Judged():
+                self.best[message.count] = message
+                tell(message)
+            case _:
+                assert isinstance(message, tuple)
+                self.rows = message
+
+    def traded(self, judge: Judge, floor: int) -> TradeOff:
+        """The trade-off of what was found; of a search that was ended on its way to a network to begin with, the best
+        so far."""
+        if self.begun is None:
+            first = self.first
+            if first is None:
+                raise NoNetwork('no network was found in the time, and `pinch design` has none', Status.FAILED)
+            return TradeOff(judge.case, floor, first, (TradeOffRow(first),), self.stopped)
+        rows = self.rows or tuple(rows_of(judge, self.begun, on_the_front(self.best)))
+        return TradeOff(judge.case, floor, self.begun, rows, self.stopped)
+
+
+def on_the_front(best: Mapping[int, Judged]) -> list[Judged]:
+    """The networks of which none has both fewer exchangers and no higher cost, the most exchangers first."""
+    front: list[Judged] = []
+    for count in sorted(best):
+        if not front or best[count].cost < front[-1].cost:
+            front.append(best[count])
+    return front[::-1]
 
 
 def rows_of(judge: Judge, begun: Judged, found: list[Judged]) -> Iterator[TradeOffRow]:
     """The rows with the names of the network from which the search went out: an exchanger of one pair keeps its name
     from row to row."""
-    taken, before = taken_names(judge.case, begun.structure), begun
+    taken, structure = taken_names(judge.case, begun.structure), begun.structure
+    named: list[Costed] = []
+    for judged in found:
+        named.append(named_like(judge.case, judged, structure, taken))
+        structure = named[-1].structure
+    with ThreadPoolExecutor(AUDITS) as pool:
+        audited = list(pool.map(judge.of, named))
+    before = begun
     for at, judged in enumerate(found):
-        named = judge.of(named_like(judge.case, judged, before.structure, taken)) if judged is not begun else judged
-        judged = named or judged
-        yield difference(judge.case, before, judged) if at or judged is not begun else TradeOffRow(judged)
-        before = judged
+        after = judged if judged is begun else audited[at] or judged
+        yield difference(judge.case, before, after) if at or judged is not begun else TradeOffRow(after)
+        before = after
 
 
 def named_like(case: Case, judged: Judged, before: Structure, taken: set[str]) -> Costed:

@@ -1,87 +1,80 @@
-"""The solver in a process of its own, so that a time limit and an interruption always work.
-
-The process is kept for the next question, and is ended where it takes too long. It is started anew and not forked: the
-solver has threads, and they would not be there."""
+"""The solver in a process of its own, so that its time limit always holds. The process is kept for the next question,
+and is ended where it takes too long."""
 from __future__ import annotations
 
 import math
-import pickle
-import select
-import subprocess
-import sys
-from pathlib import Path
+import time
+from dataclasses import dataclass
 
 from ...errors import ProgramError
+from ..child import Child, Gone, Parent, Silent
 from .linear import OutOfTime, Program, Solved, solve
 
-# What the solver may take behind its time limit before it is ended.
+# What the solver may take after its time limit before it is ended.
 GRACE = 5.0
 # What its process may take to begin, on a busy machine.
 BEGIN_IN = 60.0
 # Up to so many whole variables a program is solved here, in less time than a process takes to begin.
 SMALL = 30
-SOURCE = Path(__file__).resolve().parents[3]
-BEGIN = f'import sys; sys.path.insert(0, {str(SOURCE)!r}); from {__name__} import serve; serve()'
+
+
+@dataclass(frozen=True)
+class Question:
+    """What the solver is asked."""
+
+    program: Program
+    seconds: float
+    gap: float
 
 
 class Apart:
     """The solver's process, begun when it is first asked."""
 
     def __init__(self) -> None:
-        self.process: subprocess.Popen[bytes] | None = None
+        self.child: Child | None = None
 
     def solve(self, program: Program, seconds: float, gap: float = 1e-6) -> Solved | None:
         """As `linear.solve`."""
         if len(program.wholes) <= SMALL:
             return solve(program, seconds, gap)
-        done = False
+        answered = False
         try:
-            found = self.ask(program, seconds, gap)
-            done = True
+            found = self.ask(Question(program, seconds, gap))
+            answered = True
         finally:
-            if not done:
+            if not answered:
                 self.end()
         if isinstance(found, OutOfTime):
             raise found
         assert found is None or isinstance(found, Solved)
         return found
 
-    def ask(self, program: Program, seconds: float, gap: float) -> object:
-        process = self.begun()
-        assert process.stdin is not None and process.stdout is not None
+    def ask(self, question: Question) -> object:
+        child = self.begun()
+        until = time.monotonic() + question.seconds + GRACE
         try:
-            pickle.dump((program, seconds, gap), process.stdin)
-            process.stdin.flush()
-            held: object = self.answer(process, seconds + GRACE)
-        except (OSError, EOFError) as fault:
+            child.ask(question, until)
+            return child.told(until)
+        except (Silent, Gone) as fault:
             raise OutOfTime(-math.inf) from fault
-        return held
 
-    def begun(self) -> subprocess.Popen[bytes]:
-        """The process; `ProgramError` where there can be none. It has a session of its own, so that an interruption
-        from the keyboard is for this one alone."""
-        if self.process is None:
-            self.process = subprocess.Popen([sys.executable, '-c', BEGIN], stdin=subprocess.PIPE,
-                                            stdout=subprocess.PIPE, stderr=subprocess.DEVNULL,
-                                            start_new_session=True)
+    def begun(self) -> Child:
+        """The process; `ProgramError` where there can be none."""
+        if self.child is None:
+            self.child = Child(__name__, False)
             try:
-                self.answer(self.process, BEGIN_IN)
-            except EOFError as fault:
+                self.child.told(time.monotonic() + BEGIN_IN)
+            except Gone as fault:
                 raise ProgramError('the process of the solver ends when it begins') from fault
-        return self.process
-
-    def answer(self, process: subprocess.Popen[bytes], seconds: float) -> object:
-        assert process.stdout is not None
-        if not select.select([process.stdout], [], [], seconds)[0]:
-            raise OutOfTime(-math.inf)
-        return pickle.load(process.stdout)
+            except Silent as fault:
+                raise OutOfTime(-math.inf) from fault
+        return self.child
 
     def end(self) -> None:
         """Ends the process, whatever it does."""
-        if self.process is not None:
-            self.process.kill()
-            self.process.communicate()
-            self.process = None
+        if self.child is not None:
+            self.child.end()
+            self.child = None
 
     def __enter__(self) -> Apart:
         return self
@@ -92,20 +85,13 @@ class Apart:
 
 def serve() -> None:
     """What the process does: it says that it is there, and answers until nobody asks."""
-    put(None)
-    while True:
-        try:
-            program, seconds, gap = pickle.load(sys.stdin.buffer)
-        except EOFError:
-            return
+    parent = Parent()
+    parent.tell(None)
+    for question in parent.asked():
+        assert isinstance(question, Question)
         found: object
         try:
-            found = solve(program, seconds, gap)
+            found = solve(question.program, question.seconds, question.gap)
         except OutOfTime as fault:
             found = fault
-        put(found)
-
-
-def put(held: object) -> None:
-    pickle.dump(held, sys.stdout.buffer)
-    sys.stdout.buffer.flush()
+        parent.tell(found)

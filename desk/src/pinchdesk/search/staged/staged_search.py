@@ -7,7 +7,7 @@ from __future__ import annotations
 
 from collections.abc import Callable, Iterator, Mapping, Sequence
 from contextlib import contextmanager
-from dataclasses import dataclass, replace
+from dataclasses import replace
 from fractions import Fraction
 
 from ...errors import Refused
@@ -15,8 +15,10 @@ from ...formats.case import Case, Side, shifted
 from ...formats.network import Network
 from ...program.run import Pinch
 from ...program.verdicts import Accepted
+from ..accepted import AcceptedNetwork
 from ..budget import Effort, TimeOver
 from ..reduce.simplify import simpler
+from ..search_state import TIME_OVER, TO_THE_END, SearchState, each_stream_has_one
 from .ask import SolverAnswer, Solver, answer_with
 from .ladder import Ladder
 from .merge import joined
@@ -34,41 +36,25 @@ LARGE = 120
 LAST = 0.3
 
 
-@dataclass(frozen=True)
-class Found:
-    """A network with what `pinch audit` says of it."""
-
-    network: Network
-    verdict: Accepted
-
-    @property
-    def exchangers(self) -> int:
-        return len(self.network.exchangers)
-
-    @property
-    def rank(self) -> tuple[int, Fraction, int]:
-        """What is less is better: exchangers, then the cost, then statements."""
-        return (self.exchangers, self.verdict.cost, len(self.network.statements))
-
-
 class Search:
-    """A search in a completed case, for a network that costs at most so much. `staged` is what the solver says that
-    no network of the staged model has fewer exchangers than, with the stages of each window; None where that was not
-    settled."""
+    """A search in a completed case, for a network that costs at most so much, from one that does on. `bound` and
+    `staged` are those of `SearchState`, which is told to `tell` with each change."""
 
-    def __init__(self, pinch: Pinch, case: Case, floor: int, most_cost: Fraction, effort: Effort) -> None:
-        self.pinch, self.case, self.effort = pinch, case, effort
+    def __init__(self, pinch: Pinch, case: Case, floor: int, most_cost: Fraction, effort: Effort,
+                 best: AcceptedNetwork | None, tell: Callable[[SearchState], None]) -> None:
+        self.pinch, self.case, self.effort, self.tell = pinch, case, effort, tell
         self.floor, self.most_cost = floor, most_cost
-        self.best: Found | None = None
+        self.best = best
         self.staged: tuple[int, tuple[int, ...]] | None = None
         self.solver = Solver(effort)
-        sides = [sum(each.side is side for each in case.streams) for side in Side]
-        effort.bound = max(effort.bound, *sides)
+        self.bound = each_stream_has_one(case)
 
-    def run(self, uses: Mapping[str, int], first: Sequence[Network]) -> None:
+    def told(self, ended: str | None = None) -> None:
+        """Tells how far the search is, and why it ended."""
+        self.tell(SearchState(self.best, self.bound, self.staged, ended))
+
+    def run(self, uses: Mapping[str, int]) -> None:
         """Searches until the best is known to be so, or the time is over."""
-        for each in first:
-            self.offer(each)
         seconds = self.effort.seconds
         self.effort.seconds *= 1 - LAST
         try:
@@ -79,11 +65,12 @@ class Search:
         finally:
             self.effort.seconds = seconds
             self.solver.apart.end()
+        self.told(TIME_OVER if self.effort.left <= 0 else TO_THE_END)
 
     def better(self) -> None:
         """What of the time is left: other pairs, places and splits around the best network."""
         if self.best is not None and not self.enough() and self.effort.left > 0:
-            self.offer(simpler(self.case, self.best.network, self.pinch, self.effort.left, self.most_cost))
+            self.simplify(self.best.network, self.effort.left)
 
     def search(self, uses: Mapping[str, int]) -> None:
         every = whole(self.case, None)
@@ -93,8 +80,8 @@ class Search:
         self.of_windows(ladders)
         sets = PairSets(self.solver, every, self.most_cost)
         sets.first(self.effort.seconds / 10)
-        self.effort.bound = max(self.effort.bound, sets.least)
-        self.effort.told()
+        self.bound = max(self.bound, sets.least)
+        self.told()
         if self.enough():
             return
         answer = self.at_least_cost(ladders)
@@ -102,21 +89,23 @@ class Search:
             self.at_higher_cost(every, answer, uses)
 
     def enough(self) -> bool:
-        return self.best is not None and self.best.exchangers <= self.effort.bound
+        return self.best is not None and self.best.count <= self.bound
 
     def offer(self, network: Network) -> None:
-        """Takes a network where it is accepted, costs no more than it may, and is better than the best one. One whose
-        fractions have too many digits is refused, and not taken."""
+        """Takes a network where it is accepted, and is better than the best one. One whose fractions have too many
+        digits is refused, and not taken."""
         try:
             verdict = self.pinch.audit(self.case, network)
         except Refused:
             return
-        if not isinstance(verdict, Accepted) or verdict.cost > self.most_cost:
-            return
-        found = Found(network, verdict)
-        if self.best is None or found.rank < self.best.rank:
-            self.best, self.effort.best = found, found.exchangers
-            self.effort.told()
+        if isinstance(verdict, Accepted):
+            self.take_accepted(AcceptedNetwork(network, verdict))
+
+    def take_accepted(self, found: AcceptedNetwork) -> None:
+        """Takes an accepted network where it costs no more than it may, and is better than the best one."""
+        if found.cost <= self.most_cost and (self.best is None or found.rank < self.best.rank):
+            self.best = found
+            self.told()
 
     def take(self, answer: SolverAnswer | None) -> None:
         """Writes an answer, where there is one, and offers it as it is and made simpler."""
@@ -124,7 +113,13 @@ class Search:
             return
         network = written(self.case, joined(self.case, plan_of(self.case, answer.model, answer.point)))
         self.offer(network)
-        less = simpler(self.case, network, self.pinch, most_cost=self.most_cost)
+        self.simplify(network, 0.0)
+
+    def simplify(self, network: Network, seconds: float) -> None:
+        """Takes a network made simpler. What is found on the way counts where the time ends there."""
+        before = self.best
+        less = simpler(self.case, network, self.pinch, seconds, self.most_cost, self.take_accepted)
+        self.best = before
         if less != network:
             self.offer(less)
 
@@ -155,7 +150,7 @@ class Search:
         until = self.effort.spent + seconds
         asked = replace(answer.asked, slots=None)
         if len(slots_of(asked)) <= LARGE:
-            least = answer.count if self.best is None else min(answer.count, self.best.exchangers)
+            least = answer.count if self.best is None else min(answer.count, self.best.count)
             outcome = self.solver.ask(asked, seconds / 2, None, least - 1)
             if outcome.answer is not None:
                 answer = outcome.answer

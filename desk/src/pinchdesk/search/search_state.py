@@ -1,0 +1,30 @@
+"""How far a search for few exchangers is: what it tells on the way, and at its end."""
+from __future__ import annotations
+
+from dataclasses import dataclass
+
+from ..formats.case import Case, Side
+from .accepted import AcceptedNetwork
+
+TIME_OVER, TO_THE_END, INTERRUPTED = 'time over', 'searched to the end', 'interrupted'
+
+
+@dataclass(frozen=True)
+class SearchState:
+    """The best network so far. `bound` is what the solver says that no network at this cost has fewer exchangers than;
+    `staged` the same for networks of the staged model, with the stages of each window, None where that was not settled;
+    `ended` is why the search ended, None where it goes on."""
+
+    best: AcceptedNetwork | None
+    bound: int = 0
+    staged: tuple[int, tuple[int, ...]] | None = None
+    ended: str | None = None
+
+    def __str__(self) -> str:
+        best = 'none yet' if self.best is None else str(self.best.count)
+        return f'{best} exchangers, at least {self.bound}'
+
+
+def each_stream_has_one(case: Case) -> int:
+    """What no network has fewer exchangers than, since each stream has one, and no two of a side have it together."""
+    return max(sum(stream.side is side for stream in case.streams) for side in Side)

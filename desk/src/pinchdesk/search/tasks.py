@@ -1,0 +1,149 @@
+"""What is searched in a process of its own, and that process. What a task is at is told on the way, so that it stands
+where the process is ended."""
+from __future__ import annotations
+
+from collections.abc import Callable, Iterator, Mapping
+from dataclasses import dataclass, replace
+from fractions import Fraction
+from pickle import PicklingError, dumps, loads
+
+from ..errors import ProgramError
+from ..formats.case import Case
+from ..formats.network import Network
+from ..program.run import Pinch
+from .accepted import AcceptedNetwork, Judge, Judged
+from .budget import Effort
+from .child import Child, Gone, Parent, Silent
+from .search_state import SearchState
+
+Tell = Callable[[object], None]
+
+
+@dataclass(frozen=True)
+class NetworkTask:
+    """A search for a network of few exchangers that costs at most so much, from the best one so far, with the heat of
+    each utility at the least cost. It has so many seconds from a time by `time.monotonic`. `SearchState`s are told."""
+
+    program: str
+    case: Case
+    floor: int
+    uses: Mapping[str, int]
+    most_cost: Fraction
+    best: AcceptedNetwork | None
+    begun: float
+    seconds: float
+
+    def run(self, tell: Tell) -> AcceptedNetwork | None:
+        from .staged.staged_search import Search
+        effort = Effort(self.seconds, self.begun)
+        search = Search(Pinch(self.program), self.case, self.floor, self.most_cost, effort, self.best, tell)
+        search.run(self.uses)
+        return search.best
+
+
+@dataclass(frozen=True)
+class Begun:
+    """The network from which a trade-off goes out."""
+
+    judged: Judged
+
+
+@dataclass(frozen=True)
+class TradeoffTask:
+    """Exchangers against cost, from a network, or from one that is searched first in a third of the time. It is told
+    from which; then each network that is the cheapest of its number so far; and at the end all rows."""
+
+    search: NetworkTask
+    network: Network | None
+
+    def run(self, tell: Tell) -> None:
+        from .reduce.fewer import Fewer
+        from .reduce.tradeoff import rows_of
+        task = self.search
+        judge = Judge(Pinch(task.program), task.case)
+        begun = judge.given(self.network or self.searched(tell))
+        tell(Begun(begun))
+        fewer = Fewer(judge, begun, task.seconds, tell, task.begun)
+        fewer.run()
+        tell(tuple(rows_of(judge, begun, fewer.near())))
+
+    def searched(self, tell: Tell) -> Network:
+        """The network to begin with, at the least cost."""
+        from .reduce.simplify import simpler
+        task = replace(self.search, seconds=self.search.seconds / 3)
+        found = task.run(tell)
+        if found is None:
+            raise ProgramError('no network was found in the time')
+        return simpler(task.case, found.network, Pinch(task.program), tell=lambda less: tell(SearchState(less)))
+
+
+Task = NetworkTask | TradeoffTask
+
+
+@dataclass(frozen=True)
+class Failed:
+    """A task that came to no end, and why."""
+
+    fault: BaseException
+
+
+class SearchProcess:
+    """A process for one task. It loads the solver while the task is still made."""
+
+    def __init__(self) -> None:
+        self.child = Child(__name__, True)
+
+    def told(self, task: Task, until: float) -> Iterator[object]:
+        """What a task tells, until it has come to its end, or until a time by `time.monotonic`."""
+        try:
+            self.message(until)
+        except Silent:
+            return
+        except Gone as fault:
+            raise ProgramError('the process of the search ends when it begins') from fault
+        try:
+            self.child.ask(task, until)
+            while (message := self.message(until)) is not None:
+                yield message
+        except (Silent, Gone):
+            # What was told so far stands.
+            return
+
+    def message(self, until: float) -> object:
+        """The next message; what failed there fails here."""
+        message = self.child.told(until)
+        if isinstance(message, Failed):
+            raise message.fault
+        return message
+
+    def __enter__(self) -> SearchProcess:
+        return self
+
+    def __exit__(self, *_: object) -> None:
+        self.child.end()
+
+
+def serve() -> None:
+    """What the process does: it loads the solver, says that it is there, and does its task."""
+    parent = Parent()
+    try:
+        from .reduce import tradeoff  # noqa: F401
+        from .staged import staged_search  # noqa: F401
+        parent.tell(True)
+        for task in parent.asked():
+            parent.ends_with_me()
+            assert isinstance(task, NetworkTask | TradeoffTask)
+            task.run(parent.tell)
+            parent.tell(None)
+            return
+    except Exception as fault:  # Whatever it is, the parent raises it.
+        parent.tell(Failed(portable(fault)))
+
+
+def portable(fault: Exception) -> Exception:
+    """An exception that goes over a pipe."""
+    try:
+        loads(dumps(fault))
+    except (PicklingError, TypeError, AttributeError):
+        return RuntimeError(f'{type(fault).__name__}: {fault}')
+    return fault
