@@ -171,3 +171,15 @@ def test_the_exact_targets_of_a_case_in_whole_numbers_are_those_of_the_program(n
     spans = [span_of(each.side, (Fraction(each.supply), Fraction(each.target)), Fraction(each.heat),
                      Fraction(each.contribution)) for each in case.streams]
     assert held(*exact_targets(spans)) == (targets.hot, targets.cold)
+
+
+@pytest.mark.parametrize('words', ['targets #', 'sweep # 5 15 5', 'whatif #', 'draw curves # -o c.svg',
+                                   'draw composite # -o c.svg', 'draw sweep # 5 15 5 -o c.svg', 'page # -o c.html'])
+def test_a_word_that_shows_targets_says_how_far_they_are_off(words: str, tmp_path: Path) -> None:
+    (tmp_path / 't.csv').write_text('Stream;Supply (°C);Target (°C);CP (kW/K)\nH1;150,03;60;2,001\nC1;20;125;2,5123\n')
+    assert pinchdesk('case', '-d', '10', 't.csv', '-o', 'c.csv', cwd=tmp_path).status == 0
+    (tmp_path / 'whole.csv').write_bytes(example('tc3.csv'))
+    said = 'by what is rounded the hot target is 0.091 kW too low, and the cold target stays'
+    done = pinchdesk(*words.replace('#', 'c.csv').split(), cwd=tmp_path)
+    assert done.status == 0 and done.err.count(f'pinchdesk: c.csv: {said}\n') == 1
+    assert 'rounded' not in pinchdesk(*words.replace('#', 'whole.csv').split(), cwd=tmp_path).err

@@ -6,12 +6,14 @@ from collections.abc import Iterator, Sequence
 from dataclasses import dataclass, replace
 from fractions import Fraction
 
-from ..text import plain, read_again
+from ..text import plain, printable, read_again
 from .amounts import exact, shortened
 from .cost_rows import CostRow, printed_cost_row, read_cost_row, with_row
 
 # What a scale and a divisor are at least; at most they are one over it. Prices in odd units have long divisors.
 LEAST_SCALE, LEAST_DIVISOR, LONGEST = Fraction(1, 10 ** 6), Fraction(1, 10 ** 30), 400
+# How the comment begins that says how far roundings take the targets.
+ROUNDED = 'by what is rounded '
 
 
 @dataclass(frozen=True)
@@ -20,7 +22,8 @@ class Basis:
 
     All heats, CPs and loads of the case are `scale` times the plant's. A price of the case divided by `price_divisor`
     is in `price_unit`; a cost divided by `cost_divisor` (and by the scale) is in `cost_unit`. `names` has each name
-    that was made fit, as (name in the table, name in the case); `cost_rows` what is said of areas and money."""
+    that was made fit, as (name in the table, name in the case); `cost_rows` what is said of areas and money;
+    `rounding` how far what the table rounded takes the targets, empty where it does not."""
 
     scale: Fraction = Fraction(1)
     price_unit: str = ''
@@ -29,12 +32,15 @@ class Basis:
     cost_divisor: Fraction = Fraction(1)
     names: tuple[tuple[str, str], ...] = ()
     cost_rows: tuple[CostRow, ...] = ()
+    rounding: str = ''
 
 
 def noted(basis: Basis, row: Sequence[str]) -> Basis:
     """The basis with what a comment row of the desk says; any other comment says nothing. A `ValueError` where its
     number is none that there can be, or another one than a row above says."""
     word, first, second = row[0], read_again(row[1]), row[2]
+    if word.startswith(f'# {ROUNDED}'):
+        return replace(basis, rounding=printable(word[2:LONGEST]))
     cost_row = read_cost_row(row)
     if cost_row:
         return replace(basis, cost_rows=with_row(basis.cost_rows, cost_row))

@@ -49,7 +49,8 @@ def plant_targets(case: Case, targets: Targets) -> PlantTargets:
     shown = Shown(case.basis)
     exact = ExactTargets(shown.in_kilowatts(targets.hot), shown.in_kilowatts(targets.cold),
                          tuple(Fraction(pinch, 10) for pinch in targets.pinches))
-    return PlantTargets(sheets=tuple(targets_sheets(case, targets)), text=targets.text, exact=exact)
+    return PlantTargets(sheets=tuple(targets_sheets(case, targets)), text=targets.text, exact=exact,
+                        notes=(case.basis.rounding,) if case.basis.rounding else ())
 
 
 @dataclass(frozen=True)

@@ -6,6 +6,7 @@ from dataclasses import dataclass
 from fractions import Fraction
 
 from ..formats.case import Side
+from ..formats.comments import ROUNDED
 from ..formats.shown import decimal
 
 
@@ -57,4 +58,4 @@ def told(spans: Sequence[RoundingSpan], hot: int, cold: int, scale: Fraction) ->
         shown = decimal(abs(off), 6 if abs(off) < Fraction(1, 100) else 3)
         parts.append(f'the {name} target is {shown} kW too {"high" if off > 0 else "low"}' if off else
                      f'the {name} target stays')
-    return '' if (hot / scale, cold / scale) == exact else f'by what is rounded {", and ".join(parts)}'
+    return '' if (hot / scale, cold / scale) == exact else ROUNDED + ', and '.join(parts)

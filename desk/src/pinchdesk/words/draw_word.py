@@ -15,7 +15,8 @@ from ..program.run import Pinch
 from ..search.budget import Telling, nobody
 from .forms import PICTURE
 from .prices_word import STUDY, answered_study
-from .shared import CASE, MOST_WORKERS, NETWORK, RANGE, SITE, WORKERS, SweepOptions, completed_case, ended, told_of
+from .shared import (CASE, MOST_WORKERS, NETWORK, RANGE, SITE, WORKERS, SweepOptions, completed_case, ended,
+                     rounding_told, told_of)
 from .word import Answer, Files, NoOptions, Option, Role, Word, WordGroup, feasibility
 
 if TYPE_CHECKING:
@@ -55,8 +56,9 @@ def curves_by(name: str) -> Callable[[Files, NoOptions, Telling], Answer]:
             pinch = Pinch()
             targets, points, flow = (ask(file.content) for ask in (pinch.targets, pinch.curves, pinch.flow))
         from .. import figures
-        figure = getattr(figures, name)(completed_case(file.content), targets, points, flow)
-        return picture(figure, not isinstance(flow, Cut))
+        case = completed_case(file.content)
+        figure = getattr(figures, name)(case, targets, points, flow)
+        return replace(picture(figure, not isinstance(flow, Cut)), notes=rounding_told(file, case))
     return run
 
 
@@ -84,7 +86,8 @@ def sweep(files: Files, options: SweepOptions, tell: Telling = nobody) -> Answer
     with about(case=file.name):
         printed = Pinch().sweep(file.content, *asked, options.workers)
     from ..figures import sweep_figure
-    return picture(sweep_figure(completed_case(file.content), printed), printed.feasible)
+    case = completed_case(file.content)
+    return replace(picture(sweep_figure(case, printed), printed.feasible), notes=rounding_told(file, case))
 
 
 def prices(files: Files, options: SpanOptions = SpanOptions(), tell: Telling = nobody) -> Answer:

@@ -11,7 +11,7 @@ from ..report.pdf import as_pdf
 from ..search.budget import Telling, nobody
 from ..text import printable
 from .forms import PAGE
-from .shared import CASE
+from .shared import CASE, rounding_told
 from .word import Answer, Files, NoOptions, Role, TextFile, Word
 
 NETWORKS_BESIDE = Role('network', 'network texts, shown side by side', several=True, needed=False)
@@ -30,7 +30,7 @@ def page(files: Files, _: NoOptions = NoOptions(), tell: Telling = nobody) -> An
     review = review_of(Pinch(), case, networks)
     status, no = review.ending
     return Answer(in_form=lambda form: as_pdf(page_of(review, True)) if form == 'pdf' else page_of(review),
-                  status=status, no=no)
+                  notes=rounding_told(files.one('case'), review.answered.case), status=status, no=no)
 
 
 PAGE_OF_REVIEW = Word('page', 'all of a case and its networks on one page for the reviewer, .html or .pdf',

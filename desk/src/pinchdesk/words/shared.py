@@ -43,6 +43,11 @@ def told_of(file: TextFile | None, notes: Iterable[str]) -> tuple[str, ...]:
     return tuple(f'{file.name}: {note}' for note in notes) if file else ()
 
 
+def rounding_told(file: TextFile, case: Case) -> tuple[str, ...]:
+    """How far what its table rounded takes the targets of a case."""
+    return told_of(file, [case.basis.rounding] if case.basis.rounding else [])
+
+
 def ended(answer: Answer, verdicts: Iterable[Verdict], flows: Iterable[object] = ()) -> Answer:
     """An answer that is a verdict ends as that says."""
     status, no = ending(verdicts, flows)

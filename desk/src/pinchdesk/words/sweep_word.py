@@ -6,7 +6,7 @@ from ..errors import about
 from ..program.run import Pinch
 from ..report.answer_sheets import sweep_table
 from ..search.budget import Telling, nobody
-from .shared import CASE, RANGE, WORKERS, SweepOptions, completed_case
+from .shared import CASE, RANGE, WORKERS, SweepOptions, completed_case, rounding_told
 from .word import Answer, Files, Word, feasibility
 
 
@@ -17,7 +17,8 @@ def sweep(files: Files, options: SweepOptions, tell: Telling = nobody) -> Answer
         pinch = Pinch()
         printed, case = pinch.sweep(file.content, *asked, options.workers), completed_case(file.content)
         table = sweep_table(case, printed, as_it_is(pinch, file.content, case))
-    return Answer((table.sheet(),), facts=table.rows, status=feasibility(printed.feasible))
+    return Answer((table.sheet(),), facts=table.rows, notes=rounding_told(file, case),
+                  status=feasibility(printed.feasible))
 
 
 SWEEP = Word('sweep', 'targets and least cost over the least difference',

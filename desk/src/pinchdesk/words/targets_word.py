@@ -5,7 +5,7 @@ from ..errors import about
 from ..program.run import Pinch
 from ..report.answer_sheets import targets_facts, targets_sheets
 from ..search.budget import Telling, nobody
-from .shared import CASE, completed_case
+from .shared import CASE, completed_case, rounding_told
 from .word import Answer, Files, NoOptions, Word
 
 
@@ -13,7 +13,8 @@ def targets(files: Files, _: NoOptions = NoOptions(), tell: Telling = nobody) ->
     file = files.one('case')
     with about(case=file.name):
         printed, case = Pinch().targets(file.content), completed_case(file.content)
-    return Answer(tuple(targets_sheets(case, printed)), facts=(targets_facts(case, printed),))
+    return Answer(tuple(targets_sheets(case, printed)), facts=(targets_facts(case, printed),),
+                  notes=rounding_told(file, case))
 
 
 TARGETS = Word('targets', 'the least hot and cold utility, and the pinches',
