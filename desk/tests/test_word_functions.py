@@ -112,6 +112,13 @@ def test_a_job_says_the_names_that_it_was_given() -> None:
     assert outcome.status == 0 and 'x/n.txt' in str(outcome.content) and 'y/n.txt' in str(outcome.content)
 
 
+def test_networks_that_are_held_here_are_told_apart(tmp_path: Path) -> None:
+    network = example('tc3-network.txt')
+    results = pinchdesk.many('page', {'a': (example('tc3.csv'), network, network)}, processes=1, into=str(tmp_path))
+    page = (tmp_path / 'a.html').read_text()
+    assert results.status == 0 and 'Grid diagram of a network"' in page and 'Grid diagram of a network 2"' in page
+
+
 def test_a_word_that_goes_to_a_file_needs_one_that_is_a_picture(tmp_path: Path) -> None:
     results = pinchdesk.many('draw curves', {'a': example('tc3.csv')}, processes=1, into=str(tmp_path), ending='txt')
     assert results.done[0].outcome.told == 'a.txt: a picture is a file .svg, .png or .pdf' and results.status == 2

@@ -153,6 +153,8 @@ def test_what_was_scaled_is_divided_again(desk: Captured, tmp_path: Path) -> Non
 ERRORS = [
     (['case', '-d', '10', 'nowhere.xlsx'], 3, 'nowhere.xlsx: cannot be read: No such file or directory'),
     (['targets', 'nowhere.csv'], 3, 'nowhere.csv: cannot be read: No such file or directory'),
+    (['targets', ''], 3, ': cannot be read: No such file or directory'), (['units', FOUR, ''], 3, 'cannot be read'),
+    (['targets', 'nowhere.csv', '-o', 'out.pdf'], 2, 'out.pdf: this answer is a text'),
     (['targets', '.'], 3, '.: cannot be read: Is a directory'),
     (['audit', FOUR, 'nowhere.txt'], 3, 'nowhere.txt: cannot be read'),
     (['targets', 'bad.csv'], 3, 'bad.csv: case row 2 BadNumber'), (['flow', 'bad.csv'], 3, 'bad.csv: case row 2'),

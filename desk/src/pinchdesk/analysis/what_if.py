@@ -69,7 +69,7 @@ class PlusMinus:
 
 
 @dataclass(frozen=True)
-class Base:
+class AskedCase:
     """A case as it is, with its targets."""
 
     case: Case
@@ -97,17 +97,17 @@ def what_if(case: CaseText, scenarios: Iterable[CaseScenario], pinch: Pinch | No
     """The scenarios of a case. `Refused` where the program refuses the case as it is, or a change names what is not
     there; a scenario that the program refuses says so in its outcome. `workers` of the program run side by side."""
     asked = pinch or Pinch()
-    return compared(asked_base(asked, case), scenarios, asked, workers)
+    return compared(asked_case(asked, case), scenarios, asked, workers)
 
 
-def asked_base(pinch: Pinch, case: CaseText) -> Base:
+def asked_case(pinch: Pinch, case: CaseText) -> AskedCase:
     """A case with its targets; `Refused` where the program refuses it."""
     content = case_bytes(case)
     targets = pinch.targets(content)
-    return Base(read_case(content), targets)
+    return AskedCase(read_case(content), targets)
 
 
-def compared(base: Base, scenarios: Iterable[CaseScenario], pinch: Pinch, workers: int = 0) -> WhatIf:
+def compared(base: AskedCase, scenarios: Iterable[CaseScenario], pinch: Pinch, workers: int = 0) -> WhatIf:
     """The scenarios of a case that was asked already."""
     as_it_is = replace(unchanged(base.case), targets=base.targets)
     changes = [changed(base.case, scenario) for scenario in scenarios]

@@ -35,8 +35,8 @@ def add_options(parser: ArgumentParser, options: Iterable[Option], in_many: bool
     groups: dict[str, Any] = {}
     for option in options:
         place: Any = parser
-        if option.alone:
-            place = groups[option.alone] = groups.get(option.alone) or parser.add_mutually_exclusive_group()
+        if option.one_of:
+            place = groups[option.one_of] = groups.get(option.one_of) or parser.add_mutually_exclusive_group()
         how: dict[str, Any] = {'help': option.help, 'type': option.reads, 'metavar': option.metavar or None}
         if option.choices:
             how['choices'] = option.choices
@@ -77,7 +77,7 @@ def paths_of(roles: Iterable[Role], parsed: Namespace) -> Paths:
     paths: dict[str, tuple[str, ...]] = {}
     for role in roles:
         told = getattr(parsed, role.option)
-        if told:
+        if told is not None and told != []:
             paths[role.name] = (told,) if isinstance(told, str) else tuple(told)
     return paths
 

@@ -206,7 +206,8 @@ def files_of(name: str, contents: Held | Sequence[Held], roles: Sequence[Role]) 
     files: dict[str, tuple[TextFile, ...]] = {}
     for at, content in enumerate(listed_contents):
         role = roles[min(at, len(roles) - 1)].name
-        file = TextFile(f'{name} {role}' if at else name, held_bytes(content))
+        further = f' {at - len(roles) + 2}' if at >= len(roles) else ''
+        file = TextFile(f'{name} {role}{further}' if at else name, held_bytes(content))
         files[role] = (*files.get(role, ()), file)
     return files
 

@@ -100,7 +100,7 @@ def done_over_many(word: Word[Any], names: tuple[str, ...], parsed: Namespace) -
     if not 1 <= parsed.processes <= MOST_PROCESSES:
         raise WordsError(f'{parsed.processes} is no number of processes: 1 to {MOST_PROCESSES}')
     form = TABLE.of(parsed.output, parsed.form)
-    with progress('many'):
+    with progress(word.name):
         results = results_of(word, names, parsed)
     write(rendered([results.sheet()], form), (*results.notes, results.told), parsed.output, inputs)
     return results.status

@@ -15,7 +15,7 @@ from ..analysis.least_units import least_units
 from ..analysis.price_study import study_answer
 from ..analysis.rest import remaining
 from ..analysis.sweep_request import as_it_is, asked_range, check_workers
-from ..analysis.what_if import Base, compared
+from ..analysis.what_if import AskedCase, compared
 from ..errors import Refused, WordsError, about, of_file
 from ..formats.amounts import seconds_of
 from ..formats.case import Case, completed, read_case
@@ -30,6 +30,7 @@ from ..tables.convert import is_case
 from ..tables.cost_words import cost_of, percent_of
 from ..tables.wanted import wanted_by
 from ..words.case_word import case_text, converted
+from ..words.shared import USUAL_WORKERS
 from ..words.word import TextFile
 from .given import FileGiven, Number, as_text, file_of
 from .network_answers import PlantAudit, PlantNetwork, PlantRest, plant_audit, plant_network, plant_rest, plant_table
@@ -40,8 +41,6 @@ from .tradeoff_answer import PlantTradeoff, PlantUnits, PlantWhatIf, plant_trade
 
 if TYPE_CHECKING:
     from ..figures import ShownFigure
-
-WORKERS = min(16, os.cpu_count() or 1)
 
 
 @dataclass(frozen=True)
@@ -92,7 +91,7 @@ class Plant:
         """A heat flow of least cost with its proof, or the proof that there is none."""
         return plant_flow(self.completed, self.asked_flow)
 
-    def sweep(self, first: Number, last: Number, step: Number, workers: int = WORKERS) -> PlantSweep:
+    def sweep(self, first: Number, last: Number, step: Number, workers: int = USUAL_WORKERS) -> PlantSweep:
         """Targets and least cost at each least difference from the first to the last one, in K."""
         asked = asked_range(as_text(first), as_text(last), as_text(step), workers)
         printed = self.pinch.sweep(self.text, *asked, workers)
@@ -151,7 +150,7 @@ class Plant:
         with about(case=self.name, network=file.path):
             return plant_rest(remaining(self.text, file.content, self.pinch))
 
-    def prices(self, study: FileGiven, workers: int = WORKERS) -> PlantPrices:
+    def prices(self, study: FileGiven, workers: int = USUAL_WORKERS) -> PlantPrices:
         """The least cost at other prices, in the unit of the case's prices."""
         check_workers(workers)
         file = file_of(study, 'study')
@@ -160,14 +159,14 @@ class Plant:
         return plant_prices(answer.case, answer.prices, answer.notes)
 
     def what_if(self, changes: FileGiven | None = None, sheet: str | None = None, decimal: str | None = None,
-                workers: int = WORKERS) -> PlantWhatIf:
+                workers: int = USUAL_WORKERS) -> PlantWhatIf:
         """Scenarios of a table of changes beside the case as it is, and what a little more of each stream would do."""
         check_workers(workers)
         file = None if changes is None else file_of(changes, 'changes')
         with of_file(file.path if file else self.name):
             scenarios = CaseScenarios(()) if file is None else \
                 read_changes(file.content, file.path, self.case.basis, sheet, decimal)
-            answered = compared(Base(self.case, self.asked_targets), scenarios.variants, self.pinch, workers)
+            answered = compared(AskedCase(self.case, self.asked_targets), scenarios.variants, self.pinch, workers)
         return plant_what_if(answered, scenarios.notes)
 
     def curves(self) -> ShownFigure:

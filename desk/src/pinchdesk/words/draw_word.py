@@ -15,7 +15,7 @@ from ..program.run import Pinch
 from ..search.budget import Telling, nobody
 from .forms import PICTURE
 from .prices_word import STUDY, answered_study
-from .shared import (CASE, MOST_WORKERS, NETWORK, RANGE, SITE, WORKERS, SweepOptions, completed_case, ended,
+from .shared import (CASE, NETWORK, RANGE, SITE, USUAL_WORKERS, WORKERS, SweepOptions, completed_case, ended,
                      rounding_told, told_of)
 from .word import Answer, Files, NoOptions, Option, Role, Word, WordGroup, feasibility
 
@@ -40,7 +40,7 @@ class SpanOptions:
     """Whose spans are drawn, and by how many workers the study is answered."""
 
     utility: str | None = None
-    workers: int = MOST_WORKERS
+    workers: int = USUAL_WORKERS
 
 
 def picture(figure: Figure, feasible: bool = True) -> Answer:

@@ -20,8 +20,8 @@ from .word import Answer, Files, Option, Role, Word
 START = Role('start', 'a network that is to be bettered', needed=False, flag='--start', metavar='NETWORK')
 DECLARED = (
     Option('cost', 'what it may cost at most, in the unit of the costs of the case, which may stand with it: 90 or '
-           '"90 EUR/h" (the least cost)', ('--cost',), metavar='MOST', alone='cost'),
-    Option('above', 'how far above the least cost it may be', ('--above',), metavar='PERCENT', alone='cost'),
+           '"90 EUR/h" (the least cost)', ('--cost',), metavar='MOST', one_of='cost'),
+    Option('above', 'how far above the least cost it may be', ('--above',), metavar='PERCENT', one_of='cost'),
     Option('seconds', 'how long it takes at most, but for a moment (60 unless given)', ('--seconds',), default='60',
            metavar='S'))
 

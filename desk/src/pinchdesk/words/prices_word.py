@@ -10,7 +10,7 @@ from ..program.run import Pinch
 from ..report.answer_sheets import prices_tables
 from ..report.facts import rows_of_tables
 from ..search.budget import Telling, nobody
-from .shared import CASE, MOST_WORKERS, WORKERS, told_of
+from .shared import CASE, USUAL_WORKERS, WORKERS, told_of
 from .word import Answer, Files, Role, Word, feasibility
 
 STUDY = Role('study', 'a price study (docs/FORMATS.md), in the unit of the prices of the case')
@@ -20,7 +20,7 @@ STUDY = Role('study', 'a price study (docs/FORMATS.md), in the unit of the price
 class PricesOptions:
     """By how many workers a study is answered."""
 
-    workers: int = MOST_WORKERS
+    workers: int = USUAL_WORKERS
 
 
 def answered_study(files: Files, workers: int) -> StudyAnswer:

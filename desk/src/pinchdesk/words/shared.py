@@ -13,9 +13,9 @@ from .word import Answer, Option, Role, TextFile
 CASE = Role('case', 'a case file, as `pinchdesk case` writes it')
 NETWORK = Role('network', 'a network text')
 SITE = Role('site', 'a site file (docs/FORMATS.md), in tenths of °C and 10 W/K, times its #scale')
-MOST_WORKERS = min(16, os.cpu_count() or 1)
+USUAL_WORKERS = min(16, os.cpu_count() or 1)
 WORKERS = Option('workers', 'by how many workers it is made (1 to 16); the answer is the same', ('--workers',), whole,
-                 MOST_WORKERS, metavar='N', in_many=1)
+                 USUAL_WORKERS, metavar='N', in_many=1)
 RANGE = tuple(Option(name, 'a least difference in K, of a fifth of a K at least', metavar=name.upper())
               for name in ('first', 'last', 'step'))
 SHEET = Option('sheet', 'the sheet of a workbook; else it is the first one', ('--sheet',), metavar='NAME')
@@ -30,7 +30,7 @@ class SweepOptions:
     first: str
     last: str
     step: str
-    workers: int = MOST_WORKERS
+    workers: int = USUAL_WORKERS
 
 
 def completed_case(content: bytes) -> Case:

@@ -11,7 +11,7 @@ from ..formats.case import Case, read_case
 from ..formats.shown import Shown
 from ..program.run import Pinch
 from ..report.facts import rows_of_tables
-from ..report.sheet import rendered
+from ..report.sheet import Sheet, rendered
 from ..report.tradeoff_sheets import network_texts, proved, tradeoff_sheets, tradeoff_tables
 from ..search.budget import Telling, nobody
 from .forms import PICTURES, TABLE_OR_PICTURE
@@ -47,8 +47,8 @@ def tradeoff(files: Files, options: TradeoffOptions = TradeoffOptions(), tell: T
         read = read_case(case.content)
         traded = searched(read, network.content if network else None, pinch, seconds, told_on(read, tell),
                           options.begun)
-    sheets, tables = tradeoff_sheets(traded), tradeoff_tables(traded)
-    return Answer(tuple(sheets), in_form(traded), rows_of_tables(tables), proved(traded),
+    sheets = tuple(tradeoff_sheets(traded))
+    return Answer(sheets, in_form(traded, sheets), rows_of_tables(tradeoff_tables(traded)), proved(traded),
                   notes=(STOPPED,) if traded.stopped else (),
                   further={NETWORKS.name: FurtherFiles(network_texts(traded))})
 
@@ -59,14 +59,14 @@ def told_on(case: Case, tell: Telling) -> Callable[[Judged], None]:
     return lambda judged: tell(f'{judged.count} exchangers at {shown.with_unit(judged.cost)}')
 
 
-def in_form(traded: TradeOff) -> Callable[[str], str | bytes]:
+def in_form(traded: TradeOff, sheets: tuple[Sheet, ...]) -> Callable[[str], str | bytes]:
     """A picture, or tables."""
-    def made(form: str) -> str | bytes:
+    def content(form: str) -> str | bytes:
         if form not in PICTURES:
-            return rendered(tradeoff_sheets(traded), form)
+            return rendered(sheets, form)
         from .. import figures
         return figures.rendered(figures.tradeoff_figure(traded), form)
-    return made
+    return content
 
 
 TRADEOFF = Word('tradeoff', 'exchangers against cost: networks of fewer and fewer exchangers, as a table or a picture',

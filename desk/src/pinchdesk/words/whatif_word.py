@@ -5,13 +5,13 @@ from dataclasses import dataclass
 
 from ..analysis.change_table import CaseScenarios, read_changes
 from ..analysis.sweep_request import check_workers
-from ..analysis.what_if import asked_base, compared
+from ..analysis.what_if import asked_case, compared
 from ..errors import Status, about, of_file
 from ..program.run import Pinch
 from ..report.facts import rows_of_tables
 from ..report.what_if_sheets import rounding_notes, what_if_tables
 from ..search.budget import Telling, nobody
-from .shared import CASE, DECIMAL, MOST_WORKERS, SHEET, WORKERS, rounding_told, told_of
+from .shared import CASE, DECIMAL, SHEET, USUAL_WORKERS, WORKERS, rounding_told, told_of
 from .word import Answer, Files, Role, Word, feasibility
 
 CHANGES = Role('changes', 'scenarios: .xlsx, or text with separators; without them the plus-minus numbers alone',
@@ -24,7 +24,7 @@ class WhatIfOptions:
 
     sheet: str | None = None
     decimal: str | None = None
-    workers: int = MOST_WORKERS
+    workers: int = USUAL_WORKERS
 
 
 def whatif(files: Files, options: WhatIfOptions = WhatIfOptions(), tell: Telling = nobody) -> Answer:
@@ -32,7 +32,7 @@ def whatif(files: Files, options: WhatIfOptions = WhatIfOptions(), tell: Telling
     check_workers(options.workers)
     with about(case=case.name):
         pinch = Pinch()
-        base = asked_base(pinch, case.content)
+        base = asked_case(pinch, case.content)
         with of_file(changes.name if changes else case.name):
             scenarios = read_changes(changes.content, changes.name, base.case.basis, options.sheet, options.decimal) \
                 if changes else CaseScenarios(())

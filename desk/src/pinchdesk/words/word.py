@@ -65,9 +65,9 @@ class Files:
 
 @dataclass(frozen=True)
 class Option:
-    """An option of a word: the field of its options that it fills, with flags or by its place. `alone` are options of
-    which one excludes the others, by a name that they share; `in_many` is the value where many cases are done side by
-    side, unless it is said."""
+    """An option of a word: the field of its options that it fills, with flags or by its place. Of options that share
+    the name `one_of` one excludes the others; `in_many` is the value where many cases are done side by side, unless
+    another one is said."""
 
     name: str
     help: str
@@ -76,7 +76,7 @@ class Option:
     default: object = None
     choices: tuple[str, ...] = ()
     metavar: str = ''
-    alone: str = ''
+    one_of: str = ''
     in_many: object = None
 
 
