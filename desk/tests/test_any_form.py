@@ -13,7 +13,8 @@ from hypothesis import event, given, settings
 from hypothesis import strategies as some
 from tabled import made, workbook
 
-from pinchdesk import Basis, Case, Side, Stream, Utility, read_case
+from pinchdesk.formats.case import Case, Side, Stream, Utility, read_case
+from pinchdesk.formats.comments import Basis
 from pinchdesk.tables.convert import Wanted
 
 # The headings name, supply, target, CP, duty, then the titles of hot and cold streams, hot and cold utilities.
@@ -83,8 +84,8 @@ def number(value: Fraction) -> str:
 def parts_of(case: Case, form: Form) -> list[tuple[str, list[list[str]]]]:
     """The parts of a case, each with its title and its rows."""
     titles = LANGUAGES[form.language][5:]
-    groups = [[source for source in sources if source.side is side] for sources in (case.streams, case.utilities)
-              for side in Side]
+    groups: list[list[Stream | Utility]] = [[stream for stream in case.streams if stream.side is side] for side in Side]
+    groups += [[utility for utility in case.utilities if utility.side is side] for side in Side]
     return [(title, [form.row(source, at) for at, source in enumerate(group)])
             for title, group in zip(titles, groups) if group]
 
@@ -139,7 +140,8 @@ def test_a_case_in_any_form_is_read_as_that_case(case: Case, form: Form, separat
     held = plain(case)
     sheets = sheets_of(held, form)
     if len(sheets) > 1:
-        content = workbook(list(sheets[0]), **{f'Part {at}': list(sheet) for at, sheet in enumerate(sheets[1:], 2)})
+        pages: list[list[list[object]]] = [[[*row] for row in sheet] for sheet in sheets]
+        content = workbook(pages[0], **{f'Part {at}': page for at, page in enumerate(pages[1:], 2)})
     else:
         text = io.StringIO()
         csv.writer(text, delimiter=separator).writerows(sheets[0])

@@ -7,10 +7,13 @@ from dataclasses import dataclass
 import pytest
 from tabled import made, refusal, workbook
 
-from pinchdesk import Pinch, read_case
-from pinchdesk.formats.case import print_case
+from pinchdesk import Pinch
+from pinchdesk.formats.case import print_case, read_case
 from pinchdesk.report.understood_sheet import understood_sheet
 from pinchdesk.tables.convert import Wanted, checked
+
+
+Rows = list[list[object]]
 
 
 @dataclass(frozen=True)
@@ -45,11 +48,11 @@ S-103 to S-104,,150,30,0.154771,
 S-201 to S-202,,20,135,0.197763,feed
 S-203 to S-204,,80,140,0.206363,
 '''
-KEMP = [['Four-stream problem'], [], ['Hot streams'],
-        ['Stream', 'CP (kW/K)', 'Initial temperature (°C)', 'Final temperature (°C)', 'Heat load (kW)'],
-        ['2', 3, 170, 60, 330], ['4', 1.5, 150, 30, 180], [None, None, None, 'Total', 510], [], ['Cold streams'],
-        ['Stream', 'CP (kW/K)', 'Initial temperature (°C)', 'Final temperature (°C)', 'Heat load (kW)'],
-        ['1', 2, 20, 135, 230], ['3', 4, 80, 140, 240], [None, None, None, 'Total', 470]]
+KEMP: Rows = [['Four-stream problem'], [], ['Hot streams'],
+              ['Stream', 'CP (kW/K)', 'Initial temperature (°C)', 'Final temperature (°C)', 'Heat load (kW)'],
+              ['2', 3, 170, 60, 330], ['4', 1.5, 150, 30, 180], [None, None, None, 'Total', 510], [], ['Cold streams'],
+              ['Stream', 'CP (kW/K)', 'Initial temperature (°C)', 'Final temperature (°C)', 'Heat load (kW)'],
+              ['1', 2, 20, 135, 230], ['3', 4, 80, 140, 240], [None, None, None, 'Total', 470]]
 LINNHOFF = '''Hot streams;;;;;Cold streams;;;
 No.;Ts (°C);Tt (°C);CP (kW/°C);;No.;Ts (°C);Tt (°C);CP (kW/°C)
 2;170;60;3;;1;20;135;2
@@ -69,9 +72,9 @@ C2,40,112,15,0.2,
 Hot utility,180,179,,0.2,120
 Cold utility,15,25,,0.2,10
 '''
-TOWLER = [['Stream no.', 'Type', 'Heat capacity flow rate CP, kW/°C', 'Ts, °C', 'Tt, °C', 'Heat load, kW'],
-          [1, 'hot', 3.0, 180, 60, 360], [2, 'hot', 1.0, 150, 30, 120], [3, 'cold', 2.0, 20, 135, 230],
-          [4, 'cold', 4.5, 80, 140, 270]]
+TOWLER: Rows = [['Stream no.', 'Type', 'Heat capacity flow rate CP, kW/°C', 'Ts, °C', 'Tt, °C', 'Heat load, kW'],
+                [1, 'hot', 3.0, 180, 60, 360], [2, 'hot', 1.0, 150, 30, 120], [3, 'cold', 2.0, 20, 135, 230],
+                [4, 'cold', 4.5, 80, 140, 270]]
 TURTON = '''Stream,Condition,Flowrate m (kg/s),Cp (kJ/kg°C),m Cp (kW/°C),Tin (°C),Tout (°C),Q available (kW)
 1,Hot,10,0.3,3,170,60,330
 2,Hot,2.5,0.6,1.5,150,30,180
@@ -157,9 +160,11 @@ def test_a_table_is_taken_at_the_first_try(name: str, pinch: Pinch) -> None:
 
 
 def test_utilities_are_what_their_titles_and_names_say() -> None:
-    for content, levels in ((GERMAN, [('Dampf-10-bar', 'hot', 1800), ('Kuehlwasser', 'cold', 250)]),
-                            (SHENOY, [('Hot-utility', 'hot', 1790), ('Cold-utility', 'cold', 250)]),
-                            (BOOK, [('HP-steam', 'hot', 2390), ('Cooling-water', 'cold', 250)])):
+    wanted: tuple[tuple[str | bytes, list[tuple[str, str, int]]], ...] = (
+        (GERMAN, [('Dampf-10-bar', 'hot', 1800), ('Kuehlwasser', 'cold', 250)]),
+        (SHENOY, [('Hot-utility', 'hot', 1790), ('Cold-utility', 'cold', 250)]),
+        (BOOK, [('HP-steam', 'hot', 2390), ('Cooling-water', 'cold', 250)]))
+    for content, levels in wanted:
         case = made(content, Wanted('10 K'), 't').case
         assert [(each.name, each.side.value, each.level) for each in case.utilities] == levels
     assert 'has to say heater or cooler' in refusal('Utilities\nName;Level;Price\nBFW;150;3\n\nName;Tin;Tout;CP\n'
@@ -171,9 +176,10 @@ def test_coefficients_are_kept_as_comments_with_their_units() -> None:
     text = print_case(case)
     assert '#film,H1,0.2,kW/m2 °C,,,\n' in text and '#film,Hot-utility,0.2,kW/m2 °C,,,\n' in text
     assert read_case(text) == case
-    overall = made('Name;Tin;Tout;CP;U (W/m2 C);h\nH;150;60;2;500;0.3\n').case
-    assert print_case(overall).startswith('#film,H,0.3,,,,\n#overall,H,500,W/m2 C,,,\n')
-    assert all(line.count(',') == 6 for line in print_case(overall).splitlines())
+    overall = made('Name;Tin;Tout;CP;U (W/m2 C);h\nH;150;60;2;500;0.3\nC;20;60;2;400;\n')
+    assert print_case(overall.case).startswith('#overall,H,,500,W/m2 C,,\n#overall,,C,400,W/m2 C,,\n')
+    assert any('the coefficient has no unit, and is not kept' in each for each in overall.notes)
+    assert all(line.count(',') == 6 for line in print_case(overall.case).splitlines())
 
 
 def test_columns_that_are_not_known_are_passed_over_and_reported() -> None:
@@ -200,8 +206,36 @@ def test_a_column_in_a_second_unit_has_to_say_the_same() -> None:
     assert 'are not the same' in refusal(twins.format('433,15'))
 
 
-@pytest.mark.parametrize('head', ['Name;T1;T2;CP', 'Name;Te;Ta;CP', 'Name;Tin;Tout;cp (kJ/kg K)', 'Name;Tin;Tout;m (kg/s)',
-                                  'Name;Tin;Tout;colour', 'Name;Tin;CP;Tin', 'Name;Hot in;Hot out;CP'])
+HEAD = 'Stream;Tin (°C);Tout (°C);CP (kW/K)\nH;150;60;2\nC;20;60;2\n'
+EXCHANGERS = ('Exchanger;Tin (°C);Tout (°C);Duty (kW)\nE1;150;60;180\n',
+              'Exchanger;Hot stream;Cold stream;Duty (kW);Area\nE1;H;C;180;20\n')
+
+
+@pytest.mark.parametrize('other', EXCHANGERS)
+def test_a_list_of_exchangers_is_no_table_of_streams(other: str) -> None:
+    table = made(f'{HEAD}\n{other}')
+    assert [stream.name for stream in table.case.streams] == ['H', 'C']
+    assert any('row 6: passed over, of another table: `E1' in each for each in table.notes)
+    assert refusal(other)
+    assert 'a further table, of `Gadget`' in refusal(f'{HEAD}\n{EXCHANGERS[0]}'.replace('Exchanger', 'Gadget'))
+
+
+def test_what_a_plant_needs_is_no_temperature_of_a_utility() -> None:
+    assert 'the target temperature is missing' in refusal(f'{HEAD}Hot utility;120;;\n')
+
+
+def test_a_title_holds_for_what_stands_below_it() -> None:
+    bare = 'Stream;Tin;Tout;CP (kW/K)\n{};{}\n'
+    kelvins = bare.format('B', '300;400;2')
+    assert 'names a unit' in refusal(bare.format('A', '150;60;2') + 'Temperatures in K\n' + kelvins)
+    assert 'and none with' in refusal(workbook([[*'ab'], ['Stream', 'Tin', 'Tout', 'CP (kW/K)'], ['H', 150, 60, 2]],
+                                               Utilities=[['Temperatures in K'], ['Utility', 'Tin', 'Tout', 'Price'],
+                                                          ['Steam', 500, 499, 3]]))
+
+
+@pytest.mark.parametrize('head', ['Name;T1;T2;CP', 'Name;Te;Ta;CP', 'Name;Tin;Tout;cp (kJ/kg K)',
+                                  'Name;Tin;Tout;m (kg/s)', 'Name;Tin;Tout;colour', 'Name;Tin;CP;Tin',
+                                  'Name;Hot in;Hot out;CP'])
 def test_headings_that_are_not_enough_or_two_things_are_refused(head: str) -> None:
     assert refusal(f'{head}\nH;150;60;2\nK;120;60;3\n')
 
@@ -235,10 +269,18 @@ def test_a_title_may_say_the_least_difference() -> None:
 
 
 def test_hot_and_cold_streams_on_sheets_of_their_own() -> None:
-    head = ['Name', 'Tin (°C)', 'Tout (°C)', 'CP (kW/K)']
-    hot, cold, both = [head, ['H1', 150, 60, 2]], [head, ['C1', 20, 60, 2]], [head, ['H1', 150, 60, 2], ['C1', 20, 60, 2]]
+    head: list[object] = ['Name', 'Tin (°C)', 'Tout (°C)', 'CP (kW/K)']
+    hot: Rows = [head, ['H1', 150, 60, 2]]
+    cold: Rows = [head, ['C1', 20, 60, 2]]
+    both: Rows = [*hot, *cold[1:]]
     assert [each.name for each in made(workbook(hot, Cold=cold)).case.streams] == ['H1', 'C1']
     assert 'have streams: say --sheet' in refusal(workbook(hot, Other=both))
     assert 'have streams: say --sheet' in refusal(workbook([['Plant 7']], Base=both, Revamp=both))
     read = made(workbook(both, Revamp=both))
     assert 'of the sheets the first one, Streams, is read, not Revamp (--sheet)' in read.notes
+
+
+def test_a_number_beside_a_mass_flow_may_be_a_specific_heat() -> None:
+    assert 'may be a CP or a specific heat' in refusal('Name;m (kg/s);cp;Tin;Tout\nA;2;4.2;150;60\n')
+    assert made('Name;m (kg/s);cp;Tin;Tout;Q (kW)\nA;2;4.2;150;60;378\n').case.streams[0].cp == 420
+    assert 'makes 378 kW' in refusal('Name;m (kg/s);cp;Tin;Tout;Q (kW)\nA;2;4.2;150;60;756\n')

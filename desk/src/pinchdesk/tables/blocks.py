@@ -6,9 +6,9 @@ from collections.abc import Sequence
 from dataclasses import dataclass, replace
 from itertools import groupby
 
-from .headings import is_comment, is_number, known_in
+from .headings import has_unit, heading_of, is_comment, is_number, known_in
 from .layouts import OF_UTILITIES, Draft, Layout, with_first
-from .sections import Section, kind_of, section_of
+from .sections import Section, is_equipment, kind_of, section_of
 from .spreadsheet import NOTHING, SHEET_ROWS, Cell, Table, TableRow
 from .units import Kind, is_unit
 from .vocabulary import Heading
@@ -19,6 +19,7 @@ MOST_HEADS = 10
 OTHER_TABLE = 3
 NAMING = (Heading.NAME, Heading.NUMBER)
 # The headings whose second one begins a block beside the first.
+MEASURED = frozenset(heading for heading in Heading if has_unit(heading))
 BEGINNING = (Heading.NAME, Heading.NUMBER, Heading.KIND, Heading.SUPPLY)
 
 
@@ -86,7 +87,7 @@ def blocks_of(table: Table) -> Blocks:
             again = before is not None and before.texts == band.texts
             if again and before:
                 band.draft.units = {**before.draft.units, **band.draft.units}
-            blocks += [block_of(table, band, group, len(groups) > 1, again) for group in groups]
+            blocks += [block_of(table, band, group, len(groups) > 1, again, not blocks) for group in groups]
             before = band
     heads = {row for block in blocks for row in block.layout.heads}
     return Blocks(tuple(blocks), tuple(row for row in above if row.number not in heads), tuple(foreign))
@@ -116,7 +117,8 @@ def is_head(row: TableRow, bands: Sequence[Band]) -> bool:
     if not bands or len(found) < 2:
         return len(found) > 1
     texts = [(column, cell.text) for column, cell in row.filled()]
-    return Heading.SUPPLY in found or len(found) >= OTHER_TABLE or any(texts == band.texts for band in bands)
+    size = sum(heading_of(text)[0] is not None for _, text in texts)
+    return Heading.SUPPLY in found or size >= OTHER_TABLE or any(texts == band.texts for band in bands)
 
 
 def is_titled(row: TableRow) -> bool:
@@ -187,6 +189,9 @@ def is_block(draft: Draft, group: range) -> bool:
     found = {heading for column, heading in draft.headings.items() if column in group}
     names = [draft.titles.get(column, '') for column, heading in draft.headings.items()
              if column in group and heading is Heading.NAME]
+    if any(is_equipment(draft.titles[column]) for column in draft.titles if column in group
+           and draft.headings.get(column) not in MEASURED) and not names:
+        return False
     sections = [section_of(name) for name in names]
     utilities = any(heading in found for heading in (*OF_UTILITIES, Heading.KIND)) or any(
         section and section.utilities for section in sections)
@@ -202,12 +207,23 @@ def is_named(band: Band, group: range) -> bool:
                for column in range(group.start, first))
 
 
-def block_of(table: Table, band: Band, group: range, beside: bool, again: bool) -> TableBlock:
+def check_names(table: Table, layout: Layout, sure: bool) -> None:
+    """`Refused` where a further block has its names below a heading that is not known: it may be none of streams."""
+    column = layout.columns[Heading.NAME]
+    title = layout.titles.get(column, '')
+    strange = layout.named and title and heading_of(title)[0] is None
+    if strange and (not sure or is_equipment(title)):
+        raise table.refusal(layout.head, column, f'a further table, of `{title}`: head the column `Stream` where it is '
+                            'one of streams, or take the table out')
+
+
+def block_of(table: Table, band: Band, group: range, beside: bool, again: bool, first: bool) -> TableBlock:
     """A block of a band; `beside` another one its rows are cut to its columns."""
     rows = [cut(row, group) for row in band.rows] if beside else band.rows
     rows = [row for row in rows if any(not cell.empty for cell in row.cells)]
     draft = band.draft.within(group) if beside else band.draft
     layout = draft.layout(rows)
+    check_names(table, layout, again or first)
     titles = [cut(row, group) if beside else row for row in band.above]
     if titles and any(titles[-1].filled()):
         layout = with_first(layout, titles[-1], table.merged)

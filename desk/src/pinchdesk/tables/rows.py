@@ -8,7 +8,7 @@ from dataclasses import dataclass, replace
 
 from .blocks import Blocks, TableBlock
 from .cells import Told
-from .headings import EMPTY, KINDS, Words, is_comment, is_number
+from .headings import EMPTY, KINDS, Words, heading_of, is_comment, is_number
 from .layouts import Layout
 from .numbers import NoNumber, numeral_of
 from .sections import Section, kind_of, kind_of_name, section_of
@@ -153,6 +153,9 @@ class BodyReader:
             if not layout.named:
                 title = layout.titles.get(layout.columns[Heading.NUMBER], 'the number')
                 self.told.once(f'no column has the heading name: {title} is taken')
+            elif heading_of(layout.titles.get(layout.columns[Heading.NAME], 'name'))[0] is None:
+                title = layout.titles[layout.columns[Heading.NAME]]
+                self.told.once(f'no column has the heading name: {title} is taken')
             elif layout.columns[Heading.NAME] not in layout.titles:
                 place = self.told.table.place(layout.head, layout.columns[Heading.NAME])
                 self.told.once(f'no column has the heading name: {place} is taken, which has no heading')
@@ -227,7 +230,11 @@ def utility_kind(line: Line) -> str:
         return ''
     # What has a price or a range, and neither a CP nor a duty, is no stream.
     priced = any(line.has(heading) for heading in (Heading.PRICE, Heading.LEAST, Heading.MOST))
-    return kind_of_name(line.name()) or ('utility' if priced and not line.has(Heading.MASS) else '')
+    named = kind_of_name(line.name())
+    if named and not priced and not line.has(Heading.TARGET):
+        # A number beside `Hot utility` may be a temperature, or what the plant needs.
+        return ''
+    return named or ('utility' if priced and not line.has(Heading.MASS) else '')
 
 
 def has_numbers(line: Line) -> bool:

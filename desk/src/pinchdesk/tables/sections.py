@@ -34,6 +34,10 @@ COUNTED = re.compile(r'[0-9]+|[a-z]|[ivx]+')
 DOUBTFUL = re.compile(r'(?!.*\b(?:no|not|without|ohne|keine|excluding|process)\b)(?:\S+\s+){0,3}(?:utilit(?:y|ies)|'
                       r'(?:heating|cooling)\s+media|heaters|coolers|(?:heiz|kühl|hilfs|betriebs)mittel|energieträger)'
                       r'(?:\W+\S+){0,2}\W*', re.I)
+# A table of these is none of streams, also where it has temperatures.
+EQUIPMENT = frozenset('exchanger exchangers hx equipment apparatus apparat apparate unit units item items pump vessel '
+                      'column warmeubertrager warmetauscher warmeaustauscher echangeur echangeurs intercambiador '
+                      'intercambiadores scambiatore scambiatori appareil equipo apparecchiatura'.split())
 # Names of utilities that give heat, or take it.
 GIVING = re.compile(r'steam|dampf|vapeur|vapore?\b|furnace|fired|flue|rauchgas|\bfum|hot\s*oil|thermal\s*oil|'
                     r'thermo[oö]l|hot\s*water|hei(?:ß|ss)|four\b|horno|forno|boiler|kessel', re.I)
@@ -60,6 +64,11 @@ class Section:
 
     def at(self, row: int) -> Section:
         return replace(self, row=row)
+
+
+def is_equipment(title: str) -> bool:
+    """Whether a heading of names speaks of exchangers or other equipment, and of no streams."""
+    return any(part in EQUIPMENT for part in words(title))
 
 
 def kind_word(side: Side | None, utility: bool) -> str:

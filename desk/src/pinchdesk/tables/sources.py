@@ -17,8 +17,11 @@ from .roundings import RoundingSpan, span_of
 from .rows import Line, shortened
 from .sections import side_of_utility
 from .units import Kind, size_of
-from .vocabulary import Heading
+from .vocabulary import Heading, squeezed
 
+# Headings of a CP that are said of a specific heat too.
+SPECIFIC_TOO = frozenset(('cp', 'heatcapacity', 'thermalcapacity', 'capacitethermique', 'capacidadcalorifica',
+                          'capacitatermica', 'capacitecalorifique'))
 # What marks a row as left out elsewhere.
 LEFT_OUT = re.compile(r'//|--|~~|[%!;]|/\*|<!|rem\b', re.I)
 # A contribution that is that of the case, as simulators call it.
@@ -175,6 +178,10 @@ class Entries:
             self.duties.append((line, side, duty))
         if self.given(line, Heading.CP):
             held = self.reader.measured(line.row, column, Kind.FLOW)
+            if held and not duty and self.is_open(line):
+                self.told.fault(line.row.number, column, f'{held.text} may be a CP or a specific heat, beside a mass '
+                                'flow: write its unit')
+                return None
             if held is None or duty and not self.agree(line, held, duty, span):
                 return None
             made = self.reader.rounded(line.row, column, Kind.FLOW, held, self.scale)
@@ -192,6 +199,14 @@ class Entries:
         heading = next(found for found, at in line.columns.items() if at == column)
         self.check(line, heading, CP, exact, what if made else f'the CP is 0 in 10 W/K: {what}')
         return made
+
+    def is_open(self, line: Line) -> bool:
+        """Whether a CP without a unit may be a specific heat: a mass flow stands beside it."""
+        column = line.columns[Heading.CP]
+        unit, title = self.reader.headed(line.row.number, column)
+        bare = not unit and line.cell(Heading.CP).text.replace(' ', '').lstrip('+-').replace('.', '').replace(
+            ',', '').isdigit() and not line.cell(Heading.CP).unit
+        return bare and squeezed(title) in SPECIFIC_TOO and self.given(line, Heading.MASS)
 
     def without_size(self, line: Line) -> None:
         """Tells a fault for a stream that has neither a CP nor a duty."""

@@ -9,6 +9,7 @@ from .blocks import Blocks, TableBlock
 from .headings import Words, bracketed
 from .layouts import Layout
 from .rows import BESIDE_HEADING, Body, shortened
+from .spreadsheet import SHEET_ROWS
 from .units import Kind, is_multiple, same_unit, unit_or_none
 from .vocabulary import words
 
@@ -87,19 +88,28 @@ def parts_of(clause: str) -> Iterator[tuple[str, str]]:
 
 
 def with_said(blocks: Blocks, body: Body) -> tuple[Blocks, list[tuple[Kind, Words]]]:
-    """The blocks with the units that words give to columns without one, and which of them were taken."""
+    """The blocks with the units that words give to columns without one, and which of them were taken. Words above a
+    block hold for it, and those below all blocks of a sheet for these."""
     said = said_units(body)
     used: dict[Kind, Words] = {}
-
-    def layout_of(layout: Layout) -> Layout:
-        units = dict(layout.units)
+    found: list[TableBlock] = []
+    for block in blocks.blocks:
+        layout, units = block.layout, dict(block.layout.units)
         for column, kind in layout.kinds.items():
-            if kind in said and column not in units:
+            if kind in said and column not in units and holds(said[kind], layout, blocks):
                 units[column] = said[kind].text
                 used[kind] = said[kind]
-        return replace(layout, units=units)
-    made: tuple[TableBlock, ...] = tuple(replace(block, layout=layout_of(block.layout)) for block in blocks.blocks)
-    return replace(blocks, blocks=made), list(used.items())
+        found.append(replace(block, layout=replace(layout, units=units)))
+    return replace(blocks, blocks=tuple(found)), list(used.items())
+
+
+def holds(said: Words, layout: Layout, blocks: Blocks) -> bool:
+    """Whether words say something of a block: they stand above it, among its headings, or below all of its sheet."""
+    sheet = said.row // SHEET_ROWS
+    heads = [block.layout.head for block in blocks.blocks if block.layout.head // SHEET_ROWS == sheet]
+    if layout.head // SHEET_ROWS != sheet:
+        return False
+    return said.row < layout.head or said.row in layout.heads or said.row > max(heads)
 
 
 def told_of(used: Sequence[tuple[Kind, Words]], text_at: Mapping[int, str]) -> Iterator[tuple[Words, str]]:
