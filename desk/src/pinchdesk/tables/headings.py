@@ -52,10 +52,11 @@ def heading_of(text: str) -> tuple[Heading | None, str]:
     heading, unit = reading(*parts) if parts else (None, '')
     if heading:
         return heading, unit
-    found = [(read, own) for name, behind in splits(text) if behind and not MONEY.search(name)
-             for read, own in [reading(name, behind)] if read]
+    found: list[tuple[Heading | None, str]] = [
+        (read, own) for name, behind in splits(text) if behind and not MONEY.search(name)
+        for read, own in [reading(name, behind)] if read]
     # `CP, W/K` is a CP in W/K, and not `CP, W` in K.
-    fitting = [(read, own) for read, own in found if not own or fits(read, own)]
+    fitting = [(read, own) for read, own in found if read and (not own or fits(read, own))]
     return (fitting or found or [(None, unit)])[0]
 
 
