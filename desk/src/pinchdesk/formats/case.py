@@ -206,13 +206,19 @@ class CaseReader:
         return Case(share, streams, utilities, tuple(self.forbids), self.basis)
 
 
-def read_case(text: str | bytes) -> Case:
+def read_case(text: str | bytes, own_units: bool = False) -> Case:
     """The case of a file's text. `Refused` where it is none as far as this reader sees; all limits are for the program
-    to check."""
+    to check. A case in units of its own is refused where these are not asked for: whoever takes its numbers for tenths
+    of °C and W would be wrong."""
     reader, at = CaseReader(), 0
     for at, row in records(text):
         reader.take(at, row)
-    return reader.made(at)
+    case = reader.made(at)
+    if case.basis.units and not own_units:
+        cause = f'the case is in {case.basis.units.temperature} and {case.basis.units.heat}, and this reads cases in ' \
+                '°C and W alone: make it without --units table'
+        raise Refused(3, 'case', 'units', cause)
+    return case
 
 
 def case_rows(case: Case) -> Iterator[list[str]]:

@@ -8,6 +8,7 @@ from fractions import Fraction
 
 from ..text import plain, printable, read_again
 from .amounts import exact, shortened
+from .case_units import CaseUnits, read_units, units_row
 from .cost_rows import CostRow, printed_cost_row, read_cost_row, with_row
 
 # What a scale and a divisor are at least; at most they are one over it. Prices in odd units have long divisors.
@@ -23,7 +24,8 @@ class Basis:
     All heats, CPs and loads of the case are `scale` times the plant's. A price of the case divided by `price_divisor`
     is in `price_unit`; a cost divided by `cost_divisor` (and by the scale) is in `cost_unit`. `names` has each name
     that was made fit, as (name in the table, name in the case); `cost_rows` what is said of areas and money;
-    `rounding` how far what the table rounded takes the targets, empty where it does not."""
+    `rounding` how far what the table rounded takes the targets, empty where it does not. `units` are those of the table
+    where the case has them, in place of tenths of °C and W."""
 
     scale: Fraction = Fraction(1)
     price_unit: str = ''
@@ -33,6 +35,7 @@ class Basis:
     names: tuple[tuple[str, str], ...] = ()
     cost_rows: tuple[CostRow, ...] = ()
     rounding: str = ''
+    units: CaseUnits | None = None
 
 
 def noted(basis: Basis, row: Sequence[str]) -> Basis:
@@ -46,7 +49,10 @@ def noted(basis: Basis, row: Sequence[str]) -> Basis:
         return replace(basis, cost_rows=with_row(basis.cost_rows, cost_row))
     if word == '#name':
         return replace(basis, names=(*basis.names, (first, second)))
-    if word == '#scale':
+    if word == '#units':
+        made = replace(basis, units=read_units(row))
+        is_first = basis.units is None
+    elif word == '#scale':
         made = replace(basis, scale=between(first, LEAST_SCALE))
         is_first = basis.scale == 1
     elif word == '#price':
@@ -74,6 +80,8 @@ def between(text: str, least: Fraction) -> Fraction:
 
 
 def basis_rows(basis: Basis) -> Iterator[list[str]]:
+    if basis.units:
+        yield units_row(basis.units)
     if basis.scale != 1:
         yield ['#scale', str(basis.scale), '', '', '', '', '']
     if basis.price_unit:

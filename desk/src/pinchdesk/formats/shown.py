@@ -11,6 +11,7 @@ from math import ceil
 
 from ..text import printable
 from .case import Basis
+from .case_units import CaseUnits
 
 Number = int | Fraction
 
@@ -42,6 +43,31 @@ class Shown:
     """Shows the numbers of a case with this basis. All arguments are in the program's units."""
 
     basis: Basis = Basis()
+
+    @property
+    def units(self) -> CaseUnits:
+        """The units of the case; those of a case that says none are °C and kW."""
+        return self.basis.units or CaseUnits()
+
+    def temperature(self, number: Number, places: int = 2) -> str:
+        """A temperature in the unit of the case."""
+        return decimal(self.units.shown_temperature(number), places)
+
+    def difference(self, number: Number, places: int = 2) -> str:
+        """A difference of temperatures in the unit of the case."""
+        return decimal(self.units.shown_difference(number), places)
+
+    def heat(self, number: Number, places: int = 3) -> str:
+        """A heat in the unit of the case, divided by the scale."""
+        return decimal(self.units.shown_heat(Fraction(number) / self.basis.scale), places)
+
+    def flow(self, number: Number, places: int = 4) -> str:
+        """A CP in the unit of the case, divided by the scale."""
+        return decimal(self.units.shown_flow(Fraction(number) / self.basis.scale), places)
+
+    @property
+    def heat_unit(self) -> str:
+        return printable(self.units.heat)
 
     def celsius(self, tenths: Number, places: int = 2) -> str:
         """A temperature in °C; a difference in K is shown by the same."""

@@ -36,12 +36,19 @@ class Told:
     table: Table
     faults: list[Refused] = field(default_factory=list)
     notes: list[str] = field(default_factory=list)
+    # The notes of numbers that were rounded.
+    roundings: set[str] = field(default_factory=set)
 
     def fault(self, row: int, column: int | None, cause: str) -> None:
         self.faults.append(self.table.refusal(row, column, cause))
 
     def note(self, row: int, column: int | None, what: str) -> None:
         self.notes.append(f'{self.table.place(row, column)}: {what}')
+
+    def rounding(self, row: int, column: int | None, what: str) -> None:
+        """Tells what was rounded: of a case in units of its own it is told by these."""
+        self.note(row, column, what)
+        self.roundings.add(self.notes[-1])
 
     def once(self, what: str) -> None:
         if what not in self.notes:
@@ -199,7 +206,7 @@ class CellReader:
         exact = held.value * scale
         nearest = rounded(exact)
         if nearest != exact:
-            self.told.note(row.number, column, f'{held.text} is rounded to {kind.shown(nearest, scale)}')
+            self.told.rounding(row.number, column, f'{held.text} is rounded to {kind.shown(nearest, scale)}')
         return nearest
 
 

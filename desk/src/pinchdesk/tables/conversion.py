@@ -14,7 +14,8 @@ from .spreadsheet import Table
 @dataclass(frozen=True)
 class Wanted:
     """How a table is to be read: the least difference, the sheet, the separator, the decimal mark, what all heats are
-    taken times, and the hours of a year for prices; None is what the table says."""
+    taken times, and the hours of a year for prices; None is what the table says. With `own_units` the case has the
+    units of the table, and nothing is rounded that is whole in these."""
 
     difference: str | None = None
     sheet: str | None = None
@@ -22,6 +23,7 @@ class Wanted:
     decimal: str | None = None
     scale: Fraction = Fraction(1)
     hours: Fraction | None = None
+    own_units: bool = False
 
 
 @dataclass(frozen=True)

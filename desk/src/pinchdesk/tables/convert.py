@@ -144,7 +144,9 @@ def checked(made: Converted, pinch: Pinch) -> Converted:
         if not row:
             raise Refused(3, '', fault.cause, cause) from fault
         raise made.table.refusal(row, None, cause) from fault
-    said = how_far_off(made.exact, targets.hot, targets.cold, made.case.basis.scale)
+    units = made.case.basis.units
+    hot, cold = (units.in_watts(heat) if units else heat for heat in (targets.hot, targets.cold))
+    said = how_far_off(made.exact, hot, cold, made.case.basis.scale)
     if not said:
         return made
     return replace(made, notes=(*made.notes, said), comments=(*made.comments, f'# {said}'))

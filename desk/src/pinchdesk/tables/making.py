@@ -15,6 +15,7 @@ from .cells import CellReader, Told
 from .conversion import Converted, Wanted
 from .doubts import below_titles, note_words, two_units, units_in_words
 from .least_difference import half, is_bare, said_difference
+from .own_units import ExactNumbers, in_own_units
 from .prices import PriceFault, PriceUnit, Priced, priced
 from .rows import Body, Line
 from .sources import Entries
@@ -54,8 +55,17 @@ class Maker:
         rows += [row for row, _, _ in self.streams] + [row for row, _, _ in self.utilities]
         rows += [row for row, _ in self.forbids]
         exact = tuple(self.entries.exact(line, side, exact_share) for line, side in self.stream_lines)
+        if self.wanted.own_units:
+            case = in_own_units(case, self.numbers(exact_share), self.reader, body.lines, self.told)
+            rows = [share_row, *rows]
         return Converted(case, self.told.table, tuple(rows), tuple(self.told.notes), body.comments, exact, self.blocks,
                          body)
+
+    def numbers(self, share: Fraction) -> ExactNumbers:
+        """What the table says of each source, before anything was rounded."""
+        streams = tuple(self.entries.numbers(line, share) for line, _ in self.stream_lines)
+        utilities = tuple(self.entries.numbers(line, share) for _, line, _, _ in self.priced)
+        return ExactNumbers(share, streams, utilities)
 
     def settle(self, body: Body) -> None:
         """Tells a fault for what stands beside the numbers and contradicts what was taken of them."""

@@ -48,7 +48,7 @@ def exact_targets(spans: Sequence[RoundingSpan]) -> tuple[Fraction, Fraction]:
     return hot, hot + surplus
 
 
-def told(spans: Sequence[RoundingSpan], hot: int, cold: int, scale: Fraction) -> str:
+def told(spans: Sequence[RoundingSpan], hot: int | Fraction, cold: int | Fraction, scale: Fraction) -> str:
     """How far the targets of a rounded case are from those of the table; empty where they are the same. The heats of
     the case are the table's so many times."""
     exact = exact_targets(spans)

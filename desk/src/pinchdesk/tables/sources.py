@@ -13,6 +13,7 @@ from ..formats.limits import CONTRIBUTION, CP, HEAT, LOAD, TEMPERATURE, Limit, f
 from ..formats.shown import decimal
 from .cells import CellReader, Entered, Told
 from .headings import KINDS
+from .own_units import ExactSource
 from .roundings import RoundingSpan, span_of
 from .rows import Line, shortened
 from .sections import side_of_utility
@@ -124,6 +125,20 @@ class Entries:
         load = entered(Heading.LOAD) or self.products.get((line.row.number, Heading.LATENT))
         heat = cp * abs(supply - target) if cp else abs(load or Fraction(0))
         return span_of(side, (supply, target), heat, share if own is None else own)
+
+    def numbers(self, line: Line, share: Fraction) -> ExactSource:
+        """The numbers of a source as the table has them, in the program's units; `share` is the contribution of the
+        case."""
+        def entered(heading: Heading) -> Fraction | None:
+            number = self.reader.entered.get((line.row.number, line.columns.get(heading, -1)))
+            return number.value if number and self.given(line, heading) else None
+        supply, target = entered(Heading.SUPPLY) or Fraction(0), entered(Heading.TARGET)
+        load = entered(Heading.LOAD) or self.products.get((line.row.number, Heading.LATENT))
+        cp = entered(Heading.CP) or self.products.get((line.row.number, Heading.SPECIFIC))
+        if not cp and load and target is not None and target != supply:
+            cp = abs(load) / abs(supply - target)
+        return ExactSource(line.row.number, supply, target, cp, load, entered(Heading.LEAST), entered(Heading.MOST),
+                           entered(Heading.CONTRIBUTION), share)
 
     def side(self, line: Line, supply: int, target: int) -> Side | None:
         row = line.row.number
@@ -247,7 +262,7 @@ class Entries:
         if made * span != heat:
             what = f'from {duty.text} the CP is rounded to {Kind.FLOW.shown(made, self.scale)}, which makes ' \
                    f'{Kind.HEAT.shown(made * span, self.scale)}'
-            self.told.note(line.row.number, line.at(Heading.LOAD), what)
+            self.told.rounding(line.row.number, line.at(Heading.LOAD), what)
         return made
 
     def agree(self, line: Line, flow: Entered, duty: Entered, span: int) -> bool:
@@ -259,7 +274,7 @@ class Entries:
         if apart <= open_part and apart <= MOST_APART * max(abs(made), said):
             if apart:
                 what = f'the CP {flow.text} counts, which makes {Kind.HEAT.shown(made)}, and not the duty {duty.text}'
-                self.told.note(line.row.number, line.at(Heading.LOAD), what)
+                self.told.rounding(line.row.number, line.at(Heading.LOAD), what)
             return True
         what = f'the CP {flow.text} makes {Kind.HEAT.shown(made)} between both temperatures, and the duty is ' \
                f'{duty.text}'
