@@ -17,7 +17,7 @@ class Temperatures:
     high: int
 
     def told(self, shown: Shown) -> str:
-        low, high = shown.celsius(self.low), shown.celsius(self.high)
+        low, high = shown.temperature(self.low), shown.temperature(self.high)
         return low if low == high else f'{low} to {high}'
 
 

@@ -69,6 +69,10 @@ class Shown:
     def heat_unit(self) -> str:
         return printable(self.units.heat)
 
+    @property
+    def temperature_unit(self) -> str:
+        return self.units.temperature
+
     def celsius(self, tenths: Number, places: int = 2) -> str:
         """A temperature in °C; a difference in K is shown by the same."""
         return decimal(Fraction(tenths) / 10, places)
@@ -113,7 +117,7 @@ class Shown:
 
     @property
     def price_unit(self) -> str:
-        return printable(self.basis.price_unit) or 'per W'
+        return printable(self.basis.price_unit) or ('per W' if self.basis.units is None else f'per {self.heat_unit}')
 
     @property
     def cost_unit(self) -> str:

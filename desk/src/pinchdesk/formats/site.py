@@ -48,6 +48,9 @@ def read_site(text: str | bytes) -> Site:
     for at, row in records(text):
         if len(row) != 7:
             raise refused_row('site', at, 'FieldCount')
+        if row[0] == '#units':
+            cause = 'a site has tenths of °C and 10 W/K: make the cases of its plants without --units table'
+            raise Refused(3, f'site row {at}', 'units', f'site row {at} #units: {cause}')
         if is_passed_over(row):
             continue
         if row[0] == 'contribution':

@@ -27,6 +27,16 @@ def kilowatts(shown: Shown, watts: Number) -> Decimal:
     return Decimal(shown.kilowatts(watts))
 
 
+def temperature(shown: Shown, number: Number) -> Decimal:
+    """A temperature in the unit of the case."""
+    return Decimal(shown.temperature(number))
+
+
+def heat_of(shown: Shown, number: Number) -> Decimal:
+    """A heat in the unit of the case."""
+    return Decimal(shown.heat(number))
+
+
 def cost(shown: Shown, value: Number) -> Decimal:
     return Decimal(shown.cost(value))
 
@@ -34,30 +44,31 @@ def cost(shown: Shown, value: Number) -> Decimal:
 def targets_sheets(case: Case, targets: Targets) -> list[Sheet]:
     """Both targets, and each pinch on the shifted scale and where the streams of both sides stand at it."""
     shown = Shown(case.basis)
-    pinches = tuple((celsius(shown, pinch), *(side_cell(case, side, pinch, shown) for side in (Side.HOT, Side.COLD)))
-                    for pinch in targets.pinches)
+    pinches = tuple((temperature(shown, pinch), *(side_cell(case, side, pinch, shown)
+                                                  for side in (Side.HOT, Side.COLD))) for pinch in targets.pinches)
     title = 'Pinches' if pinches else 'No pinch'
-    headings = ('shifted °C', 'hot side °C', 'cold side °C') if pinches else ()
+    unit = shown.temperature_unit
+    headings = (f'shifted {unit}', f'hot side {unit}', f'cold side {unit}') if pinches else ()
     return [lines_sheet('Targets', utility_facts(targets, shown)), Sheet(title, headings, pinches)]
 
 
 def utility_facts(targets: Targets | Accepted, shown: Shown) -> FactRow:
     """The hot and the cold utility: of a case the least ones, of a network its own."""
-    return (Fact('hot utility', kilowatts(shown, targets.hot), 'kW'),
-            Fact('cold utility', kilowatts(shown, targets.cold), 'kW'))
+    return (Fact('hot utility', heat_of(shown, targets.hot), shown.heat_unit),
+            Fact('cold utility', heat_of(shown, targets.cold), shown.heat_unit))
 
 
 def targets_facts(case: Case, targets: Targets) -> FactRow:
     """Both targets, and the pinches on the shifted scale, several ones as a text."""
     shown = Shown(case.basis)
-    pinches = [celsius(shown, pinch) for pinch in targets.pinches]
+    pinches = [temperature(shown, pinch) for pinch in targets.pinches]
     told: Cell = pinches[0] if len(pinches) == 1 else '; '.join(f'{pinch:f}' for pinch in pinches) or 'no pinch'
-    return *utility_facts(targets, shown), Fact('pinch, shifted', told, '°C')
+    return *utility_facts(targets, shown), Fact('pinch, shifted', told, shown.temperature_unit)
 
 
 def side_cell(case: Case, side: Side, pinch: int, shown: Shown) -> Cell:
     there = temperatures_at(case, side, pinch)
-    return celsius(shown, there.low) if there.low == there.high else there.told(shown)
+    return temperature(shown, there.low) if there.low == there.high else there.told(shown)
 
 
 def uses_sheet(case: Case, flow: HeatFlow, shown: Shown) -> Sheet:
@@ -65,11 +76,12 @@ def uses_sheet(case: Case, flow: HeatFlow, shown: Shown) -> Sheet:
     rows: list[tuple[Cell, ...]] = []
     for utility in case.utilities:
         heat, side = flow.use(utility.name), 'gives' if utility.side is Side.HOT else 'takes'
-        level = None if utility.invented else celsius(shown, utility.level)
-        rows.append((utility.name, side, level, kilowatts(shown, heat), Decimal(shown.price(utility.price)),
+        level = None if utility.invented else temperature(shown, utility.level)
+        rows.append((utility.name, side, level, heat_of(shown, heat), Decimal(shown.price(utility.price)),
                      cost(shown, heat * utility.price)))
     rows.append(('all', '', None, None, None, cost(shown, flow.cost)))
-    headings = ('utility', '', 'level °C', 'use kW', f'price {shown.price_unit}', f'cost {shown.cost_unit}')
+    headings = ('utility', '', f'level {shown.temperature_unit}', f'use {shown.heat_unit}', f'price {shown.price_unit}',
+                f'cost {shown.cost_unit}')
     return Sheet('Least cost', headings, tuple(rows))
 
 
@@ -79,15 +91,18 @@ def flow_sheets(case: Case, flow: HeatFlow | Cut) -> list[Sheet]:
     shown = Shown(case.basis)
     if isinstance(flow, Cut):
         return [cut_sheet(flow, shown)]
-    moves = tuple((move.hot.name, celsius(shown, move.hot.high), celsius(shown, move.hot.low), move.cold.name,
-                   celsius(shown, move.cold.high), celsius(shown, move.cold.low), kilowatts(shown, move.heat))
+    moves = tuple((move.hot.name, temperature(shown, move.hot.high), temperature(shown, move.hot.low), move.cold.name,
+                   temperature(shown, move.cold.high), temperature(shown, move.cold.low), heat_of(shown, move.heat))
                   for move in flow.moves)
-    prices = tuple((word, price.part.name, celsius(shown, price.part.high), celsius(shown, price.part.low),
+    prices = tuple((word, price.part.name, temperature(shown, price.part.high), temperature(shown, price.part.low),
                     Decimal(shown.price(price.price)))
                    for word, parts in (('gives', flow.gives), ('takes', flow.takes)) for price in parts)
-    headings = ('hot', 'hot from °C', 'hot to °C', 'cold', 'cold from °C', 'cold to °C', 'kW')
-    return [uses_sheet(case, flow, shown), Sheet('Heat flow, shifted °C', headings, moves),
-            Sheet('Prices that prove it, shifted °C', ('', 'part', 'from °C', 'to °C', f'price {shown.price_unit}'),
+    unit = shown.temperature_unit
+    headings = ('hot', f'hot from {unit}', f'hot to {unit}', 'cold', f'cold from {unit}', f'cold to {unit}',
+                shown.heat_unit)
+    return [uses_sheet(case, flow, shown), Sheet(f'Heat flow, shifted {unit}', headings, moves),
+            Sheet(f'Prices that prove it, shifted {unit}',
+                  ('', 'part', f'from {unit}', f'to {unit}', f'price {shown.price_unit}'),
                   prices)]
 
 
@@ -96,22 +111,22 @@ def flow_facts(case: Case, flow: HeatFlow | Cut) -> FactRow:
     if isinstance(flow, Cut):
         return ()
     shown = Shown(case.basis)
-    uses = (Fact(utility.name, kilowatts(shown, flow.use(utility.name)), 'kW') for utility in case.utilities)
+    uses = (Fact(utility.name, heat_of(shown, flow.use(utility.name)), shown.heat_unit) for utility in case.utilities)
     return Fact('least cost', cost(shown, flow.cost), shown.cost_unit), *uses
 
 
 def cut_told(cut: Cut, shown: Shown) -> str:
     """That there is no heat flow, and why."""
-    need, offer = shown.kilowatts(cut.need), shown.kilowatts(cut.offer)
-    told = f'have to give {need} kW, and all that they reach can take {offer} kW at most' if cut.side is Side.HOT \
-        else f'have to take {need} kW, and all that reaches them can give {offer} kW at most'
+    need, offer = (f'{shown.heat(heat)} {shown.heat_unit}' for heat in (cut.need, cut.offer))
+    told = f'have to give {need}, and all that they reach can take {offer} at most' if cut.side is Side.HOT \
+        else f'have to take {need}, and all that reaches them can give {offer} at most'
     return f'No heat flow: these parts {told}'
 
 
 def cut_table(cut: Cut, shown: Shown) -> FactTable:
     """The parts that cannot be served."""
-    rows = tuple((Fact('part', part.name), Fact('from', celsius(shown, part.high), '°C'),
-                  Fact('to', celsius(shown, part.low), '°C')) for part in cut.parts)
+    rows = tuple((Fact('part', part.name), Fact('from', temperature(shown, part.high), shown.temperature_unit),
+                  Fact('to', temperature(shown, part.low), shown.temperature_unit)) for part in cut.parts)
     return FactTable(cut_told(cut, shown), rows)
 
 
@@ -148,11 +163,11 @@ def balance_facts(verdict: Accepted, shown: Shown) -> FactRow:
     """The balance of an accepted network and its cost, beside which the floor stands."""
     unit = shown.cost_unit
     return (*utility_facts(verdict, shown),
-            Fact('excess over the hot target', kilowatts(shown, verdict.excess), 'kW'),
+            Fact('excess over the hot target', heat_of(shown, verdict.excess), 'kW'),
             Fact('cost', cost(shown, verdict.cost), unit),
             Fact('floor: no network costs less', cost(shown, verdict.floor), unit),
             Fact('cost above the floor', cost(shown, verdict.cost - verdict.floor), unit),
-            Fact('reference place, shifted', celsius(shown, verdict.place), '°C'))
+            Fact('reference place, shifted', temperature(shown, verdict.place), '°C'))
 
 
 def balance_sheet(verdict: Accepted, shown: Shown) -> Sheet:
@@ -166,7 +181,7 @@ def penalties_told(too_fine: TooFine) -> str:
 def penalties_sheet(verdict: Accepted, shown: Shown) -> Sheet:
     if verdict.too_fine:
         return Sheet('Penalties are too fine', (), ((penalties_told(verdict.too_fine),),))
-    rows = tuple((str(penalty.place), kilowatts(shown, penalty.heat)) for penalty in verdict.penalties if penalty.heat)
+    rows = tuple((str(penalty.place), heat_of(shown, penalty.heat)) for penalty in verdict.penalties if penalty.heat)
     title = 'Penalties: where it loses heat' if rows else 'No penalty: it loses no heat'
     return Sheet(title, ('', 'kW') if rows else (), rows)
 

@@ -50,7 +50,7 @@ def case_of_table(content: bytes, name: str, wanted: Wanted) -> Converted:
 
 def is_case(content: bytes) -> bool:
     try:
-        read_case(content)
+        read_case(content, own_units=True)
     except Refused:
         return False
     return True
@@ -101,7 +101,8 @@ def converted(table: Table, wanted: Wanted) -> Converted:
         if old != new:
             told.notes.append(f'the name `{old}` becomes {new}')
     told.notes += other_sheets.told(table)
-    return Maker(told, reader, Entries(reader, told, names, wanted.scale), blocks, wanted).made(body, names)
+    entries = Entries(reader, told, names, wanted.scale, wanted.own_units)
+    return Maker(told, reader, entries, blocks, wanted).made(body, names)
 
 
 def with_layouts(body: Body, blocks: Blocks) -> Body:

@@ -34,6 +34,7 @@ def half(difference: str, told: Told) -> tuple[int, Fraction]:
     nearest = rounded(exact)
     if nearest != exact:
         told.notes.append(f'half of the least difference {difference} is rounded to {Kind.DIFFERENCE.shown(nearest)}')
+        told.roundings.add(told.notes[-1])
     return nearest, exact
 
 

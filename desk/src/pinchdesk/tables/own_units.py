@@ -13,8 +13,8 @@ from ..formats.case import ANY_HEAT, Case, Side, Stream, Utility
 from ..formats.case_units import TEMPERATURES, CaseUnits
 from ..formats.limits import CONTRIBUTION, CP, HEAT, LOAD, TEMPERATURE, Limit
 from .cells import CellReader, Told
-from .rows import Line
-from .units import Kind, unit_of
+from .rows import Line, unit_behind
+from .units import Kind, same_unit, unit_of
 
 # Heats of which a unit of CPs may be made, where no heat has a unit.
 HEATS = ('kW', 'MW', 'W', 'Btu/h', 'MMBtu/h', 'kBtu/h', 'kcal/h', 'Gcal/h', 'kJ/h', 'MJ/h', 'GJ/h')
@@ -72,22 +72,26 @@ def units_of_table(reader: CellReader, lines: Sequence[Line]) -> tuple[str, str,
     texts: dict[Kind, list[str]] = {}
     for line in lines:
         for column, kind in line.layout.kinds.items():
-            cell = line.row.cell(column)
             if reader.given(line.row, column):
-                unit = cell.unit or line.layout.units.get(column, '') or kind.default
-                texts.setdefault(kind, []).append(unit)
-    sizes = {unit_of(text, Kind.TEMPERATURE).factor: text for text in texts.get(Kind.TEMPERATURE, [])}
-    warm = [name for name in TEMPERATURES if any(
-        unit_of(name, Kind.TEMPERATURE).exact(Fraction(0)) == unit_of(text, Kind.TEMPERATURE).exact(Fraction(0))
-        and unit_of(name, Kind.TEMPERATURE).factor == unit_of(text, Kind.TEMPERATURE).factor for text in sizes.values())]
-    temperature = warm[0] if len(sizes) == 1 and len(warm) == 1 else '°C'
+                cell = line.row.cell(column)
+                own = cell.unit if cell.number is not None else unit_behind(cell.text)
+                texts.setdefault(kind, []).append(own or line.layout.units.get(column, '') or kind.default)
+    temperatures = {temperature_of(text) for text in texts.get(Kind.TEMPERATURE, [])}
+    temperature = next(iter(temperatures)) if len(temperatures) == 1 else '°C'
     heats = {unit_of(text, Kind.HEAT).factor: text for text in reversed(texts.get(Kind.HEAT, []))}
     if len(heats) == 1:
         return temperature, *next((text, factor) for factor, text in heats.items())
+    # A CP in 10 W/K is so many W to a degree.
     flows = {unit_of(text, Kind.FLOW).factor * 10 / TEMPERATURES[temperature][0] for text in texts.get(Kind.FLOW, [])}
     found = [name for name in HEATS if {unit_of(name, Kind.HEAT).factor} == flows]
     heat = found[0] if found and not heats else 'kW'
     return temperature, heat, Fraction(unit_of(heat, Kind.HEAT).factor)
+
+
+def temperature_of(text: str) -> str:
+    """The name of a unit of temperatures; °C for one that has none here."""
+    unit = unit_of(text, Kind.TEMPERATURE)
+    return next((name for name in TEMPERATURES if same_unit(name, unit.text, Kind.TEMPERATURE)), '°C')
 
 
 def stepped(units: CaseUnits, numbers: ExactNumbers, case: Case) -> CaseUnits:
@@ -167,5 +171,6 @@ def utility_of(utility: Utility, source: ExactSource, units: CaseUnits, told: To
     level = min(ends) if utility.side is Side.HOT else max(ends)
     least = Fraction(0) if source.least is None else units.of_watts(source.least)
     most = Fraction(ANY_HEAT) if source.most is None else units.of_watts(source.most)
+    contribution = rounded_of(units.of_tenths_between(share), 'contribution')
     return replace(utility, level=rounded_of(units.of_tenths(level), 'level'), least=rounded_of(least, 'least'),
-                   most=rounded_of(most, 'most'), contribution=rounded_of(units.of_tenths_between(share), 'contribution'))
+                   most=rounded_of(most, 'most'), contribution=contribution)

@@ -34,8 +34,9 @@ MOST_APART = Fraction(1, 20)
 class Entries:
     """Makes streams and utilities of lines; what is wrong is told as a fault, and then there is none."""
 
-    def __init__(self, reader: CellReader, told: Told, names: dict[str, str], scale: Fraction) -> None:
-        self.reader, self.told, self.names, self.scale = reader, told, names, scale
+    def __init__(self, reader: CellReader, told: Told, names: dict[str, str], scale: Fraction,
+                 own_units: bool = False) -> None:
+        self.reader, self.told, self.names, self.scale, self.own_units = reader, told, names, scale, own_units
         self.duties: list[tuple[Line, Side, Entered]] = []
         self.heats: list[tuple[Limit, Fraction]] = []
         self.too_large = False
@@ -75,6 +76,9 @@ class Entries:
 
     def check(self, line: Line, heading: Heading, limit: Limit, exact: Fraction, what: str) -> None:
         """Tells a fault where a number, before all heats are taken so many times, is outside its limits."""
+        if limit.scaled and self.own_units and exact > 0:
+            # Which steps hold the heats of such a case is found when all of them are known.
+            return
         if limit.scaled:
             self.heats.append((limit, exact))
         if not limit.holds(rounded(exact * self.scale if limit.scaled else exact)):

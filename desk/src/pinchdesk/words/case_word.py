@@ -1,7 +1,7 @@
 """The word `case`."""
 from __future__ import annotations
 
-from dataclasses import dataclass
+from dataclasses import dataclass, replace
 
 from ..errors import of_file
 from ..formats.case import print_case, print_comments
@@ -21,7 +21,9 @@ DECLARED = (
     SHEET, Option('separator', 'what separates the fields of a text; `tab` is a tab', ('--separator',), metavar='SIGN'),
     DECIMAL, Option('scale', 'takes all CPs and heats N times (10, 100, 0.1 ..)', ('--scale',), default='1',
                     metavar='N'),
-    Option('hours', 'the hours of running in a year: costs come back per year', ('--hours',), metavar='H'))
+    Option('hours', 'the hours of running in a year: costs come back per year', ('--hours',), metavar='H'),
+    Option('units', 'SI, or `table`: exact in the units of the table, for `targets` and `flow`', ('--units',),
+           default='SI', choices=('SI', 'table')))
 # How long what is said of a case is in a table of many.
 LONGEST = 300
 
@@ -36,10 +38,12 @@ class CaseOptions:
     decimal: str | None = None
     scale: str = '1'
     hours: str | None = None
+    units: str = 'SI'
 
     @property
     def wanted(self) -> Wanted:
-        return wanted_by(self.difference, self.sheet, self.separator, self.decimal, self.scale, self.hours)
+        wanted = wanted_by(self.difference, self.sheet, self.separator, self.decimal, self.scale, self.hours)
+        return replace(wanted, own_units=self.units == 'table')
 
 
 def converted(pinch: Pinch, file: TextFile, wanted: Wanted) -> Converted:

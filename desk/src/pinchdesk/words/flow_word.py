@@ -14,7 +14,7 @@ from .word import Answer, Files, NoOptions, Word, feasibility
 def flow(files: Files, _: NoOptions = NoOptions(), tell: Telling = nobody) -> Answer:
     file = files.one('case')
     with about(case=file.name):
-        printed, case = Pinch().flow(file.content), completed_case(file.content)
+        printed, case = Pinch().flow(file.content), completed_case(file.content, own_units=True)
     cut = printed if isinstance(printed, Cut) else None
     return Answer(tuple(flow_sheets(case, printed)), facts=(flow_facts(case, printed),),
                   headline=cut_told(cut, Shown(case.basis)) if cut else '', status=feasibility(cut is None))

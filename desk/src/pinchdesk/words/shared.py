@@ -33,9 +33,10 @@ class SweepOptions:
     workers: int = USUAL_WORKERS
 
 
-def completed_case(content: bytes) -> Case:
-    """A case that the program has read, with the utilities that stand in."""
-    return completed(read_case(content))
+def completed_case(content: bytes, own_units: bool = False) -> Case:
+    """A case that the program has read, with the utilities that stand in; in units of its own where the word shows
+    these."""
+    return completed(read_case(content, own_units))
 
 
 def told_of(file: TextFile | None, notes: Iterable[str]) -> tuple[str, ...]:

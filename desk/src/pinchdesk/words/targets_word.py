@@ -12,7 +12,7 @@ from .word import Answer, Files, NoOptions, Word
 def targets(files: Files, _: NoOptions = NoOptions(), tell: Telling = nobody) -> Answer:
     file = files.one('case')
     with about(case=file.name):
-        printed, case = Pinch().targets(file.content), completed_case(file.content)
+        printed, case = Pinch().targets(file.content), completed_case(file.content, own_units=True)
     return Answer(tuple(targets_sheets(case, printed)), facts=(targets_facts(case, printed),),
                   notes=rounding_told(file, case))
 
