@@ -6,6 +6,7 @@ from typing import Any
 
 from .audit_word import AUDIT
 from .case_word import CASE_OF_TABLE
+from .cost_word import COST
 from .draw_word import DRAW
 from .flow_word import FLOW
 from .network_word import NETWORK_OF_FEW
@@ -13,6 +14,7 @@ from .page_word import PAGE_OF_REVIEW
 from .prices_word import PRICES
 from .rest_word import REST
 from .site_word import SITE_OF_PLANTS
+from .supertarget_word import SUPERTARGET
 from .sweep_word import SWEEP
 from .table_word import TABLE_OF_EXCHANGERS
 from .targets_word import TARGETS
@@ -23,7 +25,7 @@ from .word import Word, WordGroup
 
 WORDS: tuple[Word[Any] | WordGroup, ...] = (
     CASE_OF_TABLE, TARGETS, FLOW, AUDIT, SWEEP, PRICES, SITE_OF_PLANTS, TABLE_OF_EXCHANGERS, UNITS, REST, WHATIF,
-    NETWORK_OF_FEW, TRADEOFF, DRAW, PAGE_OF_REVIEW)
+    COST, SUPERTARGET, NETWORK_OF_FEW, TRADEOFF, DRAW, PAGE_OF_REVIEW)
 
 
 def word_of(names: Sequence[str]) -> Word[Any]:

@@ -1,0 +1,148 @@
+"""Areas, capital and annual cost as tables: targets, the exchangers of a network, and cost over the least difference.
+An enclosure is shown with the digits on which both of its ends agree."""
+from __future__ import annotations
+
+from decimal import Decimal
+from fractions import Fraction
+from math import floor
+
+from ..costs.annual import AnnualCost
+from ..costs.area_floor import AreaFloor
+from ..costs.cost_target import CostTarget
+from ..costs.enclosure import Enclosure
+from ..costs.network_areas import ExchangerArea, NetworkAreas
+from ..costs.supertarget import LeastCost, Supertarget, SupertargetPoint
+from ..formats.shown import Shown, decimal
+from ..text import printable
+from .facts import Fact, FactRow, FactTable
+
+NO_BOUND = 'films differ, so the area by the formula is no bound: a network that crosses the curves may have less'
+BOUND = 'all films are equal: no network with the same utilities has less area than the formula'
+
+
+def metres(area: Enclosure) -> Decimal:
+    return Decimal(area.shown(2))
+
+
+def money(amount: Enclosure | Fraction) -> Decimal:
+    return Decimal(amount.shown(2) if isinstance(amount, Enclosure) else decimal(amount, 2))
+
+
+def currency_of(found: CostTarget | NetworkAreas | Supertarget) -> str:
+    return printable(found.data.capital.currency)
+
+
+def cost_facts(cost: AnnualCost, currency: str) -> FactRow:
+    """Capital and the cost of a year with its two parts."""
+    return (Fact('capital', money(cost.capital), currency),
+            Fact('capital a year', money(cost.capital_a_year), f'{currency}/a'),
+            Fact('energy a year', money(cost.energy), f'{currency}/a'),
+            Fact('annual cost', money(cost.whole), f'{currency}/a'))
+
+
+def target_facts(target: CostTarget, least: AreaFloor | None = None) -> FactRow:
+    """The targets of a case, with the floor of the area where it was asked for."""
+    shells = target.shells
+    return (Fact('area by the formula', metres(target.area.area), 'm²'),
+            *(floor_facts(least) if least else ()), Fact('units', Decimal(target.units)),
+            *((Fact('1-2 shells', Decimal(shells.shells)), Fact('area in 1-2 shells', metres(shells.area), 'm²'))
+              if shells else ()),
+            *cost_facts(target.cost, currency_of(target)))
+
+
+def floor_facts(least: AreaFloor) -> FactRow:
+    """The floor, rounded down, and the slices that it was made with."""
+    area = Fact('floor: no network has less', Decimal(floor(least.area * 100)).scaleb(-2).normalize() + 0, 'm²')
+    if least.slice is None:
+        return (area,)
+    return area, Fact('slices of the floor', Decimal(decimal(least.slice, 3)), 'K')
+
+
+def target_notes(target: CostTarget) -> list[str]:
+    """What the targets leave out."""
+    return [BOUND if target.area.bound else NO_BOUND, *target.remarks]
+
+
+def exchanger_facts(exchanger: ExchangerArea, currency: str) -> FactRow:
+    gain = '' if exchanger.gain is None else money(exchanger.gain)
+    return (Fact('exchanger', exchanger.name), Fact('kind', exchanger.service.value),
+            Fact('duty', Decimal(decimal(exchanger.duty / 1000, 3)), 'kW'),
+            Fact('U', Decimal(decimal(exchanger.coefficient / 1000, 6)), 'kW/m²K'),
+            Fact('mean difference', Decimal(exchanger.mean.shown(3)), 'K'),
+            Fact('Ft', Decimal(exchanger.factor.shown(4))), Fact('shells', Decimal(exchanger.shells)),
+            Fact('area', metres(exchanger.area), 'm²'), Fact('price', money(exchanger.price), currency),
+            Fact('1 K more would save', gain, f'{currency}/a'))
+
+
+def exchangers_table(areas: NetworkAreas) -> FactTable:
+    """The exchangers of a network in their order; the costliest say what 1 K more at both ends would save."""
+    currency = currency_of(areas)
+    return FactTable('Exchangers', tuple(exchanger_facts(exchanger, currency) for exchanger in areas.exchangers))
+
+
+def network_facts(areas: NetworkAreas) -> FactRow:
+    """The sums of a network, beside the target at its own use of the utilities."""
+    beside: FactRow = ()
+    if areas.target and areas.efficiency:
+        beside = (Fact('area by the formula with the same utilities', metres(areas.target.area), 'm²'),
+                  Fact('area efficiency', Decimal((areas.efficiency * 100).shown(1)), '%'))
+    return (Fact('area', metres(areas.area), 'm²'), *beside, Fact('exchangers', Decimal(len(areas.exchangers))),
+            Fact('shells', Decimal(areas.shells)), *cost_facts(areas.cost, currency_of(areas)))
+
+
+def network_notes(areas: NetworkAreas) -> list[str]:
+    """Where the real ends of a utility leave no approach, and what the target beside is."""
+    return [*map(str, areas.faults), *([BOUND if areas.target.bound else NO_BOUND] if areas.target else [])]
+
+
+def point_facts(point: SupertargetPoint, shown: Shown, currency: str, remark: str = '') -> FactRow:
+    shells = (Fact('shells', Decimal(point.shells)),) if point.shells else ()
+    return (Fact('least difference', Decimal(decimal(point.difference, 3)), 'K'),
+            Fact('hot', Decimal(shown.kilowatts(point.hot)), 'kW'),
+            Fact('cold', Decimal(shown.kilowatts(point.cold)), 'kW'), Fact('area', metres(point.area), 'm²'),
+            Fact('units', Decimal(point.units)), *shells, *cost_facts(point.cost, currency), Fact('remark', remark))
+
+
+def supertarget_table(found: Supertarget) -> FactTable:
+    """The targets at each difference, with the least where the desk found it between two of them."""
+    shown, currency = Shown(found.data.case.basis), currency_of(found)
+    least = found.least.point
+    between = (least,) if least.found else ()
+    points = sorted((*found.points, *between), key=lambda point: point.difference)
+    rows = tuple(point_facts(point, shown, currency, remark_of(point, found)) for point in points)
+    marked = frozenset(at for at, point in enumerate(points) if point is least)
+    return FactTable('Cost over the least difference', rows, marked)
+
+
+def remark_of(point: SupertargetPoint, found: Supertarget) -> str:
+    if point is found.least.point:
+        return 'the least, found between two answers of the program' if point.found else 'the least'
+    first, last = found.least.flat
+    return 'within 1 % of the least' if first <= point.difference <= last else ''
+
+
+def least_facts(least: LeastCost, currency: str) -> FactRow:
+    first, last = least.flat
+    return (Fact('energy', {0: 'as it is', -1: 'a fifth cheaper', 1: 'a fifth dearer'}[sign(least.factor - 1)]),
+            Fact('least difference', Decimal(decimal(least.point.difference, 2)), 'K'),
+            Fact('annual cost', money(least.annual), f'{currency}/a'),
+            Fact('within 1 % from', Decimal(decimal(first, 2)), 'K'), Fact('to', Decimal(decimal(last, 2)), 'K'))
+
+
+def sign(number: Fraction) -> int:
+    return (number > 0) - (number < 0)
+
+
+def least_table(found: Supertarget) -> FactTable:
+    """The least with energy as it is, cheaper and dearer."""
+    currency = currency_of(found)
+    return FactTable('Where the cost is least', tuple(least_facts(least, currency)
+                                                      for least in (found.least, found.cheaper, found.dearer)))
+
+
+def supertarget_notes(found: Supertarget) -> list[str]:
+    """The differences without a cost, and how units were counted."""
+    notes = [f'{decimal(difference, 2)} K: {why}' for difference, why in found.without]
+    if not found.by_sets:
+        notes.append('units are sources less one on each side of the pinch: there are too many sources for sets')
+    return notes
