@@ -10,11 +10,21 @@ from collections.abc import Mapping, Sequence
 from dataclasses import dataclass
 from fractions import Fraction
 
+from ..errors import DeskError, Status
+from ..formats.case import Case
 from ..formats.shown import decimal
+from ..program.answers import Cut
+from ..program.run import Pinch
 from .balanced import Carrier, HeatInterval, carriers, intervals_of
 from .cost_data import CostData, refused
 from .enclosure import Enclosure, total
 from .log_mean import log_mean, over_log_mean
+
+
+class NoHeatFlow(DeskError):
+    """The case has no heat flow."""
+
+    status = Status.NO
 
 
 @dataclass(frozen=True)
@@ -43,6 +53,14 @@ def area_target(data: CostData, uses: Mapping[str, int | Fraction]) -> AreaTarge
     """The area target at these uses of the utilities, in W of the case; `Refused` where a film is missing, or where the
     curves touch."""
     return target_of(carriers(data, uses))
+
+
+def asked_area(pinch: Pinch, case: Case) -> AreaTarget:
+    """The area target of a completed case with the uses of `pinch flow`; `NoHeatFlow` where there is none."""
+    flow = pinch.uses(case)
+    if isinstance(flow, Cut):
+        raise NoHeatFlow('there is no heat flow, so there is no area')
+    return area_target(CostData(case), {use.name: use.heat for use in flow.uses})
 
 
 def target_of(members: Sequence[Carrier]) -> AreaTarget:

@@ -10,7 +10,7 @@ from fractions import Fraction
 from functools import cached_property
 
 from ..analysis.findings import headline
-from ..analysis.follow import Passage, SideState, follow
+from ..analysis.follow import Followed, Passage, SideState, follow
 from ..errors import DeskError
 from ..formats.case import Case, Utility, completed, read_case
 from ..formats.cost_rows import Flow, Service
@@ -106,12 +106,24 @@ def network_areas(case: CaseText, network: NetworkText, pinch: Pinch | None = No
     """The areas of a network; `NoAreas` where it is not accepted, `Refused` where something is missing that they
     need."""
     whole = completed(case if isinstance(case, Case) else read_case(case))
+    followed, verdict = accepted_network(pinch or Pinch(), whole, network)
+    return areas_of(CostData(whole), followed.passages, verdict)
+
+
+def asked_duties(pinch: Pinch, case: Case, network: NetworkText) -> dict[str, Duty]:
+    """The ends of the exchangers of an accepted network by their names; `NoAreas` where it is not accepted."""
+    followed, _ = accepted_network(pinch, case, network)
+    data = CostData(case)
+    return {passage.exchanger.name: duty_of(data, passage) for passage in followed.passages}
+
+
+def accepted_network(pinch: Pinch, case: Case, network: NetworkText) -> tuple[Followed, Accepted]:
+    """A network of a completed case, followed, with its verdict; `NoAreas` where that is not that it is accepted."""
     statements = network if isinstance(network, Network) else read_network(network)
-    verdict = (pinch or Pinch()).audit(whole, statements)
-    followed = follow(whole, statements)
+    verdict, followed = pinch.audit(case, statements), follow(case, statements)
     if not isinstance(verdict, Accepted):
         raise NoAreas(headline(followed, verdict), verdict)
-    return areas_of(CostData(whole), followed.passages, verdict)
+    return followed, verdict
 
 
 def areas_of(data: CostData, passages: Sequence[Passage], verdict: Accepted) -> NetworkAreas:

@@ -2,13 +2,13 @@
 driving forces."""
 from __future__ import annotations
 
-from collections.abc import Sequence
+from collections.abc import Mapping, Sequence
 
 from matplotlib.axes import Axes
 from matplotlib.figure import Figure
 
 from ..costs.area_target import AreaTarget, IntervalArea
-from ..costs.network_areas import NetworkAreas
+from ..costs.shells import Duty
 from .axes import entitled, fitted, legend_below, spaced
 from .style import ACROSS, COLD, HOT, NEUTRAL, PALE, blank, framed, said, styled
 
@@ -58,9 +58,9 @@ def put_bars(axes: Axes, intervals: Sequence[IntervalArea]) -> None:
     framed(axes)
 
 
-def driving_forces_figure(target: AreaTarget, network: NetworkAreas | None = None) -> Figure:
-    """The difference of the balanced curves over the cold temperature, and that of the exchangers of a network: those
-    that lie off the curve use the driving forces worse (Linnhoff and Vredeveld 1984)."""
+def driving_forces_figure(target: AreaTarget, exchangers: Mapping[str, Duty] | None = None) -> Figure:
+    """The difference of the balanced curves over the cold temperature, and that of the exchangers of a network by their
+    names: those off the curve use the driving forces worse (Linnhoff and Vredeveld 1984)."""
     with styled():
         figure = blank(8, 5.4)
         axes = figure.subplots()
@@ -68,13 +68,8 @@ def driving_forces_figure(target: AreaTarget, network: NetworkAreas | None = Non
         axes.plot([float(end) / 10 for piece in pieces for end in (piece.cold.low, piece.cold.high)],
                   [float(gap) for piece in pieces for gap in (piece.cold_end, piece.warm_end)], color=NEUTRAL,
                   linewidth=1.6, label='balanced composite curves')
-        for exchanger in network.exchangers if network else ():
-            hot, cold = exchanger.ends.hot, exchanger.ends.cold
-            ends = ((cold.low, hot.low - cold.low), (cold.high, hot.high - cold.high))
-            axes.plot([float(end) / 10 for end, _ in ends], [float(gap) / 10 for _, gap in ends], color=ACROSS,
-                      linewidth=1.2, marker='o', markersize=3)
-            axes.annotate(said(exchanger.name), [float(number) / 10 for number in ends[1]], xytext=(3, 2),
-                          textcoords='offset points', fontsize=7.5, color=ACROSS)
+        for name, duty in (exchangers or {}).items():
+            put_exchanger(axes, name, duty)
         axes.set_ylim(bottom=0)
         entitled(axes, 'cold temperature in °C', 'difference in K', 'Driving forces')
         legend_below(axes)
@@ -82,3 +77,12 @@ def driving_forces_figure(target: AreaTarget, network: NetworkAreas | None = Non
         fitted(figure)
         spaced(axes)
     return figure
+
+
+def put_exchanger(axes: Axes, name: str, duty: Duty) -> None:
+    """The differences at both ends of an exchanger."""
+    ends = ((duty.cold.low, duty.hot.low - duty.cold.low), (duty.cold.high, duty.hot.high - duty.cold.high))
+    axes.plot([float(end) / 10 for end, _ in ends], [float(gap) / 10 for _, gap in ends], color=ACROSS, linewidth=1.2,
+              marker='o', markersize=3)
+    axes.annotate(said(name), (float(ends[1][0]) / 10, float(ends[1][1]) / 10), xytext=(3, 2),
+                  textcoords='offset points', fontsize=7.5, color=ACROSS)

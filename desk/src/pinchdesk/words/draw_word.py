@@ -17,6 +17,7 @@ from .forms import PICTURE
 from .prices_word import STUDY, answered_study
 from .shared import (CASE, NETWORK, RANGE, SITE, USUAL_WORKERS, WORKERS, SweepOptions, completed_case, ended,
                      rounding_told, told_of)
+from .supertarget_word import found_over_difference
 from .word import Answer, Files, NoOptions, Option, Role, Word, WordGroup, feasibility
 
 if TYPE_CHECKING:
@@ -25,6 +26,7 @@ if TYPE_CHECKING:
 MOST = Option('most', 'how many exchangers are drawn at most: up to 60 can be read on A3', ('--most',), whole, 60,
               metavar='N')
 UTILITY = Option('utility', 'of several spans, those of this utility alone', ('--utility',), metavar='NAME')
+BESIDE_CURVES = Role(NETWORK.name, 'a network, whose exchangers are drawn too', needed=False)
 SPANS = Role(STUDY.name, 'a price study with a span (docs/FORMATS.md), in the unit of the prices of the case')
 
 
@@ -80,6 +82,32 @@ def site(files: Files, _: NoOptions = NoOptions(), tell: Telling = nobody) -> An
     return picture(site_figure(plants, printed), printed.feasible)
 
 
+def area(files: Files, _: NoOptions = NoOptions(), tell: Telling = nobody) -> Answer:
+    file = files.one('case')
+    with about(case=file.name):
+        from ..costs.area_target import asked_area
+        target = asked_area(Pinch(), completed_case(file.content))
+    from ..figures.area_curves import area_figure
+    return picture(area_figure(target))
+
+
+def driving(files: Files, _: NoOptions = NoOptions(), tell: Telling = nobody) -> Answer:
+    case, network = files.one('case'), files.get('network')
+    with about(case=case.name, network=network.name if network else ''):
+        from ..costs.area_target import asked_area
+        from ..costs.network_areas import asked_duties
+        pinch, whole = Pinch(), completed_case(case.content)
+        target = asked_area(pinch, whole)
+        duties = asked_duties(pinch, whole, network.content) if network else {}
+    from ..figures.area_curves import driving_forces_figure
+    return picture(driving_forces_figure(target, duties))
+
+
+def over_difference(files: Files, options: SweepOptions, tell: Telling = nobody) -> Answer:
+    from ..figures.cost_curves import supertarget_figure
+    return picture(supertarget_figure(found_over_difference(files, options)))
+
+
 def sweep(files: Files, options: SweepOptions, tell: Telling = nobody) -> Answer:
     file = files.one('case')
     asked = asked_range(options.first, options.last, options.step, options.workers)
@@ -119,6 +147,13 @@ PARTS = (
          (CASE,), SweepOptions, sweep, (*RANGE, WORKERS)),
     part('prices', 'the least cost over the price of a utility',
          'examples/two-steam-levels.csv examples/steam-prices.csv --utility LP -o prices.svg', (CASE, SPANS),
-         SpanOptions, prices, (UTILITY, WORKERS)))
+         SpanOptions, prices, (UTILITY, WORKERS)),
+    part('area', 'the balanced composite curves with the area of each interval', 'examples/reactors-cost.csv -o a.svg',
+         (CASE,), NoOptions, area),
+    part('driving', 'the differences of the balanced composite curves, and of exchangers',
+         'examples/reactors-cost.csv examples/reactors-cost-network.txt -o driving.svg', (CASE, BESIDE_CURVES),
+         NoOptions, driving),
+    part('supertarget', 'energy, capital and annual cost over the least difference',
+         'examples/reactors-cost.csv 4 20 4 -o costs.svg', (CASE,), SweepOptions, over_difference, (*RANGE, WORKERS)))
 DRAW = WordGroup('draw', 'a picture: curves, a grid, a site, a sweep or prices, as .svg, .png or .pdf',
                  'pinchdesk draw curves examples/four-stream.csv -o curves.svg', PARTS)

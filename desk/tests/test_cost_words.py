@@ -1,0 +1,89 @@
+"""The words `cost` and `supertarget` and their pictures: tables, notes, statuses."""
+from __future__ import annotations
+
+from decimal import Decimal
+from fractions import Fraction
+
+import pytest
+from conftest import example
+from costed import SMALL
+
+from pinchdesk import Cut, Pinch, Refused
+from pinchdesk.costs.network_areas import NoAreas
+from pinchdesk.errors import Status
+from pinchdesk.report.facts import Fact
+from pinchdesk.words.cost_word import CostOptions, cost
+from pinchdesk.words.draw_word import area, driving, over_difference
+from pinchdesk.words.shared import SweepOptions
+from pinchdesk.words.supertarget_word import over_difference as supertarget
+from pinchdesk.words.word import Answer, Files, TextFile
+
+CASE, NETWORK = 'reactors-cost.csv', 'reactors-cost-network.txt'
+
+
+def files_of(**contents: bytes) -> Files:
+    return Files({role: (TextFile(f'{role}.txt', content),) for role, content in contents.items()})
+
+
+REACTORS = files_of(case=example(CASE))
+BUILT = files_of(case=example(CASE), network=example(NETWORK))
+
+
+def test_targets_are_facts_with_their_units() -> None:
+    answer = cost(REACTORS, CostOptions(Fraction(0)))
+    facts = {fact.name: fact for fact in answer.facts[0]}
+    assert facts['area by the formula'] == Fact('area by the formula', Decimal('7409.98'), 'm²')
+    assert facts['units'].value == 7 and facts['energy a year'] == Fact('energy a year', Decimal(1000000), '$/a')
+    assert facts['annual cost'] == Fact('annual cost', Decimal('2051229.68'), '$/a')
+    floor = facts['floor: no network has less'].value
+    assert isinstance(floor, Decimal) and 3000 < floor < Decimal('7409.98')
+    assert 'the formula is no bound' in str(answer.content('text'))
+
+
+def test_a_network_has_its_exchangers_and_sums() -> None:
+    answer = cost(BUILT)
+    facts = {fact.name: fact.value for fact in answer.facts[0]}
+    assert facts['area'] == Decimal('8340.76') and facts['area efficiency'] == Decimal('88.8')
+    text = str(answer.content('text'))
+    assert text.startswith('Exchangers\n') and 'E4         exchanger    17500  0.342857' in text
+
+
+def test_a_network_that_is_not_accepted_ends_as_rejected() -> None:
+    with pytest.raises(NoAreas, match='rejected') as fault:
+        cost(files_of(case=example(CASE), network=example(NETWORK).replace(b'7500000', b'7400000')))
+    assert (fault.value.status, fault.value.no) == (Status.NO, 'rejected')
+
+
+def test_without_a_heat_flow_there_is_its_cut(pinch: Pinch) -> None:
+    case = example(CASE).replace(b'cooler,CW,200,0,1000000000000', b'cooler,CW,200,0,1000000')
+    assert isinstance(pinch.flow(case), Cut)
+    assert cost(files_of(case=case)).status == Status.NO
+
+
+def test_what_is_missing_is_refused_with_the_file() -> None:
+    case = example(CASE).replace(b'#film,CW,1,kW/m2K,,,\n', b'')
+    with pytest.raises(Refused, match='^case.txt: case, the film coefficient of CW: it is missing'):
+        cost(files_of(case=case))
+
+
+def test_the_least_is_marked_in_the_table() -> None:
+    answer = supertarget(files_of(case=SMALL.encode()), SweepOptions('4', '10', '2'))
+    least, table = answer.sheets[:2]
+    assert [row[0] for row in least.rows] == ['as it is', 'a fifth cheaper', 'a fifth dearer']
+    marked, = table.marked
+    assert table.rows[marked][-1] == 'the least, found between two answers of the program'
+    assert [row[0] for row in table.rows if row[-1] != table.rows[marked][-1]] == [4, 6, 8, 10]
+
+
+def test_pictures_say_their_numbers() -> None:
+    assert 'Area by the formula: 7410 m²' in drawn_text(area(REACTORS))
+    text = drawn_text(driving(BUILT))
+    assert all(f'>{name}</text>' in text for name in ('E1', 'E5', 'Q2'))
+    drawn = over_difference(files_of(case=SMALL.encode()), SweepOptions('4', '10', '2'))
+    assert 'Least annual cost 13777 $ at 6.4' in drawn_text(drawn)
+
+
+def drawn_text(answer: Answer) -> str:
+    content = answer.content('svg')
+    assert isinstance(content, bytes)
+    return content.decode()
