@@ -284,12 +284,15 @@ def test_without_a_program_nothing_is_begun(desk: Desk, monkeypatch: pytest.Monk
 def test_each_case_is_taken_in_each_scenario(desk: Desk, tmp_path: Path) -> None:
     changes = tmp_path / 'changes.csv'
     changes.write_text('scenario;source;field;value\nhotter;H2;supply;+10 K\nless;H2;CP;-5 %\n')
-    (tmp_path / 'list').write_text(f'{EXAMPLES}/four-stream.csv\n{EXAMPLES}/column.csv\n')
+    (tmp_path / 'bad.csv').write_text('contribution,,50,,,,\nhot,H,1000;500,10,,,\n')
+    (tmp_path / 'list').write_text(f'{EXAMPLES}/four-stream.csv\n{EXAMPLES}/column.csv\nbad.csv\n')
     words = ['targets', str(tmp_path / 'list'), '--scenarios', str(changes), '--form', 'csv']
     done = desk(*words, '--into', str(tmp_path / 'kept'))
     rows = [(row['scenario'], row['answer'], row['hot utility kW']) for row in rows_of(done)]
     assert rows[:3] == [('base', 'good', '20'), ('hotter', 'good', '0'), ('less', 'good', '32')]
-    assert [row[:2] for row in rows[3:]] == [('base', 'good'), ('hotter', 'refused'), ('less', 'refused')]
+    assert [row[:2] for row in rows[3:]] == [
+        ('base', 'good'), *[(name, 'refused') for name in ('hotter', 'less', 'base', 'hotter', 'less')]]
+    assert {row['said'].split(' BadNumber')[0] for row in rows_of(done)[6:]} == {f'{tmp_path}/bad.csv: case row 2'}
     assert (done.status, len(os.listdir(tmp_path / 'kept'))) == (3, 4)
     assert 'four-stream-hotter.txt' in os.listdir(tmp_path / 'kept')
 

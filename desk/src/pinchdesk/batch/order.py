@@ -109,9 +109,7 @@ class Work:
         """The files with the case in the scenario of its row, where there are scenarios."""
         if self.table is None:
             return files
-        case = files.one('case')
-        content = self.table.varied(case.content, row.names[SCENARIO])
-        return files | {'case': (TextFile(case.name, content),)}
+        return files | {'case': (self.table.varied(files.one('case'), row.names[SCENARIO]),)}
 
     def job(self, number: int, files: Files) -> Job:
         return Job(number, self.order.words, self.order.options, files, self.names[number] if self.names else None)

@@ -40,13 +40,15 @@ class ScenarioTable:
         names = (BASE, *(scenario.name for scenario in self.first.variants))
         return tuple(replace(row, names={**row.names, SCENARIO: name}) for row in rows for name in names)
 
-    def varied(self, case: bytes, name: str) -> bytes:
+    def varied(self, case: TextFile, name: str) -> TextFile:
         """A case in a scenario. `Refused` where a change names what it has not."""
         if name == BASE:
             return case
-        read = read_case(case)
+        with of_file(case.name):
+            read = read_case(case.content)
         with of_file(self.file.name):
-            return print_case(changed(read, self.scenario(read.basis, name)).case).encode()
+            outcome = changed(read, self.scenario(read.basis, name))
+        return TextFile(case.name, print_case(outcome.case).encode())
 
     def scenario(self, basis: Basis, name: str) -> CaseScenario:
         return next(scenario for scenario in self.scenarios(basis).variants if scenario.name == name)
