@@ -52,7 +52,7 @@ def test_a_unit_that_stands_elsewhere_is_not_passed_over(text: str) -> None:
 def test_the_unit_of_prices_that_is_taken_is_told() -> None:
     basis = Basis(price_unit='EUR/MWh')
     assert read(f'{HEAD}dear;HP;price;35\n', basis).notes == (
-        'no unit stands with the prices: EUR/MWh is taken, as in the case',)
+        'the prices have no unit: EUR/MWh is taken, as in the case',)
     for unit in ('€/MWh', 'EUR/MWh', 'EUR / MWh'):
         assert read(f'{HEAD}dear;HP;price;35 {unit}\n', basis).notes == ()
     assert 'is another unit' in refusal(f'{HEAD}dear;HP;price;35 $/MWh\n', basis)

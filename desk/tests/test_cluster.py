@@ -136,7 +136,7 @@ def test_a_job_that_kills_its_workers_is_given_up(good: tuple[str, str]) -> None
     outcomes, _ = answers(Client(a=good), 2, lambda held: held[0].ends('error', KilledWorker()),
                           lambda held: held[0].ends('error', ImportError('pinchdesk')))
     assert [(each.status, each.told) for each in outcomes] == [
-        (2, 'whoever did it died, 3 times: several workers'),
+        (2, 'the process that did it died, 3 times: several workers'),
         (2, 'no worker could do it: ImportError: pinchdesk')]
 
 

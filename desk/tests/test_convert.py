@@ -59,7 +59,7 @@ def test_what_the_program_refuses_is_refused_by_the_row_of_the_table(pinch: Pinc
     held = 'My plant,,,\n\nname,supply,target,CP\nA,150,60,2\nA,20,120,3\n'
     with pytest.raises(Refused) as fault:
         checked(made(held), pinch)
-    assert (fault.value.status, fault.value.text) == (3, 'row 5: the name stands above already (SameName)')
+    assert (fault.value.status, fault.value.text) == (3, 'row 5: the name is used above already (SameName)')
     hot = 'name,supply,target,CP\n' + ''.join(f'H{at},150,60,2\n' for at in range(31))
     with pytest.raises(Refused) as fault:
         checked(made(hot), pinch)

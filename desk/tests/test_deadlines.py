@@ -105,7 +105,7 @@ def test_without_the_solver_the_package_is_named(tmp_path: Path) -> None:
     done = subprocess.run([DESK / 'pinchdesk', 'network', EXAMPLES / 'tc3.csv'], capture_output=True, check=False,
                           text=True, env={**os.environ, 'PYTHONPATH': str(tmp_path)})
     assert (done.returncode, done.stdout) == (2, '')
-    assert done.stderr == 'pinchdesk: the package scipy is wanted, and cannot be loaded: not here\n'
+    assert done.stderr == 'pinchdesk: the package scipy is needed, and cannot be loaded: not here\n'
 
 
 def test_nothing_is_left_of_a_search(pinch: Pinch, tmp_path: Path, monkeypatch: pytest.MonkeyPatch) -> None:

@@ -335,7 +335,7 @@ def test_a_case_at_which_each_process_dies_is_given_up(folder: Path, tmp_path: P
     program(tmp_path, monkeypatch, f'grep -q "1000;500" case && echo >> {tmp_path}/deaths && kill -9 $PPID')
     results = pinchdesk.many('targets', folder, processes=2)
     assert [each.answer for each in results.done] == ['good', 'failed', 'good'] and results.status == 2
-    assert results.done[1].outcome.told == 'whoever did it died, 3 times: by signal 9'
+    assert results.done[1].outcome.told == 'the process that did it died, 3 times: by signal 9'
     assert (tmp_path / 'deaths').read_text() == '\n' * TRIES
 
 

@@ -157,7 +157,7 @@ def test_a_cost_below_the_least_one_is_refused_with_all_its_digits(pinch: Pinch)
 def test_a_network_to_begin_with_is_refused_in_the_units_of_its_case(pinch: Pinch) -> None:
     case = b'#scale,10,,,,,\n' + example('tc3.csv')
     network = example('tc3-network.txt').replace(b'E4 S1 S3 20000', b'E4 S1 S3 20500')
-    said = r'is rejected at .*: .* °C in place of .* °C \(MissedTarget\)'
+    said = r'is rejected at .*: .* °C instead of .* °C \(MissedTarget\)'
     with pytest.raises(NoNetwork, match=said):
         find_network(case, start=network, pinch=pinch)
     with pytest.raises(NotAccepted, match=said):

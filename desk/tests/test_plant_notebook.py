@@ -33,7 +33,7 @@ def test_a_table_is_read_as_the_word_case_reads_it() -> None:
     assert made.text == same.text and print_case(made.case) in made.text
     targets = made.targets()
     assert targets.hot_kw == 20 and targets.cold_kw == 60 and targets.pinches_c == (Decimal(85),)
-    with pytest.raises(WordsError, match='bytes want a name'):
+    with pytest.raises(WordsError, match='bytes need a name'):
         read(example('table.xlsx'))
     with pytest.raises(Refused, match='no contribution'):
         read(EXAMPLES / 'table.xlsx')

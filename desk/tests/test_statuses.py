@@ -114,7 +114,7 @@ def test_an_error_of_the_desk_is_one_line(desk: Desk, monkeypatch: pytest.Monkey
 
 @pytest.mark.parametrize('fault, said', [(MemoryError(), 'there is not enough memory'),
                                          (OSError(28, 'No space left on device', '/tmp/x'), '/tmp/x: No space left'),
-                                         (ModuleNotFoundError('No module', name='pint'), 'the package pint is wanted')])
+                                         (ModuleNotFoundError('No module', name='pint'), 'the package pint is needed')])
 def test_what_the_machine_has_not_is_one_line(fault: Exception, said: str, desk: Desk,
                                               monkeypatch: pytest.MonkeyPatch) -> None:
     def failing(*_: object) -> Answer:

@@ -181,7 +181,7 @@ def test_a_network_that_is_rejected_is_counted_and_told(tmp_path: Path, capsys: 
     assert main(['units', str(case), str(network)]) == 1
     said = capsys.readouterr()
     assert 'above 85 °C                     5     2           3               3       0' in said.out
-    assert 'n.txt: rejected at line 18 (C1): the target is missed: 134.5 °C in place of 135 °C' in said.err
+    assert 'n.txt: rejected at line 18 (C1): the target is missed: 134.5 °C instead of 135 °C' in said.err
     case.write_bytes(example('too-little-cooling.csv'))
     assert main(['units', str(case)]) == 1
     assert capsys.readouterr().out.startswith('No heat flow: these parts have to give 5 kW')

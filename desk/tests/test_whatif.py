@@ -108,7 +108,7 @@ def test_prices_and_heats_are_in_the_units_of_the_table_that_the_case_came_from(
 
 REFUSED = [
     ('S;X;supply;30', 'row 2 column 4: `X` is no source of it'), ('S;C1;level;30', 'C1 has no level: it has supply, '),
-    ('S;HOT;price;3', '`HOT` stands in where the case has no such utility'), ('S;C1;heat flow;3', '`heat flow` is no'),
+    ('S;HOT;price;3', '`HOT` is added where the case has no such utility'), ('S;C1;heat flow;3', '`heat flow` is no'),
     ('S;C1;supply;warm', 'row 2 column 4: `warm`: no number'), ('S;C1;supply;', 'a number is missing'),
     ('S;C1;supply;5 %', 'a temperature has no percentage'), ('S;C1;CP;5 %', '`5 %` may be a part or a change'),
     ('S;C1;supply;30 kW', 'the unit `kW` is not known here: °C, K, °F'), (';C1;supply;30', 'the scenario is missing'),
@@ -129,8 +129,8 @@ def test_headings_are_known_or_refused() -> None:
     assert 'no row has the headings `scenario`, `source`' in refusal(FOUR, 'S;C1;supply;30\n')
     assert 'the heading `colour` is not known' in refusal(FOUR, 'scenario;source;supply;colour\nS;C1;30;red\n')
     assert 'no column has the heading scenario' in refusal(FOUR, 'source;supply;CP\nC1;30;2\n')
-    assert 'changes stand in columns of fields' in refusal(FOUR, 'scenario;source;field;value;CP\nS;C1;supply;30;2\n')
-    assert 'row 2 column 5: `5` stands under no heading' in refusal(FOUR, 'scenario,source,field,value\nS,C1,CP,2,5\n')
+    assert 'changes are in columns of fields' in refusal(FOUR, 'scenario;source;field;value;CP\nS;C1;supply;30;2\n')
+    assert 'row 2 column 5: `5` is under no heading' in refusal(FOUR, 'scenario,source,field,value\nS,C1,CP,2,5\n')
     assert 'the row changes nothing' in refusal(FOUR, 'scenario;source;supply;CP\nS;C1;;\n')
     assert 'the table has no scenario' in refusal(FOUR, HEAD)
     assert 'LP has no most that could be changed' in refusal(STEAM, HEAD + 'S;LP;most;+5 %\n')

@@ -65,7 +65,7 @@ def test_a_rejected_network_is_marked_in_its_row_and_is_no_good_answer(desk: Cap
     done = desk('table', FOUR, str(network))
     assert done.status == 1
     assert done.out.startswith('rejected at exchanger E2: too close at its cold end: the hot side leaves at 89.967 '
-                               '(2699/30) °C, and the cold one enters so warm that 90 °C is wanted (ColdEndApproach)')
+                               '(2699/30) °C, and the cold one enters so warm that 90 °C is needed (ColdEndApproach)')
     assert [line.split()[1] for line in done.out.split('\n') if line.startswith('> ')] == ['E2']
     rows = list(csv.reader(io.StringIO(desk('table', FOUR, str(network), '--form', 'csv').out)))
     assert [(row[0], row[16]) for row in rows if len(row) == 17][1:] == [
@@ -170,8 +170,8 @@ ERRORS = [
     (['case', '--separator', ';;', 'table.csv'], 2, ';; is no'),
     (['case', 'table.csv'], 3, 'table.csv: no contribution'),
     (['case', '-d', '10', 'bad.csv'], 3, 'pinchdesk: bad.csv: row 1: the table has a contribution, and -d'),
-    (['targets', 'table.csv'], 3, 'FieldCount: a row or a statement has not its number of fields'),
-    (['targets', 'table.csv'], 3, '; of a table `pinchdesk case` makes a case'),
+    (['targets', 'table.csv'], 3, 'FieldCount: too many or too few fields, or a field that has to be empty is not'),
+    (['targets', 'table.csv'], 3, '; to make a case from a table use `pinchdesk case`'),
     (['targets', FOUR, '-o', 'out.pdf'], 2, 'out.pdf: this answer is a text, .csv or .xlsx'),
     ([], 2, 'required: WORD'), (['draws'], 2, 'invalid choice'), (['targets'], 2, 'required: CASE'),
     (['targets', FOUR, FOUR], 2, 'unrecognized'), (['targets', FOUR, '-o', '.'], 2, '.: is a folder'),
@@ -202,7 +202,7 @@ def test_a_case_that_the_program_refuses_is_refused(desk: Captured, tmp_path: Pa
     table.write_text('name;supply;target;CP\nA;150;60;2\nA;150;60;2\n')
     done = desk('case', '-d', '10', str(table), '-o', str(case))
     assert (done.status, case.exists()) == (3, False)
-    assert done.err == f'pinchdesk: {table}: row 3: the name stands above already (SameName)\n'
+    assert done.err == f'pinchdesk: {table}: row 3: the name is used above already (SameName)\n'
 
 
 def test_hostile_paths_and_names(tmp_path: Path, desk: Captured, monkeypatch: pytest.MonkeyPatch) -> None:

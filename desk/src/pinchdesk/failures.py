@@ -23,7 +23,7 @@ def failure_of(fault: BaseException) -> tuple[Status, str]:
         return Status.FAILED, 'there is not enough memory'
     if isinstance(fault, ImportError):
         named = f'the package {fault.name}' if fault.name else 'a package'
-        return Status.FAILED, f'{named} is wanted, and cannot be loaded: {" ".join(str(fault).split())[:LONGEST]}'
+        return Status.FAILED, f'{named} is needed, and cannot be loaded: {" ".join(str(fault).split())[:LONGEST]}'
     if isinstance(fault, OSError):
         where = f'{fault.filename}: ' if fault.filename is not None else ''
         return Status.FAILED, f'{where}{fault.strerror or fault or type(fault).__name__}'

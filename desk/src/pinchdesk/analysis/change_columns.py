@@ -111,7 +111,7 @@ def check_columns(table: Table, head: TableRow, columns: Mapping[Column, int], f
             raise table.refusal(head.number, None, f'no column has the heading {each.name.lower()}')
     pair = [each in columns for each in (Column.FIELD, Column.VALUE)]
     if any(pair) and (not all(pair) or fields) or not any(pair) and not fields:
-        cause = 'changes stand in columns of fields (supply, CP ..), or in the two columns field and value'
+        cause = 'changes are in columns of fields (supply, CP ..), or in the two columns field and value'
         raise table.refusal(head.number, None, cause)
 
 

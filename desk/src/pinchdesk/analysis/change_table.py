@@ -166,7 +166,7 @@ class ChangeReader:
         """The scenario of a row and its changes."""
         for at, cell in row.filled():
             if at not in self.layout.titles:
-                self.told.fault(row.number, at, f'`{cell.text}` stands under no heading')
+                self.told.fault(row.number, at, f'`{cell.text}` is under no heading')
         scenario, source = self.text(row, Column.SCENARIO), self.text(row, Column.SOURCE)
         if Column.FIELD in self.layout.columns:
             text = self.text(row, Column.FIELD)
@@ -231,7 +231,7 @@ class ChangeReader:
             return held[0] if held else None
         value, _, own = held
         if not own and at not in self.layout.units and self.basis.price_unit:
-            self.told.once(f'no unit stands with the prices: {self.basis.price_unit} is taken, as in the case')
+            self.told.once(f'the prices have no unit: {self.basis.price_unit} is taken, as in the case')
         for text in (own, self.layout.units.get(at, '')):
             try:
                 if text and (not self.basis.price_unit or price_unit_of(text) != price_unit_of(self.basis.price_unit)):

@@ -12,11 +12,11 @@ from .follow import Followed
 
 REASONS = {
     'HotEndApproach': 'too close at its hot end: the hot side enters at {found}, and the cold one leaves so warm that '
-                      '{wanted} is wanted',
+                      '{wanted} is needed',
     'ColdEndApproach': 'too close at its cold end: the hot side leaves at {found}, and the cold one enters so warm '
-                       'that {wanted} is wanted',
-    'MissedTarget': 'the target is missed: {found} in place of {wanted}',
-    'Unfinished': 'the stream is not whole at its end: {found} of {wanted}',
+                       'that {wanted} is needed',
+    'MissedTarget': 'the target is missed: {found} instead of {wanted}',
+    'Unfinished': 'not the whole stream reaches its end: {found} of {wanted}',
     'Overdrawn': 'more than there is: {found}, and there is {wanted}',
     'UtilityRange': 'outside its range: {found}, and the bound is {wanted}',
     'Forbidden': 'these two may not exchange heat',
@@ -67,7 +67,7 @@ def headline(followed: Followed, verdict: Verdict) -> str:
     if isinstance(verdict, Rejected):
         finding = finding_of(followed, verdict, shown)
         return f'rejected at {finding.place}: {finding.sentence} ({verdict.reason})'
-    return f'too fine at {verdict.place}: nothing is said of the network'
+    return f'too fine at {verdict.place}: nothing is said about the network'
 
 
 def exchanger_before(followed: Followed, statement: object) -> str | None:

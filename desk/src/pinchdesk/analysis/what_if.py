@@ -178,7 +178,7 @@ def found(case: Case, change: Change) -> Source | None:
         return None
     if source is None:
         invented = change.source in ('HOT', 'COLD')
-        why = 'stands in where the case has no such utility: give it a row there' if invented else 'is no source of it'
+        why = 'is added where the case has no such utility: give it a row there' if invented else 'is no source of it'
         raise refusal(change, f'`{change.source}` {why}')
     fields = OF_UTILITY if isinstance(source, Utility) else LATENT if source.latent else SENSIBLE
     if change.field.word not in fields:

@@ -165,7 +165,7 @@ def package() -> Any:
     try:
         return importlib.import_module('distributed')
     except ImportError as fault:
-        raise WordsError('--scheduler wants the package distributed, which is not installed (Debian: '
+        raise WordsError('--scheduler needs the package distributed, which is not installed (Debian: '
                          f'python3-distributed): {fault}') from fault
 
 
@@ -212,4 +212,4 @@ def by_cluster(jobs: Iterator[Job], address: str, notes: list[str]) -> Generator
         try:
             yield from cluster.outcomes(jobs)
         except (OSError, TimeoutError) as fault:
-            notes.append(f'{address}: the scheduler answers no longer: {str(fault) or type(fault).__name__}')
+            notes.append(f'{address}: the scheduler no longer answers: {str(fault) or type(fault).__name__}')

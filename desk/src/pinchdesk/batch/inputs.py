@@ -47,8 +47,8 @@ def listed(place: str, roles: Sequence[Role], common: Mapping[str, tuple[str, ..
     for row in rows:
         for role in roles:
             if role.needed and role.name not in row.paths:
-                raise WordsError(f'{row.name} has no {role.name}: give the list a column `{role.name}`, lay '
-                                 f'{Path(row.name).stem}-{role.name}.txt beside it, or say --{role.option} FILE')
+                raise WordsError(f'{row.name} has no {role.name}: give the list a column `{role.name}`, put '
+                                 f'{Path(row.name).stem}-{role.name}.txt beside it, or use --{role.option} FILE')
     return rows
 
 
@@ -85,7 +85,7 @@ def in_list(place: str, roles: Sequence[Role], common: Mapping[str, tuple[str, .
     """The rows of a list."""
     content = read_bytes(place)
     if is_case(content):
-        raise Refused(3, '', 'a case', f'this is one {roles[0].name}, and a folder or a list of them is wanted', place)
+        raise Refused(3, '', 'a case', f'this is one {roles[0].name}, and a folder or a list of them is needed', place)
     with of_file(place):
         return rows_of(fitting(read_table(content, place), roles), roles, place, common)
 
@@ -177,7 +177,7 @@ def row_of(table: Table, row: TableRow, columns: Mapping[int, str], roles: Seque
     paths: dict[str, tuple[str, ...]] = {}
     for column, cell in row.filled():
         if column not in columns or cell.fault and columns[column]:
-            raise table.refusal(row.number, column, cell.fault or 'a cell below no heading')
+            raise table.refusal(row.number, column, cell.fault or 'a cell under no heading')
         role = columns[column]
         if not role:
             continue
@@ -193,6 +193,6 @@ def seen(path: str, place: str) -> str:
     """A path of a list, as seen from the list's folder or from here; `Refused` where these are two files."""
     there = os.path.join(os.path.dirname(place), path)
     if os.path.exists(path) and os.path.exists(there) and not os.path.samefile(path, there):
-        raise Refused(3, '', 'ambiguous', f'{path} is there twice, as seen from here and from the list: write it whole',
-                      place)
+        raise Refused(3, '', 'ambiguous', f'{path} is there twice, seen from here and from the list: give the '
+                      'whole path', place)
     return there if os.path.exists(there) else path

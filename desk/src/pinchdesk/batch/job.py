@@ -94,4 +94,4 @@ def cells_of(answer: Answer) -> tuple[Cells, ...]:
 
 def lost(job: Job, how: str) -> JobOutcome:
     """The outcome of a job that ended whoever did it."""
-    return JobOutcome(job.number, Status.FAILED, told=f'whoever did it died, {TRIES} times: {how}')
+    return JobOutcome(job.number, Status.FAILED, told=f'the process that did it died, {TRIES} times: {how}')

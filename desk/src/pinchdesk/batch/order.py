@@ -174,13 +174,13 @@ def many(word: str, cases: str | os.PathLike[str] | Mapping[str, Held | Sequence
          scheduler: str | None = None, processes: int | None = None, into: str | None = None,
          ending: str | None = None) -> Results:
     """One word of the desk (`draw grid` is one too) over many cases: those of a folder or of a list, or cases by their
-    names, each alone or with the further files that the word wants. `words` are those that follow the files of the
+    names, each alone or with the further files that the word needs. `words` are those that follow the files of the
     word at the command (`'0', '20', '2'` of `sweep`)."""
     names = tuple(word.split())
     try:
         found_word = word_of(names)
     except KeyError as fault:
-        raise WordsError(f'{word} is no word of the desk that many cases can be given to') from fault
+        raise WordsError(f'{word} is no word of the desk that takes many cases') from fault
     taken = taken_of(found_word, words)
     order = Order(names, taken.options, scheduler, processes or processors(), into, ending)
     if not isinstance(cases, Mapping):
@@ -199,7 +199,7 @@ def files_of(name: str, contents: Held | Sequence[Held], roles: Sequence[Role]) 
     listed_contents = [contents] if isinstance(contents, (Case, Network, Study, str, bytes)) else list(contents)
     needed = [role for role in roles if role.needed]
     if len(listed_contents) < len(needed) or len(listed_contents) > len(roles) and not roles[-1].several:
-        raise WordsError(f'{name}: {", ".join(role.name for role in roles)} are wanted, and {len(listed_contents)} are '
+        raise WordsError(f'{name}: {", ".join(role.name for role in roles)} are needed, and {len(listed_contents)} are '
                          'given')
     files: dict[str, tuple[TextFile, ...]] = {}
     for at, content in enumerate(listed_contents):

@@ -1,4 +1,4 @@
-"""What came of many cases, as one table: a row or more for each, in the order in which they were given."""
+"""The answers to many cases as one table: one or more rows for each, in the order in which they were given."""
 from __future__ import annotations
 
 from collections import Counter

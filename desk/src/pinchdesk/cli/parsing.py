@@ -21,7 +21,7 @@ Words = Sequence[Word[Any] | WordGroup]
 # What is done with what was parsed of a word with these names.
 Doing = Callable[[Word[Any], tuple[str, ...], Namespace], int]
 MANY_LIST = 'examples/list.txt'
-MANY = WordGroup('many', 'one word over many cases: a table of what came of each',
+MANY = WordGroup('many', 'one word over many cases: a table with the answer of each',
                  f'pinchdesk many audit {MANY_LIST} -o audits.xlsx', ())
 
 
@@ -69,7 +69,7 @@ def add_words(under: Any, words: Words, before: tuple[str, ...], add: Callable[.
         names = (*before, word.name)
         if isinstance(word, WordGroup):
             example = word.example if add is add_word else f'pinchdesk many {" ".join(names)} {MANY_LIST}'
-            summary = word.summary if add is add_word else f'{word.summary}: of many cases'
+            summary = word.summary if add is add_word else f'{word.summary}: for many cases'
             group = add_parser(under, word.name, summary, example)
             add_words(group.add_subparsers(dest='part', metavar='PART', required=True), word.parts, names, add, doing)
         else:
@@ -85,7 +85,7 @@ def add_word(under: Any, word: Word[Any], _: tuple[str, ...]) -> ArgumentParser:
     add_options(added, by_place(word.declared))
     if word.forms.choices:
         added.add_argument('--form', choices=word.forms.choices,
-                           help='the form of the answer; else the ending of FILE says it')
+                           help='the form of the answer; otherwise the ending of FILE decides')
     add_options(added, by_flag(word.declared))
     for role in word.roles:
         if role.flag:
@@ -100,7 +100,7 @@ def add_word(under: Any, word: Word[Any], _: tuple[str, ...]) -> ArgumentParser:
 def add_word_of_many(under: Any, word: Word[Any], names: tuple[str, ...]) -> ArgumentParser:
     """A word over many cases: where the cases are, its options, and who does it."""
     kept = ' --into FOLDER' if word.to_file else ''
-    added = add_parser(under, word.name, f'{word.summary}: of many cases',
+    added = add_parser(under, word.name, f'{word.summary}: for many cases',
                        f'pinchdesk many {" ".join(names)} {MANY_LIST}{kept}')
     added.add_argument('place', metavar='FOLDER|LIST', help='a folder of files, or a list: text with separators or '
                        '.xlsx, a case a row, with its further files in further columns')
@@ -108,13 +108,13 @@ def add_word_of_many(under: Any, word: Word[Any], names: tuple[str, ...]) -> Arg
     if word.roles[0].name == 'case':
         added.add_argument('--scenarios', metavar='TABLE', help='a table of changes, as whatif takes it: each case is '
                            'taken as it is and in each scenario')
-    added.add_argument('--form', choices=FORMS, help='the form of the table; else the ending of FILE says it')
+    added.add_argument('--form', choices=FORMS, help='the form of the table; otherwise the ending of FILE decides')
     added.add_argument('--processes', type=whole, default=processors(), metavar='N',
-                       help='by how many processes it is done here')
-    added.add_argument('--scheduler', metavar='ADDRESS', help='by the workers of a scheduler of dask.distributed, as '
-                       'tcp://host:8786, which have to have this desk and this program')
+                       help='how many processes do it here')
+    added.add_argument('--scheduler', metavar='ADDRESS', help='the workers of a scheduler of dask.distributed do it, '
+                       'as tcp://host:8786; they need this desk and this program')
     added.add_argument('--into', metavar='FOLDER', required=word.to_file,
                        help='where the answer of each case is kept as a file of its own')
-    added.add_argument('--ending', metavar='ENDING', help='what those files end with, which says their form')
+    added.add_argument('--ending', metavar='ENDING', help='the ending of these files, which decides their form')
     added.add_argument('-o', '--output', metavar='FILE', help='where the answer is written')
     return added

@@ -50,7 +50,7 @@ def balanced_figure(case: Case, targets: Targets, curves: Curves, flow: HeatFlow
 
 
 def grand_figure(case: Case, targets: Targets, curves: Curves, flow: HeatFlow | Cut) -> Figure:
-    """The grand composite curve, and the utilities that stand on it."""
+    """The grand composite curve, and the utilities on it."""
     return single(GRAND, drawn_of(case, targets, curves, flow))
 
 

@@ -181,7 +181,7 @@ def label_balanced(axes: Axes, drawn: Drawn) -> None:
 
 
 def put_grand(axes: Axes, drawn: Drawn) -> None:
-    """The grand composite curve over shifted temperatures, and the utilities that stand on it."""
+    """The grand composite curve over shifted temperatures, and the utilities on it."""
     shown, spans = drawn.shown, stairs(drawn)
     net = drawn_at(corners_of(drawn.curves.net), shown)
     if drawn.beyond:

@@ -45,5 +45,5 @@ def seconds_of(text: str) -> Fraction:
     except ValueError:
         held = Fraction(0)
     if not 0 < held <= DAY:
-        raise WordsError(f'--seconds {shortened(text)}: a number of seconds above 0 is wanted, at most a day')
+        raise WordsError(f'--seconds {shortened(text)}: it has to be a number of seconds above 0, at most a day')
     return held

@@ -39,12 +39,12 @@ def write_whole(path: str, content: str | bytes, inputs: Iterable[str] = ()) -> 
 def check_place(path: str, inputs: Iterable[str]) -> None:
     """`OutputError` where a file may not be written to this place."""
     if not path or path.endswith(os.sep) or os.path.isdir(path):
-        raise OutputError(f'{path or "(no name)"}: is a folder, and a file is wanted')
+        raise OutputError(f'{path or "(no name)"}: is a folder, not a file')
     if os.path.lexists(path) and not os.path.isfile(path):
-        raise OutputError(f'{path}: is no plain file, and is left alone')
+        raise OutputError(f'{path}: is no plain file, and is not written over')
     key = key_of(path)
     if any(key_of(read) == key for read in inputs):
-        raise OutputError(f'{path}: is an input, and is left alone')
+        raise OutputError(f'{path}: is an input, and is not written over')
     if not os.path.isdir(Path(path).parent):
         raise OutputError(f'{path}: cannot be written: there is no folder {Path(path).parent}')
 
@@ -56,7 +56,7 @@ def check_apart(outputs: Iterable[str], inputs: Iterable[str]) -> None:
     for path in outputs:
         key = key_of(path)
         if key in read:
-            raise OutputError(f'{path}: is an input, and is left alone')
+            raise OutputError(f'{path}: is an input, and is not written over')
         if key in taken:
             raise OutputError(f'{path}: two answers would go there, since it is {taken[key]} too')
         taken[key] = path

@@ -139,7 +139,7 @@ class ExactRest:
 @dataclass(frozen=True, kw_only=True)
 class PlantRest(PlantAnswer):
     """What is left of a network with open branches. `case` is that of the rest; None where nothing is left, or the
-    network is rejected. `text` is it as a file. The numbers are None where the audit does not take what stands."""
+    network is rejected. `text` is it as a file. The numbers are None where the audit does not accept it."""
 
     exact: ExactRest | None
     case: Case | None

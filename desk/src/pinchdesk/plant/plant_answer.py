@@ -16,7 +16,7 @@ from ..report.sheet_html import as_html
 
 @dataclass(frozen=True, kw_only=True)
 class PlantAnswer:
-    """An answer with its tables. `notes` is what is told of it, `text` what `pinch` printed."""
+    """An answer with its tables. `notes` is what is reported about it, `text` what `pinch` printed."""
 
     sheets: tuple[Sheet, ...]
     notes: tuple[str, ...] = ()

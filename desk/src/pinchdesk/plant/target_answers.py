@@ -155,7 +155,7 @@ class ExactPrices:
 
 @dataclass(frozen=True, kw_only=True)
 class PlantPrices(PlantAnswer):
-    """The least cost of each scenario of a price study, in `cost_unit`; its spans stand in the tables."""
+    """The least cost of each scenario of a price study, in `cost_unit`; its spans are in the tables."""
 
     exact: ExactPrices
     cost_unit: str

@@ -1,5 +1,5 @@
-"""A plant: a case with what was told when it was read, and the words of the desk as methods. It asks `pinch` once for
-what several answers share."""
+"""A plant: a case with what was reported when it was read, and the words of the desk as methods. It asks `pinch` once
+for what several answers share."""
 from __future__ import annotations
 
 import os
@@ -45,7 +45,7 @@ if TYPE_CHECKING:
 
 @dataclass(frozen=True)
 class Plant:
-    """A plant with its case: `text` is the case as a file, `notes` what was told when it was read."""
+    """A plant with its case: `text` is the case as a file, `notes` what was reported when it was read."""
 
     name: str
     text: str = field(repr=False)
@@ -59,7 +59,7 @@ class Plant:
 
     @cached_property
     def completed(self) -> Case:
-        """The case with the utilities that stand in where it has none of a side."""
+        """The case with the utilities that are added where it has none of a side."""
         return completed(self.case)
 
     @cached_property
@@ -115,9 +115,9 @@ class Plant:
     def network(self, above: Number | None = None, cost: Number | None = None, seconds: Number = 60,
                 start: FileGiven | None = None) -> PlantNetwork:
         """A network with few exchangers at the least cost; or so many percent above it, or at most at this cost in the
-        unit of the case's costs. `start` is a network to be bettered."""
+        unit of the case's costs. `start` is a network to improve on."""
         if above is not None and cost is not None:
-            raise WordsError('a network is at most at a cost, or so much above the least one, not both')
+            raise WordsError('a network has a highest cost, or a percentage above the least one, not both')
         most = None if cost is None else cost_of(as_text(cost), Shown(self.case.basis))
         percent = None if above is None else percent_of(as_text(above))
         file = None if start is None else file_of(start, 'network')
@@ -127,7 +127,7 @@ class Plant:
         return plant_network(found, list(plant_audit(follow(self.completed, found.network), found.verdict).sheets))
 
     def tradeoff(self, network: FileGiven | None = None, seconds: Number = 30) -> PlantTradeoff:
-        """Exchangers against cost: networks of fewer and fewer exchangers, from one that is given or searched."""
+        """Exchangers against cost: networks of fewer and fewer exchangers, from one that is given or searched for."""
         # It wants scipy, which is slow to load.
         from ..search.reduce.tradeoff import tradeoff
         file = None if network is None else file_of(network, 'network')
@@ -193,7 +193,7 @@ def read(source: str | os.PathLike[str] | bytes, name: str = '', *, difference: 
     the file is called. The options are those of the word `case`. `Refused` where something is not understood, or is
     ambiguous."""
     if isinstance(source, bytes) and not name:
-        raise WordsError('bytes want a name, as read(content, "plant.xlsx")')
+        raise WordsError('bytes need a name, as read(content, "plant.xlsx")')
     path = name if isinstance(source, bytes) else os.fspath(source)
     content = source if isinstance(source, bytes) else read_bytes(path)
     asked = wanted_by(None if difference is None else as_text(difference), sheet, separator, decimal, as_text(scale),

@@ -26,7 +26,7 @@ class Rows:
         try:
             import pandas
         except ImportError as fault:
-            raise WordsError('frame() wants pandas, which is not installed') from fault
+            raise WordsError('frame() needs pandas, which is not installed') from fault
         return pandas.DataFrame(list(self.rows()))
 
 

@@ -4,20 +4,20 @@ from __future__ import annotations
 from ..errors import DeskError, Refused
 
 CAUSES = {
-    'FieldCount': 'a row or a statement has not its number of fields, or a field that has to be empty is not; of a '
-                  'table `pinchdesk case` makes a case',
-    'UnknownKind': 'the first field is no kind of a row; of a table `pinchdesk case` makes a case',
-    'UnknownWord': 'the first field is no word of a statement',
-    'TooMany': 'there are more of these than there may be (docs/FORMATS.md, Limits)',
-    'Repeated': 'this stands above already',
-    'BadName': 'a name has 1 to 16 letters, digits, _ and -, and begins with one of the first two; HOT and COLD are '
-               'those of utilities',
-    'SameName': 'the name stands above already',
+    'FieldCount': 'too many or too few fields, or a field that has to be empty is not; to make a case from a table use '
+                  '`pinchdesk case`',
+    'UnknownKind': 'the first field is not a kind of row; to make a case from a table use `pinchdesk case`',
+    'UnknownWord': 'no statement begins with this word',
+    'TooMany': 'there are more of these than the limit (docs/FORMATS.md, Limits)',
+    'Repeated': 'this was given above already',
+    'BadName': 'a name has 1 to 16 letters, digits, _ and -, and begins with a letter or a digit; HOT and COLD are '
+               'names of utilities',
+    'SameName': 'the name is used above already',
     'UnknownName': 'nothing above has this name',
-    'BadNumber': 'a field that has to be a number is none',
+    'BadNumber': 'a field that has to be a number is not one',
     'OutOfRange': 'a number is outside its limits (docs/FORMATS.md, Limits)',
-    'NotLatent': 'with a load the supply has to be the target, and the CP 0',
-    'NoLoad': 'supply and target are one, and there is no load',
+    'NotLatent': 'with a load the target has to be the supply, and the CP 0',
+    'NoLoad': 'supply and target are equal, and there is no load',
     'WrongWay': 'a hot stream has to cool down, and a cold one to warm up',
     'BadRange': 'the first number is above the second',
     'NoContribution': 'there is no contribution',
@@ -25,11 +25,11 @@ CAUSES = {
     'NoPlant': 'there is no plant above the stream',
     'NoMain': 'there is no main',
     'WrongSide': 'the first source has to be hot, and the second cold',
-    'UnknownBranch': 'the branch was not made before',
-    'SpentBranch': 'the branch was used before',
-    'WrongPass': "the branch's stream is no side of the exchanger, or passed it before",
+    'UnknownBranch': 'no statement above makes this branch',
+    'SpentBranch': 'the branch is used above already',
+    'WrongPass': "the branch's stream is not a side of the exchanger, or has passed it before",
     'OtherStream': 'two branches of different streams',
-    'NotPositive': 'a duty and a size are above 0',
+    'NotPositive': 'a duty and a size have to be above 0',
     'MissingPass': 'a stream of the exchanger never passes it',
     'NoScenario': 'there is no scenario above the price',
     'TooWide': 'a span has at most 100,000 prices',

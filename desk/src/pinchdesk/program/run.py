@@ -60,8 +60,8 @@ def own_program(package: Path) -> Path:
 
 
 class Pinch:
-    """The program, asked. Each call is one run; each raises `Refused` where a file is refused, `WordsError` where a
-    number is out of its limits, `ProgramError` where it ended in a way that is none of its own (killed, or without
+    """The program `pinch`. Each call is one run; each raises `Refused` where a file is refused, `WordsError` where a
+    number is out of its limits, `ProgramError` where the program did not end by itself (killed, or without
     memory)."""
 
     def __init__(self, path: str | None = None) -> None:
@@ -88,7 +88,7 @@ class Pinch:
         return self.answer(printed.design_of, ['design', 'case'], {'case': case_bytes(case)})
 
     def vertical(self, case: CaseText) -> Design:
-        """A network by the composite curves. `Refused` where the case is not standard, or has latent streams."""
+        """A network from the composite curves. `Refused` where the case is not standard, or has latent streams."""
         made = self.answer(printed.design_of, ['vertical', 'case'], {'case': case_bytes(case)})
         assert isinstance(made, Design)
         return made

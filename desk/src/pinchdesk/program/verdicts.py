@@ -84,7 +84,7 @@ class Rejected:
 
 @dataclass(frozen=True)
 class TooFine:
-    """A number that is outside the limits of fractions: nothing is said of the network."""
+    """A number that is outside the limits of fractions: nothing is said about the network."""
 
     place: Place
     step: int

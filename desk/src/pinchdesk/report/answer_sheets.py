@@ -140,7 +140,7 @@ def audit_sheets(followed: Followed, verdict: Verdict) -> list[Sheet]:
     if isinstance(verdict, Accepted):
         return [balance_sheet(verdict, shown), penalties_sheet(verdict, shown)]
     if isinstance(verdict, TooFine):
-        return [Sheet('Too fine: nothing is said of the network', (), ((too_fine_told(verdict),),))]
+        return [Sheet('Too fine: nothing is said about the network', (), ((too_fine_told(verdict),),))]
     found = finding_of(followed, verdict, shown)
     return [Sheet('Rejected', (), ((found.place, verdict.reason), ('', found.sentence)))]
 

@@ -19,7 +19,7 @@ from .facts import Fact, FactRow
 from .sheet import Cell, Sheet
 
 HEADINGS = ('exchanger', 'hot', 'hot branch', 'cold', 'cold branch', 'duty kW', 'hot in °C', 'hot out °C', 'cold in °C',
-            'cold out °C', 'least K', 'wanted K', 'kW/K', 'pinch', 'across kW', 'penalty kW')
+            'cold out °C', 'least K', 'needed K', 'kW/K', 'pinch', 'across kW', 'penalty kW')
 
 
 def mean_difference(passage: Passage) -> Decimal | None:

@@ -155,7 +155,7 @@ def fault_sheets(rest: Rest) -> list[Sheet]:
     if isinstance(rest.verdict, Rejected):
         found = finding_of(rest.finished, rest.verdict, Shown(rest.followed.case.basis))
         return [Sheet('Rejected', (), ((found.place, rest.verdict.reason), ('', found.sentence)))]
-    return [Sheet('Too fine: nothing is said of the network', (), ((TOO_FINE,),))]
+    return [Sheet('Too fine: nothing is said about the network', (), ((TOO_FINE,),))]
 
 
 def rest_told(rest: Rest) -> str:

@@ -31,7 +31,7 @@ class Sheet:
         try:
             import pandas
         except ImportError as fault:
-            raise WordsError('frame() wants pandas, which is not installed') from fault
+            raise WordsError('frame() needs pandas, which is not installed') from fault
         return pandas.DataFrame(columns_of(self.headings, self.rows))
 
 

@@ -15,8 +15,8 @@ from ..formats.shown import Shown
 from .facts import Fact, FactRow, FactTable
 from .sheet import Cell, Sheet
 
-LEFT_OUT = ('the number is that of sources less independent sets: it counts heats, and a network may want more where '
-            'temperatures or forbidden matches bar it')
+LEFT_OUT = ('the number is sources less independent sets: the rule counts heats, and a network may need more where '
+            'temperatures or forbidden matches prevent it')
 
 
 def title_of(region: Region, shown: Shown) -> str:

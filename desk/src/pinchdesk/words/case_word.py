@@ -19,9 +19,9 @@ DECLARED = (
     Option('difference', 'the least difference, where the table has none; in K, or with its unit',
            ('-d', '--difference'), metavar='K'),
     SHEET, Option('separator', 'what separates the fields of a text; `tab` is a tab', ('--separator',), metavar='SIGN'),
-    DECIMAL, Option('scale', 'takes all CPs and heats N times (10, 100, 0.1 ..)', ('--scale',), default='1',
+    DECIMAL, Option('scale', 'multiplies all CPs and heats by N (10, 100, 0.1 ..)', ('--scale',), default='1',
                     metavar='N'),
-    Option('hours', 'the hours of running in a year: costs come back per year', ('--hours',), metavar='H'),
+    Option('hours', 'the operating hours a year: costs are then per year', ('--hours',), metavar='H'),
     Option('units', 'SI, or `table`: exact in the units of the table, for `targets` and `flow`', ('--units',),
            default='SI', choices=('SI', 'table')))
 # How long what is said of a case is in a table of many.

@@ -25,7 +25,7 @@ if TYPE_CHECKING:
 
 MOST = Option('most', 'how many exchangers are drawn at most: up to 60 can be read on A3', ('--most',), whole, 60,
               metavar='N')
-UTILITY = Option('utility', 'of several spans, those of this utility alone', ('--utility',), metavar='NAME')
+UTILITY = Option('utility', 'of several spans only those of this utility', ('--utility',), metavar='NAME')
 BESIDE_CURVES = Role(NETWORK.name, 'a network, whose exchangers are drawn too', needed=False)
 SPANS = Role(STUDY.name, 'a price study with a span (docs/FORMATS.md), in the unit of the prices of the case')
 
@@ -138,7 +138,7 @@ PARTS = (
          NoOptions, curves_by('composite_figure')),
     part('balanced', 'the balanced composite curves: streams and the utilities that are used',
          'examples/three-levels.csv -o balanced.svg', (CASE,), NoOptions, curves_by('balanced_figure')),
-    part('grand', 'the grand composite curve, and the utilities that stand on it',
+    part('grand', 'the grand composite curve, and the utilities on it',
          'examples/three-levels.csv -o grand.svg', (CASE,), NoOptions, curves_by('grand_figure')),
     part('grid', 'the grid diagram of a network', 'examples/tc3.csv examples/tc3-network.txt -o grid.svg',
          (CASE, NETWORK), GridOptions, grid, (MOST,)),

@@ -17,10 +17,10 @@ from .forms import TEXT
 from .shared import CASE
 from .word import Answer, Files, Option, Role, Word
 
-START = Role('start', 'a network that is to be bettered', needed=False, flag='--start', metavar='NETWORK')
+START = Role('start', 'a network to improve on', needed=False, flag='--start', metavar='NETWORK')
 DECLARED = (
-    Option('cost', 'what it may cost at most, in the unit of the costs of the case, which may stand with it: 90 or '
-           '"90 EUR/h" (the least cost)', ('--cost',), metavar='MOST', one_of='cost'),
+    Option('cost', 'what it may cost at most, in the unit of the costs of the case, which may follow: 90 or "90 EUR/h" '
+           '(the least cost unless given)', ('--cost',), metavar='MOST', one_of='cost'),
     Option('above', 'how far above the least cost it may be', ('--above',), metavar='PERCENT', one_of='cost'),
     Option('seconds', 'how long it takes at most, but for a moment (60 unless given)', ('--seconds',), default='60',
            metavar='S'))

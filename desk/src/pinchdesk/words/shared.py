@@ -14,12 +14,12 @@ CASE = Role('case', 'a case file, as `pinchdesk case` writes it')
 NETWORK = Role('network', 'a network text')
 SITE = Role('site', 'a site file (docs/FORMATS.md), in tenths of °C and 10 W/K, times its #scale')
 USUAL_WORKERS = min(16, os.cpu_count() or 1)
-WORKERS = Option('workers', 'by how many workers it is made (1 to 16); the answer is the same', ('--workers',), whole,
+WORKERS = Option('workers', 'how many workers make it (1 to 16); the answer is the same', ('--workers',), whole,
                  USUAL_WORKERS, metavar='N', in_many=1)
 RANGE = tuple(Option(name, 'a least difference in K, of a fifth of a K at least', metavar=name.upper())
               for name in ('first', 'last', 'step'))
-SHEET = Option('sheet', 'the sheet of a workbook; else it is the first one', ('--sheet',), metavar='NAME')
-DECIMAL = Option('decimal', 'the decimal mark, where the table does not settle it', ('--decimal',),
+SHEET = Option('sheet', 'the sheet of a workbook; otherwise the first one', ('--sheet',), metavar='NAME')
+DECIMAL = Option('decimal', 'the decimal mark, where the table leaves it open', ('--decimal',),
                  choices=('.', ','))
 
 

@@ -22,7 +22,7 @@ if TYPE_CHECKING:
     from ..search.accepted import Judged
     from ..search.reduce.tradeoff import TradeOff
 
-BEGUN = Role(NETWORK.name, 'a network text to begin with; without it one of the least cost is searched', needed=False)
+BEGUN = Role(NETWORK.name, 'a network text to begin with; otherwise one is searched for', needed=False)
 NETWORKS = FurtherOutput('networks', '--networks', 'where the networks are written, one file for each row', folder=True)
 SECONDS = Option('seconds', 'how long it takes at most, but for a moment; it ends earlier where nothing more is '
                  'gained, and Control-C ends it with what was found', ('--seconds',), default='30', metavar='S')

@@ -19,7 +19,7 @@ from ..search.budget import Telling, nobody
 from .shared import CASE, NETWORK, completed_case, ended, told_of
 from .word import Answer, Files, NoOptions, Role, Word, feasibility
 
-BESIDE = Role(NETWORK.name, 'a network, whose exchangers are counted beside', needed=False)
+BESIDE = Role(NETWORK.name, 'a network, whose exchangers are counted too', needed=False)
 
 
 def units(files: Files, _: NoOptions = NoOptions(), tell: Telling = nobody) -> Answer:

@@ -65,7 +65,7 @@ def headline(followed: Followed, verdict: Verdict, finding: Finding | None, plan
     elif finding:
         told = f'Rejected at {finding.place}: {finding.sentence}'
     else:
-        told = f'Too fine at {verdict.place}: nothing is said of the network'
+        told = f'Too fine at {verdict.place}: nothing is said about the network'
     room = max(plan.x(plan.columns.count) + 1, 6.6)
     return textwrap.wrap(told, int(room / 0.086)) or ['']
 
