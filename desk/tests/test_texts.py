@@ -3,6 +3,7 @@ from __future__ import annotations
 
 import csv
 import io
+from collections.abc import Callable
 
 import pytest
 from anycase import cases, networks, studies
@@ -81,7 +82,8 @@ REFUSED_CASES = [
 
 @pytest.mark.parametrize('text, said', REFUSED_CASES)
 def test_what_is_no_case_is_refused_as_the_program_refuses_it(text: str, said: str, pinch: Pinch) -> None:
-    for ask in (read_case, pinch.targets):
+    asks: tuple[Callable[[str], object], ...] = (read_case, pinch.targets)
+    for ask in asks:
         with pytest.raises(Refused) as fault:
             ask(text)
         assert fault.value.text == said

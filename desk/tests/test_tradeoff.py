@@ -221,16 +221,17 @@ def test_the_first_exchanger_that_goes_is_paid_by_steam_and_cooling(traded: Trad
 
 
 def test_what_changed_is_what_was_moved(traded: TradeOff) -> None:
-    before: Judged | None = None
+    before: dict[str, Fraction] = {}
     for row in traded.rows:
+        duties = {exchanger.name: exchanger.duty for exchanger in row.network.exchangers}
         if before:
-            names = {*before.duties, *row.judged.duties}
+            names = {*before, *duties}
             moved = {name: Fraction(0) for name in names}
             for shift in row.shifts:
                 for leg in shift.legs:
                     moved[leg.exchanger] += shift.heat if leg.gains else -shift.heat
-            assert moved == {name: row.judged.duties.get(name, 0) - before.duties.get(name, 0) for name in names}
-        before = row.judged
+            assert moved == {name: duties.get(name, 0) - before.get(name, 0) for name in names}
+        before = duties
 
 
 def test_control_c_gives_the_rows_so_far(pinch: Pinch) -> None:

@@ -15,6 +15,7 @@ from ..costs.supertarget import LeastCost, Supertarget, SupertargetPoint
 from ..formats.shown import Shown, decimal
 from ..text import printable
 from .facts import Fact, FactRow, FactTable
+from .sheet import Cell
 
 NO_BOUND = 'films differ, so the area by the formula is no bound: a network that crosses the curves may have less'
 BOUND = 'all films are equal: no network with the same utilities has less area than the formula'
@@ -64,7 +65,7 @@ def target_notes(target: CostTarget) -> list[str]:
 
 
 def exchanger_facts(exchanger: ExchangerArea, currency: str) -> FactRow:
-    gain = '' if exchanger.gain is None else money(exchanger.gain)
+    gain: Cell = '' if exchanger.gain is None else money(exchanger.gain)
     return (Fact('exchanger', exchanger.name), Fact('kind', exchanger.service.value),
             Fact('duty', Decimal(decimal(exchanger.duty / 1000, 3)), 'kW'),
             Fact('U', Decimal(decimal(exchanger.coefficient / 1000, 6)), 'kW/m²K'),

@@ -4,6 +4,7 @@ from __future__ import annotations
 
 from collections.abc import Iterable, Sequence
 from dataclasses import replace
+from fractions import Fraction
 
 from ..errors import Refused
 from ..formats.case import print_case, read_case
@@ -146,7 +147,7 @@ def checked(made: Converted, pinch: Pinch) -> Converted:
             raise Refused(3, '', fault.cause, cause) from fault
         raise made.table.refusal(row, None, cause) from fault
     units = made.case.basis.units
-    hot, cold = (units.in_watts(heat) if units else heat for heat in (targets.hot, targets.cold))
+    hot, cold = (units.in_watts(heat) if units else Fraction(heat) for heat in (targets.hot, targets.cold))
     said = how_far_off(made.exact, hot, cold, made.case.basis.scale)
     if not said:
         return made
