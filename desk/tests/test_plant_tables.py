@@ -177,8 +177,7 @@ def test_coefficients_are_kept_as_comments_with_their_units() -> None:
     assert '#film,H1,0.2,kW/m2 °C,,,\n' in text and '#film,Hot-utility,0.2,kW/m2 °C,,,\n' in text
     assert read_case(text) == case
     overall = made('Name;Tin;Tout;CP;U (W/m2 C);h\nH;150;60;2;500;0.3\nC;20;60;2;400;\n')
-    assert print_case(overall.case).startswith('#overall,H,,500,W/m2 C,,\n#overall,,C,400,W/m2 C,,\n')
-    assert any('the coefficient has no unit, and is not kept' in each for each in overall.notes)
+    assert print_case(overall.case).startswith('#film,H,0.3,,,,\n#overall,H,500,W/m2 C,,,\n#overall,C,400,W/m2 C,,,\n')
     assert all(line.count(',') == 6 for line in print_case(overall.case).splitlines())
 
 
