@@ -7,8 +7,8 @@ from fractions import Fraction
 import pytest
 from hypothesis import given, settings
 from hypothesis import strategies as some
+from plant_tables import SEIDER, TABLES
 from tabled import made, refusal
-from test_plant_tables import SEIDER, TABLES
 
 from pinchdesk import Pinch, Refused
 from pinchdesk.formats.case import completed, print_case, read_case
