@@ -136,7 +136,7 @@ TABLES = {
     'Shenoy, published': PlantTable(SHENOY, 605, 525, '20 K'),
     'Towler and Sinnott, published': PlantTable(workbook(TOWLER), 50, 30),
     'Turton, masses and specific heats': PlantTable(TURTON, 20, 60),
-    'Lee and others, units in a title': PlantTable(LEE, 0, 168.51, None, 500),
+    'Lee and others, units in a title': PlantTable(LEE, 178.376, 347.869, None, 2),
     'HYSYS': PlantTable(HYSYS, 960, 120), 'Aspen, units in a row': PlantTable(ASPEN, 20, 60, '10 K', 1),
     'German': PlantTable(GERMAN, 20, 60), 'French': PlantTable(FRENCH, 20, 60),
     'French symbols': PlantTable(FRENCH_SYMBOLS, 20, 60), 'Spanish': PlantTable(SPANISH, 20, 60),
