@@ -4,23 +4,26 @@ from __future__ import annotations
 from fractions import Fraction
 
 import pytest
-from conftest import held
+from conftest import example
 from costed import AROMATICS, ONE_TWO, SMALL, costed_case, data_of, law_rows, near, plants, targets, uses_of
 from hypothesis import given, settings
 from hypothesis import strategies as st
 
 from pinchdesk import Pinch, Refused, Side, Stream, print_case, read_case
+from pinchdesk.analysis.least_units import Units, least_units
 from pinchdesk.costs.area_target import AreaTarget, area_target, interval_area, target_of
 from pinchdesk.costs.balanced import Carrier, HeatInterval, carriers, intervals_of
 from pinchdesk.costs.cost_data import EndTemperatures
 from pinchdesk.costs.enclosure import Enclosure, total
 from pinchdesk.costs.shells import Duty, correction, correction_at, shells_of, whole_shells
+from pinchdesk.costs.unit_target import unit_target
+from pinchdesk.program.answers import HeatFlow
 
 
 def test_the_small_case_is_as_it_was_worked_by_hand(pinch: Pinch) -> None:
     found = targets(SMALL, pinch)
     rows = [(area.interval.heat, area.interval.cold_end, area.interval.warm_end) for area in found.area.intervals]
-    assert held(*rows) == ((50000, 30, 45), (150000, 35, 10), (30000, 60, 40))
+    assert rows == [(50000, 30, 45), (150000, 35, 10), (30000, 60, 40)]
     for area, mean, metres in zip(found.area.intervals, ('36.995', '19.956', '49.326'), ('4.055', '33.825', '1.825')):
         assert near(area.mean, mean) and near(area.area, metres)
     assert near(found.area.area, '39.704') and not found.area.bound
@@ -165,18 +168,21 @@ def test_installation_and_index_multiply_the_capital(pinch: Pinch) -> None:
 
 def test_prices_an_hour_need_the_hours_of_a_year(pinch: Pinch) -> None:
     hourly = SMALL.replace('#cost,$/a', '#cost,$/h')
-    with pytest.raises(Refused, match='how many hours a year it is running: it is missing'):
+    with pytest.raises(Refused, match='number of hours a year is missing'):
         targets(hourly, pinch)
     found = targets(hourly.replace('recovery,0.1,5,,,', 'recovery,0.1,5,8000,,'), pinch)
     assert found.cost.energy == 3500 * 8000
 
 
-@pytest.mark.parametrize(('row', 'place'), [
-    ('#film,C,0.4,kW/m2K,,,', 'the film coefficient of C'), ('#law,,,10000,400,0.8,m2', 'the cost law of an exchanger'),
-    ('#build,,counter-current,,,,exchanger', 'how an exchanger is built'), ('#capital,$,1,,,,', 'the money'),
-    ('#annual,recovery,0.1,5,,,', 'how a capital becomes a cost a year'), ('#cost,$/a,1000000,,,,', 'the prices')])
-def test_what_is_missing_is_refused_by_its_name(row: str, place: str, pinch: Pinch) -> None:
-    with pytest.raises(Refused, match=place):
+@pytest.mark.parametrize(('row', 'told'), [
+    ('#film,C,0.4,kW/m2K,,,', 'film coefficient of C is missing'),
+    ('#law,,,10000,400,0.8,m2', 'cost law of an exchanger is missing'),
+    ('#build,,counter-current,,,,exchanger', 'build of an exchanger is missing'),
+    ('#capital,$,1,,,,', 'currency of the cost laws is missing'),
+    ('#annual,recovery,0.1,5,,,', 'annual factor of the capital is missing'),
+    ('#cost,$/a,1000000,,,,', 'case prices: they have no unit')])
+def test_what_is_missing_is_refused_by_its_name(row: str, told: str, pinch: Pinch) -> None:
+    with pytest.raises(Refused, match=told):
         targets(SMALL.replace(row + '\n', ''), pinch)
 
 
@@ -299,6 +305,16 @@ def test_a_latent_stream_is_a_flat_piece(pinch: Pinch) -> None:
     case = costed_case(10, '', 'S 200 200 100 2', 'W 20 20 10 1', 'hot,V,1000,1000,0,100000,',
                        'cold,B,600,600,0,100000,', '#film,V,0.5,kW/m2K,,,', '#film,B,0.5,kW/m2K,,,')
     assert Fraction(10) in area_of(case, pinch).area
+
+
+@pytest.mark.parametrize('name', ['four-stream', 'tc3', 'two-reactors', 'column', 'own-contributions'])
+def test_units_are_those_of_the_word(name: str, pinch: Pinch) -> None:
+    case = example(f'{name}.csv')
+    counted, flow = least_units(case, pinch), pinch.uses(case)
+    assert isinstance(counted, Units) and isinstance(flow, HeatFlow)
+    found = unit_target(counted.case, counted.targets, flow)
+    assert found.regions == tuple(region.region for region in counted.at_pinches)
+    assert found.units == sum(region.least for region in counted.at_pinches)
 
 
 def test_the_remarks_say_what_a_target_leaves_out(pinch: Pinch) -> None:

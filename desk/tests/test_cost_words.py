@@ -62,7 +62,7 @@ def test_without_a_heat_flow_there_is_its_cut(pinch: Pinch) -> None:
 
 def test_what_is_missing_is_refused_with_the_file() -> None:
     case = example(CASE).replace(b'#film,CW,1,kW/m2K,,,\n', b'')
-    with pytest.raises(Refused, match='^case.txt: case, the film coefficient of CW: it is missing'):
+    with pytest.raises(Refused, match='^case.txt: case film coefficient of CW is missing: enter a row `#film,CW,'):
         cost(files_of(case=case))
 
 

@@ -52,7 +52,7 @@ class AreaTarget:
 def area_target(data: CostData, uses: Mapping[str, int | Fraction]) -> AreaTarget:
     """The area target at these uses of the utilities, in W of the case; `Refused` where a film is missing, or where the
     curves touch."""
-    return target_of(carriers(data, uses))
+    return target_of(carriers(data, uses), bool(data.overalls))
 
 
 def asked_area(pinch: Pinch, case: Case) -> AreaTarget:
@@ -63,9 +63,12 @@ def asked_area(pinch: Pinch, case: Case) -> AreaTarget:
     return area_target(CostData(case), {use.name: use.heat for use in flow.uses})
 
 
-def target_of(members: Sequence[Carrier]) -> AreaTarget:
+def target_of(members: Sequence[Carrier], by_pairs: bool = False) -> AreaTarget:
+    """The target of these carriers; where coefficients are given `by_pairs` it is no bound of exchangers that have
+    them."""
     areas = tuple(interval_area(interval) for interval in intervals_of(members))
-    return AreaTarget(total(area.area for area in areas), areas, len({member.resistance for member in members}) < 2)
+    equal = all(member.resistance == members[0].resistance for member in members)
+    return AreaTarget(total(area.area for area in areas), areas, equal and not by_pairs)
 
 
 def interval_area(interval: HeatInterval) -> IntervalArea:
@@ -79,6 +82,6 @@ def check_differences(interval: HeatInterval) -> None:
     for difference, heat, hot in ((interval.cold_end, interval.begin, interval.hot.low),
                                   (interval.warm_end, interval.end, interval.hot.high)):
         if difference <= 0:
-            raise refused('the balanced curves', f'at {decimal(heat / 1000, 3)} kW from the cold end the difference is '
+            raise refused('balanced curves', f'at {decimal(heat / 1000, 3)} kW from the cold end the difference is '
                           f'{decimal(difference, 3)} K where the hot curve has {decimal(hot / 10, 2)} °C: no area is '
                           'large enough. Take a larger least difference, or a utility that reaches')

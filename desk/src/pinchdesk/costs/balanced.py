@@ -5,6 +5,7 @@ from __future__ import annotations
 from collections.abc import Iterable, Iterator, Mapping, Sequence
 from dataclasses import dataclass
 from fractions import Fraction
+from itertools import groupby
 
 from ..formats.case import Side, Source, Utility
 from .cost_data import CostData, EndTemperatures
@@ -81,37 +82,35 @@ def carriers(data: CostData, uses: Mapping[str, int | Fraction], by_pairs: bool 
 def composite(members: Iterable[Carrier]) -> tuple[CurvePiece, ...]:
     """The composite curve of carriers of one side, from its cold end up; what stands at one temperature is a piece of
     its own."""
-    changes: dict[Fraction, tuple[Fraction, Fraction, int]] = {}
-    flats: dict[Fraction, list[Carrier]] = {}
+    corners: list[tuple[Fraction, int, Carrier]] = []
     for member in members:
-        if member.flat:
-            flats.setdefault(member.ends.low, []).append(member)
-            continue
-        flow = member.heat / (member.ends.high - member.ends.low)
-        for temperature, sign in ((member.ends.low, 1), (member.ends.high, -1)):
-            before = changes.get(temperature, (Fraction(0), Fraction(0), 0))
-            changes[temperature] = (before[0] + sign * flow, before[1] + sign * flow * member.resistance,
-                                    before[2] + sign)
-    return tuple(pieces_of(changes, flats))
+        ends = ((member.ends.low, 0),) if member.flat else ((member.ends.low, 1), (member.ends.high, -1))
+        corners += [(temperature, change, member) for temperature, change in ends]
+    return tuple(pieces_of(sorted(corners, key=lambda corner: corner[0])))
 
 
-def pieces_of(changes: Mapping[Fraction, tuple[Fraction, Fraction, int]],
-              flats: Mapping[Fraction, Sequence[Carrier]]) -> Iterator[CurvePiece]:
+def pieces_of(corners: Sequence[tuple[Fraction, int, Carrier]]) -> Iterator[CurvePiece]:
+    """The pieces between corners by rising temperature: where a carrier begins (1), ends (-1), or has all its heat
+    (0)."""
     place, flow, resisting, sources = Fraction(0), Fraction(0), Fraction(0), 0
-    below: Fraction | None = None
-    for temperature in sorted({*changes, *flats}):
-        if sources and below is not None:
+    below = corners[0][0] if corners else Fraction(0)
+    for temperature, here in groupby(corners, key=lambda corner: corner[0]):
+        if sources:
             end = place + flow * (temperature - below)
             yield CurvePiece(below, temperature, place, end, resisting / flow, sources)
             place = end
-        level = flats.get(temperature, ())
+        changes = list(here)
+        level = [member for _, change, member in changes if not change]
         if level:
             heat = sum((member.heat for member in level), Fraction(0))
             weighed = sum((member.heat * member.resistance for member in level), Fraction(0))
             yield CurvePiece(temperature, temperature, place, place + heat, weighed / heat, len(level))
             place += heat
-        more = changes.get(temperature, (Fraction(0), Fraction(0), 0))
-        flow, resisting, sources, below = flow + more[0], resisting + more[1], sources + more[2], temperature
+        for _, change, member in changes:
+            if change:
+                own = change * member.heat / (member.ends.high - member.ends.low)
+                flow, resisting, sources = flow + own, resisting + own * member.resistance, sources + change
+        below = temperature
 
 
 def intervals_of(members: Sequence[Carrier]) -> tuple[HeatInterval, ...]:
@@ -119,8 +118,8 @@ def intervals_of(members: Sequence[Carrier]) -> tuple[HeatInterval, ...]:
     is not what is taken."""
     hot, cold = (composite(member for member in members if member.source.side is side)
                  for side in (Side.HOT, Side.COLD))
-    ends = {curve[-1].end if curve else Fraction(0) for curve in (hot, cold)}
-    if len(ends) > 1:
+    given, taken = (curve[-1].end if curve else Fraction(0) for curve in (hot, cold))
+    if given != taken:
         raise ValueError('the heats of both sides do not balance')
     return tuple(merged_pieces(hot, cold))
 

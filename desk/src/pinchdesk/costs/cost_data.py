@@ -11,7 +11,7 @@ from typing import TypeVar, cast
 from ..errors import Refused
 from ..formats.case import Case, Side, Source, Stream, Utility
 from ..formats.cost_rows import (Annual, AnnualForm, Build, Capital, CostLaw, CostRow, Film, Material, Measured,
-                                 Overall, UtilityRange, Service)
+                                 Overall, UtilityRange, Service, printed_cost_row)
 from ..tables.money import two_moneys
 from ..tables.units import Kind, UnknownUnit, unit_of
 from .cost_units import NoUnit, area_factor, coefficient_factor, fouling_resistance
@@ -22,11 +22,11 @@ Result = TypeVar('Result')
 
 def refused(what: str, cause: str) -> Refused:
     """A refusal of what the case says, or does not say, of areas and money."""
-    return Refused(3, f'case, {what}', 'cost data', f'case, {what}: {cause}')
+    return Refused(3, f'case {what}', 'cost data', f'case {what}: {cause}')
 
 
 def missing(what: str, enter: str) -> Refused:
-    return refused(what, f'it is missing: enter a row `{enter}`')
+    return Refused(3, f'case {what}', 'missing', f'case {what} is missing: enter a row `{enter}`')
 
 
 @dataclass(frozen=True)
@@ -75,7 +75,7 @@ class CostData:
         for row in found:
             for name in names_of(row):
                 if name and name not in known:
-                    raise refused(f'#{kind.__name__.lower()} of {name}', 'the case has no such source')
+                    raise refused(f'{printed_cost_row(row)[0]} of {name}', 'the case has no such source')
         return found
 
     def resolved(self, what: str, reading: Callable[[Row], Result], row: Row) -> Result:
@@ -110,7 +110,7 @@ class CostData:
     def resistance(self, source: Source) -> Fraction:
         """The resistance of a source's film, in m² K/W."""
         if source.name not in self.films:
-            raise missing(f'the film coefficient of {source.name}', f'#film,{source.name},VALUE,kW/m2K,,,')
+            raise missing(f'film coefficient of {source.name}', f'#film,{source.name},VALUE,kW/m2K,,,')
         return self.films[source.name]
 
     def coefficient(self, hot: Source, cold: Source) -> Fraction:
@@ -131,7 +131,7 @@ class CostData:
         laws = [row for row in self.rows(CostLaw) if row.material in names and row.service in (service, None)]
         if not laws:
             kind = said_of(service) + (f' of {materials}' if materials else '')
-            raise missing(f'the cost law of {kind}', f'#law,{service.value},{materials},FIXED,FACTOR,EXPONENT,m2')
+            raise missing(f'cost law of {kind}', f'#law,{service.value},{materials},FIXED,FACTOR,EXPONENT,m2')
         return next((law for law in laws if law.service is service), laws[0])
 
     def materials(self, hot: Source, cold: Source) -> str:
@@ -144,21 +144,21 @@ class CostData:
         """How exchangers of a kind are built."""
         builds = [row for row in self.rows(Build) if row.service in (service, None)]
         if not builds:
-            raise missing(f'how {said_of(service)} is built', '#build,,counter-current,,,,exchanger')
+            raise missing(f'build of {said_of(service)}', '#build,,counter-current,,,,exchanger')
         return next((build for build in builds if build.service is service), builds[0])
 
     @cached_property
     def capital(self) -> Capital:
         found = self.rows(Capital)
         if not found:
-            raise missing('the money of the cost laws', '#capital,CURRENCY,INSTALLATION FACTOR,,,,')
+            raise missing('currency of the cost laws', '#capital,CURRENCY,INSTALLATION FACTOR,,,,')
         return found[0]
 
     @cached_property
     def annual(self) -> Annual:
         found = self.rows(Annual)
         if not found:
-            raise missing('how a capital becomes a cost a year', '#annual,recovery,INTEREST,YEARS,HOURS A YEAR,,')
+            raise missing('annual factor of the capital', '#annual,recovery,INTEREST,YEARS,HOURS A YEAR,,')
         return found[0]
 
     @cached_property
@@ -178,14 +178,14 @@ class CostData:
         basis = self.case.basis
         money, _, time = basis.cost_unit.replace('per ', '/').partition('/')
         if time not in ('a', 'h') or money == 'price times W':
-            raise refused('the prices', 'they have no unit, so their cost has none that could be added to a capital: '
+            raise refused('prices', 'they have no unit, so their cost has none that could be added to a capital: '
                           'enter rows `#price,EUR/MWh,DIVISOR,,,,` and `#cost,EUR/h,DIVISOR,,,,`, or make the case of '
                           'a table with a unit of prices')
         fault = two_moneys(money.strip(), self.capital.currency)
         if fault:
-            raise refused('the money of the prices', fault)
+            raise refused('currency of the prices', fault)
         if time == 'h' and self.annual.hours is None:
-            raise missing('how many hours a year it is running', f'#annual,{self.annual.form.value},..,HOURS,,')
+            raise missing('number of hours a year', f'#annual,{self.annual.form.value},..,HOURS,,')
         hours = self.annual.hours if time == 'h' and self.annual.hours else Fraction(1)
         return hours / basis.cost_divisor / basis.scale
 

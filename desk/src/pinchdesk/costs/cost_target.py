@@ -7,8 +7,7 @@ from dataclasses import dataclass
 from fractions import Fraction
 
 from ..analysis.cuts import Piece, Region
-from ..analysis.least_units import RegionUnits, Units, least_units
-from ..formats.case import Side, Utility, actual
+from ..formats.case import Case, Side, Utility, actual, completed, read_case
 from ..formats.cost_rows import Build, CostLaw, Flow, Service
 from ..program.answers import Cut, HeatFlow
 from ..program.run import CaseText, Pinch
@@ -18,6 +17,7 @@ from .balanced import Carrier, HeatInterval, intervals_of
 from .cost_data import CostData, EndTemperatures
 from .enclosure import Enclosure, total
 from .shells import Duty, correction_at, shells_of, whole_shells
+from .unit_target import UnitTarget, unit_target
 
 
 @dataclass(frozen=True)
@@ -52,33 +52,25 @@ class CostTarget:
 def cost_target(case: CaseText, pinch: Pinch | None = None) -> CostTarget | Cut:
     """The targets of a case, or the proof that there is no heat flow. `Refused` where something is missing that they
     need."""
-    units = least_units(case, pinch)
-    return units if isinstance(units, Cut) else target_of_units(CostData(units.case), units)
+    asked, whole = pinch or Pinch(), completed(case if isinstance(case, Case) else read_case(case))
+    flow, data = asked.uses(whole), CostData(whole)
+    if isinstance(flow, Cut):
+        return flow
+    units = unit_target(whole, asked.targets(whole), flow)
+    return priced_target(data, flow, area_target(data, {use.name: use.heat for use in flow.uses}), units)
 
 
-def target_of_units(data: CostData, units: Units) -> CostTarget:
-    """The targets of a case whose answers are known."""
-    regions = units.at_pinches
-    area = area_target(data, {use.name: use.heat for use in units.flow.uses})
-    return priced_target(data, units.flow, area, [region.region for region in regions], units_in(regions))
-
-
-def units_in(regions: Sequence[RegionUnits]) -> int:
-    """The least units of the regions between the pinches together."""
-    return sum(region.least for region in regions)
-
-
-def priced_target(data: CostData, flow: HeatFlow, area: AreaTarget, regions: Sequence[Region],
-                  units: int) -> CostTarget:
+def priced_target(data: CostData, flow: HeatFlow, area: AreaTarget, found: UnitTarget) -> CostTarget:
     """The targets with their price: the area is spread evenly, as in the books, which is the dearest way where the
     exponent of the law is below 1."""
     build, law = data.build(Service.EXCHANGER), data.law(Service.EXCHANGER)
-    shells = shell_target(data, build, area, regions, units) if build.flow is Flow.ONE_TWO else None
+    units = found.units
+    shells = shell_target(data, build, area, found.regions, units) if build.flow is Flow.ONE_TWO else None
     built = shells.area if shells else area.area
     parts = priced_parts(build, units, max(shells.shells if shells else units, at_most(build, built)))
     capital = price_of(data, law, built, parts)
     return CostTarget(data, flow, area, units, shells, parts, annual_cost(data, capital, flow.cost),
-                      tuple(left_out(data, law, build)))
+                      tuple(left_out(data, law, build, found)))
 
 
 def shell_target(data: CostData, build: Build, area: AreaTarget, regions: Sequence[Region],
@@ -117,8 +109,10 @@ def carrier_of(data: CostData, piece: Piece) -> Carrier:
     return Carrier(source, ends, data.watts(piece.heat), data.resistance(source))
 
 
-def left_out(data: CostData, law: CostLaw, build: Build) -> Iterator[str]:
+def left_out(data: CostData, law: CostLaw, build: Build, units: UnitTarget) -> Iterator[str]:
     """What the case says and a target cannot use, since it has no exchangers yet."""
+    if not units.exact:
+        yield 'there are too many sources for the most independent sets to be known: the units are a least number'
     others = [row for row in data.rows(CostLaw) if row is not law]
     if others:
         told = ', '.join(' '.join(word for word in (row.service.value if row.service else 'all', row.material) if word)

@@ -7,6 +7,8 @@ from .enclosure import PRECISION, Enclosure, Number, between, enclosed, logarith
 
 # Below this square of (a - b) / (a + b) a difference of logarithms loses digits, and a series is short.
 NEAR = Fraction(1, 400)
+# The series is summed in whole parts of this, as far as a power is a few of them.
+ONE, SMALLEST = 1 << PRECISION + 12, 8
 
 
 def log_mean(first: Number, second: Number) -> Enclosure:
@@ -31,14 +33,15 @@ def over_log_mean(number: Number, first: Number, second: Number) -> Enclosure:
 
 def series(square: Fraction) -> Enclosure:
     """artanh(p) / p by the square of p: the sum of square^k / (2k + 1), and what is left of it."""
-    bits = square.denominator.bit_length() - square.numerator.bit_length()
-    terms = PRECISION // max(1, bits - 1) + 1
-    step, low, power = enclosed(square), enclosed(1), enclosed(1)
-    for term in range(1, terms):
-        power *= step
-        low += power / (2 * term + 1)
-    rest = power * step / (2 * terms + 1) / (1 - step)
-    return between(low, low + rest)
+    low = high = low_power = high_power = ONE
+    low_step = square.numerator * ONE // square.denominator
+    odd = 1
+    while high_power > SMALLEST:
+        odd += 2
+        low_power, high_power = low_power * low_step // ONE, high_power * (low_step + 1) // ONE + 1
+        low, high = low + low_power // odd, high + high_power // odd + 1
+    # All that is left is less than the last power, since each is less than half of the one before.
+    return between(Fraction(low, ONE), Fraction(high + high_power, ONE))
 
 
 def log_mean_between(first: Enclosure, second: Enclosure) -> Enclosure:

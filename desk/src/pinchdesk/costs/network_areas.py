@@ -214,7 +214,8 @@ def uses_in(passages: Sequence[Passage]) -> dict[str, Fraction]:
 
 
 def target_beside(data: CostData, passages: Sequence[Passage]) -> AreaTarget | None:
-    """The formula's area at the uses of these exchangers; None where some film is not given."""
+    """The formula's area at the uses of these exchangers; None where some film is not given, or where exchangers have
+    coefficients that are not made of films."""
     uses = uses_in(passages)
     named = {source.name for source in data.case.streams} | set(uses)
-    return area_target(data, uses) if named <= set(data.films) else None
+    return area_target(data, uses) if named <= set(data.films) and not data.overalls else None

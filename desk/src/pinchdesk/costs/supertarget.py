@@ -8,10 +8,8 @@ from concurrent.futures import ThreadPoolExecutor
 from dataclasses import dataclass, replace
 from fractions import Fraction
 
-from ..analysis.cuts import CutPlace, Region, cascade, regions, whole_pieces
-from ..analysis.independent_sets import Member, partition
 from ..errors import Refused, WordsError
-from ..formats.case import Case, Side, Utility, completed, read_case
+from ..formats.case import Case, Side, completed, read_case
 from ..formats.cost_rows import Flow, Service
 from ..program.answers import Cut, HeatFlow, Targets
 from ..program.run import CaseText, Pinch
@@ -20,10 +18,11 @@ from .area_target import area_target
 from .cost_data import CostData
 from .cost_target import one_two_area, priced_target
 from .enclosure import Enclosure
+from .unit_target import unit_target
 
 # With more sources the independent sets would take longer than all the rest: units are then sources less one.
 MOST_IN_SETS = 16
-MOST_CONTRIBUTION, SEARCHED, WORKERS = 1000, 10, 4
+MOST_CONTRIBUTION, SEARCHED, WORKERS, GOLDEN = 1000, 8, 4, Fraction(89, 144)
 FLAT, FIFTH = Fraction(101, 100), Fraction(1, 5)
 
 
@@ -128,14 +127,13 @@ def point_at(data: CostData, contribution: int, answer: tuple[Case, Targets, Hea
     try:
         area = area_target(data, uses)
     except Refused as fault:
-        if fault.place == 'case, the balanced curves':
+        if fault.place == 'case balanced curves':
             return fault.text
         raise
-    parts = cut_regions(case, targets, flow)
-    units = sum(units_of_region(region, by_sets) for region in parts)
-    target = priced_target(data, flow, area, parts, units)
-    return SupertargetPoint(Fraction(contribution, 5), {name: Fraction(heat) for name, heat in uses.items()},
-                            side_use(data, uses, Side.HOT), side_use(data, uses, Side.COLD), target.built_area, units,
+    target = priced_target(data, flow, area, unit_target(case, targets, flow, by_sets))
+    exact = {name: Fraction(heat) for name, heat in uses.items()}
+    return SupertargetPoint(Fraction(contribution, 5), exact, side_use(data, uses, Side.HOT),
+                            side_use(data, uses, Side.COLD), target.built_area, target.units,
                             target.shells.shells if target.shells else None, target.parts, Fraction(flow.cost),
                             target.cost)
 
@@ -143,22 +141,6 @@ def point_at(data: CostData, contribution: int, answer: tuple[Case, Targets, Hea
 def side_use(data: CostData, uses: Mapping[str, int | Fraction], side: Side) -> Fraction:
     return sum((Fraction(uses[utility.name]) for utility in data.case.utilities
                 if utility.side is side and utility.name in uses), Fraction(0))
-
-
-def cut_regions(case: Case, targets: Targets, flow: HeatFlow) -> tuple[Region, ...]:
-    """What lies between the pinches across which no heat goes."""
-    pieces = whole_pieces(case, flow)
-    places = [CutPlace(pinch, takes, True) for pinch in sorted(targets.pinches, reverse=True)
-              for takes in (False, True)]
-    return regions(pieces, [place for place in places if cascade(pieces, place) == 0])
-
-
-def units_of_region(region: Region, by_sets: bool) -> int:
-    """The least units of a region: sources less independent sets, or less one."""
-    if not by_sets:
-        return len(region.pieces) - 1
-    members = [Member(piece.source.name, piece.signed, isinstance(piece.source, Utility)) for piece in region.pieces]
-    return partition(members).least_exchangers
 
 
 def least_cost(data: CostData, points: Sequence[SupertargetPoint], factor: Fraction) -> LeastCost:
@@ -180,19 +162,20 @@ def least_cost(data: CostData, points: Sequence[SupertargetPoint], factor: Fract
 
 
 def searched(data: CostData, low: SupertargetPoint, high: SupertargetPoint, factor: Fraction) -> SupertargetPoint:
-    """The least between two points, with thirds of what is left."""
+    """The least between two points, by the golden section."""
     begin, end = Fraction(0), Fraction(1)
-    best = low
+    inner = [(part, proportional(data, low, high, part)) for part in (1 - GOLDEN, GOLDEN)]
     for _ in range(SEARCHED):
-        thirds = [begin + (end - begin) * part / 3 for part in (1, 2)]
-        first, second = (proportional(data, low, high, part) for part in thirds)
-        if first.at_energy(factor).middle <= second.at_energy(factor).middle:
-            end, better = thirds[1], first
+        first, second = (point.at_energy(factor).middle for _, point in inner)
+        if first <= second:
+            end = inner[1][0]
+            part = end - GOLDEN * (end - begin)
+            inner = [(part, proportional(data, low, high, part)), inner[0]]
         else:
-            begin, better = thirds[0], second
-        if better.at_energy(factor).middle < best.at_energy(factor).middle:
-            best = better
-    return best
+            begin = inner[0][0]
+            part = begin + GOLDEN * (end - begin)
+            inner = [inner[1], (part, proportional(data, low, high, part))]
+    return min((point for _, point in inner), key=lambda point: point.at_energy(factor).middle)
 
 
 def proportional(data: CostData, low: SupertargetPoint, high: SupertargetPoint, part: Fraction) -> SupertargetPoint:
