@@ -29,7 +29,7 @@ def test_the_least_lies_between_two_points_and_is_marked(small: Supertarget) -> 
     least = small.least
     assert least.point.found and near(least.annual, '13777')
     assert abs(least.point.difference - Fraction('6.41')) < Fraction('0.02')
-    assert least.flat == (4, 10)
+    assert least.flat == (Fraction(4), Fraction(10))
 
 
 def test_dearer_energy_wants_a_smaller_difference(small: Supertarget) -> None:
