@@ -75,7 +75,8 @@ def test_no_network_of_the_program_is_under_the_floor(pinch: Pinch, case: str) -
     assert isinstance(design, Design)
     passages = follow(whole, read_network(design.text)).passages
     area = total(exchanger_area(data, passage, duty_of(data, passage)).area for passage in passages)
-    assert area_floor(data, uses_in(passages), 20, Fraction(40)).area <= area.high
+    floor = area_floor(data, uses_in(passages), 20, Fraction(40))
+    assert floor.area <= area.high and floor.area <= area_target(data, uses_in(passages)).area.high
 
 
 def test_coefficients_of_pairs_count_in_the_floor() -> None:
@@ -83,6 +84,20 @@ def test_coefficients_of_pairs_count_in_the_floor() -> None:
     rows = [row for row in LEVELS.split('\n') if not row.startswith('#film')]
     floor = area_floor(data_of('\n'.join([*rows, '#overall,,0.5,kW/m2K,,,', ''])), {})
     assert 4 - Fraction(1, 10 ** 6) < floor.area <= 4
+
+
+@pytest.mark.long
+def test_thirty_and_thirty_streams_have_a_floor_and_all_digits(pinch: Pinch) -> None:
+    films = ('0.2', '0.5', '1', '2')
+    lines = [f'{side}{at} {low + width} {low} {flow} {films[at % 4]}' if side == 'H' else
+             f'{side}{at} {low} {low + width} {flow} {films[at % 3]}'
+             for side in 'HC' for at in range(30)
+             for low, width, flow in [(30 + at * 37 % 200, 20 + at * 53 % 150, 1 + at * 29 % 60)]]
+    case = costed_case(10, ', '.join(lines), 'S 450 450 100 1', 'W 5 5 10 1')
+    data, uses = data_of(case), uses_of(case, pinch)
+    formula, floor = area_target(data, uses).area, area_floor(data, uses, 60, Fraction(20))
+    assert len(formula.told.replace('.', '')) >= 6 and formula.high - formula.low < formula.low / 10 ** 20
+    assert 0 < floor.area < formula.high
 
 
 @pytest.mark.parametrize('width', [3, 7])

@@ -118,8 +118,8 @@ def intervals_of(members: Sequence[Carrier]) -> tuple[HeatInterval, ...]:
     is not what is taken."""
     hot, cold = (composite(member for member in members if member.source.side is side)
                  for side in (Side.HOT, Side.COLD))
-    given, taken = (curve[-1].end if curve else Fraction(0) for curve in (hot, cold))
-    if given != taken:
+    heats = [curve[-1].end if curve else Fraction(0) for curve in (hot, cold)]
+    if heats[0] != heats[1]:
         raise ValueError('the heats of both sides do not balance')
     return tuple(merged_pieces(hot, cold))
 

@@ -52,7 +52,7 @@ def factor_of(text: str, wanted: str) -> Fraction:
     above, *below = written.split('/')
     if len(text) > LONGEST or not SHAPE.fullmatch(written):
         raise NoUnit(f'`{text[:LONGEST]}` is no unit that is known here')
-    # What stands behind a stroke is below it, all of it: kW/m2K is kW/(m2 K).
+    # What stands after a stroke is below it, all of it: kW/m2K is kW/(m2 K).
     powers = [*tokens(text, above, 1), *(token for part in below for token in tokens(text, part, -1))]
     product = ' * '.join(f'{name} ** {power}' for name, power in powers)
     known = registry()

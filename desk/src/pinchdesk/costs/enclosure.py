@@ -159,7 +159,7 @@ def agreed(low: Fraction, high: Fraction) -> str:
 
 
 def leading_zeros(number: Fraction) -> int:
-    """How many zeros stand behind the point of a number below 1."""
+    """How many zeros stand after the point of a number below 1."""
     zeros = 0
     while number * 10 < 1:
         number, zeros = number * 10, zeros + 1

@@ -1,6 +1,6 @@
 """Energy, area, units, shells and cost over the least difference (*supertargeting*): the uses are those that `pinch
 flow` printed at each difference, and between two of them the desk finds the least cost with uses in proportion, which
-is marked, since no answer of the program stands behind it."""
+is marked, since it is no answer of the program."""
 from __future__ import annotations
 
 from collections.abc import Mapping, Sequence

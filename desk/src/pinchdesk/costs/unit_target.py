@@ -21,7 +21,7 @@ class UnitTarget:
 
 
 def unit_target(case: Case, targets: Targets, flow: HeatFlow, by_sets: bool = True) -> UnitTarget:
-    """The least units of a completed case at the uses of a heat flow; not `by_sets` they are sources less one in each
+    """The least units of a completed case at the uses of a heat flow; where not `by_sets`, sources less one in each
     region, which takes no time."""
     between = cut_regions(case, targets, flow)
     if not by_sets:
