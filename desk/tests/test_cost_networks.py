@@ -77,7 +77,7 @@ def test_two_coefficients_of_a_pair_are_refused(pinch: Pinch) -> None:
 
 
 def test_a_material_without_a_law_is_refused(pinch: Pinch) -> None:
-    with pytest.raises(Refused, match='the cost law of an exchanger of SS'):
+    with pytest.raises(Refused, match='cost law of an exchanger of SS is missing'):
         areas(SMALL + '#material,H,SS,,,,\n', pinch)
 
 

@@ -70,5 +70,5 @@ def test_a_range_that_is_none_is_refused(pinch: Pinch) -> None:
 
 
 def test_a_case_without_data_is_refused_by_what_is_missing(pinch: Pinch) -> None:
-    with pytest.raises(Refused, match='the film coefficient of H'):
+    with pytest.raises(Refused, match='film coefficient of H is missing'):
         supertarget(SMALL.replace('#film,H,0.5,kW/m2K,,,\n', ''), 40, 60, 10, pinch)
