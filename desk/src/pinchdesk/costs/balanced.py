@@ -74,8 +74,9 @@ def carriers(data: CostData, uses: Mapping[str, int | Fraction], by_pairs: bool 
     for source in data.case.sources:
         heat = uses.get(source.name, 0) if isinstance(source, Utility) else source.heat
         if heat:
+            ends = data.ends(source)
             resistance = data.films.get(source.name, Fraction(0)) if by_pairs else data.resistance(source)
-            found.append(Carrier(source, data.ends(source), data.watts(heat), resistance))
+            found.append(Carrier(source, ends, data.watts(heat), resistance))
     return tuple(found)
 
 
