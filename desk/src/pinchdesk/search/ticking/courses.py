@@ -1,0 +1,183 @@
+"""From the exchangers of a descent to the courses of a window's streams, with shares in fractions."""
+from __future__ import annotations
+
+from collections.abc import Mapping, Sequence
+from dataclasses import dataclass, field
+from fractions import Fraction
+
+from ..reduce.structure import Course, Lane, Parting, Through, parted
+from ..staged.windows import Window, WindowPiece
+from .heat_state import BESIDE, BOTTOM, CORNER_BOTTOM, CORNER_TOP, CUT, TOP, WHOLE
+
+# A heat that is nearer than this to a whole number of W is that number; else it has a small denominator.
+WATT, FINEST = 1e-3, 10 ** 6
+
+
+@dataclass(frozen=True)
+class Tick:
+    """An exchanger of a descent, or a cut of the source `hot` where `cold` is `CUT`. Sources are slots."""
+
+    hot: int
+    cold: int
+    hot_place: int
+    cold_place: int
+    duty: float
+
+
+@dataclass(frozen=True)
+class WindowNetwork:
+    """The pairs of a window's exchangers, and the course of each of its streams from its hot end; exchangers have their
+    numbers as names."""
+
+    pairs: tuple[tuple[str, str], ...]
+    courses: Mapping[str, Course]
+
+    @property
+    def count(self) -> int:
+        return len(self.pairs)
+
+
+@dataclass(frozen=True)
+class Chain:
+    """Where a chain of descents is: the exchangers of its last one, none before the first."""
+
+    ticks: tuple[Tick, ...] = ()
+
+    @property
+    def count(self) -> int:
+        return sum(tick.cold != CUT for tick in self.ticks)
+
+
+@dataclass(frozen=True)
+class ChainEnd:
+    """Where a chain is after some descents, and the different networks on the way."""
+
+    chain: Chain
+    networks: tuple[WindowNetwork, ...]
+
+
+class Untrue(Exception):
+    """What the floats said is not so in fractions."""
+
+
+@dataclass
+class Gap:
+    """A rectangle of a source that is left, at its place in the course; `steps` is what takes its place."""
+
+    size: Fraction
+    load: Fraction
+    is_level: bool = False
+    steps: list[str | Gap | Fork] = field(default_factory=list)
+
+
+@dataclass
+class Fork:
+    """Lanes side by side, each with its share."""
+
+    lanes: list[tuple[Fraction, list[str | Gap | Fork]]]
+
+
+def in_fraction(heat: float) -> Fraction:
+    near = round(heat)
+    return Fraction(near) if abs(heat - near) < WATT else Fraction(heat).limit_denominator(FINEST)
+
+
+def gap_of(piece: WindowPiece) -> Gap:
+    return Gap(Fraction(piece.cp), Fraction(piece.most), piece.is_level)
+
+
+class CourseWriter:
+    """Puts the exchangers of a descent into the courses, one after the other."""
+
+    def __init__(self, window: Window) -> None:
+        self.window = window
+        self.names = [piece.name for piece in window.pieces]
+        self.roots = [gap_of(piece) for piece in window.pieces]
+        self.slots = list(self.roots)
+        self.origins = list(range(len(self.roots)))
+        self.pairs: list[tuple[str, str]] = []
+
+    def take(self, tick: Tick) -> None:
+        hot = self.slots[tick.hot]
+        if tick.cold == CUT:
+            self.cut(tick.hot, hot, in_fraction(tick.duty))
+            return
+        cold = self.slots[tick.cold]
+        name = str(len(self.pairs))
+        self.pairs.append((self.names[self.origins[tick.hot]], self.names[self.origins[tick.cold]]))
+        loads = [gap.load for gap, place in ((hot, tick.hot_place), (cold, tick.cold_place)) if place == WHOLE]
+        duty = min(loads) if loads else in_fraction(tick.duty)
+        sizes = hot.size, cold.size
+        self.put(tick.hot, hot, tick.hot_place, duty, sizes[1], name)
+        self.put(tick.cold, cold, tick.cold_place, duty, sizes[0], name)
+
+    def add(self, slot: int, gap: Gap) -> None:
+        self.slots.append(gap)
+        self.origins.append(self.origins[slot])
+
+    def cut(self, slot: int, gap: Gap, above: Fraction) -> None:
+        if not 0 < above < gap.load:
+            raise Untrue
+        upper, lower = Gap(gap.size, above), Gap(gap.size, gap.load - above)
+        gap.steps = [upper, lower]
+        self.slots[slot] = upper
+        self.add(slot, lower)
+
+    def put(self, slot: int, gap: Gap, place: int, duty: Fraction, partner: Fraction, name: str) -> None:
+        """Puts an exchanger into a gap, and what is left of it where it is then."""
+        if place == WHOLE:
+            gap.steps = [name]
+            return
+        if not 0 < duty < gap.load:
+            raise Untrue
+        if gap.is_level or place in (TOP, BOTTOM):
+            rest = Gap(gap.size, gap.load - duty, gap.is_level)
+            gap.steps = [rest, name] if place == BOTTOM else [name, rest]
+        elif place == BESIDE:
+            share = duty / gap.load
+            rest = Gap(gap.size * (1 - share), gap.load - duty)
+            gap.steps = [Fork([(share, [name]), (1 - share, [rest])])]
+        else:
+            rest = self.put_in_corner(slot, gap, place, duty, partner, name)
+        self.slots[slot] = rest
+
+    def put_in_corner(self, slot: int, gap: Gap, place: int, duty: Fraction, partner: Fraction, name: str) -> Gap:
+        share = partner / gap.size
+        span = duty / partner
+        rest = Gap(gap.size - partner, (gap.size - partner) * span)
+        beyond = Gap(gap.size, gap.load - gap.size * span)
+        if not 0 < share < 1 or beyond.load <= 0:
+            raise Untrue
+        fork = Fork([(share, [name]), (1 - share, [rest])])
+        gap.steps = [fork, beyond] if place == CORNER_TOP else [beyond, fork]
+        self.add(slot, beyond)
+        return rest
+
+    def network(self) -> WindowNetwork:
+        courses = {piece.name: course_of_steps([root]) for piece, root in zip(self.window.pieces, self.roots)}
+        return WindowNetwork(tuple(self.pairs), courses)
+
+
+def course_of_steps(steps: Sequence[str | Gap | Fork]) -> Course:
+    """Steps as a course; a gap that nothing has filled is nothing."""
+    course: list[Through | Parting] = []
+    for step in steps:
+        if isinstance(step, str):
+            course.append(Through(step))
+        elif isinstance(step, Gap):
+            course.extend(course_of_steps(step.steps))
+        else:
+            lanes = tuple(Lane(course_of_steps(inner), share) for share, inner in step.lanes)
+            course.extend(parted(lanes))
+    return tuple(course)
+
+
+def window_network(window: Window, ticks: Sequence[Tick]) -> WindowNetwork | None:
+    """The courses of a descent; None where its floats said what is not so."""
+    writer = CourseWriter(window)
+    try:
+        for tick in ticks:
+            writer.take(tick)
+    except Untrue:
+        return None
+    return writer.network()
