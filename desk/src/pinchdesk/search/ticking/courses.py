@@ -2,19 +2,23 @@
 from __future__ import annotations
 
 from collections.abc import Mapping, Sequence
-from dataclasses import dataclass, field
+from dataclasses import dataclass, field, replace
 from fractions import Fraction
+from typing import NamedTuple
 
 from ..reduce.structure import Course, Lane, Parting, Through, parted
 from ..staged.windows import Window, WindowPiece
-from .heat_state import BESIDE, BOTTOM, CORNER_BOTTOM, CORNER_TOP, CUT, TOP, WHOLE
 
+# Where an exchanger stands on a source: it takes all that is left, its hot end, its cold end, a branch along the whole
+# range, or a branch with the CP of its partner at the hot or the cold end of the range.
+WHOLE, TOP, BOTTOM, BESIDE, CORNER_TOP, CORNER_BOTTOM = range(6)
+# In place of a cold source: the hot slot is cut in two at a temperature, by no exchanger.
+CUT = -1
 # A heat that is nearer than this to a whole number of W is that number; else it has a small denominator.
 WATT, FINEST = 1e-3, 10 ** 6
 
 
-@dataclass(frozen=True)
-class Tick:
+class Tick(NamedTuple):
     """An exchanger of a descent, or a cut of the source `hot` where `cold` is `CUT`. Sources are slots."""
 
     hot: int
@@ -36,6 +40,10 @@ class WindowNetwork:
     def count(self) -> int:
         return len(self.pairs)
 
+    @property
+    def shape(self) -> str:
+        return shape_of({str(number): pair for number, pair in enumerate(self.pairs)}, self.courses)
+
 
 @dataclass(frozen=True)
 class Chain:
@@ -54,6 +62,19 @@ class ChainEnd:
 
     chain: Chain
     networks: tuple[WindowNetwork, ...]
+
+
+def renamed(course: Course, names: Mapping[str, str]) -> Course:
+    """A course whose exchangers have other names."""
+    return tuple(Through(names[step.exchanger]) if isinstance(step, Through) else
+                 Parting(tuple(replace(lane, course=renamed(lane.course, names)) for lane in step.lanes), step.level)
+                 for step in course)
+
+
+def shape_of(pairs: Mapping[str, tuple[str, str]], courses: Mapping[str, Course]) -> str:
+    """What two networks that are the same have in common, whatever their exchangers are called."""
+    names = {name: '/'.join(pair) for name, pair in pairs.items()}
+    return repr([(name, renamed(course, names)) for name, course in courses.items()])
 
 
 class Untrue(Exception):

@@ -1,218 +1,166 @@
 """A window ticked off from its beginning to its end; where nothing fits, sources are cut or taken in parts."""
 from __future__ import annotations
 
-import numpy
+from collections.abc import Iterator
+from dataclasses import dataclass
+from math import inf
+from random import Random
 
-from .compiled import compiled
-from .heat_state import (BESIDE, BOTTOM, CORNER_BOTTOM, CORNER_TOP, CUT, MOVES, NEAR, PLACES, SLOTS, TOP, WHOLE, Floats,
-                         HeatState, Wholes, add_place, chance, fresh_cascade, taken)
-from .ticks import (best_corner, best_tick, branch_of, corner_fits, count_ticks, finished, pair_fits, places_of, renew,
-                    size_of, tick_fits)
+from .courses import BOTTOM, TOP, Tick
+from .heat_left import Fit, HeatLeft
 
-HALVINGS = 40
-# The grain of the share of a branch that finishes nothing.
-GRAIN = 512
-
-
-@compiled
-def new_slot(state: HeatState, source: int, high: float, low: float, load: float) -> int:
-    """A further rectangle of a source; -1 where there is no room for it."""
-    at = state.sizes[SLOTS]
-    if at == len(state.alive):
-        return -1
-    state.sizes[SLOTS] = at + 1
-    state.hot[at], state.level[at], state.origin[at] = state.hot[source], False, state.origin[source]
-    state.high[at], state.low[at], state.load[at] = high, low, load
-    state.alive[at] = state.fresh[at] = True
-    state.allowed[at, :, :] = False
-    state.allowed[:, at, :] = False
-    return int(at)
+# The largest part of a duty that fits is found by so many halvings; a smaller part of it than this is none.
+HALVINGS, LEAST_PART = 40, 1 / 512
+Table = dict[tuple[int, int], list[Fit]]
 
 
-@compiled
-def shrink(state: HeatState, source: int, duty: float, place: int, partner_size: float) -> bool:
-    """Takes an exchanger off a source; False where there is no room for what is left."""
-    state.fresh[source] = True
-    high, low, load = state.high[source], state.low[source], state.load[source]
-    size = load / (high - low)
-    if place == WHOLE:
-        state.alive[source] = False
+@dataclass(frozen=True)
+class Weights:
+    """By what a descent chooses: chance in the order of the sources, small differences, large duties, chance, and how
+    often a source that has no tick-off comes first, in a corner."""
+
+    order: float
+    difference: float
+    duty: float
+    chance: float
+    corner: float
+
+
+def draw_weights(random: Random) -> Weights:
+    return Weights(random.choice((0.0, 0.5, 2.0, 5.0, 50.0)), random.choice((0.0, 0.3, 1.0, 3.0)),
+                   random.choice((0.0, 0.2, 1.0)), random.choice((0.02, 0.2, 1.0)),
+                   random.choice((0.0, 0.0, 0.3, 1.0)))
+
+
+class Descent:
+    """Ticks off what is left; the table has the exchangers that fit, by their pairs."""
+
+    def __init__(self, left: HeatLeft, random: Random) -> None:
+        self.left, self.random = left, random
+        self.weights = draw_weights(random)
+        left.renew_cascade()
+        self.table: Table = {}
+        for hot in left.hots:
+            for cold in left.colds:
+                self.note(hot, cold)
+
+    def note(self, hot: int, cold: int) -> None:
+        fits = self.left.tick_fits(hot, cold)
+        if fits:
+            self.table[hot, cold] = fits
+
+    def run(self, most: int) -> bool:
+        """Whether it comes to its end with at most so many exchangers."""
+        left = self.left
+        while left.hots or left.colds:
+            if left.count + left.least_left > most or not left.hots or not left.colds or not self.step():
+                return False
         return True
-    state.load[source] = load - duty
-    if place == TOP:
-        state.high[source] = high - duty / size
-    elif place == BOTTOM:
-        state.low[source] = low + duty / size
-    elif place == CORNER_TOP:
-        middle = high - duty / partner_size
-        state.low[source], state.load[source] = middle, (size - partner_size) * (high - middle)
-        return new_slot(state, source, middle, low, size * (middle - low)) >= 0
-    elif place == CORNER_BOTTOM:
-        middle = low + duty / partner_size
-        state.high[source], state.load[source] = middle, (size - partner_size) * (middle - low)
-        return new_slot(state, source, high, middle, size * (high - middle)) >= 0
-    return True
 
+    def step(self) -> bool:
+        """One exchanger or one cut more; False where there is none."""
+        counts = self.counts()
+        lost = [slot for slot in (*self.left.hots, *self.left.colds) if not counts[slot]]
+        if not self.table or lost and self.random.random() < self.weights.corner:
+            fit = self.best(self.corners(set(lost) if self.table else None))
+            if fit:
+                return self.take(fit)
+        if self.table:
+            fit = self.best(self.ticks_of_one(counts))
+            return fit is not None and self.take(fit)
+        crossings = list(self.left.crossings())
+        if crossings:
+            slot, place = self.random.choice(crossings)
+            self.left.cut(slot, place)
+            self.renew({slot, len(self.left.highs) - 1}, -inf, inf)
+            return True
+        fit = self.largest_part()
+        return fit is not None and self.take(fit)
 
-@compiled
-def note(state: HeatState, hot: int, cold: int, hot_place: int, cold_place: int, duty: float) -> None:
-    at = state.sizes[MOVES]
-    state.moves[at, 0], state.moves[at, 1], state.moves[at, 2], state.moves[at, 3] = hot, cold, hot_place, cold_place
-    state.duties[at] = duty
-    state.sizes[MOVES] = at + 1
+    def counts(self) -> list[int]:
+        """How many exchangers that fit each slot has."""
+        counts = [0] * len(self.left.highs)
+        for (hot, cold), fits in self.table.items():
+            counts[hot] += len(fits)
+            counts[cold] += len(fits)
+        return counts
 
+    def ticks_of_one(self, counts: list[int]) -> Iterator[Fit]:
+        """The exchangers of the source that has the fewest."""
+        slots = [slot for slot in (*self.left.hots, *self.left.colds) if counts[slot]]
+        order, random = self.weights.order, self.random.random
+        first = min(slots, key=lambda slot: counts[slot] * (1 + order * random()))
+        for pair, fits in self.table.items():
+            if first in pair:
+                yield from fits
 
-@compiled
-def apply(state: HeatState, hot: int, cold: int, hot_place: int, cold_place: int, duty: float) -> bool:
-    """Puts an exchanger in, and brings the cascade and the table up to date; False where there is no room for it."""
-    if state.sizes[MOVES] == len(state.duties) or state.sizes[PLACES] + 4 > len(state.place):
-        return False
-    hot_size, cold_size = size_of(state, hot), size_of(state, cold)
-    high, low, size = branch_of(state, hot, duty, hot_place, cold_size)
-    top, bottom, other = branch_of(state, cold, duty, cold_place, hot_size)
-    for place in (high, low, top, bottom):
-        add_place(state, place)
-    for at in range(state.sizes[PLACES]):
-        place = state.place[at]
-        state.heat[at] -= taken(place, high, low, size) - taken(place, top, bottom, other)
-    note(state, hot, cold, hot_place, cold_place, duty)
-    has_room = shrink(state, hot, duty, hot_place, cold_size)
-    has_room = shrink(state, cold, duty, cold_place, hot_size) and has_room
-    renew(state, high, bottom)
-    return has_room
+    def corners(self, lost: set[int] | None) -> Iterator[Fit]:
+        """The exchangers in corners, of some sources or of all."""
+        for hot in self.left.hots:
+            for cold in self.left.colds:
+                if lost is None or hot in lost or cold in lost:
+                    yield from self.left.corner_fits(hot, cold)
 
+    def best(self, fits: Iterator[Fit]) -> Fit | None:
+        """The exchanger with a small difference, a large duty, two sources finished, and chance."""
+        weights, scale, random = self.weights, self.left.scale, self.random.random
 
-@compiled
-def cut(state: HeatState, source: int, place: float) -> bool:
-    """Cuts a source in two at a temperature; False where there is no room for it."""
-    if state.sizes[MOVES] == len(state.duties):
-        return False
-    size = size_of(state, source)
-    note(state, source, CUT, 0, 0, size * (state.high[source] - place))
-    low = state.low[source]
-    state.low[source], state.load[source] = place, size * (state.high[source] - place)
-    state.fresh[source] = True
-    if new_slot(state, source, place, low, size * (place - low)) < 0:
-        return False
-    renew(state, -numpy.inf, numpy.inf)
-    return True
+        def key(fit: Fit) -> float:
+            tick = fit.tick
+            return (weights.difference * fit.difference / 1000 - weights.duty * tick.duty / scale
+                    + weights.chance * random() - (tick.hot_place == tick.cold_place))
+        return min(fits, key=key, default=None)
 
+    def take(self, fit: Fit) -> bool:
+        slots = len(self.left.highs)
+        self.left.take(fit)
+        fresh = {fit.tick.hot, fit.tick.cold, *range(slots, len(self.left.highs))}
+        self.renew(fresh, fit.warm.high, fit.cool.low)
+        return True
 
-@compiled
-def crossing(state: HeatState) -> tuple[int, float]:
-    """A source that goes through a place where the cascade is 0, by chance one of them; -1 where there is none."""
-    found, where, count = -1, 0.0, 0
-    for at in range(1, state.sizes[PLACES] - 1):
-        if state.heat[at] > 10 * state.scale[1]:
-            continue
-        place = state.place[at]
-        for source in range(state.sizes[SLOTS]):
-            if state.alive[source] and not state.level[source] and \
-                    state.low[source] + 10 * NEAR < place < state.high[source] - 10 * NEAR:
-                count += 1
-                if chance(state) * count < 1:
-                    found, where = source, place
-    return found, where
+    def renew(self, fresh: set[int], high: float, low: float) -> None:
+        """Brings the table up to date after an exchanger between two temperatures. The cascade only sinks, so what did
+        not fit does not fit now, unless one of its sources has changed."""
+        left, table = self.left, {}
+        for pair, fits in self.table.items():
+            if pair[0] not in fresh and pair[1] not in fresh:
+                kept = [fit for fit in fits if fit.warm.high <= low or fit.cool.low >= high
+                        or left.fits(fit.warm, fit.cool)]
+                if kept:
+                    table[pair] = kept
+        self.table = table
+        for hot in left.hots:
+            for cold in left.colds:
+                if hot in fresh or cold in fresh:
+                    self.note(hot, cold)
 
+    def largest_part(self) -> Fit | None:
+        """The largest part of a pair that fits and finishes nothing, with a little chance."""
+        best, largest = None, 0.0
+        for hot in self.left.hots:
+            for cold in self.left.colds:
+                if not self.left.may_meet(hot, cold):
+                    continue
+                weight = 0.5 + self.random.random()
+                for hot_place in (TOP,) if self.left.levels[hot] else (TOP, BOTTOM):
+                    for cold_place in (TOP,) if self.left.levels[cold] else (TOP, BOTTOM):
+                        fit = self.part(hot, cold, hot_place, cold_place, largest / weight)
+                        if fit and fit.tick.duty * weight > largest:
+                            best, largest = fit, fit.tick.duty * weight
+        return best
 
-@compiled
-def largest_part(state: HeatState, hot: int, cold: int, hot_place: int, cold_place: int, least: float) -> float:
-    """The largest duty that finishes nothing and fits at these places; 0 where it is not above the least."""
-    most = min(state.load[hot], state.load[cold])
-    if most <= least or not pair_fits(state, hot, cold, max(least, most / GRAIN), hot_place, cold_place):
-        return 0.0
-    low, high = max(least, most / GRAIN), most
-    for _ in range(HALVINGS):
-        middle = (low + high) / 2
-        if pair_fits(state, hot, cold, middle, hot_place, cold_place):
-            low = middle
-        else:
-            high = middle
-    return low
-
-
-@compiled
-def best_part(state: HeatState) -> tuple[int, int, int, int, float]:
-    """The largest part of a pair, with a little chance."""
-    best, largest = (-1, -1, 0, 0, 0.0), 0.0
-    for hot in range(state.sizes[SLOTS]):
-        if not (state.alive[hot] and state.hot[hot]):
-            continue
-        for cold in range(state.sizes[SLOTS]):
-            if not state.alive[cold] or state.hot[cold] or not state.meets[state.origin[hot], state.origin[cold]]:
-                continue
-            weight = 0.5 + chance(state)
-            for hot_place in range(TOP, BOTTOM + 1):
-                for cold_place in range(TOP, BOTTOM + 1):
-                    if state.level[hot] and hot_place != TOP or state.level[cold] and cold_place != TOP:
-                        continue
-                    duty = largest_part(state, hot, cold, hot_place, cold_place, largest / weight)
-                    if duty * weight > largest:
-                        best, largest = (hot, cold, hot_place, cold_place, duty), duty * weight
-    return best
-
-
-@compiled
-def draw_weights(state: HeatState, weights: Floats) -> None:
-    """New weights for a descent, by chance."""
-    choices = ((0.0, 0.5, 2.0, 5.0, 50.0), (0.0, 0.3, 1.0, 3.0, 3.0), (0.0, 0.2, 1.0, 0.2, 1.0),
-               (0.02, 0.2, 1.0, 0.02, 0.2), (0.0, 0.0, 0.3, 1.0, 0.0))
-    for at in range(5):
-        weights[at] = choices[at][int(chance(state) * 5)]
-
-
-@compiled
-def left(state: HeatState) -> int:
-    """How many exchangers it takes at least to finish what is left."""
-    hots, colds = 0, 0
-    for source in range(state.sizes[SLOTS]):
-        if state.alive[source]:
-            if state.hot[source]:
-                hots += 1
+    def part(self, hot: int, cold: int, hot_place: int, cold_place: int, least: float) -> Fit | None:
+        """The largest duty at these places that fits, where it is above the least."""
+        most = min(self.left.loads[hot], self.left.loads[cold])
+        low, high = max(least, most * LEAST_PART), most
+        if low >= high:
+            return None
+        best = self.left.fit(Tick(hot, cold, hot_place, cold_place, low))
+        for _ in range(HALVINGS if best else 0):
+            middle = (low + high) / 2
+            fit = self.left.fit(Tick(hot, cold, hot_place, cold_place, middle))
+            if fit:
+                best, low = fit, middle
             else:
-                colds += 1
-    return max(hots, colds)
-
-
-@compiled
-def exchangers(state: HeatState) -> int:
-    """How many exchangers there are; a cut is none."""
-    count = 0
-    for at in range(state.sizes[MOVES]):
-        count += state.moves[at, 1] != CUT
-    return count
-
-
-@compiled
-def step(state: HeatState, counts: Wholes, weights: Floats) -> bool:
-    """One exchanger or one cut more; False where there is none."""
-    ticks = count_ticks(state, counts)
-    lost = False
-    for source in range(state.sizes[SLOTS]):
-        lost = lost or state.alive[source] and counts[source] == 0
-    if not ticks or lost and chance(state) < weights[4]:
-        hot, cold, place = best_corner(state, counts, weights, ticks > 0)
-        if hot >= 0:
-            hot_place, cold_place = places_of(state, hot, cold, place)
-            return apply(state, hot, cold, hot_place, cold_place, min(state.load[hot], state.load[cold]))
-    if ticks:
-        hot, cold, place = best_tick(state, counts, weights)
-        hot_place, cold_place = places_of(state, hot, cold, place)
-        return apply(state, hot, cold, hot_place, cold_place, min(state.load[hot], state.load[cold]))
-    source, where = crossing(state)
-    if source >= 0:
-        return cut(state, source, where)
-    hot, cold, hot_place, cold_place, duty = best_part(state)
-    return hot >= 0 and apply(state, hot, cold, hot_place, cold_place, duty)
-
-
-@compiled
-def descend(state: HeatState, counts: Wholes, weights: Floats, most: int) -> int:
-    """Ticks off all that is left; the number of exchangers, or -1 where it would be more than the most."""
-    draw_weights(state, weights)
-    while True:
-        rest = left(state)
-        if rest == 0:
-            return exchangers(state)
-        if exchangers(state) + rest > most or not step(state, counts, weights):
-            return -1
+                high = middle
+        return best

@@ -22,12 +22,14 @@ NONE, HAIR = 1e-5, 1e-6
 
 @dataclass(frozen=True)
 class FloatRows:
-    """Rows of a linear program: `equal` and `below`, each with its bound."""
+    """Rows of a linear program: `equal` and `below`, each with its bound. Those of the approaches, two for each
+    exchanger, begin at a line of `below`."""
 
     equal: Floats
     equals: Floats
     below: Floats
     limits: Floats
+    approaches: int
 
 
 class FloatDuties:
@@ -35,6 +37,7 @@ class FloatDuties:
 
     def __init__(self, case: Case, structure: Structure) -> None:
         self.case, self.structure = case, structure
+        self.sources = {source.name: source for source in case.sources}
         self.names = list(structure.pairs)
         self.at = {name: at for at, name in enumerate(self.names)}
         self.count = len(self.names)
@@ -79,7 +82,7 @@ class FloatDuties:
         self.ends[exchanger, stream.side] = (inlet, outlet)
 
     def side(self, exchanger: str, side: Side) -> tuple[Floats, Floats]:
-        source = self.case.source(self.structure.pairs[exchanger][side is Side.COLD])
+        source = self.sources[self.structure.pairs[exchanger][side is Side.COLD]]
         if isinstance(source, Stream):
             return self.ends[exchanger, side]
         return (self.constant(source.level),) * 2
@@ -123,6 +126,7 @@ class FloatDuties:
             if utility.least:
                 below.append(-sums[utility.name])
                 limits.append(-utility.least / self.unit)
+        approaches = len(below)
         for row in self.approach_rows():
             below.append(row[:-1])
             limits.append(-row[-1])
@@ -133,7 +137,8 @@ class FloatDuties:
             prices = max([1, *(abs(utility.price) for utility in self.case.utilities)])
             below.append(self.cost_row())
             limits.append(float(most_cost) / self.unit + HAIR * 1000 * prices)
-        return FloatRows(numpy.array(equal), numpy.array(equals), numpy.array(below), numpy.array(limits))
+        return FloatRows(numpy.array(equal), numpy.array(equals), numpy.array(below), numpy.array(limits),
+                         approaches)
 
 
 def least_point(rows: FloatRows, weights: Sequence[float] | Floats) -> Floats | None:

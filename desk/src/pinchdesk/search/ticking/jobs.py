@@ -10,6 +10,7 @@ from ...formats.case import Case
 from ..reduce.structure import Structure
 from ..staged.windows import Window
 from .courses import Chain, ChainEnd
+from .ruin import run_chain
 from .thinning import Pool, Thinned, combined, thinned
 
 
@@ -25,7 +26,6 @@ class ChainJob:
     least: int | None
 
     def run(self) -> ChainEnd:
-        from .window_search import run_chain
         return run_chain(self.window, self.seed, self.steps, self.begin, self.least)
 
 
@@ -60,4 +60,21 @@ class ThinJob:
         return sorted((thin for thin in found if thin), key=lambda thin: thin.count)
 
 
-Job = ChainJob | CombineJob | ThinJob
+@dataclass(frozen=True)
+class DropJob:
+    """The exchangers of a structure that can go together, so that at most so many are left."""
+
+    case: Case
+    structure: Structure
+    most_cost: Fraction
+    most: int
+    nodes: int
+    seconds: float
+
+    def run(self) -> list[Thinned]:
+        from .dropping import dropped
+        found = dropped(self.case, self.structure, self.most_cost, self.most, self.nodes, self.seconds)
+        return [found] if found else []
+
+
+Job = ChainJob | CombineJob | ThinJob | DropJob

@@ -1,13 +1,13 @@
 """The courses of all windows, put together into the structure of the whole case."""
 from __future__ import annotations
 
-from collections.abc import Mapping, Sequence
+from collections.abc import Sequence
 from dataclasses import replace
 
 from ...formats.case import Case, Side
 from ..reduce.moves import letter_of, next_name, taken_names
-from ..reduce.structure import Course, Parting, Structure, Through
-from .courses import WindowNetwork
+from ..reduce.structure import Course, Structure, Through
+from .courses import WindowNetwork, renamed
 
 
 def turned_round(course: Course) -> Course:
@@ -15,13 +15,6 @@ def turned_round(course: Course) -> Course:
     return tuple(step if isinstance(step, Through) else
                  replace(step, lanes=tuple(replace(lane, course=turned_round(lane.course)) for lane in step.lanes))
                  for step in reversed(course))
-
-
-def renamed(course: Course, names: Mapping[str, str]) -> Course:
-    """A course whose exchangers have other names."""
-    return tuple(Through(names[step.exchanger]) if isinstance(step, Through) else
-                 Parting(tuple(replace(lane, course=renamed(lane.course, names)) for lane in step.lanes), step.level)
-                 for step in course)
 
 
 def joined_windows(case: Case, networks: Sequence[WindowNetwork]) -> Structure:

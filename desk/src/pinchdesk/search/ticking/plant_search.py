@@ -10,17 +10,19 @@ from fractions import Fraction
 
 from ..accepted import Judge, Judged
 from ..reduce.least_cost import cheapest
-from ..reduce.structure import Structure, levelled
+from ..reduce.simplify import kinds
+from ..reduce.structure import Structure
 from ..staged.windows import Window, windows
-from .courses import Chain, ChainEnd, WindowNetwork
-from .jobs import ChainJob, CombineJob, Job
+from .courses import Chain, ChainEnd, WindowNetwork, shape_of
+from .jobs import ChainJob, CombineJob, DropJob, Job, ThinJob
 from .thinning import Thinned
-from .window_search import most_of, shape_of
 
 # Chains of a window, and descents of one round in a window of ten sources; more sources take as much longer as is said.
 CHAINS, STEPS, SLOWER = 2, 2000, 2.5
-# Networks of a window that are kept; processes that combine in each round, and how many combinations each tries.
+# Networks of a window that are kept; jobs that combine in each round, and how many combinations each tries.
 KEPT, COMBINERS, TRIES = 150, 2, 60
+# How often the first network is thinned out; structures that wait to be made less, and the limits of one such program.
+THINNINGS, CANDIDATES, NODES, DROP_SECONDS = 3, 20, 200, 5.0
 # A seed is a number below this.
 SEEDS = 2 ** 31 - 1
 
@@ -45,7 +47,7 @@ class WindowPool:
         """Takes what a chain found; one that is far behind goes on from the best."""
         self.chains[number] = end.chain
         for network in end.networks:
-            self.networks.setdefault(shape_of(network), network)
+            self.networks.setdefault(network.shape, network)
         least = self.least
         if least is None:
             return
@@ -56,58 +58,78 @@ class WindowPool:
         self.chains = [chain if chain.ticks and chain.count <= least + 2 else ahead for chain in self.chains]
 
 
-def round_seed(seed: int, turn: int, number: int) -> int:
-    return (seed * 1_000_003 + turn * 8_191 + number * 131 + 7) % SEEDS
-
-
 class PlantSearch:
-    """A search in a completed case at the least cost, with the heats of its utilities. `take` gets what was accepted;
-    `run_jobs` does jobs, and gives their ends in their order."""
+    """A search in a completed case, with the heats of its utilities at the least cost. Networks cost at most
+    `most_cost` and have fewer than `least` exchangers; `take` gets those that were accepted. `begin` is a network to
+    thin out first, such as that of the composite curves."""
 
     def __init__(self, judge: Judge, uses: Mapping[str, int], most_cost: Fraction, least: int,
-                 take: Callable[[Judged], None], seed: int = 1) -> None:
+                 take: Callable[[Judged], None], begin: Structure | None = None, seed: int = 1) -> None:
         self.judge, self.most_cost, self.least, self.take, self.seed = judge, most_cost, least, take, seed
         self.pools = [WindowPool(window) for window in windows(judge.case, uses)]
-        self.tried: set[str] = set()
+        self.begin = begin
+        # Structures whose exchangers may go together, the latest last, and those that were looked at.
+        self.candidates: list[Structure] = []
+        self.known: set[str] = set()
         self.turn = 0
 
     def round(self, run_jobs: Callable[[Sequence[Job]], list[object]]) -> None:
-        """One round of jobs."""
+        """One round of jobs; `run_jobs` gives their ends in their order."""
         places = [(pool, number) for pool in self.pools for number in range(CHAINS)]
-        jobs: list[Job] = [self.chain_job(at, pool, number) for at, (pool, number) in enumerate(places)]
-        if all(pool.networks for pool in self.pools):
-            jobs += [self.combine_job(len(places) + number) for number in range(COMBINERS)]
-        ends = run_jobs(jobs)
-        for (pool, number), end in zip(places, ends):
-            assert isinstance(end, ChainEnd)
-            pool.take(number, end)
-        for end in ends[len(places):]:
+        others = self.other_jobs()
+        chains = [self.chain_job(at, pool, number) for at, (pool, number) in enumerate(places)]
+        ends = run_jobs([*others, *chains])
+        for end in ends[:len(others)]:
             assert isinstance(end, list)
             self.take_thinned(end)
+        for (pool, number), end in zip(places, ends[len(others):]):
+            assert isinstance(end, ChainEnd)
+            pool.take(number, end)
         self.turn += 1
 
-    def chain_job(self, at: int, pool: WindowPool, number: int) -> ChainJob:
-        return ChainJob(pool.window, round_seed(self.seed, self.turn, at), pool.steps, pool.chains[number], pool.least)
+    def other_jobs(self) -> list[Job]:
+        """Jobs of the whole case: the first network thinned out, combinations, and exchangers that go together."""
+        case, cost = self.judge.case, self.most_cost
+        jobs: list[Job] = []
+        if self.turn == 0 and self.begin is not None:
+            jobs.append(ThinJob(case, self.begin, cost, self.seed, THINNINGS))
+        if all(pool.networks for pool in self.pools):
+            pools = [list(pool.networks.values()) for pool in self.pools]
+            jobs += [CombineJob(case, pools, cost, self.seed_of(number), TRIES, self.least)
+                     for number in range(COMBINERS)]
+        if self.candidates:
+            structure = self.candidates.pop()
+            jobs.append(DropJob(case, structure, cost, min(self.least, len(structure.pairs)) - 1, NODES, DROP_SECONDS))
+        return jobs
 
-    def combine_job(self, number: int) -> CombineJob:
-        pools = [list(pool.networks.values()) for pool in self.pools]
-        return CombineJob(self.judge.case, pools, self.most_cost, round_seed(self.seed, self.turn, number), TRIES,
-                          self.least)
+    def chain_job(self, at: int, pool: WindowPool, number: int) -> ChainJob:
+        return ChainJob(pool.window, self.seed_of(COMBINERS + at), pool.steps, pool.chains[number], pool.least)
+
+    def seed_of(self, number: int) -> int:
+        """The seed of a job of this round."""
+        return (self.seed * 1_000_003 + self.turn * 8_191 + number * 131 + 7) % SEEDS
 
     def take_thinned(self, found: Sequence[Thinned]) -> None:
-        """Makes the best of what was found exact, and has it audited."""
+        """Makes the best of what was found exact, and has it audited. What is near the best may be made less later."""
         for thin in found:
-            if thin.count >= self.least:
-                return
-            judged = self.judged(thin.structure)
-            if judged is not None and judged.count < self.least:
-                self.least = judged.count
-                self.take(judged)
+            shape = shape_of(thin.structure.pairs, thin.structure.courses)
+            if thin.count > self.least + 1 or shape in self.known:
+                continue
+            self.known.add(shape)
+            self.candidates = [*self.candidates[-CANDIDATES:], thin.structure]
+            if thin.count < self.least:
+                self.take_structure(thin.structure)
+
+    def take_structure(self, structure: Structure) -> None:
+        judged = self.judged(structure)
+        if judged is not None and judged.count < self.least:
+            self.least = judged.count
+            self.take(judged)
 
     def judged(self, structure: Structure) -> Judged | None:
         """The structure as an accepted network: with its shares, or with isothermal mixing, whose fractions may be
         shorter; None where neither is."""
-        for kind in (structure, levelled(structure)):
+        for kind in kinds(structure):
             costed = cheapest(self.judge.case, kind)
             if costed is not None and costed.cost <= self.most_cost:
                 judged = self.judge.of(costed)

@@ -2,142 +2,110 @@
 is ticked off anew."""
 from __future__ import annotations
 
-import numpy
+from collections.abc import Iterator
+from random import Random
 
-from .compiled import compiled
-from .descent import apply, cut, descend
-from .heat_state import (BESIDE, CORNER_TOP, CUT, MOVES, NEAR, SLOTS, TOP, WHOLE, Flags, Floats, HeatState, Wholes,
-                         chance, fresh_cascade, heat_at)
-from .ticks import corner_fits, places_of, renew, size_of, tick_fits
+from ..staged.windows import Window
+from .courses import CORNER_TOP, CUT, WHOLE, Chain, ChainEnd, Tick, WindowNetwork, window_network
+from .descent import Descent
+from .heat_left import TIGHT, HeatLeft
 
 # How often a descent from nothing is tried, and one exchanger more is taken.
 FROM_NOTHING, ONE_MORE = 40, 10
+# So many exchangers are dropped, as a share, or all of so many sources.
+SHARES, SOURCES = (0.15, 0.3, 0.5, 0.7), (1, 2, 3, 4)
 
 
-@compiled
-def begin(state: HeatState, first: HeatState) -> None:
-    """Everything as it was at first."""
-    count = first.sizes[SLOTS]
-    state.sizes[SLOTS], state.sizes[MOVES] = count, 0
-    for at in range(count):
-        state.hot[at], state.level[at], state.origin[at] = first.hot[at], first.level[at], first.origin[at]
-        state.high[at], state.low[at], state.load[at] = first.high[at], first.low[at], first.load[at]
-        state.alive[at] = state.fresh[at] = True
-    state.allowed[:, :, :] = False
-    fresh_cascade(state)
+def drops(ticks: tuple[Tick, ...], random: Random) -> set[int]:
+    """Which lines are dropped: each with a chance, or all of some sources."""
+    if random.random() < 0.5:
+        share = random.choice(SHARES)
+        return {at for at in range(len(ticks)) if random.random() < share}
+    slots = sorted({slot for tick in ticks for slot in (tick.hot, tick.cold) if slot != CUT})
+    some = random.sample(slots, min(len(slots), random.choice(SOURCES)))
+    return {at for at, tick in enumerate(ticks) if tick.hot in some or tick.cold in some}
 
 
-@compiled
-def draw_drops(state: HeatState, moves: Wholes, count: int, drops: Flags) -> None:
-    """Which exchangers are dropped: each with a chance, or all of some sources."""
-    if chance(state) < 0.5:
-        share = (0.15, 0.3, 0.5, 0.7)[int(chance(state) * 4)]
-        for at in range(count):
-            drops[at] = chance(state) < share
-        return
-    some = 1 + int(chance(state) * 4)
-    drops[:count] = False
-    for _ in range(some):
-        source = int(chance(state) * state.sizes[SLOTS])
-        for at in range(count):
-            if moves[at, 0] == source or moves[at, 1] == source:
-                drops[at] = True
+class Replay:
+    """Puts exchangers in again. `names` says which slot an earlier one is now, None where it is none."""
 
+    def __init__(self, left: HeatLeft) -> None:
+        self.left = left
+        self.names: list[int | None] = list(range(len(left.highs)))
 
-@compiled
-def larger_place(hot_place: int, cold_place: int) -> int:
-    """Where an exchanger stands on the source that it does not finish."""
-    return cold_place if hot_place == WHOLE else hot_place
+    def line(self, tick: Tick, is_dropped: bool) -> None:
+        before = len(self.left.highs)
+        slots = [self.now(slot) for slot in (tick.hot, tick.cold)]
+        if not is_dropped:
+            if tick.cold == CUT:
+                self.cut(slots[0], tick.duty)
+            elif slots[0] is not None and slots[1] is not None and WHOLE in (tick.hot_place, tick.cold_place):
+                self.exchanger(slots[0], slots[1], tick)
+        comes = sum(place >= CORNER_TOP for place in (tick.hot_place, tick.cold_place)) + (tick.cold == CUT)
+        came = len(self.left.highs) - before
+        self.names += [before + more if more < came else None for more in range(comes)]
 
+    def now(self, slot: int) -> int | None:
+        """The slot that an earlier one is now, where it is still left."""
+        name = None if slot == CUT else self.names[slot]
+        return name if name in self.left.hots or name in self.left.colds else None
 
-@compiled
-def replay_one(state: HeatState, hot: int, cold: int, place: int) -> None:
-    """Puts an exchanger in again as a tick-off or in a corner, where it still fits."""
-    if place == WHOLE:
-        place = TOP
-    is_corner = place >= CORNER_TOP
-    if is_corner:
-        does = corner_fits(state, hot, cold, place)
-    else:
-        does = tick_fits(state, hot, cold, place)
-    if not does and not is_corner:
-        # What finished both sources may finish one of them now.
-        for other in range(TOP, BESIDE + 1):
-            if tick_fits(state, hot, cold, other):
-                place, does = other, True
-                break
-    if does:
-        hot_place, cold_place = places_of(state, hot, cold, place)
-        apply(state, hot, cold, hot_place, cold_place, min(state.load[hot], state.load[cold]))
-
-
-@compiled
-def cut_again(state: HeatState, source: int, heat: float) -> None:
-    """Cuts a source again, where the place is still one where no heat crosses."""
-    place = state.high[source] - heat / size_of(state, source)
-    inside = state.low[source] + 10 * NEAR < place < state.high[source] - 10 * NEAR
-    if inside and heat_at(state, place) <= 10 * state.scale[1]:
-        cut(state, source, place)
-
-
-@compiled
-def replay(state: HeatState, moves: Wholes, duties: Floats, count: int, drops: Flags, names: Wholes) -> None:
-    """Puts the exchangers in again that are not dropped. `names` says which slot an earlier one is now."""
-    begun = state.sizes[SLOTS]
-    for at in range(len(names)):
-        names[at] = at if at < begun else -1
-    next_slot = begun
-    for at in range(count):
-        hot, cold = moves[at, 0], moves[at, 1]
-        comes = (cold == CUT) + (moves[at, 2] >= CORNER_TOP) + (cold != CUT and moves[at, 3] >= CORNER_TOP)
-        before = state.sizes[SLOTS]
-        hot = names[hot]
-        if cold == CUT:
-            if not drops[at] and hot >= 0 and state.alive[hot]:
-                cut_again(state, hot, duties[at])
+    def exchanger(self, hot: int, cold: int, tick: Tick) -> None:
+        place = tick.cold_place if tick.hot_place == WHOLE else tick.hot_place
+        if place >= CORNER_TOP:
+            fits = self.left.corner_fits(hot, cold)
         else:
-            cold = names[cold]
-            if not drops[at] and hot >= 0 and cold >= 0 and state.alive[hot] and state.alive[cold]:
-                if moves[at, 2] == WHOLE or moves[at, 3] == WHOLE:
-                    replay_one(state, hot, cold, larger_place(moves[at, 2], moves[at, 3]))
-        for more in range(comes):
-            there = before + more < state.sizes[SLOTS]
-            names[next_slot] = before + more if there else -1
-            next_slot += 1
+            fits = self.left.tick_fits(hot, cold)
+        same = [fit for fit in fits if place in (fit.tick.hot_place, fit.tick.cold_place)]
+        if fits:
+            self.left.take((same or fits)[0])
+
+    def cut(self, slot: int | None, heat: float) -> None:
+        """Cuts a source again, where the place is still one where no heat crosses."""
+        if slot is None:
+            return
+        place = self.left.highs[slot] - heat / self.left.size(slot)
+        if self.left.crosses(slot, place) and self.left.heat_at(place) <= TIGHT * self.left.none:
+            self.left.cut(slot, place)
 
 
-@compiled
-def keep(state: HeatState, moves: Wholes, duties: Floats) -> int:
-    """Copies the exchangers of a state; how many lines they are."""
-    count = state.sizes[MOVES]
-    moves[:count] = state.moves[:count]
-    duties[:count] = state.duties[:count]
-    return int(count)
+def replayed(first: HeatLeft, ticks: tuple[Tick, ...], dropped: set[int]) -> HeatLeft:
+    """What is left behind the exchangers that are not dropped."""
+    replay = Replay(first.copy())
+    for at, tick in enumerate(ticks):
+        replay.line(tick, at in dropped)
+    return replay.left
 
 
-@compiled
-def search(first: HeatState, state: HeatState, steps: int, most: int, now: Wholes, now_duties: Floats, begun: int,
-           found: Wholes, found_duties: Floats, lengths: Wholes) -> int:
-    """So many descents, each from the one before; `now` is where they begin, of so many lines. Those of the fewest
-    exchangers and of one more are kept in `found`; how many they are. Behind their lengths is that of the last."""
-    counts, weights = numpy.zeros(len(state.alive), numpy.int64), numpy.zeros(5)
-    drops, names = numpy.zeros(len(state.duties), numpy.bool_), numpy.zeros(len(state.alive), numpy.int64)
-    count, best, kept = begun, most, 0
-    for turn in range(steps):
-        begin(state, first)
-        renew(state, -numpy.inf, numpy.inf)
-        anew = count == 0 or int(chance(state) * FROM_NOTHING) == 0
-        if not anew:
-            draw_drops(state, now, count, drops)
-            replay(state, now, now_duties, count, drops, names)
-        limit = best + 1 if count == 0 or int(chance(state) * ONE_MORE) == 0 else best
-        number = descend(state, counts, weights, limit)
-        if number < 0:
-            continue
-        count = keep(state, now, now_duties)
-        best = min(best, number)
-        at = kept if kept < len(found) else int(chance(state) * len(found))
-        kept = min(kept + 1, len(found))
-        lengths[at] = keep(state, found[at], found_duties[at])
-    lengths[len(found)] = count
-    return kept
+def most_of(window: Window) -> int:
+    """With more exchangers than this no chain begins."""
+    return 2 * len(window.pieces)
+
+
+def run_chain(window: Window, seed: int, steps: int, begin: Chain, least: int | None) -> ChainEnd:
+    """So many descents more of a chain, with the different networks on the way that have at most one exchanger more
+    than the least, or than the least of the chain."""
+    random, first = Random(seed), HeatLeft(window)
+    now, best, found = begin, begin.count if begin.ticks else most_of(window), {}
+    for _ in range(steps):
+        if not now.ticks or random.randrange(FROM_NOTHING) == 0:
+            left = first.copy()
+        else:
+            left = replayed(first, now.ticks, drops(now.ticks, random))
+        most = best + (not now.ticks or random.randrange(ONE_MORE) == 0)
+        if Descent(left, random).run(most):
+            now = Chain(tuple(left.ticks))
+            best = min(best, now.count)
+            found[now.ticks] = None
+    limit = min(best, best if least is None else least) + 1
+    return ChainEnd(now, tuple(different(window, [ticks for ticks in found if Chain(ticks).count <= limit])))
+
+
+def different(window: Window, ways: list[tuple[Tick, ...]]) -> Iterator[WindowNetwork]:
+    """The networks of descents, each once."""
+    known = set()
+    for ticks in ways:
+        network = window_network(window, ticks)
+        if network is not None and network.shape not in known:
+            known.add(network.shape)
+            yield network

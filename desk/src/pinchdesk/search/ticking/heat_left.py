@@ -1,0 +1,258 @@
+"""What is left of a window while its sources are ticked off, in floats.
+
+A source is a rectangle: a range of shifted temperatures and a CP. A level is a source with a range of nearly nothing.
+The cascade is kept at all temperatures where its slope may change, from the coldest up."""
+from __future__ import annotations
+
+from bisect import bisect_left, bisect_right
+from collections.abc import Iterator
+from typing import NamedTuple
+
+from ...formats.case import Side
+from ..staged.windows import Window, WindowPiece
+from .courses import BESIDE, BOTTOM, CORNER_BOTTOM, CORNER_TOP, CUT, TOP, WHOLE, Tick
+
+# Two temperatures that are nearer are one, in tenths of °C; the range of a level; a heat that is none, as a part of all.
+NEAR, LEVEL_RANGE, FINE = 1e-6, 1e-2, 1e-9
+# The cascade is 0 where it is less than so many times what is none.
+TIGHT = 10.0
+
+
+class Rectangle(NamedTuple):
+    """A range of temperatures and a CP."""
+
+    high: float
+    low: float
+    size: float
+
+
+class Fit(NamedTuple):
+    """An exchanger that fits, with what it takes of its hot and of its cold source."""
+
+    tick: Tick
+    warm: Rectangle
+    cool: Rectangle
+
+    @property
+    def difference(self) -> float:
+        """The mean temperature difference."""
+        return (self.warm.high + self.warm.low - self.cool.high - self.cool.low) / 2
+
+
+def range_of(piece: WindowPiece) -> tuple[float, float]:
+    """The ends of a piece; a level has a little above it where it is hot, below where it is cold."""
+    if not piece.is_level:
+        return float(piece.high), float(piece.low)
+    return piece.high + LEVEL_RANGE * (piece.side is Side.HOT), piece.low - LEVEL_RANGE * (piece.side is Side.COLD)
+
+
+class HeatLeft:
+    """The rectangles that are left, by slots, the cascade, and the exchangers so far."""
+
+    def __init__(self, window: Window) -> None:
+        ranges = [range_of(piece) for piece in window.pieces]
+        self.highs, self.lows = [high for high, _ in ranges], [low for _, low in ranges]
+        self.loads = [float(piece.most) for piece in window.pieces]
+        self.levels = [piece.is_level for piece in window.pieces]
+        self.origins = list(range(len(ranges)))
+        self.hots = [at for at, piece in enumerate(window.pieces) if piece.side is Side.HOT]
+        self.colds = [at for at, piece in enumerate(window.pieces) if piece.side is Side.COLD]
+        self.forbidden = frozenset((hot, cold) for hot in self.hots for cold in self.colds
+                                   if (window.pieces[hot].name, window.pieces[cold].name) in window.forbids)
+        self.scale = sum(self.loads[hot] for hot in self.hots)
+        self.none = self.scale * FINE
+        self.ticks: list[Tick] = []
+        self.count = 0
+        self.renew_cascade()
+
+    def copy(self) -> HeatLeft:
+        copied = object.__new__(HeatLeft)
+        for name, value in self.__dict__.items():
+            setattr(copied, name, value.copy() if isinstance(value, list) else value)
+        return copied
+
+    def renew_cascade(self) -> None:
+        """The cascade of all that is left, from nothing."""
+        ends = sorted({end for slot in (*self.hots, *self.colds) for end in (self.highs[slot], self.lows[slot])})
+        self.places = [end for at, end in enumerate(ends) if not at or end - ends[at - 1] > NEAR]
+        self.heats = [0.0] * len(self.places)
+        for slots, sign in ((self.hots, 1.0), (self.colds, -1.0)):
+            for slot in slots:
+                self.add_heat(Rectangle(self.highs[slot], self.lows[slot], sign * self.size(slot)))
+
+    def add_heat(self, part: Rectangle) -> None:
+        """Adds what a rectangle gives above each place; it has a CP below 0 where it takes."""
+        high, low, size = part
+        whole = size * (high - low)
+        for at in range(bisect_left(self.places, high)):
+            place = self.places[at]
+            self.heats[at] += size * (high - place) if place > low else whole
+
+    def size(self, slot: int) -> float:
+        return self.loads[slot] / (self.highs[slot] - self.lows[slot])
+
+    def heat_at(self, place: float) -> float:
+        """The cascade at a temperature."""
+        above = bisect_left(self.places, place)
+        if above == len(self.places) or above == 0:
+            return 0.0
+        upper, lower = self.places[above], self.places[above - 1]
+        share = (place - lower) / (upper - lower)
+        return self.heats[above] * share + self.heats[above - 1] * (1 - share)
+
+    def add_place(self, place: float) -> None:
+        """Makes a temperature one of the places, where it is none."""
+        above = bisect_left(self.places, place - NEAR)
+        if above < len(self.places) and self.places[above] <= place + NEAR:
+            return
+        heat = self.heat_at(place)
+        self.places.insert(above, place)
+        self.heats.insert(above, heat)
+
+    def may_meet(self, hot: int, cold: int) -> bool:
+        return not self.forbidden or (self.origins[hot], self.origins[cold]) not in self.forbidden
+
+    def fits(self, warm: Rectangle, cool: Rectangle) -> bool:
+        """Whether an exchanger between two rectangles has warm ends that are warm enough, and leaves a cascade that is
+        nowhere below 0."""
+        high, low, size = warm
+        top, bottom, other = cool
+        if high < top - NEAR or low < bottom - NEAR:
+            return False
+        # What is taken is most at one of these two.
+        for place in (low, top):
+            if bottom < place < high:
+                taken = size * (high - max(place, low)) - other * max(0.0, top - place)
+                if taken > self.heat_at(place) + self.none:
+                    return False
+        places, heats, none = self.places, self.heats, self.none
+        for at in range(bisect_right(places, bottom), bisect_left(places, high)):
+            place = places[at]
+            taken = size * (high - (place if place > low else low))
+            if place < top:
+                taken -= other * (top - place)
+            if taken > heats[at] + none:
+                return False
+        return True
+
+    def part(self, slot: int, place: int, duty: float, partner_size: float) -> Rectangle:
+        """What an exchanger at a place takes of a source."""
+        high, low = self.highs[slot], self.lows[slot]
+        size = self.loads[slot] / (high - low)
+        if place == WHOLE:
+            return Rectangle(high, low, size)
+        if place == TOP:
+            return Rectangle(high, high - duty / size, size)
+        if place == BOTTOM:
+            return Rectangle(low + duty / size, low, size)
+        if place == BESIDE:
+            return Rectangle(high, low, duty / (high - low))
+        if place == CORNER_TOP:
+            return Rectangle(high, high - duty / partner_size, partner_size)
+        return Rectangle(low + duty / partner_size, low, partner_size)
+
+    def fit(self, tick: Tick) -> Fit | None:
+        """An exchanger as it fits; None where it does not."""
+        warm = self.part(tick.hot, tick.hot_place, tick.duty, self.size(tick.cold))
+        cool = self.part(tick.cold, tick.cold_place, tick.duty, self.size(tick.hot))
+        return Fit(tick, warm, cool) if self.fits(warm, cool) else None
+
+    def finished(self, hot: int, cold: int) -> int:
+        """Which source the whole smaller heat finishes: 1 the hot one, -1 the cold one, 0 both."""
+        difference = self.loads[hot] - self.loads[cold]
+        return 0 if abs(difference) <= self.none else 1 if difference < 0 else -1
+
+    def tick_off(self, hot: int, cold: int, place: int) -> Tick:
+        """The exchanger that finishes the smaller source, at a place of the larger one."""
+        which = self.finished(hot, cold)
+        return Tick(hot, cold, WHOLE if which >= 0 else place, WHOLE if which <= 0 else place,
+                    min(self.loads[hot], self.loads[cold]))
+
+    def tick_fits(self, hot: int, cold: int) -> list[Fit]:
+        """The exchangers that finish one of two sources, or both, and fit."""
+        if self.highs[hot] < self.lows[cold] - NEAR or not self.may_meet(hot, cold):
+            return []
+        which = self.finished(hot, cold)
+        larger = hot if which < 0 else cold
+        places = (TOP,) if which == 0 else (BESIDE,) if self.levels[larger] else (TOP, BOTTOM, BESIDE)
+        found = (self.fit(self.tick_off(hot, cold, place)) for place in places)
+        return [fit for fit in found if fit]
+
+    def corner_fits(self, hot: int, cold: int) -> list[Fit]:
+        """The exchangers that finish the smaller of two sources in a corner of the larger one, and fit."""
+        which = self.finished(hot, cold)
+        if which == 0 or not self.may_meet(hot, cold) or self.levels[hot] or self.levels[cold]:
+            return []
+        large, small = (hot, cold) if which < 0 else (cold, hot)
+        longer = self.highs[large] - self.lows[large] > self.highs[small] - self.lows[small] + NEAR
+        if not longer or self.size(large) <= self.size(small) * (1 + FINE):
+            return []
+        found = (self.fit(self.tick_off(hot, cold, place)) for place in (CORNER_TOP, CORNER_BOTTOM))
+        return [fit for fit in found if fit]
+
+    def take(self, fit: Fit) -> None:
+        """Puts an exchanger in."""
+        tick, warm, cool = fit
+        for place in (warm.high, warm.low, cool.high, cool.low):
+            self.add_place(place)
+        self.add_heat(Rectangle(warm.high, warm.low, -warm.size))
+        self.add_heat(cool)
+        sizes = self.size(tick.hot), self.size(tick.cold)
+        self.shrink(self.hots, tick.hot, tick.hot_place, tick.duty, sizes[1])
+        self.shrink(self.colds, tick.cold, tick.cold_place, tick.duty, sizes[0])
+        self.ticks.append(tick)
+        self.count += 1
+
+    def shrink(self, side: list[int], slot: int, place: int, duty: float, partner_size: float) -> None:
+        """What is left of a source beside an exchanger; in a corner it is two rectangles."""
+        if place == WHOLE:
+            side.remove(slot)
+            return
+        high, low, size = self.highs[slot], self.lows[slot], self.size(slot)
+        self.loads[slot] -= duty
+        if place == TOP:
+            self.highs[slot] = high - duty / size
+        elif place == BOTTOM:
+            self.lows[slot] = low + duty / size
+        elif place == CORNER_TOP:
+            self.lows[slot] = middle = high - duty / partner_size
+            self.loads[slot] = (size - partner_size) * (high - middle)
+            self.add_slot(side, slot, middle, low, size)
+        elif place == CORNER_BOTTOM:
+            self.highs[slot] = middle = low + duty / partner_size
+            self.loads[slot] = (size - partner_size) * (middle - low)
+            self.add_slot(side, slot, high, middle, size)
+
+    def add_slot(self, side: list[int], slot: int, high: float, low: float, size: float) -> None:
+        """A further rectangle of a source."""
+        side.append(len(self.highs))
+        self.highs.append(high)
+        self.lows.append(low)
+        self.loads.append(size * (high - low))
+        self.levels.append(False)
+        self.origins.append(self.origins[slot])
+
+    def cut(self, slot: int, place: float) -> None:
+        """Cuts a source in two at a temperature."""
+        size, low = self.size(slot), self.lows[slot]
+        above = size * (self.highs[slot] - place)
+        self.ticks.append(Tick(slot, CUT, WHOLE, WHOLE, above))
+        self.lows[slot], self.loads[slot] = place, above
+        self.add_slot(self.hots if slot in self.hots else self.colds, slot, place, low, size)
+
+    def crossings(self) -> Iterator[tuple[int, float]]:
+        """The sources that go through a place where the cascade is 0, with the place."""
+        for at in range(1, len(self.places) - 1):
+            if self.heats[at] <= TIGHT * self.none:
+                for slot in (*self.hots, *self.colds):
+                    if self.crosses(slot, self.places[at]):
+                        yield slot, self.places[at]
+
+    def crosses(self, slot: int, place: float) -> bool:
+        inside = self.lows[slot] + TIGHT * NEAR < place < self.highs[slot] - TIGHT * NEAR
+        return inside and not self.levels[slot]
+
+    @property
+    def least_left(self) -> int:
+        """How many exchangers it takes at least to finish what is left."""
+        return max(len(self.hots), len(self.colds))
