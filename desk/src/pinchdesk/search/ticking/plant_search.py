@@ -17,14 +17,30 @@ from .courses import Chain, ChainEnd, WindowNetwork, shape_of
 from .jobs import ChainJob, CombineJob, DropJob, Job, ThinJob
 from .thinning import Thinned
 
-# Chains of a window, and descents of one round in a window of ten sources; more sources take as much longer as is said.
-CHAINS, STEPS, SLOWER = 2, 2000, 2.5
-# Networks of a window that are kept; jobs that combine in each round, and how many combinations each tries.
-KEPT, COMBINERS, TRIES = 150, 2, 60
-# How often the first network is thinned out; structures that wait to be made less, and the limits of one such program.
-THINNINGS, CANDIDATES, NODES, DROP_SECONDS = 3, 20, 200, 5.0
+# With how many times the sources a descent takes so much longer, as an exponent; the fewest descents of a round.
+SLOWER, FEWEST_STEPS = 2.2, 5
+# Networks of a window that are kept; structures that wait to be made less.
+KEPT, CANDIDATES = 150, 20
 # A seed is a number below this.
 SEEDS = 2 ** 31 - 1
+
+
+@dataclass(frozen=True)
+class Pace:
+    """What is done in a round: chains of each window, their descents in a window of ten sources, jobs that combine,
+    their combinations, how often the first network is thinned out, and the limits of a program that drops exchangers:
+    nodes, and seconds, which should never count."""
+
+    chains: int = 2
+    steps: int = 600
+    combiners: int = 2
+    tries: int = 60
+    thinnings: int = 3
+    nodes: int = 200
+    seconds: float = 5.0
+
+    def steps_of(self, window: Window) -> int:
+        return max(FEWEST_STEPS, round(self.steps * (10 / max(10, len(window.pieces))) ** SLOWER))
 
 
 @dataclass
@@ -32,16 +48,12 @@ class WindowPool:
     """The chains of a window, and its different networks with the fewest exchangers, and with one more."""
 
     window: Window
-    chains: list[Chain] = field(default_factory=lambda: [Chain()] * CHAINS)
+    chains: list[Chain]
     networks: dict[str, WindowNetwork] = field(default_factory=dict)
 
     @property
     def least(self) -> int | None:
         return min((network.count for network in self.networks.values()), default=None)
-
-    @property
-    def steps(self) -> int:
-        return max(20, round(STEPS * (10 / max(10, len(self.window.pieces))) ** SLOWER))
 
     def take(self, number: int, end: ChainEnd) -> None:
         """Takes what a chain found; one that is far behind goes on from the best."""
@@ -64,9 +76,11 @@ class PlantSearch:
     thin out first, such as that of the composite curves."""
 
     def __init__(self, judge: Judge, uses: Mapping[str, int], most_cost: Fraction, least: int,
-                 take: Callable[[Judged], None], begin: Structure | None = None, seed: int = 1) -> None:
+                 take: Callable[[Judged], None], begin: Structure | None = None, seed: int = 1,
+                 pace: Pace = Pace()) -> None:
         self.judge, self.most_cost, self.least, self.take, self.seed = judge, most_cost, least, take, seed
-        self.pools = [WindowPool(window) for window in windows(judge.case, uses)]
+        self.pace = pace
+        self.pools = [WindowPool(window, [Chain()] * pace.chains) for window in windows(judge.case, uses)]
         self.begin = begin
         # Structures whose exchangers may go together, the latest last, and those that were looked at.
         self.candidates: list[Structure] = []
@@ -75,7 +89,7 @@ class PlantSearch:
 
     def round(self, run_jobs: Callable[[Sequence[Job]], list[object]]) -> None:
         """One round of jobs; `run_jobs` gives their ends in their order."""
-        places = [(pool, number) for pool in self.pools for number in range(CHAINS)]
+        places = [(pool, number) for pool in self.pools for number in range(self.pace.chains)]
         others = self.other_jobs()
         chains = [self.chain_job(at, pool, number) for at, (pool, number) in enumerate(places)]
         ends = run_jobs([*others, *chains])
@@ -92,18 +106,20 @@ class PlantSearch:
         case, cost = self.judge.case, self.most_cost
         jobs: list[Job] = []
         if self.turn == 0 and self.begin is not None:
-            jobs.append(ThinJob(case, self.begin, cost, self.seed, THINNINGS))
+            jobs.append(ThinJob(case, self.begin, cost, self.seed, self.pace.thinnings))
         if all(pool.networks for pool in self.pools):
             pools = [list(pool.networks.values()) for pool in self.pools]
-            jobs += [CombineJob(case, pools, cost, self.seed_of(number), TRIES, self.least)
-                     for number in range(COMBINERS)]
+            jobs += [CombineJob(case, pools, cost, self.seed_of(number), self.pace.tries, self.least)
+                     for number in range(self.pace.combiners)]
         if self.candidates:
             structure = self.candidates.pop()
-            jobs.append(DropJob(case, structure, cost, min(self.least, len(structure.pairs)) - 1, NODES, DROP_SECONDS))
+            jobs.append(DropJob(case, structure, cost, min(self.least, len(structure.pairs)) - 1, self.pace.nodes,
+                                self.pace.seconds))
         return jobs
 
     def chain_job(self, at: int, pool: WindowPool, number: int) -> ChainJob:
-        return ChainJob(pool.window, self.seed_of(COMBINERS + at), pool.steps, pool.chains[number], pool.least)
+        return ChainJob(pool.window, self.seed_of(self.pace.combiners + at), self.pace.steps_of(pool.window),
+                        pool.chains[number], pool.least)
 
     def seed_of(self, number: int) -> int:
         """The seed of a job of this round."""

@@ -1,0 +1,132 @@
+"""Networks at plant size: windows ticked off, with the cascade of what is left as the test, and combined."""
+from __future__ import annotations
+
+from collections.abc import Sequence
+from fractions import Fraction
+from random import Random
+
+import pytest
+from conftest import example
+
+from pinchdesk import Cut, Pinch, completed, read_case
+from pinchdesk.formats.case import Case, Side
+from pinchdesk.search.accepted import Judge, Judged
+from pinchdesk.search.reduce.structure import Parting, Through
+from pinchdesk.search.staged.windows import Window, WindowPiece, whole, windows
+from pinchdesk.search.ticking.courses import BESIDE, CORNER_TOP, TOP, WHOLE, Chain, Tick, window_network
+from pinchdesk.search.ticking.descent import Descent
+from pinchdesk.search.ticking.float_duties import FloatDuties, least_point
+from pinchdesk.search.ticking.heat_left import HeatLeft
+from pinchdesk.search.ticking.jobs import Job
+from pinchdesk.search.ticking.joining import joined_windows
+from pinchdesk.search.ticking.plant_search import Pace, PlantSearch
+from pinchdesk.search.ticking.ruin import run_chain
+from pinchdesk.search.ticking.thinning import thinned
+
+# What is found in a few rounds; the least costs all.
+FEW = {'four-stream': 5, 'tc3': 7, 'two-reactors': 7, 'own-contributions': 7, 'column': 7, 'preheater': 3,
+       'two-steam-levels': 11, 'three-levels': 11, '10sp1': 10}
+QUICK = Pace(steps=60, tries=20)
+
+
+def uses_of(pinch: Pinch, case: Case) -> dict[str, int]:
+    flow = pinch.flow(case)
+    assert not isinstance(flow, Cut)
+    return {use.name: use.heat for use in flow.uses}
+
+
+def windows_of(pinch: Pinch, name: str) -> tuple[Case, tuple[Window, ...]]:
+    case = completed(read_case(example(f'{name}.csv')))
+    return case, windows(case, uses_of(pinch, case))
+
+
+def here(jobs: Sequence[Job]) -> list[object]:
+    return [job.run() for job in jobs]
+
+
+def searched(pinch: Pinch, name: str, rounds: int, seed: int = 1, forbid: str = '') -> list[Judged]:
+    """What a search of a case accepts in so many rounds."""
+    case = completed(read_case(example(f'{name}.csv') + forbid.encode()))
+    uses = uses_of(pinch, case)
+    found: list[Judged] = []
+    flow = pinch.flow(case)
+    assert not isinstance(flow, Cut)
+    search = PlantSearch(Judge(pinch, case), uses, Fraction(flow.cost), 10 ** 6, found.append, seed=seed, pace=QUICK)
+    for _ in range(rounds):
+        search.round(here)
+    return found
+
+
+@pytest.mark.parametrize('name', FEW)
+def test_few_exchangers_in_a_few_rounds(pinch: Pinch, name: str) -> None:
+    found = searched(pinch, name, 4)
+    assert found and found[-1].count <= FEW[name]
+    for judged in found:
+        assert judged.cost == judged.verdict.floor
+
+
+@pytest.mark.parametrize('name', ['tc3', 'two-steam-levels', 'two-reactors', '10sp1'])
+def test_the_cascade_is_kept_and_nowhere_below_nothing(pinch: Pinch, name: str) -> None:
+    case, parts = windows_of(pinch, name)
+    for window in (*parts, whole(case, uses_of(pinch, case))):
+        for seed in range(3):
+            left = HeatLeft(window)
+            descent = Descent(left, Random(seed))
+            while (left.hots or left.colds) and descent.step():
+                again = left.copy()
+                again.renew_cascade()
+                for place, heat in zip(again.places, again.heats):
+                    assert heat >= -left.scale * 1e-6
+                    assert abs(heat - left.heat_at(place)) <= left.scale * 1e-6
+                for fits in descent.table.values():
+                    assert all(left.fits(fit.warm, fit.cool) for fit in fits)
+            assert not left.hots and not left.colds
+
+
+def test_a_chain_goes_on_from_where_it_was(pinch: Pinch) -> None:
+    case, (window, *_) = windows_of(pinch, '10sp1')
+    end = run_chain(window, 1, 20, Chain(), None)
+    assert end == run_chain(window, 1, 20, Chain(), None)
+    least = min(network.count for network in end.networks)
+    later = run_chain(window, 2, 40, end.chain, least)
+    assert later.chain.count <= end.chain.count + 1
+    assert all(network.count <= least + 1 for network in later.networks)
+
+
+def test_the_same_seed_gives_the_same_networks(pinch: Pinch) -> None:
+    first, second = ([judged.network for judged in searched(pinch, 'tc3', 2, seed)] for seed in (5, 5))
+    assert first == second
+
+
+def test_forbidden_pairs_stay_apart(pinch: Pinch) -> None:
+    free = searched(pinch, 'tc3', 2)[-1]
+    pair = next(pair for pair in free.structure.pairs.values() if pair[0] != 'HOT' and pair[1] != 'COLD')
+    found = searched(pinch, 'tc3', 2, forbid=f'forbid,{pair[0]},{pair[1]},,,,\n')
+    assert found and all(pair not in judged.structure.pairs.values() for judged in found)
+
+
+def test_a_branch_beside_and_one_in_a_corner_have_exact_shares() -> None:
+    hot = WindowPiece('H', Side.HOT, 1000, 500, 30, 15000, 15000)
+    pieces = (hot, *(WindowPiece(name, Side.COLD, high, low, cp, cp * (high - low), cp * (high - low))
+                     for name, high, low, cp in (('C1', 990, 590, 10), ('C2', 490, 450, 25), ('C3', 480, 460, 350))))
+    ticks = (Tick(0, 1, CORNER_TOP, WHOLE, 4000.0), Tick(4, 2, BESIDE, WHOLE, 1000.0))
+    network = window_network(Window(pieces, frozenset()), ticks)
+    assert network is not None and network.pairs == (('H', 'C1'), ('H', 'C2'))
+    corner, beyond = network.courses['H']
+    assert isinstance(corner, Parting) and [lane.share for lane in corner.lanes] == [Fraction(1, 3), Fraction(2, 3)]
+    assert corner.lanes[0].course == (Through('0'),) and corner.lanes[1].course == ()
+    assert isinstance(beyond, Parting) and beyond.lanes[0].share == Fraction(1000, 3000)
+
+
+def test_a_thinned_structure_has_duties_for_all_that_is_left(pinch: Pinch) -> None:
+    case, parts = windows_of(pinch, '10sp1')
+    networks = [run_chain(window, 1, 10, Chain(), None).networks[0] for window in parts]
+    structure = joined_windows(case, networks)
+    flow = pinch.flow(case)
+    assert not isinstance(flow, Cut)
+    model = FloatDuties(case, structure)
+    assert least_point(model.rows(Fraction(flow.cost)), [1.0] * model.count) is not None
+    less = thinned(case, structure, Fraction(flow.cost), Random(1))
+    assert less is not None and less.count == len(less.structure.pairs) <= len(structure.pairs)
+    assert min(less.duties) > 0
+    assert thinned(case, structure, Fraction(flow.cost) * Fraction(99, 100) - 1, Random(1)) is None
