@@ -1,7 +1,6 @@
 """Networks at plant size: windows ticked off, with the cascade of what is left as the test, and combined."""
 from __future__ import annotations
 
-from collections.abc import Sequence
 from fractions import Fraction
 from random import Random
 
@@ -17,13 +16,12 @@ from pinchdesk.search.ticking.courses import BESIDE, CORNER_TOP, TOP, WHOLE, Cha
 from pinchdesk.search.ticking.descent import Descent
 from pinchdesk.search.ticking.float_duties import FloatDuties, least_point
 from pinchdesk.search.ticking.heat_left import HeatLeft
-from pinchdesk.search.ticking.jobs import Job
 from pinchdesk.search.ticking.joining import joined_windows
-from pinchdesk.search.ticking.plant_search import Pace, PlantSearch
+from pinchdesk.search.ticking.plant_search import JobRow, Pace, PlantSearch
 from pinchdesk.search.ticking.ruin import run_chain
 from pinchdesk.search.ticking.thinning import thinned
 
-# What is found in a few rounds; the least costs all.
+# What is found in a few jobs; the least costs all.
 FEW = {'four-stream': 5, 'tc3': 7, 'two-reactors': 7, 'own-contributions': 7, 'column': 7, 'preheater': 3,
        'two-steam-levels': 11, 'three-levels': 11, '10sp1': 10}
 QUICK = Pace(steps=60, tries=20)
@@ -40,26 +38,25 @@ def windows_of(pinch: Pinch, name: str) -> tuple[Case, tuple[Window, ...]]:
     return case, windows(case, uses_of(pinch, case))
 
 
-def here(jobs: Sequence[Job]) -> list[object]:
-    return [job.run() for job in jobs]
-
-
-def searched(pinch: Pinch, name: str, rounds: int, seed: int = 1, forbid: str = '') -> list[Judged]:
-    """What a search of a case accepts in so many rounds."""
+def searched(pinch: Pinch, name: str, jobs: int, seed: int = 1, forbid: str = '') -> list[Judged]:
+    """What a search of a case accepts in so many jobs."""
     case = completed(read_case(example(f'{name}.csv') + forbid.encode()))
     uses = uses_of(pinch, case)
     found: list[Judged] = []
     flow = pinch.flow(case)
     assert not isinstance(flow, Cut)
-    search = PlantSearch(Judge(pinch, case), uses, Fraction(flow.cost), 10 ** 6, found.append, seed=seed, pace=QUICK)
-    for _ in range(rounds):
-        search.round(here)
+    search = PlantSearch(Judge(pinch, case), uses, Fraction(flow.cost), found.append, seed=seed, pace=QUICK)
+    row = JobRow(search)
+    for number in range(jobs):
+        job = row.job(number)
+        assert job is not None
+        row.end(number, job.run())
     return found
 
 
 @pytest.mark.parametrize('name', FEW)
-def test_few_exchangers_in_a_few_rounds(pinch: Pinch, name: str) -> None:
-    found = searched(pinch, name, 4)
+def test_few_exchangers_in_a_few_jobs(pinch: Pinch, name: str) -> None:
+    found = searched(pinch, name, 40)
     assert found and found[-1].count <= FEW[name]
     for judged in found:
         assert judged.cost == judged.verdict.floor
@@ -94,14 +91,14 @@ def test_a_chain_goes_on_from_where_it_was(pinch: Pinch) -> None:
 
 
 def test_the_same_seed_gives_the_same_networks(pinch: Pinch) -> None:
-    first, second = ([judged.network for judged in searched(pinch, 'tc3', 2, seed)] for seed in (5, 5))
+    first, second = ([judged.network for judged in searched(pinch, 'tc3', 24, seed)] for seed in (5, 5))
     assert first == second
 
 
 def test_forbidden_pairs_stay_apart(pinch: Pinch) -> None:
-    free = searched(pinch, 'tc3', 2)[-1]
+    free = searched(pinch, 'tc3', 24)[-1]
     pair = next(pair for pair in free.structure.pairs.values() if pair[0] != 'HOT' and pair[1] != 'COLD')
-    found = searched(pinch, 'tc3', 2, forbid=f'forbid,{pair[0]},{pair[1]},,,,\n')
+    found = searched(pinch, 'tc3', 24, forbid=f'forbid,{pair[0]},{pair[1]},,,,\n')
     assert found and all(pair not in judged.structure.pairs.values() for judged in found)
 
 

@@ -1,25 +1,42 @@
 """What the processes of a search are asked, each of it the same wherever it is done."""
 from __future__ import annotations
 
-from collections.abc import Sequence
+from collections.abc import Iterator, Sequence
 from dataclasses import dataclass
 from fractions import Fraction
 from random import Random
 
 from ...formats.case import Case
+from ..reduce.least_cost import Costed, cheapest
+from ..reduce.simplify import kinds
 from ..reduce.structure import Structure
 from ..staged.windows import Window
 from .courses import Chain, ChainEnd
+from .dropping import dropped
 from .ruin import run_chain
-from .thinning import Pool, Thinned, combined, thinned
+from .thinning import Pool, Rank, Thinned, combined, thinned
+
+
+# A duty with a smaller denominator is short enough for a text whose fractions `pinch audit` follows.
+SHORT = 2 ** 24
+
+
+@dataclass(frozen=True)
+class WholeEnd:
+    """What a job of the whole case found, and the best of it in fractions, as one network or in two ways."""
+
+    found: tuple[Thinned, ...]
+    exact: tuple[Costed, ...]
 
 
 @dataclass(frozen=True)
 class ChainJob:
-    """So many descents more of a chain in a window. `least` is the fewest exchangers that the window is known to need
-    in any chain, None before the first."""
+    """So many descents more of a chain in the window `at`. `least` is the fewest exchangers of a network of it so far,
+    None before the first."""
 
     window: Window
+    at: int
+    chain: int
     seed: int
     steps: int
     begin: Chain
@@ -31,17 +48,20 @@ class ChainJob:
 
 @dataclass(frozen=True)
 class CombineJob:
-    """So many combinations of a network of each window."""
+    """So many combinations of a network of each window, at the least cost or where it `pays` at a higher one."""
 
     case: Case
     pools: Sequence[Pool]
     most_cost: Fraction
+    pays: bool
     seed: int
     tries: int
-    least: int
+    least: Rank
 
-    def run(self) -> list[Thinned]:
-        return combined(self.case, self.pools, self.most_cost, self.seed, self.tries, self.least)[0]
+    def run(self) -> WholeEnd:
+        found = combined(self.case, self.pools, self.most_cost, self.pays, self.seed, self.tries,
+                         self.least[0])
+        return whole_end(self.case, found, self.most_cost, self.least)
 
 
 @dataclass(frozen=True)
@@ -53,28 +73,52 @@ class ThinJob:
     most_cost: Fraction
     seed: int
     times: int
+    least: Rank
 
-    def run(self) -> list[Thinned]:
+    def run(self) -> WholeEnd:
         random = Random(self.seed)
         found = (thinned(self.case, self.structure, self.most_cost, random) for _ in range(self.times))
-        return sorted((thin for thin in found if thin), key=lambda thin: thin.count)
+        return whole_end(self.case, sorted((thin for thin in found if thin), key=lambda thin: thin.rank),
+                         self.most_cost, self.least)
 
 
 @dataclass(frozen=True)
 class DropJob:
-    """The exchangers of a structure that can go together, so that at most so many are left."""
+    """The exchangers of a structure that can go together, so that fewer than the least are left."""
 
     case: Case
     structure: Structure
     most_cost: Fraction
-    most: int
     nodes: int
     seconds: float
+    least: Rank
 
-    def run(self) -> list[Thinned]:
-        from .dropping import dropped
-        found = dropped(self.case, self.structure, self.most_cost, self.most, self.nodes, self.seconds)
-        return [found] if found else []
+    def run(self) -> WholeEnd:
+        most = min(self.least[0], len(self.structure.pairs)) - 1
+        found = dropped(self.case, self.structure, self.most_cost, most, self.nodes, self.seconds)
+        return whole_end(self.case, [found] if found else [], self.most_cost, self.least)
+
+
+def whole_end(case: Case, found: Sequence[Thinned], most_cost: Fraction, least: Rank) -> WholeEnd:
+    """What a job of the whole case gives: what it found, fewest exchangers first, and the best of it that is below the
+    least and does in fractions too."""
+    for thin in found:
+        if thin.rank >= least:
+            break
+        exact = tuple(exact_kinds(case, thin.structure, most_cost))
+        if exact:
+            return WholeEnd(tuple(found), exact)
+    return WholeEnd(tuple(found), ())
+
+
+def exact_kinds(case: Case, structure: Structure, most_cost: Fraction) -> Iterator[Costed]:
+    """A structure in fractions: with its shares, and where these become long or do not do, with isothermal mixing."""
+    for kind in kinds(structure):
+        costed = cheapest(case, kind)
+        if costed is not None and costed.cost <= most_cost:
+            yield costed
+            if all(duty.denominator < SHORT for duty in costed.duties.values()):
+                return
 
 
 Job = ChainJob | CombineJob | ThinJob | DropJob

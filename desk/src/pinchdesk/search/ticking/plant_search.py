@@ -1,7 +1,7 @@
 """The search at plant size: windows ticked off by many chains, and their networks combined over the whole case.
 
-It goes in rounds of jobs. What a round does follows from the seed and the rounds before alone, so a number of rounds
-gives the same networks by one process or by many."""
+It is a row of jobs. What a job is asked follows from the seed and from the ends of all jobs but the last few before it,
+so that a number of jobs finds the same networks by one process or by many."""
 from __future__ import annotations
 
 from collections.abc import Callable, Mapping, Sequence
@@ -9,35 +9,36 @@ from dataclasses import dataclass, field
 from fractions import Fraction
 
 from ..accepted import Judge, Judged
-from ..reduce.least_cost import cheapest
-from ..reduce.simplify import kinds
-from ..reduce.structure import Structure
+from ..reduce.structure import Structure, splits
 from ..staged.windows import Window, windows
 from .courses import Chain, ChainEnd, WindowNetwork, shape_of
-from .jobs import ChainJob, CombineJob, DropJob, Job, ThinJob
-from .thinning import Thinned
+from .jobs import ChainJob, CombineJob, DropJob, Job, ThinJob, WholeEnd
+from .thinning import Rank, Thinned
 
-# With how many times the sources a descent takes so much longer, as an exponent; the fewest descents of a round.
+# A job is asked when so many before it are still at work: as many processes are busy.
+LAG = 8
+# After so many chains there is a job of the whole case.
+CHAINS_TO_ONE = 3
+# With how many times the sources a descent takes so much longer, as an exponent; the fewest descents of a job.
 SLOWER, FEWEST_STEPS = 2.2, 5
 # Networks of a window that are kept; structures that wait to be made less.
 KEPT, CANDIDATES = 150, 20
+# More exchangers than any network has that is looked at.
+MANY = 10 ** 6
 # A seed is a number below this.
 SEEDS = 2 ** 31 - 1
 
 
 @dataclass(frozen=True)
 class Pace:
-    """What is done in a round: chains of each window, their descents in a window of ten sources, jobs that combine,
-    their combinations, how often the first network is thinned out, and the limits of a program that drops exchangers:
-    nodes, and seconds, which should never count."""
+    """How much one job does: descents in a window of ten sources, combinations, how often the first network is thinned
+    out; and the limits of a program that drops exchangers: nodes, and seconds, which should never count."""
 
-    chains: int = 2
     steps: int = 600
-    combiners: int = 2
     tries: int = 60
     thinnings: int = 3
     nodes: int = 200
-    seconds: float = 5.0
+    seconds: float = 60.0
 
     def steps_of(self, window: Window) -> int:
         return max(FEWEST_STEPS, round(self.steps * (10 / max(10, len(window.pieces))) ** SLOWER))
@@ -70,85 +71,109 @@ class WindowPool:
         self.chains = [chain if chain.ticks and chain.count <= least + 2 else ahead for chain in self.chains]
 
 
+def chains_of(parts: Sequence[Window]) -> list[int]:
+    """How many chains each window has: by the square of its sources."""
+    squares = [len(window.pieces) ** 2 for window in parts]
+    return [max(1, round((LAG - 2) * square / sum(squares))) for square in squares]
+
+
 class PlantSearch:
     """A search in a completed case, with the heats of its utilities at the least cost. Networks cost at most
-    `most_cost` and have fewer than `least` exchangers; `take` gets those that were accepted. `begin` is a network to
-    thin out first, such as that of the composite curves."""
+    `most_cost`, and have fewer exchangers than the `begin` one, or as many and fewer splits; `tell` gets those that
+    were accepted. What it begins with, such as the network of the composite curves, is thinned out first."""
 
-    def __init__(self, judge: Judge, uses: Mapping[str, int], most_cost: Fraction, least: int,
-                 take: Callable[[Judged], None], begin: Structure | None = None, seed: int = 1,
-                 pace: Pace = Pace()) -> None:
-        self.judge, self.most_cost, self.least, self.take, self.seed = judge, most_cost, least, take, seed
-        self.pace = pace
-        self.pools = [WindowPool(window, [Chain()] * pace.chains) for window in windows(judge.case, uses)]
-        self.begin = begin
+    def __init__(self, judge: Judge, uses: Mapping[str, int], most_cost: Fraction, tell: Callable[[Judged], None],
+                 begin: Structure | None = None, seed: int = 1, pace: Pace = Pace()) -> None:
+        self.judge, self.most_cost, self.tell = judge, most_cost, tell
+        self.begin, self.seed, self.pace = begin, seed, pace
+        self.least: Rank = (MANY, 0) if begin is None else (len(begin.pairs), splits(begin))
+        self.pays = most_cost > sum(utility.price * uses[utility.name] for utility in judge.case.utilities)
+        parts = windows(judge.case, uses)
+        self.pools = [WindowPool(window, [Chain()] * count) for window, count in zip(parts, chains_of(parts))]
         # Structures whose exchangers may go together, the latest last, and those that were looked at.
         self.candidates: list[Structure] = []
         self.known: set[str] = set()
-        self.turn = 0
+        # A chain of a window, or None for a job of the whole case, one after the other.
+        self.cycle: list[tuple[int, int] | None] = []
+        for at, pool in enumerate(self.pools):
+            for number in range(len(pool.chains)):
+                self.cycle.append((at, number))
+                self.cycle += [None] * (len(self.cycle) % (CHAINS_TO_ONE + 1) == CHAINS_TO_ONE)
+        self.cycle += [None] * (None not in self.cycle)
 
-    def round(self, run_jobs: Callable[[Sequence[Job]], list[object]]) -> None:
-        """One round of jobs; `run_jobs` gives their ends in their order."""
-        places = [(pool, number) for pool in self.pools for number in range(self.pace.chains)]
-        others = self.other_jobs()
-        chains = [self.chain_job(at, pool, number) for at, (pool, number) in enumerate(places)]
-        ends = run_jobs([*others, *chains])
-        for end in ends[:len(others)]:
-            assert isinstance(end, list)
-            self.take_thinned(end)
-        for (pool, number), end in zip(places, ends[len(others):]):
-            assert isinstance(end, ChainEnd)
-            pool.take(number, end)
-        self.turn += 1
-
-    def other_jobs(self) -> list[Job]:
-        """Jobs of the whole case: the first network thinned out, combinations, and exchangers that go together."""
+    def job(self, number: int) -> Job:
+        """The job of this number."""
+        place = self.cycle[number % len(self.cycle)]
+        if place is not None:
+            return self.chain_job(number, *place)
         case, cost = self.judge.case, self.most_cost
-        jobs: list[Job] = []
-        if self.turn == 0 and self.begin is not None:
-            jobs.append(ThinJob(case, self.begin, cost, self.seed, self.pace.thinnings))
-        if all(pool.networks for pool in self.pools):
-            pools = [list(pool.networks.values()) for pool in self.pools]
-            jobs += [CombineJob(case, pools, cost, self.seed_of(number), self.pace.tries, self.least)
-                     for number in range(self.pace.combiners)]
-        if self.candidates:
-            structure = self.candidates.pop()
-            jobs.append(DropJob(case, structure, cost, min(self.least, len(structure.pairs)) - 1, self.pace.nodes,
-                                self.pace.seconds))
-        return jobs
+        if self.begin is not None and number < len(self.cycle):
+            return ThinJob(case, self.begin, cost, self.seed_of(number), self.pace.thinnings, self.least)
+        empty = [at for at, pool in enumerate(self.pools) if not pool.networks]
+        if empty:
+            return self.chain_job(number, empty[0], 0)
+        if self.candidates and number // len(self.cycle) % 2:
+            return DropJob(case, self.candidates.pop(), cost, self.pace.nodes, self.pace.seconds, self.least)
+        pools = [list(pool.networks.values()) for pool in self.pools]
+        return CombineJob(case, pools, cost, self.pays, self.seed_of(number), self.pace.tries, self.least)
 
-    def chain_job(self, at: int, pool: WindowPool, number: int) -> ChainJob:
-        return ChainJob(pool.window, self.seed_of(self.pace.combiners + at), self.pace.steps_of(pool.window),
-                        pool.chains[number], pool.least)
+    def chain_job(self, number: int, at: int, chain: int) -> ChainJob:
+        pool = self.pools[at]
+        return ChainJob(pool.window, at, chain, self.seed_of(number), self.pace.steps_of(pool.window),
+                        pool.chains[chain], pool.least)
 
     def seed_of(self, number: int) -> int:
-        """The seed of a job of this round."""
-        return (self.seed * 1_000_003 + self.turn * 8_191 + number * 131 + 7) % SEEDS
+        """The seed of a job."""
+        return (self.seed * 1_000_003 + number * 8_191 + 7) % SEEDS
 
-    def take_thinned(self, found: Sequence[Thinned]) -> None:
-        """Makes the best of what was found exact, and has it audited. What is near the best may be made less later."""
-        for thin in found:
-            shape = shape_of(thin.structure.pairs, thin.structure.courses)
-            if thin.count > self.least + 1 or shape in self.known:
-                continue
-            self.known.add(shape)
-            self.candidates = [*self.candidates[-CANDIDATES:], thin.structure]
-            if thin.count < self.least:
-                self.take_structure(thin.structure)
-
-    def take_structure(self, structure: Structure) -> None:
-        judged = self.judged(structure)
-        if judged is not None and judged.count < self.least:
-            self.least = judged.count
-            self.take(judged)
-
-    def judged(self, structure: Structure) -> Judged | None:
-        """The structure as an accepted network: with its shares, or with isothermal mixing, whose fractions may be
-        shorter; None where neither is."""
-        for kind in kinds(structure):
-            costed = cheapest(self.judge.case, kind)
-            if costed is not None and costed.cost <= self.most_cost:
+    def take(self, job: Job, end: object) -> None:
+        """Takes the end of a job."""
+        if isinstance(job, ChainJob):
+            assert isinstance(end, ChainEnd)
+            self.pools[job.at].take(job.chain, end)
+            return
+        assert isinstance(end, WholeEnd)
+        for thin in end.found:
+            self.note(thin)
+        for costed in end.exact:
+            if (len(costed.duties), splits(costed.structure)) < self.least:
                 judged = self.judge.of(costed)
                 if judged is not None:
-                    return judged
-        return None
+                    self.least = (judged.count, judged.splits)
+                    self.tell(judged)
+
+    def note(self, thin: Thinned) -> None:
+        """Keeps a structure that is near the best, which may be made less later."""
+        shape = shape_of(thin.structure.pairs, thin.structure.courses)
+        if thin.count <= self.least[0] + 1 and shape not in self.known:
+            self.known.add(shape)
+            self.candidates = [*self.candidates[-CANDIDATES:], thin.structure]
+
+
+class JobRow:
+    """The jobs of a search that are asked and not yet taken, in their order."""
+
+    def __init__(self, search: PlantSearch) -> None:
+        self.search = search
+        self.asked: list[Job] = []
+        self.ends: dict[int, object] = {}
+        # How many jobs were taken; that is the number of the first that is asked.
+        self.taken = 0
+        self.fill()
+
+    def fill(self) -> None:
+        while len(self.asked) < LAG:
+            self.asked.append(self.search.job(self.taken + len(self.asked)))
+
+    def end(self, number: int, end: object) -> None:
+        """Notes the end of a job, and takes what may be taken: each in its turn."""
+        self.ends[number] = end
+        while self.taken in self.ends:
+            self.search.take(self.asked.pop(0), self.ends.pop(self.taken))
+            self.taken += 1
+            self.fill()
+
+    def job(self, number: int) -> Job | None:
+        """A job that is asked, None where it is not yet."""
+        at = number - self.taken
+        return self.asked[at] if 0 <= at < len(self.asked) else None

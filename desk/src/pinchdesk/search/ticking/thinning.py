@@ -13,7 +13,8 @@ from random import Random
 import numpy
 
 from ...formats.case import Case
-from ..reduce.structure import Structure, reduced
+from ..reduce.moves import with_ends
+from ..reduce.structure import Structure, reduced, splits
 from .courses import WindowNetwork
 from .float_duties import NONE, FloatDuties, Floats, least_point
 from .joining import joined_windows
@@ -22,6 +23,10 @@ from .joining import joined_windows
 HALF, ROUNDS = 2.0, 6
 # Combinations that are at most so many exchangers above the best are thinned out; so many of the best are given.
 NEAR_BEST, MOST = 2, 6
+
+
+# A number of exchangers and one of splits.
+Rank = tuple[int, int]
 
 
 @dataclass(frozen=True)
@@ -34,6 +39,11 @@ class Thinned:
     @property
     def count(self) -> int:
         return len(self.duties)
+
+    @property
+    def rank(self) -> Rank:
+        """What is less is better: exchangers, then splits."""
+        return (self.count, splits(self.structure))
 
 
 def thinned_once(case: Case, structure: Structure, most_cost: Fraction, weights: Floats | None) -> Thinned | None:
@@ -70,17 +80,19 @@ def thinned(case: Case, structure: Structure, most_cost: Fraction, random: Rando
 Pool = Sequence[WindowNetwork]
 
 
-def combined(case: Case, pools: Sequence[Pool], most_cost: Fraction, seed: int, tries: int, least: int,
-             begin: Sequence[int] = ()) -> tuple[list[Thinned], tuple[int, ...]]:
-    """The best of so many combinations of a network of each window, fewest exchangers first, and the last combination.
-    One window's network changes at a time; `least` is what the best so far has."""
+def combined(case: Case, pools: Sequence[Pool], most_cost: Fraction, pays: bool, seed: int, tries: int, least: int,
+             ) -> list[Thinned]:
+    """The best of so many combinations of a network of each window, fewest exchangers first. One window's network
+    changes at a time; `least` is what the best so far has. Where it may cost more than the least (`pays`), each stream
+    may end at each utility."""
     random = Random(seed)
-    now = tuple(begin) or tuple(random.randrange(len(pool)) for pool in pools)
+    now = tuple(random.randrange(len(pool)) for pool in pools)
     found: list[Thinned] = []
     count = None
     for _ in range(tries):
         tried = changed(now, pools, random) if count is not None else now
         structure = joined_windows(case, [pool[at] for pool, at in zip(pools, tried)])
+        structure = with_ends(case, structure) if pays else structure
         less = thinned(case, structure, most_cost, random, 0)
         if less is None:
             now = tried if count is None else now
@@ -91,8 +103,8 @@ def combined(case: Case, pools: Sequence[Pool], most_cost: Fraction, seed: int, 
             found.append(less)
         if count is None or less.count <= count + (random.random() < 0.1):
             now, count = tried, less.count
-    found.sort(key=lambda thin: thin.count)
-    return found[:MOST], now
+    found.sort(key=lambda thin: thin.rank)
+    return found[:MOST]
 
 
 def changed(combination: tuple[int, ...], pools: Sequence[Pool], random: Random) -> tuple[int, ...]:
