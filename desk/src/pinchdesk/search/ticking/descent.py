@@ -10,7 +10,7 @@ from .courses import BOTTOM, TOP, Tick
 from .heat_left import Fit, HeatLeft
 
 # The largest part of a duty that fits is found by so many halvings; a smaller part of it than this is none.
-HALVINGS, LEAST_PART = 40, 1 / 512
+HALVINGS, LEAST_PART = 30, 1 / 512
 Table = dict[tuple[int, int], list[Fit]]
 
 
@@ -152,7 +152,8 @@ class Descent:
     def part(self, hot: int, cold: int, hot_place: int, cold_place: int, least: float) -> Fit | None:
         """The largest duty at these places that fits, where it is above the least."""
         most = min(self.left.loads[hot], self.left.loads[cold])
-        low, high = max(least, most * LEAST_PART), most
+        # What is left of both is more than a sliver.
+        low, high = max(least, most * LEAST_PART), most * (1 - LEAST_PART)
         if low >= high:
             return None
         best = self.left.fit(Tick(hot, cold, hot_place, cold_place, low))

@@ -141,12 +141,12 @@ class HeatLeft:
         size = self.loads[slot] / (high - low)
         if place == WHOLE:
             return Rectangle(high, low, size)
+        if place == BESIDE or self.levels[slot]:
+            return Rectangle(high, low, duty / (high - low))
         if place == TOP:
             return Rectangle(high, high - duty / size, size)
         if place == BOTTOM:
             return Rectangle(low + duty / size, low, size)
-        if place == BESIDE:
-            return Rectangle(high, low, duty / (high - low))
         if place == CORNER_TOP:
             return Rectangle(high, high - duty / partner_size, partner_size)
         return Rectangle(low + duty / partner_size, low, partner_size)
@@ -160,7 +160,10 @@ class HeatLeft:
     def finished(self, hot: int, cold: int) -> int:
         """Which source the whole smaller heat finishes: 1 the hot one, -1 the cold one, 0 both."""
         difference = self.loads[hot] - self.loads[cold]
-        return 0 if abs(difference) <= self.none else 1 if difference < 0 else -1
+        larger = cold if difference < 0 else hot
+        if abs(difference) <= max(self.none, 0.0 if self.levels[larger] else NEAR * self.size(larger)):
+            return 0
+        return 1 if difference < 0 else -1
 
     def tick_off(self, hot: int, cold: int, place: int) -> Tick:
         """The exchanger that finishes the smaller source, at a place of the larger one."""
@@ -210,6 +213,8 @@ class HeatLeft:
             return
         high, low, size = self.highs[slot], self.lows[slot], self.size(slot)
         self.loads[slot] -= duty
+        if self.levels[slot]:
+            return
         if place == TOP:
             self.highs[slot] = high - duty / size
         elif place == BOTTOM:

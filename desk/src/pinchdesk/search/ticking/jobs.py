@@ -14,7 +14,7 @@ from ..staged.windows import Window
 from .courses import Chain, ChainEnd
 from .dropping import dropped
 from .ruin import run_chain
-from .thinning import Pool, Rank, Thinned, combined, thinned
+from .thinning import Mixing, Rank, Thinned, combined, thinned
 
 
 # A duty with a smaller denominator is short enough for a text whose fractions `pinch audit` follows.
@@ -48,20 +48,16 @@ class ChainJob:
 
 @dataclass(frozen=True)
 class CombineJob:
-    """So many combinations of a network of each window, at the least cost or where it `pays` at a higher one."""
+    """So many combinations of a network of each window."""
 
-    case: Case
-    pools: Sequence[Pool]
-    most_cost: Fraction
-    pays: bool
+    mixing: Mixing
     seed: int
     tries: int
     least: Rank
 
     def run(self) -> WholeEnd:
-        found = combined(self.case, self.pools, self.most_cost, self.pays, self.seed, self.tries,
-                         self.least[0])
-        return whole_end(self.case, found, self.most_cost, self.least)
+        found = combined(self.mixing, self.seed, self.tries, self.least[0])
+        return whole_end(self.mixing.case, found, self.mixing.most_cost, self.least)
 
 
 @dataclass(frozen=True)

@@ -13,7 +13,7 @@ from ..reduce.structure import Structure, splits
 from ..staged.windows import Window, windows
 from .courses import Chain, ChainEnd, WindowNetwork, shape_of
 from .jobs import ChainJob, CombineJob, DropJob, Job, ThinJob, WholeEnd
-from .thinning import Rank, Thinned
+from .thinning import MANY, Combination, Mixing, Rank, Thinned
 
 # A job is asked when so many before it are still at work: as many processes are busy.
 LAG = 8
@@ -23,8 +23,6 @@ CHAINS_TO_ONE = 3
 SLOWER, FEWEST_STEPS = 2.2, 5
 # Networks of a window that are kept; structures that wait to be made less.
 KEPT, CANDIDATES = 150, 20
-# More exchangers than any network has that is looked at.
-MANY = 10 ** 6
 # A seed is a number below this.
 SEEDS = 2 ** 31 - 1
 
@@ -93,6 +91,8 @@ class PlantSearch:
         # Structures whose exchangers may go together, the latest last, and those that were looked at.
         self.candidates: list[Structure] = []
         self.known: set[str] = set()
+        # The combination of the best network so far, for every other job that combines.
+        self.favourite: Combination = ()
         # A chain of a window, or None for a job of the whole case, one after the other.
         self.cycle: list[tuple[int, int] | None] = []
         for at, pool in enumerate(self.pools):
@@ -114,8 +114,9 @@ class PlantSearch:
             return self.chain_job(number, empty[0], 0)
         if self.candidates and number // len(self.cycle) % 2:
             return DropJob(case, self.candidates.pop(), cost, self.pace.nodes, self.pace.seconds, self.least)
-        pools = [list(pool.networks.values()) for pool in self.pools]
-        return CombineJob(case, pools, cost, self.pays, self.seed_of(number), self.pace.tries, self.least)
+        pools = [tuple(pool.networks.values()) for pool in self.pools]
+        begin = self.favourite if number % 2 else ()
+        return CombineJob(Mixing(case, pools, cost, self.pays, begin), self.seed_of(number), self.pace.tries, self.least)
 
     def chain_job(self, number: int, at: int, chain: int) -> ChainJob:
         pool = self.pools[at]
@@ -135,6 +136,8 @@ class PlantSearch:
         assert isinstance(end, WholeEnd)
         for thin in end.found:
             self.note(thin)
+        if end.found and end.found[0].combination and end.found[0].count <= self.least[0]:
+            self.favourite = end.found[0].combination
         for costed in end.exact:
             if (len(costed.duties), splits(costed.structure)) < self.least:
                 judged = self.judge.of(costed)

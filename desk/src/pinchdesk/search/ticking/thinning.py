@@ -6,7 +6,7 @@ flow to the others, and the next program has more room."""
 from __future__ import annotations
 
 from collections.abc import Sequence
-from dataclasses import dataclass
+from dataclasses import dataclass, replace
 from fractions import Fraction
 from random import Random
 
@@ -21,8 +21,9 @@ from .joining import joined_windows
 
 # A duty of so many thousandths of the greatest heat has half the weight of none; how often weights are made anew.
 HALF, ROUNDS = 2.0, 6
-# Combinations that are at most so many exchangers above the best are thinned out; so many of the best are given.
-NEAR_BEST, MOST = 2, 6
+# Combinations that are at most so many exchangers above the best are thinned out; so many of the best are given; how
+# often a combination of one exchanger more is taken; more exchangers than any network has that is looked at.
+NEAR_BEST, MOST, WORSE, MANY = 2, 6, 0.1, 10 ** 6
 
 
 # A number of exchangers and one of splits.
@@ -35,6 +36,8 @@ class Thinned:
 
     structure: Structure
     duties: tuple[float, ...]
+    # The networks of the windows of which it was made.
+    combination: Combination = ()
 
     @property
     def count(self) -> int:
@@ -78,36 +81,50 @@ def thinned(case: Case, structure: Structure, most_cost: Fraction, random: Rando
 
 
 Pool = Sequence[WindowNetwork]
+Combination = tuple[WindowNetwork, ...]
 
 
-def combined(case: Case, pools: Sequence[Pool], most_cost: Fraction, pays: bool, seed: int, tries: int, least: int,
-             ) -> list[Thinned]:
-    """The best of so many combinations of a network of each window, fewest exchangers first. One window's network
-    changes at a time; `least` is what the best so far has. Where it may cost more than the least (`pays`), each stream
-    may end at each utility."""
-    random = Random(seed)
-    now = tuple(random.randrange(len(pool)) for pool in pools)
-    found: list[Thinned] = []
-    count = None
-    for _ in range(tries):
-        tried = changed(now, pools, random) if count is not None else now
-        structure = joined_windows(case, [pool[at] for pool, at in zip(pools, tried)])
-        structure = with_ends(case, structure) if pays else structure
-        less = thinned(case, structure, most_cost, random, 0)
+@dataclass(frozen=True)
+class Mixing:
+    """What is combined: a network of each window, from its pool. `begin` is the combination to begin with, of the best
+    network so far; none for one by chance. Where networks may cost more than the least, each stream may end at each
+    utility (`pays`)."""
+
+    case: Case
+    pools: Sequence[Pool]
+    most_cost: Fraction
+    pays: bool
+    begin: Combination = ()
+
+    def structure(self, combination: Combination) -> Structure:
+        structure = joined_windows(self.case, combination)
+        return with_ends(self.case, structure) if self.pays else structure
+
+    def first(self, random: Random) -> Combination:
+        return self.begin or tuple(random.choice(pool) for pool in self.pools)
+
+    def changed(self, combination: Combination, random: Random) -> Combination:
+        """Another network for one of the windows."""
+        at = random.randrange(len(self.pools))
+        return (*combination[:at], random.choice(self.pools[at]), *combination[at + 1:])
+
+
+def combined(mixing: Mixing, seed: int, tries: int, least: int) -> list[Thinned]:
+    """The best of so many combinations, fewest exchangers first: each differs from the one before in one window.
+    `least` is what the best so far has."""
+    random, found, count = Random(seed), [], MANY
+    now = mixing.first(random)
+    for turn in range(tries):
+        tried = mixing.changed(now, random) if turn else now
+        less = thinned(mixing.case, mixing.structure(tried), mixing.most_cost, random, 0)
         if less is None:
-            now = tried if count is None else now
+            now = now if count < MANY else mixing.changed(now, random)
             continue
         if less.count <= least + NEAR_BEST:
-            less = thinned(case, less.structure, most_cost, random) or less
+            less = thinned(mixing.case, less.structure, mixing.most_cost, random) or less
             least = min(least, less.count)
-            found.append(less)
-        if count is None or less.count <= count + (random.random() < 0.1):
+            found.append(replace(less, combination=tried))
+        if less.count <= count + (random.random() < WORSE):
             now, count = tried, less.count
     found.sort(key=lambda thin: thin.rank)
     return found[:MOST]
-
-
-def changed(combination: tuple[int, ...], pools: Sequence[Pool], random: Random) -> tuple[int, ...]:
-    """Another network for one of the windows."""
-    at = random.randrange(len(pools))
-    return (*combination[:at], random.randrange(len(pools[at])), *combination[at + 1:])
