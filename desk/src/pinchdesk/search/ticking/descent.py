@@ -6,7 +6,7 @@ from dataclasses import dataclass
 from math import inf
 from random import Random
 
-from .courses import BOTTOM, TOP, Tick
+from .courses import BESIDE, BOTTOM, TOP, Tick
 from .heat_left import Fit, HeatLeft
 
 # The largest part of a duty that fits is found by so many halvings; a smaller part of it than this is none.
@@ -52,7 +52,7 @@ class Descent:
     def run(self, most: int) -> bool:
         """Whether it comes to its end with at most so many exchangers."""
         left = self.left
-        while left.hots or left.colds:
+        while not left.is_done:
             if left.count + left.least_left > most or not left.hots or not left.colds or not self.step():
                 return False
         return True
@@ -68,14 +68,32 @@ class Descent:
         if self.table:
             fit = self.best(self.ticks_of_one(counts))
             return fit is not None and self.take(fit)
+        return self.cut_or_part()
+
+    def cut_or_part(self) -> bool:
+        """Where nothing can be finished: a source is cut where no heat crosses, so that a piece of it can be; or the
+        largest part of a pair is taken; or a source is cut all the same."""
         crossings = list(self.left.crossings())
-        if crossings:
-            slot, place = self.random.choice(crossings)
-            self.left.cut(slot, place)
-            self.renew({slot, len(self.left.highs) - 1}, -inf, inf)
-            return True
-        fit = self.largest_part()
-        return fit is not None and self.take(fit)
+        self.random.shuffle(crossings)
+        useful = next((crossing for crossing in crossings if self.helps(*crossing)), None)
+        fit = None if useful else self.largest_part()
+        if fit:
+            return self.take(fit)
+        if not crossings:
+            return False
+        slot, place = useful or crossings[0]
+        self.left.cut(slot, place)
+        self.renew({slot, len(self.left.highs) - 1}, -inf, inf)
+        return True
+
+    def helps(self, slot: int, place: float) -> bool:
+        """Whether a piece of a source can be finished, or finishes another one, once it is cut."""
+        tried = self.left.copy()
+        tried.cut(slot, place)
+        pieces = (slot, len(tried.highs) - 1)
+        if slot in tried.hots:
+            return any(tried.tick_fits(piece, cold) for piece in pieces for cold in tried.colds)
+        return any(tried.tick_fits(hot, piece) for piece in pieces for hot in tried.hots)
 
     def counts(self) -> list[int]:
         """How many exchangers that fit each slot has."""
@@ -142,8 +160,8 @@ class Descent:
                 if not self.left.may_meet(hot, cold):
                     continue
                 weight = 0.5 + self.random.random()
-                for hot_place in (TOP,) if self.left.levels[hot] else (TOP, BOTTOM):
-                    for cold_place in (TOP,) if self.left.levels[cold] else (TOP, BOTTOM):
+                for hot_place in (TOP,) if self.left.levels[hot] else (TOP, BOTTOM, BESIDE):
+                    for cold_place in (TOP,) if self.left.levels[cold] else (TOP, BOTTOM, BESIDE):
                         fit = self.part(hot, cold, hot_place, cold_place, largest / weight)
                         if fit and fit.tick.duty * weight > largest:
                             best, largest = fit, fit.tick.duty * weight

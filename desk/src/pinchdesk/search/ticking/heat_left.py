@@ -14,6 +14,8 @@ from .courses import BESIDE, BOTTOM, CORNER_BOTTOM, CORNER_TOP, CUT, TOP, WHOLE,
 
 # Two temperatures that are nearer are one, in tenths of °C; the range of a level; a heat that is none, as a part of all.
 NEAR, LEVEL_RANGE, FINE = 1e-6, 1e-2, 1e-9
+# So much of all heat may be left over at the end.
+LEFT_OVER = 1e-6
 # The cascade is 0 where it is less than so many times what is none.
 TIGHT = 10.0
 
@@ -256,6 +258,11 @@ class HeatLeft:
     def crosses(self, slot: int, place: float) -> bool:
         inside = self.lows[slot] + TIGHT * NEAR < place < self.highs[slot] - TIGHT * NEAR
         return inside and not self.levels[slot]
+
+    @property
+    def is_done(self) -> bool:
+        """Whether nothing is left but what floats do not tell from nothing."""
+        return sum(self.loads[slot] for slot in (*self.hots, *self.colds)) <= self.scale * LEFT_OVER
 
     @property
     def least_left(self) -> int:

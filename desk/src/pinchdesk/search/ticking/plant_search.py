@@ -21,6 +21,8 @@ LAG = 8
 CHAINS_TO_ONE = 3
 # With how many times the sources a descent takes so much longer, as an exponent; the fewest descents of a job.
 SLOWER, FEWEST_STEPS = 2.2, 5
+# From this turn of the cycle on jobs are as long as they become; in each one before half as long as in the next.
+FULL_TURN = 3
 # Networks of a window that are kept; structures that wait to be made less.
 KEPT, CANDIDATES = 150, 20
 # A seed is a number below this.
@@ -38,8 +40,10 @@ class Pace:
     nodes: int = 200
     seconds: float = 60.0
 
-    def steps_of(self, window: Window) -> int:
-        return max(FEWEST_STEPS, round(self.steps * (10 / max(10, len(window.pieces))) ** SLOWER))
+    def steps_of(self, window: Window, turn: int) -> int:
+        """The descents of a job in a window; fewer at first, so that there is soon something to combine."""
+        first = 2.0 ** min(0, turn - FULL_TURN)
+        return max(FEWEST_STEPS, round(first * self.steps * (10 / max(10, len(window.pieces))) ** SLOWER))
 
 
 @dataclass
@@ -120,8 +124,8 @@ class PlantSearch:
 
     def chain_job(self, number: int, at: int, chain: int) -> ChainJob:
         pool = self.pools[at]
-        return ChainJob(pool.window, at, chain, self.seed_of(number), self.pace.steps_of(pool.window),
-                        pool.chains[chain], pool.least)
+        return ChainJob(pool.window, at, chain, self.seed_of(number),
+                        self.pace.steps_of(pool.window, number // len(self.cycle)), pool.chains[chain], pool.least)
 
     def seed_of(self, number: int) -> int:
         """The seed of a job."""

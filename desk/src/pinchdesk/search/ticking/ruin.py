@@ -79,7 +79,7 @@ def replayed(first: HeatLeft, ticks: tuple[Tick, ...], dropped: set[int]) -> Hea
 
 def most_of(window: Window) -> int:
     """With more exchangers than this no chain begins."""
-    return 2 * len(window.pieces)
+    return 5 * len(window.pieces)
 
 
 def run_chain(window: Window, seed: int, steps: int, begin: Chain, least: int | None) -> ChainEnd:
