@@ -116,7 +116,7 @@ def test_a_branch_beside_and_one_in_a_corner_have_exact_shares() -> None:
 
 
 def test_a_thinned_structure_has_duties_for_all_that_is_left(pinch: Pinch) -> None:
-    case, parts = windows_of(pinch, '10sp1')
+    case, parts = windows_of(pinch, 'tc3')
     networks = [run_chain(window, 1, 10, Chain(), None).networks[0] for window in parts]
     structure = joined_windows(case, networks)
     flow = pinch.flow(case)

@@ -97,6 +97,8 @@ class PlantSearch:
         self.known: set[str] = set()
         # The combination of the best network so far, for every other job that combines.
         self.favourite: Combination = ()
+        # How many jobs were taken, and when the last of them found something better.
+        self.taken, self.bettered = 0, 0
         # A chain of a window, or None for a job of the whole case, one after the other.
         self.cycle: list[tuple[int, int] | None] = []
         for at, pool in enumerate(self.pools):
@@ -111,16 +113,22 @@ class PlantSearch:
         if place is not None:
             return self.chain_job(number, *place)
         case, cost = self.judge.case, self.most_cost
-        if self.begin is not None and number < len(self.cycle):
+        order = self.order_of(number)
+        if self.begin is not None and order == 0:
             return ThinJob(case, self.begin, cost, self.seed_of(number), self.pace.thinnings, self.least)
         empty = [at for at, pool in enumerate(self.pools) if not pool.networks]
         if empty:
             return self.chain_job(number, empty[0], 0)
-        if self.candidates and number // len(self.cycle) % 2:
+        if self.candidates and order % 3 == 2:
             return DropJob(case, self.candidates.pop(), cost, self.pace.nodes, self.pace.seconds, self.least)
         pools = [tuple(pool.networks.values()) for pool in self.pools]
-        begin = self.favourite if number % 2 else ()
+        begin = self.favourite if order % 2 else ()
         return CombineJob(Mixing(case, pools, cost, self.pays, begin), self.seed_of(number), self.pace.tries, self.least)
+
+    def order_of(self, number: int) -> int:
+        """Which of the jobs of the whole case a job is, from 0."""
+        turns, at = divmod(number, len(self.cycle))
+        return turns * self.cycle.count(None) + self.cycle[:at].count(None)
 
     def chain_job(self, number: int, at: int, chain: int) -> ChainJob:
         pool = self.pools[at]
@@ -133,6 +141,7 @@ class PlantSearch:
 
     def take(self, job: Job, end: object) -> None:
         """Takes the end of a job."""
+        self.taken += 1
         if isinstance(job, ChainJob):
             assert isinstance(end, ChainEnd)
             self.pools[job.at].take(job.chain, end)
@@ -146,7 +155,7 @@ class PlantSearch:
             if (len(costed.duties), splits(costed.structure)) < self.least:
                 judged = self.judge.of(costed)
                 if judged is not None:
-                    self.least = (judged.count, judged.splits)
+                    self.least, self.bettered = (judged.count, judged.splits), self.taken
                     self.tell(judged)
 
     def note(self, thin: Thinned) -> None:
@@ -164,23 +173,21 @@ class JobRow:
         self.search = search
         self.asked: list[Job] = []
         self.ends: dict[int, object] = {}
-        # How many jobs were taken; that is the number of the first that is asked.
-        self.taken = 0
         self.fill()
 
     def fill(self) -> None:
         while len(self.asked) < LAG:
-            self.asked.append(self.search.job(self.taken + len(self.asked)))
+            self.asked.append(self.search.job(self.search.taken + len(self.asked)))
 
     def end(self, number: int, end: object) -> None:
         """Notes the end of a job, and takes what may be taken: each in its turn."""
         self.ends[number] = end
-        while self.taken in self.ends:
-            self.search.take(self.asked.pop(0), self.ends.pop(self.taken))
-            self.taken += 1
+        while self.search.taken in self.ends:
+            end = self.ends.pop(self.search.taken)
+            self.search.take(self.asked.pop(0), end)
             self.fill()
 
     def job(self, number: int) -> Job | None:
         """A job that is asked, None where it is not yet."""
-        at = number - self.taken
+        at = number - self.search.taken
         return self.asked[at] if 0 <= at < len(self.asked) else None
