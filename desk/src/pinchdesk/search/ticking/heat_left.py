@@ -167,33 +167,43 @@ class HeatLeft:
             return 0
         return 1 if difference < 0 else -1
 
-    def tick_off(self, hot: int, cold: int, place: int) -> Tick:
-        """The exchanger that finishes the smaller source, at a place of the larger one."""
-        which = self.finished(hot, cold)
-        return Tick(hot, cold, WHOLE if which >= 0 else place, WHOLE if which <= 0 else place,
-                    min(self.loads[hot], self.loads[cold]))
+    def finishing(self, hot: int, cold: int, places: tuple[int, ...], which: int) -> list[Fit]:
+        """The exchangers that finish the smaller of two sources, or both, at places of the larger one, and fit."""
+        duty = self.loads[cold] if which < 0 else self.loads[hot]
+        warm, cool = self.part(hot, WHOLE, duty, 0.0), self.part(cold, WHOLE, duty, 0.0)
+        if which == 0:
+            return [Fit(Tick(hot, cold, WHOLE, WHOLE, duty), warm, cool)] if self.fits(warm, cool) else []
+        found = []
+        for place in places:
+            if which > 0:
+                cool = self.part(cold, place, duty, warm.size)
+            else:
+                warm = self.part(hot, place, duty, cool.size)
+            if self.fits(warm, cool):
+                tick = Tick(hot, cold, WHOLE, place, duty) if which > 0 else Tick(hot, cold, place, WHOLE, duty)
+                found.append(Fit(tick, warm, cool))
+        return found
 
     def tick_fits(self, hot: int, cold: int) -> list[Fit]:
         """The exchangers that finish one of two sources, or both, and fit."""
         if self.highs[hot] < self.lows[cold] - NEAR or not self.may_meet(hot, cold):
             return []
         which = self.finished(hot, cold)
-        larger = hot if which < 0 else cold
-        places = (TOP,) if which == 0 else (BESIDE,) if self.levels[larger] else (TOP, BOTTOM, BESIDE)
-        found = (self.fit(self.tick_off(hot, cold, place)) for place in places)
-        return [fit for fit in found if fit]
+        is_level = self.levels[hot if which < 0 else cold]
+        return self.finishing(hot, cold, (BESIDE,) if is_level else (TOP, BOTTOM, BESIDE), which)
 
     def corner_fits(self, hot: int, cold: int) -> list[Fit]:
         """The exchangers that finish the smaller of two sources in a corner of the larger one, and fit."""
+        if self.highs[hot] < self.lows[cold] - NEAR or self.levels[hot] or self.levels[cold]:
+            return []
         which = self.finished(hot, cold)
-        if which == 0 or not self.may_meet(hot, cold) or self.levels[hot] or self.levels[cold]:
+        if which == 0 or not self.may_meet(hot, cold):
             return []
         large, small = (hot, cold) if which < 0 else (cold, hot)
         longer = self.highs[large] - self.lows[large] > self.highs[small] - self.lows[small] + NEAR
         if not longer or self.size(large) <= self.size(small) * (1 + FINE):
             return []
-        found = (self.fit(self.tick_off(hot, cold, place)) for place in (CORNER_TOP, CORNER_BOTTOM))
-        return [fit for fit in found if fit]
+        return self.finishing(hot, cold, (CORNER_TOP, CORNER_BOTTOM), which)
 
     def take(self, fit: Fit) -> None:
         """Puts an exchanger in."""
