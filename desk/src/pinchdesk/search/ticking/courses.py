@@ -12,6 +12,9 @@ from ..staged.windows import Window, WindowPiece
 # Where an exchanger stands on a source: it takes all that is left, its hot end, its cold end, a branch along the whole
 # range, or a branch with the CP of its partner at the hot or the cold end of the range.
 WHOLE, TOP, BOTTOM, BESIDE, CORNER_TOP, CORNER_BOTTOM = range(6)
+# The exchanger goes straight down between two kinks of the composite curves; the other place is then the number of the
+# stretch, from -1 down.
+STRETCH = -1
 # In place of a cold source: the hot slot is cut in two at a temperature, by no exchanger.
 CUT = -1
 # A heat that is nearer than this to a whole number of W is that number; else it has a small denominator.
@@ -31,14 +34,11 @@ class Tick(NamedTuple):
 @dataclass(frozen=True)
 class WindowNetwork:
     """The pairs of a window's exchangers, and the course of each of its streams from its hot end; exchangers have their
-    numbers as names."""
+    numbers as names. `count` has those that are counted: of a pair that goes straight down in several stretches, one."""
 
     pairs: tuple[tuple[str, str], ...]
     courses: Mapping[str, Course]
-
-    @property
-    def count(self) -> int:
-        return len(self.pairs)
+    count: int
 
     @property
     def shape(self) -> str:
@@ -53,7 +53,9 @@ class Chain:
 
     @property
     def count(self) -> int:
-        return sum(tick.cold != CUT for tick in self.ticks)
+        """How many exchangers it has; those of a pair that goes straight down are one."""
+        straight = {(tick.hot, tick.cold) for tick in self.ticks if tick.hot_place == STRETCH}
+        return len(straight) + sum(tick.cold != CUT and tick.hot_place != STRETCH for tick in self.ticks)
 
 
 @dataclass(frozen=True)
@@ -93,9 +95,10 @@ class Gap:
 
 @dataclass
 class Fork:
-    """Lanes side by side, each with its share."""
+    """Lanes side by side, each with its share, or with one exchanger where it is level."""
 
     lanes: list[tuple[Fraction, list[str | Gap | Fork]]]
+    level: bool = False
 
 
 def in_fraction(heat: float) -> Fraction:
@@ -117,6 +120,8 @@ class CourseWriter:
         self.slots = list(self.roots)
         self.origins = list(range(len(self.roots)))
         self.pairs: list[tuple[str, str]] = []
+        # The exchangers of a slot by their stretches.
+        self.straight: dict[int, dict[int, list[str]]] = {}
 
     def take(self, tick: Tick) -> None:
         hot = self.slots[tick.hot]
@@ -126,6 +131,10 @@ class CourseWriter:
         cold = self.slots[tick.cold]
         name = str(len(self.pairs))
         self.pairs.append((self.names[self.origins[tick.hot]], self.names[self.origins[tick.cold]]))
+        if tick.hot_place == STRETCH:
+            for slot in (tick.hot, tick.cold):
+                self.straight.setdefault(slot, {}).setdefault(-tick.cold_place, []).append(name)
+            return
         loads = [gap.load for gap, place in ((hot, tick.hot_place), (cold, tick.cold_place)) if place == WHOLE]
         duty = min(loads) if loads else in_fraction(tick.duty)
         sizes = hot.size, cold.size
@@ -174,9 +183,17 @@ class CourseWriter:
         self.add(slot, beyond)
         return rest
 
-    def network(self) -> WindowNetwork:
+    def network(self, count: int) -> WindowNetwork:
+        for slot, by_stretch in self.straight.items():
+            gap = self.slots[slot]
+            for number in sorted(by_stretch):
+                names = by_stretch[number]
+                if len(names) == 1 or gap.is_level:
+                    gap.steps += names
+                else:
+                    gap.steps.append(Fork([(Fraction(1, len(names)), [name]) for name in names], True))
         courses = {piece.name: course_of_steps([root]) for piece, root in zip(self.window.pieces, self.roots)}
-        return WindowNetwork(tuple(self.pairs), courses)
+        return WindowNetwork(tuple(self.pairs), courses, count)
 
 
 def course_of_steps(steps: Sequence[str | Gap | Fork]) -> Course:
@@ -189,7 +206,7 @@ def course_of_steps(steps: Sequence[str | Gap | Fork]) -> Course:
             course.extend(course_of_steps(step.steps))
         else:
             lanes = tuple(Lane(course_of_steps(inner), share) for share, inner in step.lanes)
-            course.extend(parted(lanes))
+            course.extend(parted(lanes, step.level))
     return tuple(course)
 
 
@@ -201,4 +218,4 @@ def window_network(window: Window, ticks: Sequence[Tick]) -> WindowNetwork | Non
             writer.take(tick)
     except Untrue:
         return None
-    return writer.network()
+    return writer.network(Chain(tuple(ticks)).count)

@@ -6,6 +6,7 @@ from dataclasses import dataclass
 from math import inf
 from random import Random
 
+from .completing import completion
 from .courses import BESIDE, BOTTOM, TOP, Tick
 from .heat_left import Fit, HeatLeft
 
@@ -33,10 +34,11 @@ def draw_weights(random: Random) -> Weights:
 
 
 class Descent:
-    """Ticks off what is left; the table has the exchangers that fit, by their pairs."""
+    """Ticks off what is left; the table has the exchangers that fit, by their pairs. Where none does, the rest goes
+    straight down (`completes`), or sources are cut and taken in parts."""
 
-    def __init__(self, left: HeatLeft, random: Random) -> None:
-        self.left, self.random = left, random
+    def __init__(self, left: HeatLeft, random: Random, completes: bool = False) -> None:
+        self.left, self.random, self.completes = left, random, completes
         self.weights = draw_weights(random)
         left.renew_cascade()
         self.table: Table = {}
@@ -55,7 +57,7 @@ class Descent:
         while not left.is_done:
             if left.count + left.least_left > most or not left.hots or not left.colds or not self.step():
                 return False
-        return True
+        return left.count <= most
 
     def step(self) -> bool:
         """One exchanger or one cut more; False where there is none."""
@@ -68,7 +70,16 @@ class Descent:
         if self.table:
             fit = self.best(self.ticks_of_one(counts))
             return fit is not None and self.take(fit)
-        return self.cut_or_part()
+        return self.complete() if self.completes else self.cut_or_part()
+
+    def complete(self) -> bool:
+        """The rest by its composite curves."""
+        ticks = completion(self.left)
+        if ticks is None:
+            return False
+        self.left.finish(ticks)
+        self.table = {}
+        return True
 
     def cut_or_part(self) -> bool:
         """Where nothing can be finished: a source is cut where no heat crosses, so that a piece of it can be; or the

@@ -5,7 +5,7 @@ The cascade is kept at all temperatures where its slope may change, from the col
 from __future__ import annotations
 
 from bisect import bisect_left, bisect_right
-from collections.abc import Iterator
+from collections.abc import Iterator, Sequence
 from typing import NamedTuple
 
 from ...formats.case import Side
@@ -217,6 +217,12 @@ class HeatLeft:
         self.shrink(self.colds, tick.cold, tick.cold_place, tick.duty, sizes[0])
         self.ticks.append(tick)
         self.count += 1
+
+    def finish(self, ticks: Sequence[Tick]) -> None:
+        """Puts in the exchangers that finish all that is left."""
+        self.ticks += ticks
+        self.count += len({(tick.hot, tick.cold) for tick in ticks})
+        self.hots, self.colds = [], []
 
     def shrink(self, side: list[int], slot: int, place: int, duty: float, partner_size: float) -> None:
         """What is left of a source beside an exchanger; in a corner it is two rectangles."""

@@ -2,7 +2,7 @@
 is ticked off anew."""
 from __future__ import annotations
 
-from collections.abc import Iterator
+from collections.abc import Iterator, Sequence
 from random import Random
 
 from ..staged.windows import Window
@@ -12,6 +12,8 @@ from .heat_left import TIGHT, HeatLeft
 
 # How often a descent from nothing is tried, and one exchanger more is taken.
 FROM_NOTHING, ONE_MORE = 40, 10
+# In windows of so few sources the rest is taken in parts.
+FEW_SOURCES = 15
 # So many exchangers are dropped, as a share, or all of so many sources.
 SHARES, SOURCES = (0.15, 0.3, 0.5, 0.7), (1, 2, 3, 4)
 
@@ -35,22 +37,23 @@ class Replay:
 
     def line(self, tick: Tick, is_dropped: bool) -> None:
         before = len(self.left.highs)
-        slots = [self.now(slot) for slot in (tick.hot, tick.cold)]
         if not is_dropped:
             if tick.cold == CUT:
-                self.cut(slots[0], tick.duty)
-            elif slots[0] is not None and slots[1] is not None and WHOLE in (tick.hot_place, tick.cold_place):
-                self.exchanger(slots[0], slots[1], tick)
+                self.cut(self.now(tick.hot, (*self.left.hots, *self.left.colds)), tick.duty)
+            elif WHOLE in (tick.hot_place, tick.cold_place):
+                self.exchanger(self.now(tick.hot, self.left.hots), self.now(tick.cold, self.left.colds), tick)
         comes = sum(place >= CORNER_TOP for place in (tick.hot_place, tick.cold_place)) + (tick.cold == CUT)
         came = len(self.left.highs) - before
         self.names += [before + more if more < came else None for more in range(comes)]
 
-    def now(self, slot: int) -> int | None:
-        """The slot that an earlier one is now, where it is still left."""
-        name = None if slot == CUT else self.names[slot]
-        return name if name in self.left.hots or name in self.left.colds else None
+    def now(self, slot: int, side: Sequence[int]) -> int | None:
+        """The slot that an earlier one is now, where it is still left on its side."""
+        name = self.names[slot]
+        return name if name in side else None
 
-    def exchanger(self, hot: int, cold: int, tick: Tick) -> None:
+    def exchanger(self, hot: int | None, cold: int | None, tick: Tick) -> None:
+        if hot is None or cold is None:
+            return
         place = tick.cold_place if tick.hot_place == WHOLE else tick.hot_place
         if place >= CORNER_TOP:
             fits = self.left.corner_fits(hot, cold)
@@ -82,10 +85,15 @@ def most_of(window: Window) -> int:
     return 5 * len(window.pieces)
 
 
+def straight_part(window: Window) -> float:
+    """How many of the descents send the rest straight down: in large windows parts leave slivers, which end nowhere."""
+    return min(0.95, max(0.05, (len(window.pieces) - FEW_SOURCES) / FEW_SOURCES))
+
+
 def run_chain(window: Window, seed: int, steps: int, begin: Chain, least: int | None) -> ChainEnd:
     """So many descents more of a chain, with the different networks on the way that have at most one exchanger more
     than the least, or than the least of the chain."""
-    random, first = Random(seed), HeatLeft(window)
+    random, first, straight = Random(seed), HeatLeft(window), straight_part(window)
     now, best, found = begin, begin.count if begin.ticks else most_of(window), {}
     for _ in range(steps):
         if not now.ticks or random.randrange(FROM_NOTHING) == 0:
@@ -93,7 +101,7 @@ def run_chain(window: Window, seed: int, steps: int, begin: Chain, least: int | 
         else:
             left = replayed(first, now.ticks, drops(now.ticks, random))
         most = best + (not now.ticks or random.randrange(ONE_MORE) == 0)
-        if Descent(left, random).run(most):
+        if Descent(left, random, random.random() < straight).run(most):
             now = Chain(tuple(left.ticks))
             best = min(best, now.count)
             found[now.ticks] = None

@@ -24,6 +24,8 @@ HALF, ROUNDS = 2.0, 6
 # Combinations that are at most so many exchangers above the best are thinned out; so many of the best are given; how
 # often a combination of one exchanger more is taken; more exchangers than any network has that is looked at.
 NEAR_BEST, MOST, WORSE, MANY = 2, 6, 0.1, 10 ** 6
+# How often weights of a long structure are made anew before it is compared.
+LONG = 1
 
 
 # A number of exchangers and one of splits.
@@ -116,7 +118,10 @@ def combined(mixing: Mixing, seed: int, tries: int, least: int) -> list[Thinned]
     now = mixing.first(random)
     for turn in range(tries):
         tried = mixing.changed(now, random) if turn else now
-        less = thinned(mixing.case, mixing.structure(tried), mixing.most_cost, random, 0)
+        structure = mixing.structure(tried)
+        # Pairs that go straight down have many exchangers, most of which go.
+        is_long = len(structure.pairs) > sum(network.count for network in tried)
+        less = thinned(mixing.case, structure, mixing.most_cost, random, LONG * is_long)
         if less is None:
             now = now if count < MANY else mixing.changed(now, random)
             continue
