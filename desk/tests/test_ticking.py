@@ -1,6 +1,7 @@
 """Networks at plant size: windows ticked off, with the cascade of what is left as the test, and combined."""
 from __future__ import annotations
 
+import time
 from fractions import Fraction
 from random import Random
 
@@ -10,9 +11,12 @@ from conftest import example
 from pinchdesk import Cut, Pinch, completed, read_case
 from pinchdesk.formats.case import Case, Side
 from pinchdesk.search.accepted import Judge, Judged
+from pinchdesk.search.reduce.least_cost import cheapest
 from pinchdesk.search.reduce.structure import Parting, Through
 from pinchdesk.search.staged.windows import Window, WindowPiece, whole, windows
-from pinchdesk.search.ticking.courses import BESIDE, CORNER_TOP, TOP, WHOLE, Chain, Tick, window_network
+from pinchdesk.search.ticking.completing import completion
+from pinchdesk.search.ticking.courses import BESIDE, CORNER_TOP, STRETCH, WHOLE, Chain, Tick, window_network
+from pinchdesk.search.ticking.crew import Crew
 from pinchdesk.search.ticking.descent import Descent
 from pinchdesk.search.ticking.float_duties import FloatDuties, least_point
 from pinchdesk.search.ticking.heat_left import HeatLeft
@@ -38,15 +42,18 @@ def windows_of(pinch: Pinch, name: str) -> tuple[Case, tuple[Window, ...]]:
     return case, windows(case, uses_of(pinch, case))
 
 
-def searched(pinch: Pinch, name: str, jobs: int, seed: int = 1, forbid: str = '') -> list[Judged]:
-    """What a search of a case accepts in so many jobs."""
+def search_of(pinch: Pinch, name: str, found: list[Judged], seed: int, forbid: str = '') -> PlantSearch:
     case = completed(read_case(example(f'{name}.csv') + forbid.encode()))
-    uses = uses_of(pinch, case)
-    found: list[Judged] = []
     flow = pinch.flow(case)
     assert not isinstance(flow, Cut)
-    search = PlantSearch(Judge(pinch, case), uses, Fraction(flow.cost), found.append, seed=seed, pace=QUICK)
-    row = JobRow(search)
+    uses = {use.name: use.heat for use in flow.uses}
+    return PlantSearch(Judge(pinch, case), uses, Fraction(flow.cost), found.append, seed=seed, pace=QUICK)
+
+
+def searched(pinch: Pinch, name: str, jobs: int, seed: int = 1, forbid: str = '') -> list[Judged]:
+    """What a search of a case accepts in so many jobs."""
+    found: list[Judged] = []
+    row = JobRow(search_of(pinch, name, found, seed, forbid))
     for number in range(jobs):
         job = row.job(number)
         assert job is not None
@@ -90,9 +97,36 @@ def test_a_chain_goes_on_from_where_it_was(pinch: Pinch) -> None:
     assert all(network.count <= least + 1 for network in later.networks)
 
 
-def test_the_same_seed_gives_the_same_networks(pinch: Pinch) -> None:
-    first, second = ([judged.network for judged in searched(pinch, 'tc3', 24, seed)] for seed in (5, 5))
-    assert first == second
+def test_the_same_seed_gives_the_same_networks_by_one_process_or_two(pinch: Pinch) -> None:
+    here = [judged.network for judged in searched(pinch, 'tc3', 24, 5)]
+    assert here == [judged.network for judged in searched(pinch, 'tc3', 24, 5)]
+    found: list[Judged] = []
+    search = search_of(pinch, 'tc3', found, 5)
+    crew = Crew(2)
+    try:
+        crew.run(JobRow(search), lambda: search.taken >= 24, time.monotonic() + 600)
+    finally:
+        crew.end()
+    assert [judged.network for judged in found][:len(here)] == here
+
+
+def test_what_cannot_be_ticked_off_goes_straight_down(pinch: Pinch) -> None:
+    case, parts = windows_of(pinch, 'tc3')
+    flow = pinch.flow(case)
+    assert not isinstance(flow, Cut)
+    networks = []
+    for window in parts:
+        left = HeatLeft(window)
+        ticks = completion(left)
+        assert ticks and all(tick.hot_place == STRETCH for tick in ticks)
+        left.finish(ticks)
+        assert left.is_done and left.count == Chain(tuple(ticks)).count <= len(ticks)
+        network = window_network(window, ticks)
+        assert network is not None and network.count == left.count
+        networks.append(network)
+    exact = cheapest(case, joined_windows(case, networks))
+    assert exact is not None and exact.cost == flow.cost
+    assert Judge(pinch, case).of(exact) is not None
 
 
 def test_forbidden_pairs_stay_apart(pinch: Pinch) -> None:

@@ -38,12 +38,12 @@ def whole(text: str) -> int:
     return int(text)
 
 
-def seconds_of(text: str) -> Fraction:
+def seconds_of(text: str, flag: str = '--seconds') -> Fraction:
     """How long a search may take; `WordsError` where that is none, or more than a day."""
     try:
         held = exact(text.replace(',', '.'))
     except ValueError:
         held = Fraction(0)
     if not 0 < held <= DAY:
-        raise WordsError(f'--seconds {shortened(text)}: it has to be a number of seconds above 0, at most a day')
+        raise WordsError(f'{flag} {shortened(text)}: it has to be a number of seconds above 0, at most a day')
     return held

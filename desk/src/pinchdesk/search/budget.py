@@ -12,6 +12,22 @@ Telling = Callable[[str], None]
 KEPT, MOST_KEPT, GRACE = 0.1, 1.0, 0.5
 
 
+# Longer than any search takes, in seconds.
+FOREVER = 1e6
+
+
+@dataclass(frozen=True)
+class SearchWay:
+    """The way of a search: the seed of its chance; so many steps in place of a time, which find the same by any number
+    of workers; how many workers (as many as there are processors); and after how many seconds without a gain it ends
+    before its time."""
+
+    seed: int = 1
+    steps: int | None = None
+    workers: int | None = None
+    no_better: float | None = None
+
+
 class TimeOver(Exception):
     """The time of a search is over."""
 

@@ -17,7 +17,7 @@ from ..program.answers import Cut, Design, HeatFlow
 from ..program.run import CaseText, NetworkText, Pinch
 from ..program.verdicts import Accepted, ending
 from .accepted import AcceptedNetwork
-from .budget import GRACE, for_search, nobody
+from .budget import FOREVER, GRACE, SearchWay, for_search, nobody
 from .search_state import INTERRUPTED, TIME_OVER, SearchState, each_stream_has_one
 from .tasks import NetworkTask, SearchProcess
 
@@ -73,12 +73,13 @@ class FewExchangers:
 def find_network(case: CaseText, most_cost: Fraction | int | None = None, above: Fraction | int | None = None,
                  seconds: Fraction | float = SECONDS, start: NetworkText | None = None,
                  tell: Callable[[str], None] = nobody, pinch: Pinch | None = None,
-                 begun: float | None = None) -> FewExchangers:
+                 begun: float | None = None, way: SearchWay = SearchWay()) -> FewExchangers:
     """A network with as few exchangers as were found in the time, at the least cost; or at most at this cost (price
     times W), or so many percent above the least. `start` is a network to be bettered. `NoNetwork` where there is none.
 
     The time counts from the call, or from `begun` by `time.monotonic`. When it is over, or at an interruption from the
-    keyboard, the best so far is given: at least that of `pinch design`."""
+    keyboard, the best so far is given: at least that of `pinch design`. `way` says in which way is searched, and may
+    have a number of steps in place of a time."""
     pinch, begun = pinch or Pinch(), time.monotonic() if begun is None else begun
     with SearchProcess() as process, ThreadPoolExecutor(1) as beside:
         designing = beside.submit(designed, pinch, case)
@@ -86,10 +87,11 @@ def find_network(case: CaseText, most_cost: Fraction | int | None = None, above:
         asked = completed(case if isinstance(case, Case) else read_case(case))
         limit = limit_of(flow.cost, most_cost, above, Shown(asked.basis))
         first = best_of(limit, bettered(pinch, asked, start), designing.result())
-        task = task_of(pinch, asked, flow, limit, first, begun, float(seconds))
+        lasts = float(seconds) if way.steps is None else FOREVER
+        task = task_of(pinch, asked, flow, limit, first, begun, lasts, way)
         state, ended = SearchState(task.best, each_stream_has_one(asked)), TIME_OVER
         try:
-            for message in process.told(task, begun + float(seconds) + GRACE):
+            for message in process.told(task, begun + lasts + GRACE):
                 assert isinstance(message, SearchState)
                 state = message
                 tell(str(state))
@@ -107,10 +109,10 @@ def flow_of(pinch: Pinch, case: CaseText) -> HeatFlow:
 
 
 def task_of(pinch: Pinch, case: Case, flow: HeatFlow, limit: Fraction, best: AcceptedNetwork | None, begun: float,
-            seconds: float) -> NetworkTask:
+            seconds: float, way: SearchWay = SearchWay()) -> NetworkTask:
     """The search in a completed case with a heat flow of least cost."""
     uses = {use.name: use.heat for use in flow.uses}
-    return NetworkTask(pinch.path, case, flow.cost, uses, limit, best, begun, for_search(seconds))
+    return NetworkTask(pinch.path, case, flow.cost, uses, limit, best, begun, for_search(seconds), way)
 
 
 def found_in(state: SearchState, ended: str, basis: Basis) -> FewExchangers:

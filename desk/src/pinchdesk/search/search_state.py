@@ -7,6 +7,7 @@ from ..formats.case import Case, Side
 from .accepted import AcceptedNetwork
 
 TIME_OVER, TO_THE_END, INTERRUPTED = 'time over', 'searched to the end', 'interrupted'
+ALL_STEPS, NO_BETTER = 'all steps done', 'nothing better was found'
 
 
 @dataclass(frozen=True)

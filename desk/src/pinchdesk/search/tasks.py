@@ -12,7 +12,7 @@ from ..formats.case import Case
 from ..formats.network import Network
 from ..program.run import Pinch
 from .accepted import AcceptedNetwork, Judge, Judged
-from .budget import Effort
+from .budget import SearchWay
 from .child import Child, Gone, Parent, Silent
 from .search_state import SearchState
 
@@ -32,13 +32,11 @@ class NetworkTask:
     best: AcceptedNetwork | None
     begun: float
     seconds: float
+    way: SearchWay = SearchWay()
 
     def run(self, tell: Tell) -> AcceptedNetwork | None:
-        from .staged.staged_search import Search
-        effort = Effort(self.seconds, self.begun)
-        search = Search(Pinch(self.program), self.case, self.floor, self.most_cost, effort, self.best, tell)
-        search.run(self.uses)
-        return search.best
+        from .all_starts import AllStarts
+        return AllStarts(self, tell).run()
 
 
 @dataclass(frozen=True)
@@ -128,7 +126,7 @@ def serve() -> None:
     parent = Parent()
     try:
         from .reduce import tradeoff  # noqa: F401
-        from .staged import staged_search  # noqa: F401
+        from . import all_starts  # noqa: F401
         parent.tell(True)
         for task in parent.asked():
             parent.ends_with_me()

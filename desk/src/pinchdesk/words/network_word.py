@@ -4,13 +4,13 @@ from __future__ import annotations
 from dataclasses import dataclass
 from decimal import Decimal
 
-from ..errors import about
-from ..formats.amounts import seconds_of
+from ..errors import WordsError, about
+from ..formats.amounts import seconds_of, whole
 from ..formats.case import read_case
 from ..formats.shown import Shown
 from ..program.run import Pinch
 from ..report.facts import Fact, FactRow
-from ..search.budget import Telling, nobody
+from ..search.budget import SearchWay, Telling, nobody
 from ..search.find import FewExchangers, find_network
 from ..tables.cost_words import cost_of, percent_of
 from .forms import TEXT
@@ -23,18 +23,38 @@ DECLARED = (
            '(the least cost unless given)', ('--cost',), metavar='MOST', one_of='cost'),
     Option('above', 'how far above the least cost it may be', ('--above',), metavar='PERCENT', one_of='cost'),
     Option('seconds', 'how long it takes at most, but for a moment (60 unless given)', ('--seconds',), default='60',
-           metavar='S'))
+           metavar='S'),
+    Option('no_better', 'it ends where nothing better was found for so long', ('--until-no-better',), metavar='S'),
+    Option('steps', 'how many steps it takes, in place of seconds: then the network is the same each time',
+           ('--steps',), whole, metavar='N'),
+    Option('seed', 'a number with which another search begins (1 unless given)', ('--seed',), whole, 1, metavar='N'),
+    Option('workers', 'by how many workers it is searched, 1 to 8 (as many as there are processors)', ('--workers',),
+           whole, metavar='N', in_many=1))
+MOST_STEPS, MOST_WORKERS = 10 ** 6, 8
 
 
 @dataclass(frozen=True)
 class NetworkOptions:
-    """What a network may cost, at most or above the least cost, and how long it may be searched, from a time by
-    `time.monotonic` on, else from the call."""
+    """What a network may cost, at most or above the least cost; how long it may be searched, from a time by
+    `time.monotonic` on, else from the call; and in which way."""
 
     cost: str | None = None
     above: str | None = None
     seconds: str = '60'
     begun: float | None = None
+    no_better: str | None = None
+    steps: int | None = None
+    seed: int = 1
+    workers: int | None = None
+
+    @property
+    def way(self) -> SearchWay:
+        """The way of the search; `WordsError` where a number is not one that it can have."""
+        for name, value, most in (('steps', self.steps, MOST_STEPS), ('workers', self.workers, MOST_WORKERS)):
+            if value is not None and not 1 <= value <= most:
+                raise WordsError(f'--{name} {value}: a whole number from 1 to {most} is needed')
+        no_better = None if self.no_better is None else float(seconds_of(self.no_better, '--until-no-better'))
+        return SearchWay(self.seed, self.steps, self.workers, no_better)
 
 
 def network(files: Files, options: NetworkOptions = NetworkOptions(), tell: Telling = nobody) -> Answer:
@@ -46,7 +66,7 @@ def network(files: Files, options: NetworkOptions = NetworkOptions(), tell: Tell
         pinch.targets(case.content)
         most = None if options.cost is None else cost_of(options.cost, Shown(read_case(case.content).basis))
         found = find_network(case.content, most, above, seconds, start.content if start else None, tell, pinch,
-                             options.begun)
+                             options.begun, options.way)
     return Answer(in_form=lambda form: found.text, facts=(network_facts(found),), headline=found.bounds)
 
 

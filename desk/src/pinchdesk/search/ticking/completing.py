@@ -16,7 +16,7 @@ Run = tuple[float, float, list[int]]
 def curve(left: HeatLeft, slots: Sequence[int]) -> list[Run]:
     """The composite curve of a side from its hot end, in runs between its kinks."""
     ends = sorted({end for slot in slots for end in (left.highs[slot], left.lows[slot])}, reverse=True)
-    runs = []
+    runs: list[Run] = []
     for upper, lower in zip(ends, ends[1:]):
         there = [slot for slot in slots if left.highs[slot] >= upper and left.lows[slot] <= lower]
         if there:
@@ -26,17 +26,18 @@ def curve(left: HeatLeft, slots: Sequence[int]) -> list[Run]:
 
 def stretches(left: HeatLeft) -> list[tuple[dict[int, float], dict[int, float]]]:
     """What each slot gives and takes between two kinks of the curves, from the hot end."""
-    sides = []
+    sides: list[list[tuple[float, float, dict[int, float]]]] = []
     for slots in (left.hots, left.colds):
-        side, above = [], 0.0
+        side: list[tuple[float, float, dict[int, float]]] = []
+        above = 0.0
         for upper, lower, there in curve(left, slots):
             sizes = {slot: left.size(slot) for slot in there}
             heat = sum(sizes.values()) * (upper - lower)
             side.append((above, above + heat, sizes))
             above += heat
         sides.append(side)
-    found, at = [], [0, 0]
-    place = 0.0
+    found: list[tuple[dict[int, float], dict[int, float]]] = []
+    at, place = [0, 0], 0.0
     while at[0] < len(sides[0]) and at[1] < len(sides[1]):
         runs = [side[index] for side, index in zip(sides, at)]
         end = min(run[1] for run in runs)
@@ -61,7 +62,7 @@ def matched(left: HeatLeft, given: dict[int, float], taken: dict[int, float], me
         pairs = [(hot, cold) for hot in given for cold in taken if left.may_meet(hot, cold)]
         if not pairs:
             return None
-        hot, cold = max(pairs, key=lambda pair: (pair in met, min(given[pair[0]], taken[pair[1]]), (-pair[0], -pair[1])))
+        hot, cold = max(pairs, key=lambda pair: (pair in met, min(given[pair[0]], taken[pair[1]]), -pair[0], -pair[1]))
         duty = min(given[hot], taken[cold])
         duties[hot, cold] = duty
         met.add((hot, cold))

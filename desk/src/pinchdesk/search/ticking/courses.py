@@ -33,8 +33,8 @@ class Tick(NamedTuple):
 
 @dataclass(frozen=True)
 class WindowNetwork:
-    """The pairs of a window's exchangers, and the course of each of its streams from its hot end; exchangers have their
-    numbers as names. `count` has those that are counted: of a pair that goes straight down in several stretches, one."""
+    """The pairs of a window's exchangers, and the course of each of its streams from its hot end; exchangers have
+    their numbers as names. `count` counts them, but those of a pair that goes straight down as one."""
 
     pairs: tuple[tuple[str, str], ...]
     courses: Mapping[str, Course]

@@ -150,7 +150,8 @@ class Descent:
     def renew(self, fresh: set[int], high: float, low: float) -> None:
         """Brings the table up to date after an exchanger between two temperatures. The cascade only sinks, so what did
         not fit does not fit now, unless one of its sources has changed."""
-        left, table = self.left, {}
+        left = self.left
+        table: Table = {}
         for pair, fits in self.table.items():
             if pair[0] not in fresh and pair[1] not in fresh:
                 kept = [fit for fit in fits if fit.warm.high <= low or fit.cool.low >= high
@@ -165,7 +166,8 @@ class Descent:
 
     def largest_part(self) -> Fit | None:
         """The largest part of a pair that fits and finishes nothing, with a little chance."""
-        best, largest = None, 0.0
+        best: Fit | None = None
+        largest = 0.0
         for hot in self.left.hots:
             for cold in self.left.colds:
                 if not self.left.may_meet(hot, cold):

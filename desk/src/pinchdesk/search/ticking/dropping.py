@@ -16,7 +16,7 @@ from .thinning import Thinned, thinned_once
 
 def most_duties(case: Case, structure: Structure, unit: float) -> Floats:
     """The most that each exchanger can have by its temperatures."""
-    mosts = []
+    mosts: list[float] = []
     for hot_name, cold_name in structure.pairs.values():
         hot, cold = case.source(hot_name), case.source(cold_name)
         reach = Fraction(beginning(hot) - beginning(cold) - hot.contribution - cold.contribution)
@@ -27,10 +27,11 @@ def most_duties(case: Case, structure: Structure, unit: float) -> Floats:
 def slacks(case: Case, structure: Structure) -> Floats:
     """How far the approach of an exchanger that is not there may be missed at most."""
     beginnings = [beginning(source) for source in case.sources]
-    found = []
+    found: list[float] = []
     for hot_name, cold_name in structure.pairs.values():
         hot, cold = case.source(hot_name), case.source(cold_name)
-        coldest, warmest = far_end(structure, hot_name, hot, beginnings), far_end(structure, cold_name, cold, beginnings)
+        coldest = far_end(structure, hot_name, hot, beginnings)
+        warmest = far_end(structure, cold_name, cold, beginnings)
         found.append(max(0.0, float(hot.contribution + cold.contribution - (coldest - warmest))))
     return numpy.array(found)
 

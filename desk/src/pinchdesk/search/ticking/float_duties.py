@@ -104,7 +104,7 @@ class FloatDuties:
     def approach_rows(self) -> list[Floats]:
         """Sums that are at most 0 where both ends of each exchanger keep the approach."""
         contributions = {source.name: source.contribution for source in self.case.sources}
-        rows = []
+        rows: list[Floats] = []
         for name, pair in self.structure.pairs.items():
             approach = float(sum(contributions[source] for source in pair))
             hot, cold = self.side(name, Side.HOT), self.side(name, Side.COLD)
@@ -116,7 +116,11 @@ class FloatDuties:
 
     def rows(self, most_cost: Fraction | None) -> FloatRows:
         """All rows, and the cost at most so much."""
-        sums, equal, equals, below, limits = self.sums(), [], [], [], []
+        sums = self.sums()
+        equal: list[Floats] = []
+        below: list[Floats] = []
+        equals: list[float] = []
+        limits: list[float] = []
         for stream in self.case.streams:
             equal.append(sums[stream.name])
             equals.append(stream.heat / self.unit)

@@ -12,7 +12,8 @@ from ...formats.case import Side
 from ..staged.windows import Window, WindowPiece
 from .courses import BESIDE, BOTTOM, CORNER_BOTTOM, CORNER_TOP, CUT, TOP, WHOLE, Tick
 
-# Two temperatures that are nearer are one, in tenths of °C; the range of a level; a heat that is none, as a part of all.
+# Two temperatures that are nearer are one, in tenths of °C; the range of a level; a heat that is none, as a part of
+# all.
 NEAR, LEVEL_RANGE, FINE = 1e-6, 1e-2, 1e-9
 # So much of all heat may be left over at the end.
 LEFT_OVER = 1e-6
@@ -173,7 +174,7 @@ class HeatLeft:
         warm, cool = self.part(hot, WHOLE, duty, 0.0), self.part(cold, WHOLE, duty, 0.0)
         if which == 0:
             return [Fit(Tick(hot, cold, WHOLE, WHOLE, duty), warm, cool)] if self.fits(warm, cool) else []
-        found = []
+        found: list[Fit] = []
         for place in places:
             if which > 0:
                 cool = self.part(cold, place, duty, warm.size)

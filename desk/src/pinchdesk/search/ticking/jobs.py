@@ -7,13 +7,15 @@ from fractions import Fraction
 from random import Random
 
 from ...formats.case import Case
-from ..reduce.least_cost import Costed, cheapest
+from ..reduce.least_cost import cheapest
+from ..reduce.network_structure import Costed
 from ..reduce.simplify import kinds
 from ..reduce.structure import Structure
 from ..staged.windows import Window
 from .courses import Chain, ChainEnd
 from .dropping import dropped
 from .ruin import run_chain
+from .short_fractions import with_room
 from .thinning import Mixing, Rank, Thinned, combined, thinned
 
 
@@ -108,13 +110,20 @@ def whole_end(case: Case, found: Sequence[Thinned], most_cost: Fraction, least: 
 
 
 def exact_kinds(case: Case, structure: Structure, most_cost: Fraction) -> Iterator[Costed]:
-    """A structure in fractions: with its shares, and where these become long or do not do, with isothermal mixing."""
+    """A structure in fractions, in ways that are likely to have short ones, until one has: at a vertex, with room for
+    the duties, and both with isothermal mixing."""
     for kind in kinds(structure):
-        costed = cheapest(case, kind)
-        if costed is not None and costed.cost <= most_cost:
-            yield costed
-            if all(duty.denominator < SHORT for duty in costed.duties.values()):
-                return
+        for way in (cheapest_at, with_room):
+            costed = way(case, kind, most_cost)
+            if costed is not None:
+                yield costed
+                if all(duty.denominator < SHORT for duty in costed.duties.values()):
+                    return
+
+
+def cheapest_at(case: Case, structure: Structure, most_cost: Fraction) -> Costed | None:
+    costed = cheapest(case, structure)
+    return costed if costed is not None and costed.cost <= most_cost else None
 
 
 Job = ChainJob | CombineJob | ThinJob | DropJob

@@ -123,7 +123,8 @@ class PlantSearch:
             return DropJob(case, self.candidates.pop(), cost, self.pace.nodes, self.pace.seconds, self.least)
         pools = [tuple(pool.networks.values()) for pool in self.pools]
         begin = self.favourite if order % 2 else ()
-        return CombineJob(Mixing(case, pools, cost, self.pays, begin), self.seed_of(number), self.pace.tries, self.least)
+        mixing = Mixing(case, pools, cost, self.pays, begin)
+        return CombineJob(mixing, self.seed_of(number), self.pace.tries, self.least)
 
     def order_of(self, number: int) -> int:
         """Which of the jobs of the whole case a job is, from 0."""

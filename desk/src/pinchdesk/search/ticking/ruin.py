@@ -1,5 +1,5 @@
-"""Ruin and recreate (Shaw 1998): some exchangers are dropped, the others put in again where they still fit, and the rest
-is ticked off anew."""
+"""Ruin and recreate (Shaw 1998): some exchangers are dropped, the others put in again where they still fit, and the
+rest is ticked off anew."""
 from __future__ import annotations
 
 from collections.abc import Iterator, Sequence
@@ -94,7 +94,8 @@ def run_chain(window: Window, seed: int, steps: int, begin: Chain, least: int | 
     """So many descents more of a chain, with the different networks on the way that have at most one exchanger more
     than the least, or than the least of the chain."""
     random, first, straight = Random(seed), HeatLeft(window), straight_part(window)
-    now, best, found = begin, begin.count if begin.ticks else most_of(window), {}
+    now, best = begin, begin.count if begin.ticks else most_of(window)
+    found: dict[tuple[Tick, ...], None] = {}
     for _ in range(steps):
         if not now.ticks or random.randrange(FROM_NOTHING) == 0:
             left = first.copy()
@@ -111,7 +112,7 @@ def run_chain(window: Window, seed: int, steps: int, begin: Chain, least: int | 
 
 def different(window: Window, ways: list[tuple[Tick, ...]]) -> Iterator[WindowNetwork]:
     """The networks of descents, each once."""
-    known = set()
+    known: set[str] = set()
     for ticks in ways:
         network = window_network(window, ticks)
         if network is not None and network.shape not in known:

@@ -114,7 +114,8 @@ class Mixing:
 def combined(mixing: Mixing, seed: int, tries: int, least: int) -> list[Thinned]:
     """The best of so many combinations, fewest exchangers first: each differs from the one before in one window.
     `least` is what the best so far has."""
-    random, found, count = Random(seed), [], MANY
+    random, count = Random(seed), MANY
+    found: list[Thinned] = []
     now = mixing.first(random)
     for turn in range(tries):
         tried = mixing.changed(now, random) if turn else now

@@ -1,0 +1,132 @@
+"""All starts of a search for few exchangers: the staged model where windows are small, and windows ticked off, side by
+side on all processors."""
+from __future__ import annotations
+
+import time
+from collections.abc import Callable
+from contextlib import suppress
+from dataclasses import replace
+from threading import Lock, Thread
+
+from ..errors import Refused
+from ..program.run import Pinch
+from .accepted import AcceptedNetwork, Judge, Judged
+from .budget import FOREVER, Effort, TimeOver
+from .reduce.network_structure import structure_of
+from .reduce.simplify import without_splits
+from .reduce.structure import Structure
+from .search_state import ALL_STEPS, NO_BETTER, TIME_OVER, TO_THE_END, SearchState, each_stream_has_one
+from .staged.ask import Solver
+from .staged.pair_sets import PairSets
+from .staged.staged_search import Search
+from .staged.windows import whole, windows
+from .tasks import NetworkTask
+from .ticking.crew import Crew, processors
+from .ticking.plant_search import JobRow, Pace, PlantSearch
+
+# In windows of so many sources the staged model is done in a moment, and does well at all.
+TINY, SMALL = 8, 13
+# What of the time it has in tiny windows; what the bound has without it; what is left for taking out splits.
+STAGED, BOUND, LAST = 0.5, 0.2, 0.05
+# What one job of a tiny case does, and after how many of them without a gain it is done.
+SHORT_JOBS, IDLE = Pace(steps=100, tries=20), 40
+
+
+class AllStarts:
+    """A search by all starts. `tell` gets what it is at."""
+
+    def __init__(self, task: NetworkTask, tell: Callable[[SearchState], None]) -> None:
+        self.task, self.tell = task, tell
+        self.judge = Judge(Pinch(task.program), task.case)
+        self.state = SearchState(task.best, each_stream_has_one(task.case))
+        self.largest = max((len(window.pieces) for window in windows(task.case, task.uses)), default=0)
+        self.bettered = time.monotonic()
+        self.lock = Lock()
+
+    def run(self) -> AcceptedNetwork | None:
+        """The best that is found; None where there is none."""
+        is_tiny = self.largest <= TINY
+        if self.task.way.steps is None:
+            if is_tiny:
+                self.stage(STAGED)
+            else:
+                Thread(target=self.stage if self.largest <= SMALL else self.ask_bound, daemon=True).start()
+        ended = TO_THE_END if self.enough() else self.tick(is_tiny)
+        self.unsplit()
+        with self.lock:
+            self.state = replace(self.state, ended=ended)
+            self.tell(self.state)
+        return self.state.best
+
+    def enough(self) -> bool:
+        return self.state.best is not None and self.state.best.count <= self.state.bound
+
+    def hear(self, state: SearchState) -> None:
+        """Takes what one of the starts is at; two may be at work."""
+        with self.lock:
+            best = self.state.best
+            if state.best is not None and (best is None or state.best.rank < best.rank):
+                best, self.bettered = state.best, time.monotonic()
+            self.state = SearchState(best, max(state.bound, self.state.bound), state.staged or self.state.staged)
+            self.tell(self.state)
+
+    def take(self, found: AcceptedNetwork) -> None:
+        self.hear(SearchState(found))
+
+    def stage(self, part: float = 1.0) -> None:
+        """The staged model, for a part of the time."""
+        task = self.task
+        effort = Effort(task.seconds * part, task.begun)
+        Search(self.judge.pinch, task.case, task.floor, task.most_cost, effort, task.best, self.hear).run(task.uses)
+
+    def ask_bound(self) -> None:
+        """What the solver says that no network has fewer exchangers than."""
+        solver = Solver(Effort(self.task.seconds, self.task.begun))
+        with suppress(TimeOver):
+            sets = PairSets(solver, whole(self.task.case, None), self.task.most_cost)
+            sets.first(self.task.seconds * BOUND)
+            self.hear(SearchState(None, sets.least))
+        solver.apart.end()
+
+    def tick(self, is_tiny: bool) -> str:
+        """Windows ticked off, for the rest of the time or for so many steps; why that ended."""
+        task = self.task
+        search = PlantSearch(self.judge, task.uses, task.most_cost, self.take, self.begin(), task.way.seed,
+                             SHORT_JOBS if is_tiny else Pace())
+        row, crew = JobRow(search), Crew(1 if is_tiny else task.way.workers or processors())
+        self.bettered = time.monotonic()
+        until = task.begun + (task.seconds * (1 - LAST) if task.way.steps is None else FOREVER)
+        patience = task.way.no_better
+
+        def why() -> str | None:
+            """Why the search ends; None where it goes on."""
+            if self.enough():
+                return TO_THE_END
+            if task.way.steps is not None:
+                return ALL_STEPS if search.taken >= task.way.steps else None
+            if time.monotonic() >= until:
+                return TIME_OVER
+            if patience is None:
+                return NO_BETTER if is_tiny and search.taken - search.bettered >= IDLE else None
+            return NO_BETTER if time.monotonic() - self.bettered > patience else None
+        try:
+            crew.run(row, lambda: why() is not None, until)
+        finally:
+            crew.end()
+        return why() or TIME_OVER
+
+    def begin(self) -> Structure | None:
+        """The structure of the best network so far, where it has one."""
+        with suppress(Refused):
+            if self.state.best is not None:
+                return structure_of(self.task.case, self.state.best.network)
+        return None
+
+    def unsplit(self) -> None:
+        """Takes out the splits that can go."""
+        best = self.state.best
+        if best is not None:
+            with suppress(Refused):
+                judged = best if isinstance(best, Judged) else self.judge.given(best.network)
+                end = self.task.begun + self.task.seconds
+                without_splits(self.judge, judged, self.task.most_cost, end, self.take)
