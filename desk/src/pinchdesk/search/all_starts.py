@@ -62,8 +62,10 @@ class AllStarts:
         return self.state.best is not None and self.state.best.count <= self.state.bound
 
     def hear(self, state: SearchState) -> None:
-        """Takes what one of the starts is at; two may be at work."""
+        """Takes what one of the starts is at; two may be at work, one of them still when the search has ended."""
         with self.lock:
+            if self.state.ended:
+                return
             best = self.state.best
             if state.best is not None and (best is None or state.best.rank < best.rank):
                 best, self.bettered = state.best, time.monotonic()
