@@ -138,7 +138,8 @@ class Descent:
             tick = fit.tick
             return (weights.difference * fit.difference / 1000 - weights.duty * tick.duty / scale
                     + weights.chance * random() - (tick.hot_place == tick.cold_place))
-        return min(fits, key=key, default=None)
+        choices = list(fits)
+        return min(choices, key=key) if choices else None
 
     def take(self, fit: Fit) -> bool:
         slots = len(self.left.highs)

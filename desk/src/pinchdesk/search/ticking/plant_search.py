@@ -20,7 +20,7 @@ LAG = 8
 # After so many chains there is a job of the whole case.
 CHAINS_TO_ONE = 3
 # With how many times the sources a descent takes so much longer, as an exponent; the fewest descents of a job.
-SLOWER, FEWEST_STEPS = 2.2, 5
+SLOWER, FEWEST_STEPS = 1.5, 5
 # From this turn of the cycle on jobs are as long as they become; in each one before half as long as in the next.
 FULL_TURN = 3
 # Networks of a window that are kept; structures that wait to be made less.
