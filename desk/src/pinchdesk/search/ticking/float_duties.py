@@ -99,7 +99,8 @@ class FloatDuties:
         """What the utilities cost, in price times the unit."""
         sums = self.sums()
         rows = [utility.price * sums[utility.name] for utility in self.case.utilities]
-        return numpy.sum(rows, axis=0) if rows else numpy.zeros(self.count)
+        costs: Floats = numpy.sum(rows, axis=0) if rows else numpy.zeros(self.count)
+        return costs
 
     def approach_rows(self) -> list[Floats]:
         """Sums that are at most 0 where both ends of each exchanger keep the approach."""

@@ -42,7 +42,7 @@ class Pace:
 
     def steps_of(self, window: Window, turn: int) -> int:
         """The descents of a job in a window; fewer at first, so that there is soon something to combine."""
-        first = 2.0 ** min(0, turn - FULL_TURN)
+        first = float(2.0 ** min(0, turn - FULL_TURN))
         return max(FEWEST_STEPS, round(first * self.steps * (10 / max(10, len(window.pieces))) ** SLOWER))
 
 
