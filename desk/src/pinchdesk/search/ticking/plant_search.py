@@ -42,8 +42,8 @@ class Pace:
 
     def steps_of(self, window: Window, turn: int) -> int:
         """The descents of a job in a window; fewer at first, so that there is soon something to combine."""
-        first = float(2.0 ** min(0, turn - FULL_TURN))
-        return max(FEWEST_STEPS, round(first * self.steps * (10 / max(10, len(window.pieces))) ** SLOWER))
+        share = float(2.0 ** min(0, turn - FULL_TURN) * (10 / max(10, len(window.pieces))) ** SLOWER)
+        return max(FEWEST_STEPS, round(self.steps * share))
 
 
 @dataclass
