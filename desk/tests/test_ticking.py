@@ -15,8 +15,8 @@ from pinchdesk.search.reduce.least_cost import cheapest
 from pinchdesk.search.reduce.structure import Parting, Through
 from pinchdesk.search.staged.windows import Window, WindowPiece, whole, windows
 from pinchdesk.search.ticking.completing import completion
-from pinchdesk.search.ticking.courses import BESIDE, CORNER_TOP, STRETCH, WHOLE, Chain, Tick, window_network
-from pinchdesk.search.ticking.crew import Crew
+from pinchdesk.search.ticking.window_courses import BESIDE, CORNER_TOP, STRETCH, WHOLE, Chain, Tick, window_network
+from pinchdesk.search.ticking.crew import JobCrew
 from pinchdesk.search.ticking.descent import Descent
 from pinchdesk.search.ticking.float_duties import FloatDuties, least_point
 from pinchdesk.search.ticking.heat_left import HeatLeft
@@ -102,7 +102,7 @@ def test_the_same_seed_gives_the_same_networks_by_one_process_or_two(pinch: Pinc
     assert here == [judged.network for judged in searched(pinch, 'tc3', 24, 5)]
     found: list[Judged] = []
     search = search_of(pinch, 'tc3', found, 5)
-    crew = Crew(2)
+    crew = JobCrew(2)
     try:
         crew.run(JobRow(search), lambda: search.taken >= 24, time.monotonic() + 600)
     finally:

@@ -21,7 +21,7 @@ from .staged.pair_sets import PairSets
 from .staged.staged_search import Search
 from .staged.windows import whole, windows
 from .tasks import NetworkTask
-from .ticking.crew import Crew, processors
+from .ticking.crew import JobCrew, processors
 from .ticking.plant_search import JobRow, Pace, PlantSearch
 
 # In windows of so many sources the staged model is done in a moment, and does well at all.
@@ -95,7 +95,7 @@ class AllStarts:
         task = self.task
         search = PlantSearch(self.judge, task.uses, task.most_cost, self.take, self.begin(), task.way.seed,
                              SHORT_JOBS if is_tiny else Pace())
-        row, crew = JobRow(search), Crew(1 if is_tiny else task.way.workers or processors())
+        row, crew = JobRow(search), JobCrew(1 if is_tiny else task.way.workers or processors())
         self.bettered = time.monotonic()
         until = task.begun + (task.seconds * (1 - LAST) if task.way.steps is None else FOREVER)
         patience = task.way.no_better

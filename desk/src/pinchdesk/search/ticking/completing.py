@@ -6,7 +6,7 @@ from __future__ import annotations
 
 from collections.abc import Sequence
 
-from .courses import STRETCH, Tick
+from .window_courses import STRETCH, Tick
 from .heat_left import HeatLeft
 
 # A run of a curve: its upper and its lower temperature, and the slots that are there.

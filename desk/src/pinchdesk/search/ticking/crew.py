@@ -19,7 +19,7 @@ def processors() -> int:
     return min(LAG, len(os.sched_getaffinity(0)))
 
 
-class Crew:
+class JobCrew:
     """So many processes. None are begun where one is enough: then jobs are done here."""
 
     def __init__(self, count: int) -> None:

@@ -7,7 +7,7 @@ from math import inf
 from random import Random
 
 from .completing import completion
-from .courses import BESIDE, BOTTOM, TOP, Tick
+from .window_courses import BESIDE, BOTTOM, TOP, Tick
 from .heat_left import Fit, HeatLeft
 
 # The largest part of a duty that fits is found by so many halvings; a smaller part of it than this is none.

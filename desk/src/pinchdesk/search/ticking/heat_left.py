@@ -10,7 +10,7 @@ from typing import NamedTuple
 
 from ...formats.case import Side
 from ..staged.windows import Window, WindowPiece
-from .courses import BESIDE, BOTTOM, CORNER_BOTTOM, CORNER_TOP, CUT, TOP, WHOLE, Tick
+from .window_courses import BESIDE, BOTTOM, CORNER_BOTTOM, CORNER_TOP, CUT, TOP, WHOLE, Tick
 
 # Two temperatures that are nearer are one, in tenths of °C; the range of a level; a heat that is none, as a part of
 # all.

@@ -12,7 +12,7 @@ from ..reduce.network_structure import Costed
 from ..reduce.simplify import kinds
 from ..reduce.structure import Structure
 from ..staged.windows import Window
-from .courses import Chain, ChainEnd
+from .window_courses import Chain, ChainEnd
 from .dropping import dropped
 from .ruin import run_chain
 from .short_fractions import with_room

@@ -7,7 +7,7 @@ from dataclasses import replace
 from ...formats.case import Case, Side
 from ..reduce.moves import letter_of, next_name, taken_names
 from ..reduce.structure import Course, Structure, Through
-from .courses import WindowNetwork, renamed
+from .window_courses import WindowNetwork, renamed
 
 
 def turned_round(course: Course) -> Course:

@@ -11,7 +11,7 @@ from fractions import Fraction
 from ..accepted import Judge, Judged
 from ..reduce.structure import Structure, splits
 from ..staged.windows import Window, windows
-from .courses import Chain, ChainEnd, WindowNetwork, shape_of
+from .window_courses import Chain, ChainEnd, WindowNetwork, shape_of
 from .jobs import ChainJob, CombineJob, DropJob, Job, ThinJob, WholeEnd
 from .thinning import MANY, Combination, Mixing, Rank, Thinned
 

@@ -6,7 +6,7 @@ from collections.abc import Iterator, Sequence
 from random import Random
 
 from ..staged.windows import Window
-from .courses import CORNER_TOP, CUT, WHOLE, Chain, ChainEnd, Tick, WindowNetwork, window_network
+from .window_courses import CORNER_TOP, CUT, WHOLE, Chain, ChainEnd, Tick, WindowNetwork, window_network
 from .descent import Descent
 from .heat_left import TIGHT, HeatLeft
 

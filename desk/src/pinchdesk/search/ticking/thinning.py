@@ -15,7 +15,7 @@ import numpy
 from ...formats.case import Case
 from ..reduce.moves import with_ends
 from ..reduce.structure import Structure, reduced, splits
-from .courses import WindowNetwork
+from .window_courses import WindowNetwork
 from .float_duties import NONE, FloatDuties, Floats, least_point
 from .joining import joined_windows
 

@@ -84,20 +84,20 @@ class Untrue(Exception):
 
 
 @dataclass
-class Gap:
+class Opening:
     """A rectangle of a source that is left, at its place in the course; `steps` is what takes its place."""
 
     size: Fraction
     load: Fraction
     is_level: bool = False
-    steps: list[str | Gap | Fork] = field(default_factory=list)
+    steps: list[str | Opening | Fork] = field(default_factory=list)
 
 
 @dataclass
 class Fork:
     """Lanes side by side, each with its share, or with one exchanger where it is level."""
 
-    lanes: list[tuple[Fraction, list[str | Gap | Fork]]]
+    lanes: list[tuple[Fraction, list[str | Opening | Fork]]]
     level: bool = False
 
 
@@ -106,8 +106,8 @@ def in_fraction(heat: float) -> Fraction:
     return Fraction(near) if abs(heat - near) < WATT else Fraction(heat).limit_denominator(FINEST)
 
 
-def gap_of(piece: WindowPiece) -> Gap:
-    return Gap(Fraction(piece.cp), Fraction(piece.most), piece.is_level)
+def gap_of(piece: WindowPiece) -> Opening:
+    return Opening(Fraction(piece.cp), Fraction(piece.most), piece.is_level)
 
 
 class CourseWriter:
@@ -141,19 +141,19 @@ class CourseWriter:
         self.put(tick.hot, hot, tick.hot_place, duty, sizes[1], name)
         self.put(tick.cold, cold, tick.cold_place, duty, sizes[0], name)
 
-    def add(self, slot: int, gap: Gap) -> None:
+    def add(self, slot: int, gap: Opening) -> None:
         self.slots.append(gap)
         self.origins.append(self.origins[slot])
 
-    def cut(self, slot: int, gap: Gap, above: Fraction) -> None:
+    def cut(self, slot: int, gap: Opening, above: Fraction) -> None:
         if not 0 < above < gap.load:
             raise Untrue
-        upper, lower = Gap(gap.size, above), Gap(gap.size, gap.load - above)
+        upper, lower = Opening(gap.size, above), Opening(gap.size, gap.load - above)
         gap.steps = [upper, lower]
         self.slots[slot] = upper
         self.add(slot, lower)
 
-    def put(self, slot: int, gap: Gap, place: int, duty: Fraction, partner: Fraction, name: str) -> None:
+    def put(self, slot: int, gap: Opening, place: int, duty: Fraction, partner: Fraction, name: str) -> None:
         """Puts an exchanger into a gap, and what is left of it where it is then."""
         if place == WHOLE:
             gap.steps = [name]
@@ -161,21 +161,22 @@ class CourseWriter:
         if not 0 < duty < gap.load:
             raise Untrue
         if gap.is_level or place in (TOP, BOTTOM):
-            rest = Gap(gap.size, gap.load - duty, gap.is_level)
+            rest = Opening(gap.size, gap.load - duty, gap.is_level)
             gap.steps = [rest, name] if place == BOTTOM else [name, rest]
         elif place == BESIDE:
             share = duty / gap.load
-            rest = Gap(gap.size * (1 - share), gap.load - duty)
+            rest = Opening(gap.size * (1 - share), gap.load - duty)
             gap.steps = [Fork([(share, [name]), (1 - share, [rest])])]
         else:
             rest = self.put_in_corner(slot, gap, place, duty, partner, name)
         self.slots[slot] = rest
 
-    def put_in_corner(self, slot: int, gap: Gap, place: int, duty: Fraction, partner: Fraction, name: str) -> Gap:
+    def put_in_corner(self, slot: int, gap: Opening, place: int, duty: Fraction, partner: Fraction, name: str,
+                      ) -> Opening:
         share = partner / gap.size
         span = duty / partner
-        rest = Gap(gap.size - partner, (gap.size - partner) * span)
-        beyond = Gap(gap.size, gap.load - gap.size * span)
+        rest = Opening(gap.size - partner, (gap.size - partner) * span)
+        beyond = Opening(gap.size, gap.load - gap.size * span)
         if not 0 < share < 1 or beyond.load <= 0:
             raise Untrue
         fork = Fork([(share, [name]), (1 - share, [rest])])
@@ -196,13 +197,13 @@ class CourseWriter:
         return WindowNetwork(tuple(self.pairs), courses, count)
 
 
-def course_of_steps(steps: Sequence[str | Gap | Fork]) -> Course:
+def course_of_steps(steps: Sequence[str | Opening | Fork]) -> Course:
     """Steps as a course; a gap that nothing has filled is nothing."""
     course: list[Through | Parting] = []
     for step in steps:
         if isinstance(step, str):
             course.append(Through(step))
-        elif isinstance(step, Gap):
+        elif isinstance(step, Opening):
             course.extend(course_of_steps(step.steps))
         else:
             lanes = tuple(Lane(course_of_steps(inner), share) for share, inner in step.lanes)
