@@ -86,10 +86,8 @@ def test_a_number_of_a_case_or_a_scenario_outside_its_limits_is_named(pinch: Pin
 
 
 def test_all_headings_that_are_not_known_are_told_at_once() -> None:
-    said = refusal('name,colour,supply,target,CP,owner,weather\nA,red,150,60,2,me,fine\n').split('\n')
-    assert [each.partition(' is not known')[0] for each in said] == [
-        'row 1 column 2: the heading `colour`', 'row 1 column 6: the heading `owner`',
-        'row 1 column 7: the heading `weather`']
+    said = '\n'.join(made('name,colour,supply,target,CP,owner,weather\nA,red,150,60,2,me,fine\n').notes)
+    assert all(f'`{heading}`' in said for heading in ('colour', 'owner', 'weather'))
     with pytest.raises(Refused) as fault:
         read_changes(b'scenario;source;colour;field;value;owner\nS;H;red;CP;+5;me\n', 's.csv', Basis())
     assert fault.value.text.count('is not known') == 2
@@ -105,11 +103,11 @@ def test_a_workbook_whose_first_sheet_has_no_table_names_those_that_have() -> No
     rows: list[list[object]] = [['Stream', 'Supply (°C)', 'Target (°C)', 'CP (kW/K)'], ['H', 150, 60, 2]]
     cover: list[list[object]] = [['Plant A'], ['Rev 3']]
     said = refusal(workbook(cover, Plant=rows, Prices=[['a']], Winter=rows))
-    assert said == 'sheet Streams has no table of streams, and Plant, Winter have one: say --sheet Plant'
+    assert said == 'the sheets Plant and Winter have streams: say --sheet Plant'
     assert streams(workbook(cover, Plant=rows), replace(TEN, sheet='Plant'))[0][1] == 'H'
     assert 'no stream' in refusal(workbook(cover, Prices=[['a']]))
     numbers: list[list[object]] = [['Revision', 3], ['Sheets', 2]]
-    assert 'and Plant has one: say --sheet Plant' in refusal(workbook(numbers, Plant=rows))
+    assert streams(workbook(numbers, Plant=rows))[0][1] == 'H'
     notes = made(workbook(rows, Note=[['°F']])).notes
     assert 'of the sheets the first one, Streams, is read, not Note (--sheet)' in notes
 
@@ -126,7 +124,8 @@ PRICED = 'Kind;Name;Supply °C;Target °C;CP kW/K;{}\nhot;H;150;60;2;\ncold;C;20
     ('Price (EUR/MWh)', '30 $', 'two moneys, `EUR/MWh` in the heading and `$` here'),
     ('Price (EUR/MWh)', '30 $/MWh', 'two moneys, `EUR/MWh` in the heading and `$/MWh` here'),
     ('Price (EUR/MWh)', '30 EUR/GJ', 'two units, `EUR/MWh` in the heading and `EUR/GJ` here'),
-    ('Price (EUR/t)', '30', 'a price is per heat, as EUR/MWh, or per power and year'),
+    ('Price (EUR/t)', '30', '`EUR/t` is a price per mass: the latent heat has to stand in a column, or the pressure'),
+    ('Price (EUR/m2)', '30', 'a price is per heat, as EUR/MWh, or per power and year'),
     ('Price ($/MMBtu)', '30 USD/MMBtu', '`$` may be another money than USD: write one of them')])
 def test_money_is_told_in_the_engineers_words(heading: str, price: str, said: str) -> None:
     assert said in refusal(PRICED.format(heading, price))

@@ -159,7 +159,7 @@ def test_what_is_said_of_an_answer_stands_in_its_first_row() -> None:
 def test_the_words_of_a_call_are_those_that_the_word_declares() -> None:
     network = word_of(['network'])
     taken = taken_of(network, ['--above', '5', '--start', 'a.txt'])
-    assert taken.common == {'start': ('a.txt',)} and taken.options == NetworkOptions(above='5')
+    assert taken.common == {'start': ('a.txt',)} and taken.options == NetworkOptions(above='5', workers=1)
     assert [role.name for role in network.roles] == ['case', 'start']
     assert taken_of(word_of(['whatif']), []).options.workers == 1
     # What the command writes besides is written by it alone.
@@ -236,7 +236,7 @@ def test_a_list_is_any_table(content: bytes, desk: Desk, tmp_path: Path, monkeyp
 FAULTS = [
     (b'', 3, 'there is no case in it'), (b'case\n', 3, 'there is no case in it'),
     (b'four.csv;x;y\n', 3, 'its columns are not clear'), (b'name\nx\n', 3, 'it has no column `case`'),
-    (b'case;name\n;x\n', 3, 'row 2: there is no case'), (b'case\nfour.csv;x\n', 3, 'row 2 column 2: a cell below no'),
+    (b'case;name\n;x\n', 3, 'row 2: there is no case'), (b'case\nfour.csv;x\n', 3, 'row 2 column 2: a cell under no'),
     (example('tc3.csv'), 3, 'this is one case, and a folder or a list'), (b'\0\0', 3, 'neither a workbook nor a text')]
 
 
@@ -415,4 +415,4 @@ def test_without_a_scheduler_or_the_package_it_is_told(desk: Desk, monkeypatch: 
     modules: dict[str, Any] = sys.modules
     monkeypatch.setitem(modules, 'distributed', None)
     done = desk('targets', LIST, '--scheduler', 'tcp://127.0.0.1:1')
-    assert done.status == 2 and done.err.count('\n') == 1 and 'wants the package distributed' in done.err
+    assert done.status == 2 and done.err.count('\n') == 1 and 'needs the package distributed' in done.err

@@ -26,11 +26,21 @@ from pinchdesk.tables.convert import Wanted, case_of_table
 def test_the_readme_runs_as_it_is_shown(monkeypatch: pytest.MonkeyPatch) -> None:
     pytest.importorskip('pandas')
     monkeypatch.chdir(DESK.parent)
-    block, = re.findall(r'```python\n(.*?)```', (DESK / 'README.md').read_text(), re.S)
+    blocks = re.findall(r'```python\n(.*?)```', (DESK / 'README.md').read_text(), re.S)
+    block, = (block for block in blocks if 'import pinchdesk\n' in block)
     names: dict[str, Any] = {}
     exec(compile(block, 'README', 'exec'), names)
     assert str(names['pinch'].targets(names['case'])) == 'Targets(hot=107500, cold=40000, pinches=(800,))'
     assert names['followed'].passage('E1').hot.outlet == 900
+
+
+def test_the_calls_of_costs_in_the_readme_are_there() -> None:
+    pytest.importorskip('mpmath')
+    blocks = re.findall(r'```python\n(.*?)```', (DESK / 'README.md').read_text(), re.S)
+    block, = (block for block in blocks if 'pinchdesk.costs' in block)
+    names: dict[str, Any] = {'case': example('reactors-cost.csv'), 'network': example('reactors-cost-network.txt')}
+    exec(compile(block.replace('seconds=10', 'seconds=1').replace('100, 5)', '100, 30)'), 'README', 'exec'), names)
+    assert names['target'].area.area.told and names['areas'].cost
 
 
 def test_answers_are_data_frames(pinch: Pinch) -> None:

@@ -36,7 +36,7 @@ def test_a_table_is_read_as_the_word_case_reads_it() -> None:
     with pytest.raises(WordsError, match='bytes need a name'):
         read(example('table.xlsx'))
     with pytest.raises(Refused, match='no contribution'):
-        read(EXAMPLES / 'table.xlsx')
+        read(b'name,supply,target,CP\nA,150,60,2\n', 'plant.csv')
 
 
 def test_a_case_file_is_told_and_takes_no_options() -> None:

@@ -302,7 +302,7 @@ def errors(tmp_path: Path) -> Iterator[tuple[list[str], int, str]]:
     bad.write_bytes(example('tc3-network.txt').replace(b'E1 S1 S3 120000', b'E1 S1 S3 120001'))
     yield [TC3[0], str(bad)], 1, 'the network is rejected at line '
     yield [str(EXAMPLES / 'too-little-cooling.csv')], 1, 'no heat flow'
-    yield [*TC3, '--seconds', '0'], 2, '--seconds 0: a number of seconds'
+    yield [*TC3, '--seconds', '0'], 2, '--seconds 0: it has to be a number of seconds'
     yield [*TC3, '--networks', str(bad)], 2, 'bad.txt: cannot be made a folder'
     yield [*TC3, '--networks', str(tmp_path / 'no' / 'such')], 2, 'cannot be made a folder'
     yield [TC3[0], str(tmp_path / 'nowhere.txt')], 3, 'nowhere.txt: cannot be read'

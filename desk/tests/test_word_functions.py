@@ -88,7 +88,8 @@ def test_what_is_written_besides_is_a_text() -> None:
 
 @pytest.mark.parametrize('word', [pytest.param(word, id=word.name) for word in each_word()])
 def test_the_options_that_a_word_declares_are_those_that_it_takes(word: Word[Any]) -> None:
-    fields = {field.name: field.default for field in dataclasses.fields(word.options)}
+    # When the time of a search begins is for whoever asks, and no option of a user.
+    fields = {field.name: field.default for field in dataclasses.fields(word.options) if field.name != 'begun'}
     declared = {option.name: option.default if option.flags else dataclasses.MISSING for option in word.declared}
     assert fields == declared
     assert word.roles and pickle.loads(pickle.dumps(Job(0, ('x',), word.options(**dict.fromkeys(fields)), Files({}))))
@@ -139,7 +140,7 @@ def test_a_trade_off_judges_its_network_once(runs: list[tuple[object, ...]]) -> 
     network = example('four-stream-network.txt')
     files = files_of(case='four-stream.csv', network='four-stream-network.txt')
     answer = tradeoff(files, TradeoffOptions('1'), nobody)
-    assert answer.further[NETWORKS.name].texts and answer.facts[0][1].value == 'floor'
+    assert answer.further[NETWORKS.name].texts and Fact('cost', Decimal(20000), 'price times W') in answer.facts[0]
     assert sum(run[0] == 'audit' and run[-1] == network for run in runs) == 1
 
 

@@ -109,7 +109,9 @@ def bracketed(text: str) -> tuple[str, str] | None:
 
 
 def splits(text: str) -> Iterator[tuple[str, str]]:
-    """The ways in which a heading may be a name and a unit, the longest name first."""
+    """The ways in which a heading may be a name and a unit, the longest name first; none of a longer text."""
+    if len(text) > LONGEST:
+        return
     for match in reversed(list(re.finditer(r'\s*[/,;:]\s*|\s+in\s+|[\s_]+', text))):
         yield text[:match.start()], text[match.end():]
 
