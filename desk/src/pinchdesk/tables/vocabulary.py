@@ -75,7 +75,8 @@ PAIRS: dict[tuple[str, str], tuple[Heading, Heading]] = {
     (first, second): (Heading.SUPPLY, Heading.TARGET)
     for first, second in (('te', 'ts'), ('ti', 'tf'), ('ti', 'to'), ('ti', 'tu'), ('tini', 'tfin'), ('tv', 'tr'),
                           ('tvl', 'trl'), ('vl', 'rl'))}
-LONGEST_WORDS = 8
+# Of how many words a heading is at most, and how many signs of a text are looked at.
+LONGEST_WORDS, LONGEST_TEXT = 8, 400
 
 
 def squeezed(text: str) -> str:
@@ -84,11 +85,16 @@ def squeezed(text: str) -> str:
 
 
 def words(text: str) -> list[str]:
-    """The words of a heading in small letters, without accents."""
+    """The words of a heading or a title in small letters, without accents; of a long text those of its beginning."""
+    return list(words_of(text[:LONGEST_TEXT]))
+
+
+@lru_cache(maxsize=4096)
+def words_of(text: str) -> tuple[str, ...]:
     plain = unicodedata.normalize('NFKD', text.replace('Δ', 'd').replace('∆', 'd').replace('ß', 'ss')
                                   .replace('°', ' ').replace('·', ' ')).lower()
     letters = ''.join(sign if sign.isalnum() else '' if unicodedata.combining(sign) else ' ' for sign in plain)
-    return letters.split()
+    return tuple(letters.split())
 
 
 @lru_cache(maxsize=4096)
