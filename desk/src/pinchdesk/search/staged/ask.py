@@ -78,7 +78,7 @@ def point_at(model: StagedModel, values: Sequence[float]) -> tuple[Fraction, ...
     fractions."""
     program = replace(model.program(), aim=())
     point = exact(program, values)
-    if point is None or max((each.denominator for each in point), default=1) > LONG:
+    if point is None or max((coordinate.denominator for coordinate in point), default=1) > LONG:
         grains = {at: 1 / model.unit for at in model.duties.values()}
         return roomy(program, values, grains) or point
     return point

@@ -28,30 +28,30 @@ def add_joints(model: StagedModel, at: int) -> None:
 
 def joints_of(model: StagedModel, at: int) -> Iterator[Joint]:
     """Pairs that may be joined across the cut below a window."""
-    above, below = ({each.name: each for each in model.asked.windows[held].pieces if not each.is_level}
-                    for held in (at, at + 1))
+    above, below = ({piece.name: piece for piece in model.asked.windows[window].pieces if not piece.is_level}
+                    for window in (at, at + 1))
     for slot in model.duties:
         lower = Slot(at + 1, 0, slot.hot, slot.cold)
         if slot.window != at or slot.stage != model.asked.stages[at] - 1 or lower not in model.duties:
             continue
         if all(name in above and name in below and above[name].low == below[name].high for name in slot.pair):
-            held = (Joint(slot, lower, name) for name in slot.pair)
-            yield from (each for each in held if above[each.other].cp >= above[each.alone].cp)
+            joints = (Joint(slot, lower, name) for name in slot.pair)
+            yield from (joint for joint in joints if above[joint.other].cp >= above[joint.alone].cp)
 
 
 def add_joint(model: StagedModel, joint: Joint, slot: Slot, use: int) -> None:
     """One of the two exchangers that are joined: it is there, it takes all of the stream that is alone, and the other
     stream has the same range in its stage."""
-    held = {each.name: each for each in model.asked.windows[slot.window].pieces}
+    pieces = {piece.name: piece for piece in model.asked.windows[slot.window].pieces}
     model.row([(use, 1), (model.uses[slot], -1)], None, ZERO)
     for name in slot.pair:
-        tie(model, slot, held[joint.alone], held[name], use)
+        tie(model, slot, pieces[joint.alone], pieces[name], use)
 
 
 def tie(model: StagedModel, slot: Slot, alone: WindowPiece, piece: WindowPiece, use: int) -> None:
     """Where two are joined, the range of a piece in the stage is the duty over the CP of the stream that is alone."""
     cp = alone.cp / model.unit
-    upper, lower = (model.states[slot.window, piece.name, slot.stage + each] for each in (0, 1))
+    upper, lower = (model.states[slot.window, piece.name, slot.stage + offset] for offset in (0, 1))
     terms = ((upper, cp), (lower, -cp), (model.duties[slot], -ONE))
     wrong = cp * max(piece.high - piece.low, alone.high - alone.low)
     model.row([*terms, (use, wrong)], None, wrong)

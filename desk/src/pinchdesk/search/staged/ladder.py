@@ -55,9 +55,9 @@ class Ladder:
                 self.attempt(replace(self.best.asked, slots=self.best.used), max(1.0, self.left / 8))
             self.with_few(few)
         while not self.is_done:
-            held = self.best
+            best_before = self.best
             self.climb(None, max(1.0, self.left / 4))
-            if self.best is not None and self.best is held:
+            if self.best is not None and self.best is best_before:
                 break
             if self.best is None:
                 self.until, self.most_stages = self.solver.effort.spent + seconds, self.most_stages + 2
@@ -109,7 +109,7 @@ class Ladder:
                 return
             slots = slots_of(self.asked(stages))
             if pairs is not None:
-                slots = frozenset(each for each in slots if each.pair in pairs)
+                slots = frozenset(slot for slot in slots if slot.pair in pairs)
             if not slots or self.best is not None and len(slots) > LARGE:
                 continue
             if self.attempt(replace(self.asked(stages), slots=slots), seconds):

@@ -11,7 +11,7 @@ from .plan import StagedPlan, Segment
 
 def joined(case: Case, plan: StagedPlan) -> StagedPlan:
     """The plan with such exchangers joined, as many as there are."""
-    streams = {each.name: each for each in case.streams}
+    streams = {stream.name: stream for stream in case.streams}
     while True:
         pair = next(pairs_of(plan, streams), None)
         if pair is None:
@@ -35,21 +35,21 @@ def follows(plan: StagedPlan, stream: Stream | None, upper: int, lower: int) -> 
         return True
     first, second = (upper, lower) if stream.side is Side.HOT else (lower, upper)
     steps = plan.segments[stream.name]
-    last = max(at for at, each in enumerate(steps) if first in each)
+    last = max(at for at, segment in enumerate(steps) if first in segment)
     return last + 1 < len(steps) and steps[last + 1].get(second) == steps[last][first] and second not in steps[last]
 
 
 def merged(plan: StagedPlan, one: int, other: int) -> StagedPlan:
     """The plan with the second exchanger taken into the first."""
     first, second = plan.matches[one], plan.matches[other]
-    matches = {at: each for at, each in plan.matches.items() if at != other}
+    matches = {at: match for at, match in plan.matches.items() if at != other}
     matches[one] = replace(first, duty=first.duty + second.duty)
-    segments = {name: tuple(renamed(each, one, other) for each in steps) for name, steps in plan.segments.items()}
+    segments = {name: tuple(renamed(segment, one, other) for segment in steps) for name, steps in plan.segments.items()}
     return StagedPlan(matches, segments)
 
 
 def renamed(segment: Segment, one: int, other: int) -> Segment:
     if other not in segment:
         return segment
-    held = {at: size for at, size in segment.items() if at != other}
-    return held | {one: held.get(one, Fraction(0)) + segment[other]}
+    sizes = {at: size for at, size in segment.items() if at != other}
+    return sizes | {one: sizes.get(one, Fraction(0)) + segment[other]}

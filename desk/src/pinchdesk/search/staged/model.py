@@ -54,5 +54,5 @@ class StagedModel:
 
 def unit_of(windows: Iterable[Window]) -> Fraction:
     """A thousandth of the greatest heat of a source whose heat is given, in W."""
-    held = (each.most for window in windows for each in window.pieces if not each.is_loose)
-    return Fraction(max(held, default=1000), 1000)
+    heats = (piece.most for window in windows for piece in window.pieces if not piece.is_loose)
+    return Fraction(max(heats, default=1000), 1000)

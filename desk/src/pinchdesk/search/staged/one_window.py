@@ -11,8 +11,8 @@ from .windows import Window
 def as_one(every: Window, slots: frozenset[Slot]) -> tuple[Asked, frozenset[Slot]]:
     """The slots of an answer of other windows, or of stages alone, in one window. Its stages follow each other. What
     stands at an end of a stream in its window, and at no end of it in the whole, has a stage of its own."""
-    hots = {each.name: each for each in every.pieces if each.side is Side.HOT}
-    colds = {each.name: each for each in every.pieces if each.side is Side.COLD}
+    hots = {piece.name: piece for piece in every.pieces if piece.side is Side.HOT}
+    colds = {piece.name: piece for piece in every.pieces if piece.side is Side.COLD}
 
     def placed(slot: Slot) -> SlotEnd | None:
         place = places(hots[slot.hot], colds[slot.cold], 1)[0]

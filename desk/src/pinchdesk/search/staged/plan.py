@@ -41,12 +41,12 @@ def plan_of(case: Case, model: StagedModel, point: Sequence[Fraction]) -> Staged
     matches = {numbers[slot]: Match(slot.hot, slot.cold, duty) for slot, duty in duties.items()}
     segments: dict[str, tuple[Segment, ...]] = {}
     for stream in case.streams:
-        held = [slot for slot in slots if stream.name in slot.pair]
+        stream_slots = [slot for slot in slots if stream.name in slot.pair]
         if stream.latent:
-            segments[stream.name] = ({numbers[slot]: duties[slot] for slot in held},) if held else ()
+            segments[stream.name] = ({numbers[slot]: duties[slot] for slot in stream_slots},) if stream_slots else ()
             continue
         steps: list[Segment] = []
-        for group in in_order(held, stream):
+        for group in in_order(stream_slots, stream):
             heat = sum((duties[slot] for slot in group), Fraction(0))
             steps.append({numbers[slot]: stream.cp * duties[slot] / heat for slot in group})
         segments[stream.name] = tuple(steps)
@@ -60,5 +60,5 @@ def in_order(slots: Sequence[Slot], stream: Stream) -> list[list[Slot]]:
         # What stands at an end is one behind the other.
         alone = len(down) if slot.stage < 0 else 0
         down.setdefault((*slot.step, alone), []).append(slot)
-    steps = [down[each] for each in sorted(down)]
+    steps = [down[place] for place in sorted(down)]
     return steps if stream.side is Side.HOT else steps[::-1]

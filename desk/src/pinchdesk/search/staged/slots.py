@@ -104,5 +104,6 @@ def places_in(window: Window, at: int, stages: int, ends: bool) -> Iterator[tupl
 
 def slots_of(asked: Asked) -> frozenset[Slot]:
     """All slots of some windows."""
-    held = enumerate(zip(asked.windows, asked.stages))
-    return frozenset(slot for at, (window, stages) in held for slot, _, _ in places_in(window, at, stages, asked.ends))
+    numbered_windows = enumerate(zip(asked.windows, asked.stages))
+    return frozenset(slot for at, (window, stages) in numbered_windows
+                     for slot, _, _ in places_in(window, at, stages, asked.ends))

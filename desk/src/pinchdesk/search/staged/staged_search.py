@@ -74,9 +74,9 @@ class Search:
 
     def search(self, uses: Mapping[str, int]) -> None:
         every = whole(self.case, None)
-        ladders = [Ladder(self.solver, each) for each in windows(self.case, uses)]
-        for each in ladders:
-            each.begin()
+        ladders = [Ladder(self.solver, window) for window in windows(self.case, uses)]
+        for ladder in ladders:
+            ladder.begin()
         self.of_windows(ladders)
         sets = PairSets(self.solver, every, self.most_cost)
         sets.first(self.effort.seconds / 10)
@@ -128,19 +128,21 @@ class Search:
         only = self.most_cost == self.floor
         share = self.effort.left / (3 if only else 6) / len(ladders)
         answer = None
-        for each in ladders:
+        for ladder in ladders:
             with ended(lambda: self.of_windows(ladders)):
-                each.run(share)
+                ladder.run(share)
             answer = self.of_windows(ladders) or answer
         return None if answer is None else self.together(answer, self.effort.left / (1 if only else 6))
 
     def of_windows(self, ladders: Sequence[Ladder]) -> SolverAnswer | None:
         """What was found for the windows, as one answer; None where there is none for one of them."""
-        answers = [each.best for each in ladders if each.best is not None]
+        answers = [ladder.best for ladder in ladders if ladder.best is not None]
         if len(answers) < len(ladders):
             return None
-        asked = Asked(tuple(each.window for each in ladders), tuple(each.asked.stages[0] for each in answers))
-        used = frozenset(replace(slot, window=at) for at, each in enumerate(answers) for slot in each.used)
+        asked = Asked(tuple(ladder.window for ladder in ladders),
+                      tuple(window_answer.asked.stages[0] for window_answer in answers))
+        used = frozenset(replace(slot, window=at) for at, window_answer in enumerate(answers)
+                         for slot in window_answer.used)
         answer = answer_with(replace(asked, slots=used))
         self.take(answer)
         return answer
@@ -170,7 +172,7 @@ class Search:
         if answer is not None:
             asked, used = as_one(every, answer.used)
             begun = self.solver.ask(replace(asked, slots=used, most_cost=self.most_cost), self.effort.left / 12).answer
-        begins = [whole(self.case, each) for each in dearer(self.case, uses, self.most_cost - self.floor)]
+        begins = [whole(self.case, dearer_uses) for dearer_uses in dearer(self.case, uses, self.most_cost - self.floor)]
         ladder = Ladder(self.solver, every, self.most_cost, begun, begins)
         with ended(lambda: self.take(ladder.best)):
             begun = ladder.run(self.effort.left / 3)

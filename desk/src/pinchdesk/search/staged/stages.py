@@ -24,9 +24,9 @@ def model_of(asked: Asked) -> StagedModel:
     for at in range(len(asked.windows) - 1):
         add_joints(model, at)
     if asked.most_cost is not None:
-        prices = {each.name: each.price for window in asked.windows for each in window.pieces if each.price}
+        prices = {piece.name: piece.price for window in asked.windows for piece in window.pieces if piece.price}
         terms = [(at, prices.get(slot.hot, 0) + prices.get(slot.cold, 0)) for slot, at in model.duties.items()]
-        model.row([each for each in terms if each[1]], None, asked.most_cost / model.unit)
+        model.row([term for term in terms if term[1]], None, asked.most_cost / model.unit)
     return model
 
 
@@ -48,7 +48,7 @@ def add_window(model: StagedModel, at: int, window: Window, stages: int) -> None
 def add_states(model: StagedModel, at: int, piece: WindowPiece, window: Window, stages: int) -> None:
     """The temperatures of a stream at each boundary. Its ends are fixed, but for one at which a level may stand."""
     hot = piece.side is Side.HOT
-    pairs = [(piece, each) for each in window.colds] if hot else [(each, piece) for each in window.hots]
+    pairs = [(piece, partner) for partner in window.colds] if hot else [(partner, piece) for partner in window.hots]
     ends = {place for pair in pairs if may_meet(*pair, window) for place in places(*pair, 1, model.asked.ends)}
     for boundary in range(stages + 1):
         is_high = boundary == 0 and (hot or SlotEnd.TOP not in ends)
@@ -88,14 +88,14 @@ def add_approach(model: StagedModel, slot: Slot, hot: WindowPiece, cold: WindowP
 
 def exchangers_of(model: StagedModel, at: int, piece: WindowPiece) -> dict[Slot, int]:
     """The slots of a piece with their duties."""
-    return {slot: held for slot, held in model.duties.items()
+    return {slot: duty for slot, duty in model.duties.items()
             if slot.window == at and piece.name == (slot.hot if piece.side is Side.HOT else slot.cold)}
 
 
 def add_level(model: StagedModel, at: int, piece: WindowPiece) -> None:
     """A level gives or takes in all what it has."""
     duties = exchangers_of(model, at, piece)
-    model.row([(held, 1) for held in duties.values()], piece.least / model.unit, piece.most / model.unit)
+    model.row([(duty, 1) for duty in duties.values()], piece.least / model.unit, piece.most / model.unit)
     if piece.least > 0:
         model.row([(model.uses[slot], 1) for slot in duties], ONE, None)
 
@@ -105,12 +105,12 @@ def add_stream(model: StagedModel, at: int, piece: WindowPiece, stages: int) -> 
     duties = exchangers_of(model, at, piece)
     cp = piece.cp / model.unit
     for stage in range(stages):
-        upper, lower = (model.states[at, piece.name, each] for each in (stage, stage + 1))
-        held = [(each, -ONE) for slot, each in duties.items() if slot.stage == stage]
-        model.row([(upper, cp), (lower, -cp), *held], ZERO, ZERO)
-    ends = [each for slot, each in duties.items() if slot.stage < 0]
+        upper, lower = (model.states[at, piece.name, boundary] for boundary in (stage, stage + 1))
+        duty_terms = [(duty, -ONE) for slot, duty in duties.items() if slot.stage == stage]
+        model.row([(upper, cp), (lower, -cp), *duty_terms], ZERO, ZERO)
+    ends = [duty for slot, duty in duties.items() if slot.stage < 0]
     if piece.side is Side.HOT:
-        model.row([(model.states[at, piece.name, stages], cp), *((each, -1) for each in ends)], *(cp * piece.low,) * 2)
+        model.row([(model.states[at, piece.name, stages], cp), *((duty, -1) for duty in ends)], *(cp * piece.low,) * 2)
     else:
-        model.row([(model.states[at, piece.name, 0], cp), *((each, 1) for each in ends)], *(cp * piece.high,) * 2)
+        model.row([(model.states[at, piece.name, 0], cp), *((duty, 1) for duty in ends)], *(cp * piece.high,) * 2)
     model.row([(model.uses[slot], 1) for slot in duties], ONE, None)

@@ -18,8 +18,8 @@ Band = tuple[int, int]
 
 def bands_of(window: Window) -> list[Band]:
     """Bands of temperature from the hottest down; a level has one of its own."""
-    ends = sorted({end for each in window.pieces for end in (each.high, each.low)}, reverse=True)
-    levels = {each.high for each in window.pieces if each.is_level}
+    ends = sorted({end for piece in window.pieces for end in (piece.high, piece.low)}, reverse=True)
+    levels = {piece.high for piece in window.pieces if piece.is_level}
     made: list[Band] = []
     for at, end in enumerate(ends):
         if end in levels:
@@ -62,12 +62,13 @@ class Transshipment:
             if is_in(cold, band) and (band[0] <= hot.high):
                 heat = Fraction(heat_in(cold, band)) / self.model.unit
                 self.duties[pair, band] = self.model.variable(ZERO, min(heat, limit))
-        held = [(at, ONE) for (each, _), at in self.duties.items() if each == pair]
-        self.model.row([*held, (self.used[pair], -limit)], None, ZERO)
+        duties = [(at, ONE) for (duty_pair, _), at in self.duties.items() if duty_pair == pair]
+        self.model.row([*duties, (self.used[pair], -limit)], None, ZERO)
 
     def taken(self, piece: WindowPiece, band: Band | None = None) -> list[tuple[int, Fraction]]:
         """The duties of a piece, in a band or in all."""
-        return [(at, ONE) for (pair, each), at in self.duties.items() if piece.name in pair and band in (None, each)]
+        return [(at, ONE) for (pair, duty_band), at in self.duties.items()
+                if piece.name in pair and band in (None, duty_band)]
 
     def add_level(self, piece: WindowPiece) -> None:
         unit = self.model.unit
@@ -91,29 +92,30 @@ class Transshipment:
             self.model.row(terms + ([] if rest is None else [(rest, ONE)]), heat, heat)
 
     def add_cost(self, most: Fraction) -> None:
-        prices = {each.name: each.price for each in self.window.pieces}
+        prices = {piece.name: piece.price for piece in self.window.pieces}
         terms = [(at, Fraction(prices[pair[0]] + prices[pair[1]])) for (pair, _), at in self.duties.items()]
-        self.model.row([each for each in terms if each[1]], None, most / self.model.unit)
+        self.model.row([term for term in terms if term[1]], None, most / self.model.unit)
 
 
 def transshipment(window: Window, most_cost: Fraction | None = None) -> tuple[Program, dict[Pair, int]]:
     """The program of a window and the variables of its pairs; with a cost that is not to be passed where the heat of
     the utilities is open."""
-    held = Transshipment(window, StagedModel(Asked((window,), (0,)), unit_of((window,))), bands_of(window))
+    pair_model = Transshipment(window, StagedModel(Asked((window,), (0,)), unit_of((window,))), bands_of(window))
     for hot in window.hots:
         for cold in window.colds:
             if may_meet(hot, cold, window):
-                held.add_pair(hot, cold)
+                pair_model.add_pair(hot, cold)
     for piece in window.pieces:
         if piece.is_level:
-            held.add_level(piece)
+            pair_model.add_level(piece)
         elif piece.side is Side.HOT:
-            held.add_hot(piece)
+            pair_model.add_hot(piece)
         else:
-            held.add_cold(piece)
+            pair_model.add_cold(piece)
         if piece.least:
-            held.model.row([(at, ONE) for pair, at in held.used.items() if piece.name in pair], ONE, None)
+            pair_model.model.row([(at, ONE) for pair, at in pair_model.used.items() if piece.name in pair], ONE, None)
     if most_cost is not None:
-        held.add_cost(most_cost)
-    model, aim = held.model, tuple((at, ONE) for at in held.used.values())
-    return (Program(tuple(model.lows), tuple(model.highs), frozenset(model.wholes), tuple(model.rows), aim), held.used)
+        pair_model.add_cost(most_cost)
+    model, aim = pair_model.model, tuple((at, ONE) for at in pair_model.used.values())
+    return (Program(tuple(model.lows), tuple(model.highs), frozenset(model.wholes), tuple(model.rows), aim),
+            pair_model.used)

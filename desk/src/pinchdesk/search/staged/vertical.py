@@ -24,26 +24,26 @@ Heats = dict[str, Fraction]
 
 def runs(pieces: Sequence[WindowPiece]) -> Iterator[tuple[Fraction, Fraction, Fraction]]:
     """The composite curve from the hottest end down, in runs of one slope: upper and lower temperature, and heat."""
-    ends = sorted({end for each in pieces for end in (each.high, each.low)}, reverse=True)
+    ends = sorted({end for piece in pieces for end in (piece.high, piece.low)}, reverse=True)
     for at, end in enumerate(ends):
-        level = sum(each.most for each in pieces if each.is_level and each.high == end)
+        level = sum(piece.most for piece in pieces if piece.is_level and piece.high == end)
         if level:
             yield Fraction(end), Fraction(end), Fraction(level)
         lower = ends[at + 1] if at + 1 < len(ends) else end
-        cp = sum(each.cp for each in pieces if each.low <= lower < each.high)
+        cp = sum(piece.cp for piece in pieces if piece.low <= lower < piece.high)
         if cp and lower < end:
             yield Fraction(end), Fraction(lower), Fraction(cp * (end - lower))
 
 
 def kinks(window: Window) -> list[Fraction]:
     """The heats, from the hottest end down, at which one of the curves has a kink; both ends of the curves too."""
-    held = {Fraction(0)}
+    heats = {Fraction(0)}
     for pieces in (window.hots, window.colds):
         above = Fraction(0)
         for _, _, heat in runs(pieces):
             above += heat
-            held.add(above)
-    return sorted(held)
+            heats.add(above)
+    return sorted(heats)
 
 
 def heats_between(pieces: Sequence[WindowPiece], first: Fraction, last: Fraction) -> Heats:
@@ -55,13 +55,13 @@ def heats_between(pieces: Sequence[WindowPiece], first: Fraction, last: Fraction
         above += heat
         if part <= 0:
             continue
-        for each in pieces:
+        for piece in pieces:
             if upper == lower:
-                more = Fraction(each.most) if each.is_level and each.high == upper else Fraction(0)
+                more = Fraction(piece.most) if piece.is_level and piece.high == upper else Fraction(0)
             else:
-                more = each.cp * (upper - lower) if each.low <= lower and each.high >= upper else Fraction(0)
+                more = piece.cp * (upper - lower) if piece.low <= lower and piece.high >= upper else Fraction(0)
             if more:
-                made[each.name] = made.get(each.name, Fraction(0)) + more * part
+                made[piece.name] = made.get(piece.name, Fraction(0)) + more * part
     return made
 
 
@@ -80,7 +80,7 @@ def matched(given: Heats, taken: Heats, order: Mapping[Pair, float], known: set[
 
 def upright_slots(window: Window, chance: random.Random) -> tuple[int, frozenset[Slot]]:
     """The stages and the slots of an answer by the composite curves, which pairs come first by chance."""
-    levels = {each.name for each in window.pieces if each.is_level}
+    levels = {piece.name for piece in window.pieces if piece.is_level}
     order = {(hot.name, cold.name): chance.random() for hot in window.hots for cold in window.colds
              if may_meet(hot, cold, window)}
     known: set[Pair] = set()

@@ -46,16 +46,17 @@ class Window:
 
     @property
     def hots(self) -> tuple[WindowPiece, ...]:
-        return tuple(each for each in self.pieces if each.side is Side.HOT)
+        return tuple(piece for piece in self.pieces if piece.side is Side.HOT)
 
     @property
     def colds(self) -> tuple[WindowPiece, ...]:
-        return tuple(each for each in self.pieces if each.side is Side.COLD)
+        return tuple(piece for piece in self.pieces if piece.side is Side.COLD)
 
     @property
     def total(self) -> int:
         """What is exchanged at most where no more utility is used than has to be."""
-        return max(sum(each.least if each.is_loose else each.most for each in held) for held in (self.hots, self.colds))
+        return max(sum(piece.least if piece.is_loose else piece.most for piece in pieces)
+                   for pieces in (self.hots, self.colds))
 
 
 # A place of a cut: a temperature, and whether what stands at it is above the cut.
@@ -73,22 +74,22 @@ def piece_of(source: Source, uses: Mapping[str, int] | None) -> WindowPiece:
 
 def whole(case: Case, uses: Mapping[str, int] | None) -> Window:
     """The case as one window. A utility that gives nothing is left out."""
-    pieces = [piece_of(each, uses) for each in case.sources]
-    forbids = frozenset((each.hot, each.cold) for each in case.forbids)
-    return Window(tuple(each for each in pieces if each.most), forbids)
+    pieces = [piece_of(source, uses) for source in case.sources]
+    forbids = frozenset((forbid.hot, forbid.cold) for forbid in case.forbids)
+    return Window(tuple(piece for piece in pieces if piece.most), forbids)
 
 
 def windows(case: Case, uses: Mapping[str, int]) -> tuple[Window, ...]:
     """The windows of a completed case with these uses, from the hottest down."""
     window = whole(case, uses)
     cuts = [cut for cut in cuts_of(window) if cascade(window, cut) == 0]
-    made = [between(window, above, below) for above, below in zip([None, *cuts], [*cuts, None])]
-    return tuple(each for each in made if each.pieces)
+    cut_windows = [between(window, above, below) for above, below in zip([None, *cuts], [*cuts, None])]
+    return tuple(cut_window for cut_window in cut_windows if cut_window.pieces)
 
 
 def cuts_of(window: Window) -> Iterator[Cut]:
     """All places where a cut may be, from the hottest down."""
-    for place in sorted({end for each in window.pieces for end in (each.high, each.low)}, reverse=True):
+    for place in sorted({end for piece in window.pieces for end in (piece.high, piece.low)}, reverse=True):
         yield (place, False)
         yield (place, True)
 
@@ -106,13 +107,13 @@ def heat_above(piece: WindowPiece, cut: Cut) -> int:
 
 def cascade(window: Window, cut: Cut) -> int:
     """What is above a cut gives less what it takes."""
-    return (sum(heat_above(each, cut) for each in window.hots) - sum(heat_above(each, cut) for each in window.colds))
+    return (sum(heat_above(hot, cut) for hot in window.hots) - sum(heat_above(cold, cut) for cold in window.colds))
 
 
 def between(window: Window, upper: Cut | None, lower: Cut | None) -> Window:
     """What is below one cut and above another."""
-    held = (part(each, upper, lower) for each in window.pieces)
-    return Window(tuple(each for each in held if each), window.forbids)
+    parts = (part(piece, upper, lower) for piece in window.pieces)
+    return Window(tuple(piece for piece in parts if piece), window.forbids)
 
 
 def part(piece: WindowPiece, upper: Cut | None, lower: Cut | None) -> WindowPiece | None:

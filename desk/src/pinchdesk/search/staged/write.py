@@ -17,7 +17,7 @@ class PlanWriter:
 
     def __init__(self, case: Case, plan: StagedPlan) -> None:
         self.plan = plan
-        self.streams = {each.name: each for each in case.streams}
+        self.streams = {stream.name: stream for stream in case.streams}
         self.names = dict(names_of(plan.matches, self.streams))
         self.counts: dict[str, int] = {}
 
@@ -42,7 +42,7 @@ class PlanWriter:
         steps = self.plan.segments[name]
         for at, segment in enumerate(steps):
             later = steps[at + 1] if at + 1 < len(steps) else {}
-            new = {each: size for each, size in segment.items() if each not in through}
+            new = {number: size for number, size in segment.items() if number not in through}
             behind: dict[int, str] = {}
             for match, branch, size, statements in self.divided(name, pool, left, new):
                 yield from statements
@@ -51,9 +51,9 @@ class PlanWriter:
                 through[match] = (made, size)
             if not new and pool is not None:
                 raise ValueError(f'a branch of {name} passes no exchanger')
-            ended = [each for each in through if each not in later]
-            behind = {each: through[each][0] for each in ended}
-            left = sum((through.pop(each)[1] for each in ended), Fraction(0))
+            ended = [number for number in through if number not in later]
+            behind = {number: through[number][0] for number in ended}
+            left = sum((through.pop(number)[1] for number in ended), Fraction(0))
             pool = None
             for branch in behind.values():
                 if pool is None:
@@ -67,10 +67,10 @@ class PlanWriter:
     def divided(self, stream: str, pool: str | None, size: Fraction, parts: Mapping[int, Fraction],
                 ) -> Iterator[tuple[int, str, Fraction, list[Statement]]]:
         """A branch that is divided: each part with its exchanger, its size, and what is written before it."""
-        held = list(parts.items())
-        for at, (match, part) in enumerate(held):
+        branch_sizes = list(parts.items())
+        for at, (match, part) in enumerate(branch_sizes):
             assert pool is not None
-            if at + 1 == len(held):
+            if at + 1 == len(branch_sizes):
                 yield match, pool, part, []
                 return
             first, rest = self.branch(stream), self.branch(stream)
