@@ -26,7 +26,7 @@ class Elimination:
             return False
         pivot = min(row, key=lambda at: (len(self.within.get(at, ())), at))
         factor = row.pop(pivot)
-        self.take(pivot, {at: each / factor for at, each in row.items()}, value / factor)
+        self.take(pivot, {at: coefficient / factor for at, coefficient in row.items()}, value / factor)
         return True
 
     def add_if_free(self, terms: Iterable[tuple[int, Fraction]], value: Fraction) -> bool:
@@ -43,31 +43,31 @@ class Elimination:
             if at not in self.rows:
                 row[at] = row.get(at, Fraction(0)) + factor
                 continue
-            held, constant = self.rows[at]
+            solved_row, constant = self.rows[at]
             value -= factor * constant
-            for other, each in held.items():
-                row[other] = row.get(other, Fraction(0)) - factor * each
+            for other, coefficient in solved_row.items():
+                row[other] = row.get(other, Fraction(0)) - factor * coefficient
         return {at: factor for at, factor in row.items() if factor}, value
 
     def take(self, pivot: int, row: dict[int, Fraction], value: Fraction) -> None:
         """Puts a new equation, `pivot + row = value`, into the earlier ones."""
         for owner in self.within.pop(pivot, set()):
-            held, constant = self.rows[owner]
-            factor = held.pop(pivot)
-            for at, each in row.items():
-                left = held.get(at, Fraction(0)) - factor * each
-                self.put(owner, held, at, left)
-            self.rows[owner] = (held, constant - factor * value)
+            owner_row, constant = self.rows[owner]
+            factor = owner_row.pop(pivot)
+            for at, coefficient in row.items():
+                left = owner_row.get(at, Fraction(0)) - factor * coefficient
+                self.put(owner, owner_row, at, left)
+            self.rows[owner] = (owner_row, constant - factor * value)
         self.rows[pivot] = (row, value)
         for at in row:
             self.within.setdefault(at, set()).add(pivot)
 
-    def put(self, owner: int, held: dict[int, Fraction], at: int, factor: Fraction) -> None:
+    def put(self, owner: int, row: dict[int, Fraction], at: int, factor: Fraction) -> None:
         if factor:
-            held[at] = factor
+            row[at] = factor
             self.within.setdefault(at, set()).add(owner)
         else:
-            held.pop(at, None)
+            row.pop(at, None)
             self.within.get(at, set()).discard(owner)
 
     def point(self) -> tuple[Fraction, ...] | None:

@@ -81,7 +81,7 @@ def solve(program: Program, seconds: float | None = None, gap: float = 1e-6) -> 
         found = milp(aim_of(program), integrality=integrality, bounds=Bounds(*bounds_of(program)),
                      constraints=constraints_of(program), options=options)
     if found.x is not None:
-        values = tuple(float(each) for each in found.x)
+        values = tuple(float(coordinate) for coordinate in found.x)
         bound = found.mip_dual_bound
         return Solved(values, float(found.fun), float(found.fun if bound is None else bound), found.status == 0)
     if found.status == INFEASIBLE:
@@ -144,14 +144,14 @@ def without(row: LinearRow, values: Mapping[int, Fraction]) -> LinearRow:
 def narrow(lows: list[Fraction | None], highs: list[Fraction | None], row: LinearRow) -> None:
     """Takes a row of one variable as its bounds."""
     (at, factor), = row.terms
-    low, high = (None if each is None else each / factor for each in (row.low, row.high))
+    low, high = (None if bound is None else bound / factor for bound in (row.low, row.high))
     if factor < 0:
         low, high = high, low
-    held = lows[at]
-    if low is not None and (held is None or held < low):
+    known_low = lows[at]
+    if low is not None and (known_low is None or known_low < low):
         lows[at] = low
-    held = highs[at]
-    if high is not None and (held is None or held > high):
+    known_high = highs[at]
+    if high is not None and (known_high is None or known_high > high):
         highs[at] = high
 
 
@@ -166,30 +166,30 @@ def vertex_of(program: Program) -> list[float] | None:
         found = linprog(aim_of(program), A_ub=above, b_ub=numpy.concatenate([high[upper], -low[lower]]),
                         A_eq=matrix[equal], b_eq=low[equal], bounds=bounds, method='highs-ds',
                         options={'primal_feasibility_tolerance': 1e-9})
-    return [float(each) for each in found.x] if found.status == 0 else None
+    return [float(coordinate) for coordinate in found.x] if found.status == 0 else None
 
 
 def solved_at(program: Program, vertex: Sequence[float], grains: Mapping[int, Fraction] | None = None,
               ) -> tuple[Fraction, ...] | None:
     """What is tight at a point, solved: first what has to be equal, then what is tight as far as it is independent.
     What is free takes the nearest multiple of its grain, where it has one, or a simple fraction."""
-    held = Elimination(len(vertex))
+    equations = Elimination(len(vertex))
     try:
         for at, (low, high) in enumerate(zip(program.lows, program.highs)):
             if low is not None and low == high:
-                held.add(((at, Fraction(1)),), low)
+                equations.add(((at, Fraction(1)),), low)
         for row in program.rows:
             if row.low is not None and row.low == row.high:
-                held.add(row.terms, row.low)
+                equations.add(row.terms, row.low)
     except Inconsistent:
         return None
     for terms, value in (*tight_bounds(program, vertex), *tight_rows(program, vertex)):
-        held.add_if_free(terms, value)
+        equations.add_if_free(terms, value)
     for at, grain in (grains or {}).items():
-        held.add_if_free(((at, Fraction(1)),), round(Fraction(vertex[at]) / grain) * grain)
+        equations.add_if_free(((at, Fraction(1)),), round(Fraction(vertex[at]) / grain) * grain)
     for at, near in enumerate(vertex):
-        held.add_if_free(((at, Fraction(1)),), Fraction(near).limit_denominator(SIMPLE))
-    return held.point()
+        equations.add_if_free(((at, Fraction(1)),), Fraction(near).limit_denominator(SIMPLE))
+    return equations.point()
 
 
 def tight_bounds(program: Program, vertex: Sequence[float]) -> Iterable[tuple[Terms, Fraction]]:
@@ -218,8 +218,8 @@ def aim_of(program: Program) -> Floats:
 
 
 def bounds_of(program: Program) -> tuple[Floats, Floats]:
-    lows = [-math.inf if each is None else float(each) for each in program.lows]
-    highs = [math.inf if each is None else float(each) for each in program.highs]
+    lows = [-math.inf if low is None else float(low) for low in program.lows]
+    highs = [math.inf if high is None else float(high) for high in program.highs]
     return numpy.array(lows), numpy.array(highs)
 
 
