@@ -32,9 +32,9 @@ def spaced(axes: Axes, most: int = 8, shown: Any = plain) -> None:
     for bins in range(most, 0, -1):
         steps = MaxNLocator(bins, steps=STEPS).tick_values(low, high)
         # What is written below the last number may pass the end of the axis, but not the edge of the picture.
-        ticks = [each for each in steps if low <= each and
-                 (each - low) / (high - low) * room + width(shown(each), size) / 2 <= room + EDGE]
-        wide = max((width(shown(each), size) for each in ticks), default=0)
+        ticks = [tick for tick in steps if low <= tick and
+                 (tick - low) / (high - low) * room + width(shown(tick), size) / 2 <= room + EDGE]
+        wide = max((width(shown(tick), size) for tick in ticks), default=0)
         if len(ticks) < 2 or (ticks[1] - ticks[0]) / (high - low) * room > wide + ROOM:
             break
     axes.xaxis.set_major_locator(FixedLocator(ticks))
@@ -52,7 +52,7 @@ def entitled(axes: Axes, across: str, upright: str, title: str = '') -> None:
 
 def wrapped(text: str, room: float, size: float = 9.0) -> str:
     """A text in lines of so many inches, three at most; what has no room there is left out behind a sign."""
-    made = [line for each in text.split('\n') for line in broken(each, room, size)]
+    made = [line for paragraph in text.split('\n') for line in broken(paragraph, room, size)]
     return '\n'.join(made if len(made) <= MOST_LINES else [*made[:MOST_LINES - 1], made[MOST_LINES - 1][:-1] + '…'])
 
 
@@ -60,31 +60,31 @@ def broken(text: str, room: float, size: float) -> list[str]:
     """The lines of a text, broken between words, and inside those that are too long."""
     lines = ['']
     for word in text.split(' '):
-        held = f'{lines[-1]} {word}'.lstrip()
-        if width(held, size) <= room:
-            lines[-1] = held
+        longer = f'{lines[-1]} {word}'.lstrip()
+        if width(longer, size) <= room:
+            lines[-1] = longer
             continue
         lines += ['']
         for letter in word:
             lines += [''] if width(lines[-1] + letter, size) > room else []
             lines[-1] += letter
-    return [each for each in lines if each]
+    return [line for line in lines if line]
 
 
 def columns_of(texts: Sequence[str], room: float) -> int:
     """How many columns of a legend have room in so many inches."""
-    longest = max((width(line, 8.5) for each in texts for line in each.split('\n')), default=0) + HANDLE
+    longest = max((width(line, 8.5) for text in texts for line in text.split('\n')), default=0) + HANDLE
     return max(1, min(len(texts), 4, int(room / longest)))
 
 
 def legend_below(axes: Axes, handles: Sequence[Any] | None = None, room: float | None = None) -> None:
     """A legend below an axis and its title, in as many columns as have room."""
-    held = axes.get_legend_handles_labels()[0] if handles is None else handles
+    legend_handles = axes.get_legend_handles_labels()[0] if handles is None else handles
     wide = axes.figure.get_size_inches()[0] - 0.3 if room is None else room
-    texts = [wrapped(each.get_label(), wide - HANDLE, 8.5) for each in held]
+    texts = [wrapped(handle.get_label(), wide - HANDLE, 8.5) for handle in legend_handles]
     shifted = axes.transAxes + ScaledTranslation(0, -BELOW, axes.figure.dpi_scale_trans)
-    axes.legend(held, texts, loc='upper center', bbox_to_anchor=(0.5, 0), bbox_transform=shifted, borderaxespad=0,
-                ncol=columns_of(texts, wide), columnspacing=1.4, handlelength=1.8)
+    axes.legend(legend_handles, texts, loc='upper center', bbox_to_anchor=(0.5, 0), bbox_transform=shifted,
+                borderaxespad=0, ncol=columns_of(texts, wide), columnspacing=1.4, handlelength=1.8)
 
 
 def plainly(axes: Axes) -> None:

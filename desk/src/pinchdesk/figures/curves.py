@@ -72,14 +72,14 @@ def single(panel: Panel, drawn: Drawn) -> Figure:
 def headline(drawn: Drawn) -> str:
     """Both targets and the pinches, and what is used where that is more."""
     shown = drawn.shown
-    pinches = ', '.join(shown.celsius(each.temperature) for each in drawn.pinches)
+    pinches = ', '.join(shown.celsius(pinch.temperature) for pinch in drawn.pinches)
     told = f'pinch{"es" if "," in pinches else ""} at {pinches} °C shifted' if pinches else 'no pinch'
     hot, cold = shown.kilowatts(drawn.targets.hot), shown.kilowatts(drawn.targets.cold)
     text = f'Targets: hot utility {hot} kW, cold utility {cold} kW, {told}'
     if not drawn.feasible:
         return f'{text} (no heat flow: utilities are left out)'
     if drawn.beyond:
-        used = [shown.kilowatts(drawn.used(each)) for each in (Side.HOT, Side.COLD)]
+        used = [shown.kilowatts(drawn.used(side)) for side in (Side.HOT, Side.COLD)]
         text += f'\nUsed by the heat flow of least cost: hot utility {used[0]} kW, cold utility {used[1]} kW'
     return text
 
@@ -87,5 +87,5 @@ def headline(drawn: Drawn) -> str:
 def legend_at(axes: Axes, panels: dict[Axes, Panel]) -> None:
     """One legend for all diagrams in a place of its own."""
     axes.set_axis_off()
-    held = {label: handle for each in panels for handle, label in zip(*each.get_legend_handles_labels())}
-    axes.legend(held.values(), held, loc='upper left', bbox_to_anchor=(0.02, 1), borderaxespad=0, fontsize=9)
+    handles = {label: handle for diagram in panels for handle, label in zip(*diagram.get_legend_handles_labels())}
+    axes.legend(handles.values(), handles, loc='upper left', bbox_to_anchor=(0.02, 1), borderaxespad=0, fontsize=9)

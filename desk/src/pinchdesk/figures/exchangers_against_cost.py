@@ -28,7 +28,7 @@ def tradeoff_figure(traded: TradeOff) -> Figure:
     with styled():
         figure = blank(8, 5.4)
         axes = figure.subplots()
-        points = [point_of(each, shown) for each in traded.rows]
+        points = [point_of(tradeoff_row, shown) for tradeoff_row in traded.rows]
         put_points(axes, traded, points, shown)
         framed(axes)
         axes.margins(0.12, 0.14)
@@ -71,9 +71,9 @@ def label_of(row: TradeOffRow, shown: Shown, whole: bool) -> str:
     """The number of exchangers, the cost, and (where it is the whole) what went and came."""
     told = (('without', row.gone), ('with', row.come)) if whole else ()
     return '\n'.join((f'{row.exchangers}: {shown.cost(row.cost)}',
-                      *(f'{word} {names_of(each)}' for word, each in told if each)))
+                      *(f'{word} {names_of(exchangers)}' for word, exchangers in told if exchangers)))
 
 
 def names_of(exchangers: tuple[Exchanger, ...]) -> str:
     return f'{len(exchangers)} others' if len(exchangers) > MOST_NAMES else ', '.join(said(
-        f'{each.name} {each.hot}-{each.cold}') for each in exchangers)
+        f'{exchanger.name} {exchanger.hot}-{exchanger.cold}') for exchanger in exchangers)

@@ -77,9 +77,9 @@ class Labels:
         """Places all over the diagram, the nearest first."""
         frame, dots = self.axes.get_window_extent(), float(self.axes.figure.dpi) / 72
         x, y = self.axes.transData.transform(at)
-        held = [(float(across - x), float(up - y)) for across in numpy.arange(frame.x0, frame.x1, STEP)
-                for up in numpy.arange(frame.y0, frame.y1, STEP)]
-        for dx, dy in sorted(held, key=lambda each: each[0] ** 2 + each[1] ** 2):
+        offsets = [(float(across - x), float(up - y)) for across in numpy.arange(frame.x0, frame.x1, STEP)
+                   for up in numpy.arange(frame.y0, frame.y1, STEP)]
+        for dx, dy in sorted(offsets, key=lambda offset: offset[0] ** 2 + offset[1] ** 2):
             yield dx / dots, dy / dots, -1 if dx > 0 else 1, -1 if dy > 0 else 1
 
     def written(self, text: str, at: Xy, place: Place, box: Bbox, style: dict[str, Any]) -> Annotation:
@@ -116,8 +116,8 @@ class Labels:
         """What a thin line costs: it shall be short, and pass through no label, no other such line and few curves."""
         one, other = self.leader(at, box)
         length = float(numpy.hypot(other[0] - one[0], other[1] - one[1]))
-        return 0.2 + length / 1000 + 3 * sum(meets(each, one, other) for each in self.taken) \
-            + 2 * sum(crosses(one, other, *each) for each in self.leaders) \
+        return 0.2 + length / 1000 + 3 * sum(meets(label_box, one, other) for label_box in self.taken) \
+            + 2 * sum(crosses(one, other, *leader) for leader in self.leaders) \
             + 0.3 * sum(self.crossed(one, other, curve) for curve in self.curves)
 
     def crossed(self, one: Any, other: Any, curve: Sequence[Xy]) -> int:
@@ -130,7 +130,7 @@ class Labels:
         outside = (box.x0 < frame.x0) + (box.x1 > frame.x1) + (box.y0 < frame.y0) + (box.y1 > frame.y1)
         on_labels = sum(box.overlaps(other) for other in self.taken)
         roomy = box.padded(PAD)
-        on_leaders = sum(meets(roomy, *each) for each in self.leaders)
+        on_leaders = sum(meets(roomy, *leader) for leader in self.leaders)
         return float(8 * outside + 6 * on_labels + 3 * on_leaders
                      + sum(self.on_curve(roomy, curve) for curve in self.curves))
 

@@ -37,11 +37,11 @@ def at(shown: Shown, heat: Fraction | int, temperature: Fraction | int) -> Xy:
 
 
 def corners_of(points: Sequence[Point], start: int = 0) -> list[Corner]:
-    return [(Fraction(each.heat + start), each.temperature) for each in points]
+    return [(Fraction(point.heat + start), point.temperature) for point in points]
 
 
 def drawn_at(corners: Sequence[Corner], shown: Shown) -> list[Xy]:
-    return [at(shown, *each) for each in corners]
+    return [at(shown, *corner) for corner in corners]
 
 
 def ends_of(span: DrawnSpan, shown: Shown) -> list[Xy]:
@@ -80,7 +80,7 @@ def labels_of(axes: Axes, named: Sequence[str]) -> Labels:
 
 
 def points_of(line: Line2D) -> list[Xy]:
-    return [(float(each[0]), float(each[1])) for each in line.get_xydata()]
+    return [(float(point[0]), float(point[1])) for point in line.get_xydata()]
 
 
 def put_curve(axes: Axes, points: Sequence[Xy], colour: str, name: str) -> None:
@@ -95,9 +95,9 @@ def put_span(axes: Axes, span: DrawnSpan, shown: Shown) -> None:
 
 def name_spans(labels: Labels, spans: Sequence[DrawnSpan], shown: Shown) -> None:
     """The name of each utility at its line, where there is room."""
-    for each in spans:
-        (first, level), (last, _) = ends_of(each, shown)
-        labels.put_where_free(each.used.utility.name, ((first + last) / 2, level), color=each.used.colour, fontsize=8,
+    for span in spans:
+        (first, level), (last, _) = ends_of(span, shown)
+        labels.put_where_free(span.used.utility.name, ((first + last) / 2, level), color=span.used.colour, fontsize=8,
                               fontweight='bold')
 
 
@@ -166,12 +166,13 @@ def put_balanced(axes: Axes, drawn: Drawn) -> None:
         if heats[0] == heats[1]:
             put_pinch(axes, drawn, pinch, (curves[0], curves[1]), Fraction(heats[0]))
     streams = [corners_of(points) for points in (drawn.curves.hot, drawn.curves.cold) if points]
-    finish(axes, [drawn_at(each, shown) for each in streams], levels, 'temperature in °C', 'Balanced composite curves')
+    finish(axes, [drawn_at(stream_corners, shown) for stream_corners in streams], levels, 'temperature in °C',
+           'Balanced composite curves')
 
 
 def balanced_side(drawn: Drawn, side: Side) -> tuple[list[Corner], list[DrawnSpan]]:
     points = drawn.curves.hot if side is Side.HOT else drawn.curves.cold
-    return balanced(points, [each for each in drawn.uses if each.utility.side is side])
+    return balanced(points, [use for use in drawn.uses if use.utility.side is side])
 
 
 def label_balanced(axes: Axes, drawn: Drawn) -> None:
@@ -202,7 +203,7 @@ def put_grand(axes: Axes, drawn: Drawn) -> None:
 
 def label_grand(axes: Axes, drawn: Drawn) -> None:
     labels, shown = labels_of(axes, ('curve', 'utility', 'stairs')), drawn.shown
-    labels.keep_off([(0.0, each) for each in axes.get_ylim()])
+    labels.keep_off([(0.0, limit) for limit in axes.get_ylim()])
     for pinch in drawn.pinches:
         labels.put(f'pinch {shown.celsius(pinch.temperature)} °C', (0, pinch.temperature / 10))
     name_spans(labels, stairs(drawn), shown)

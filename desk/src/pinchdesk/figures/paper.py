@@ -84,7 +84,7 @@ class Paper:
         """Draws what was held back."""
         for look, pieces in self.pieces.items():
             for straight in (True, False):
-                chosen = [each for each in pieces if is_straight(each) == straight]
+                chosen = [piece for piece in pieces if is_straight(piece) == straight]
                 for path in paths_of(chosen):
                     self.add(PathPatch(path, fill=False, edgecolor=look.colour, linewidth=look.width, capstyle=look.cap,
                                        joinstyle='round', zorder=look.order, snap=straight))
@@ -103,6 +103,6 @@ def paths_of(pieces: Sequence[Piece]) -> list[Path]:
     made = []
     for first in range(0, len(pieces), TOGETHER):
         chosen = pieces[first:first + TOGETHER]
-        codes = [code for each in chosen for code in (Path.MOVETO, *[Path.LINETO] * (len(each) - 1))]
-        made.append(Path([point for each in chosen for point in each], codes))
+        codes = [code for piece in chosen for code in (Path.MOVETO, *[Path.LINETO] * (len(piece) - 1))]
+        made.append(Path([point for piece in chosen for point in piece], codes))
     return made

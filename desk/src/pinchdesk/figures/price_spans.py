@@ -20,11 +20,11 @@ MOST_LABELS = 14
 
 def spans_of(prices: Prices, utility: str | None) -> list[SpanAnswer]:
     """The spans that are drawn; `WordsError` where there is none, or none of the utility."""
-    spans = [each for each in prices.answers if isinstance(each, SpanAnswer)]
-    held = [each for each in spans if utility in (None, each.utility)]
-    if not held:
+    spans = [answer for answer in prices.answers if isinstance(answer, SpanAnswer)]
+    chosen = [span for span in spans if utility in (None, span.utility)]
+    if not chosen:
         raise WordsError('the study has no span' + (f' of {utility}' if utility else '') + ': nothing is drawn')
-    return held
+    return chosen
 
 
 def prices_figure(case: Case, prices: Prices, utility: str | None = None) -> Figure:
@@ -67,7 +67,7 @@ def put_span(axes: Axes, span: SpanAnswer, shown: Shown) -> None:
 
 def put_labels(axes: Axes, segments: Sequence[Segment], shown: Shown) -> None:
     """The price and the cost at both ends of each segment, and its slope: the heat of the utility that is used."""
-    lines = [ends_of(each, shown) for each in segments]
+    lines = [ends_of(span_segment, shown) for span_segment in segments]
     corners = [point for line in lines for point in line]
     labels = Labels(axes, [corners])
     for at, (segment, line) in enumerate(zip(segments, lines)):

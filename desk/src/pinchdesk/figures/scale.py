@@ -48,18 +48,18 @@ def gaps_of(curves: Sequence[float], levels: Sequence[float]) -> tuple[Gap, ...]
 
 
 def forward(gaps: Sequence[Gap], values: Any) -> Any:
-    held = numpy.asarray(values, dtype=float)
-    made = held.copy()
+    temperatures = numpy.asarray(values, dtype=float)
+    made = temperatures.copy()
     for gap in gaps:
-        made = made - numpy.clip((held - gap.low) / (gap.high - gap.low), 0, 1) * gap.cut
+        made = made - numpy.clip((temperatures - gap.low) / (gap.high - gap.low), 0, 1) * gap.cut
     return made
 
 
 def backward(gaps: Sequence[Gap], values: Any) -> Any:
-    held = numpy.asarray(values, dtype=float)
+    positions = numpy.asarray(values, dtype=float)
     knots = sorted({edge for gap in gaps for edge in (gap.low, gap.high)})
     ends = [knots[0] - 1e5, *knots, knots[-1] + 1e5]
-    return numpy.interp(held, forward(gaps, ends), ends)
+    return numpy.interp(positions, forward(gaps, ends), ends)
 
 
 def broken(axes: Axes, gaps: tuple[Gap, ...], levels: Sequence[float]) -> None:
@@ -71,12 +71,12 @@ def broken(axes: Axes, gaps: tuple[Gap, ...], levels: Sequence[float]) -> None:
     axes.set_ylim(low, high)
     inside = [low, *sorted(edge for gap in gaps for edge in (gap.low, gap.high)), high]
     kept = list(zip(inside[::2], inside[1::2]))
-    longest = max(kept, key=lambda each: float(each[1] - each[0]))
+    longest = max(kept, key=lambda span: float(span[1] - span[0]))
     dots = axes.get_window_extent().height / float(forward(gaps, high) - forward(gaps, low))
     bins = max(1, min(8, int((longest[1] - longest[0]) * dots / APART)))
     steps = MaxNLocator(bins, steps=[1, 2, 2.5, 5, 10]).tick_values(*longest)
     ticks = [tick for tick in steps if longest[0] <= tick <= longest[1]]
-    for level in sorted({each for each in levels if not longest[0] <= each <= longest[1]}):
+    for level in sorted({far_level for far_level in levels if not longest[0] <= far_level <= longest[1]}):
         if all(abs(float(forward(gaps, level) - forward(gaps, tick))) * dots > APART for tick in ticks):
             ticks.append(level)
     axes.yaxis.set_major_locator(FixedLocator(sorted(ticks)))

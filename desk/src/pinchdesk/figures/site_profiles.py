@@ -24,8 +24,8 @@ def site_figure(site: Site, answer: SiteAnswer) -> Figure:
     with styled():
         figure = blank(8.6, 5.8)
         axes = figure.subplots()
-        source = [(-float(shown.in_kilowatts(each.source)), each.temperature / 10) for each in answer.profiles]
-        sink = [(float(shown.in_kilowatts(each.sink)), each.temperature / 10) for each in answer.profiles]
+        source = [(-float(shown.in_kilowatts(profile.source)), profile.temperature / 10) for profile in answer.profiles]
+        sink = [(float(shown.in_kilowatts(profile.sink)), profile.temperature / 10) for profile in answer.profiles]
         axes.plot(*zip(*source), color=HOT, marker='o', markersize=3, linewidth=1.5,
                   label=f'to give: {shown.kilowatts(answer.profiles[0].source)} kW in all')
         axes.plot(*zip(*sink), color=COLD, marker='o', markersize=3, linewidth=1.5,

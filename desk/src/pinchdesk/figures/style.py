@@ -47,24 +47,24 @@ def blank(width: float, height: float) -> Figure:
 
 def rendered(figure: Figure, form: str, letters_as_shapes: bool = False) -> bytes:
     """A figure as the content of a file in one of `FORMS`; the same figure gives the same bytes."""
-    held = io.BytesIO()
+    buffer = io.BytesIO()
     dates = {'svg': {'Date': None}, 'pdf': {'CreationDate': None}, 'png': {}}[form]
     with styled(letters_as_shapes):
-        figure.savefig(held, format=form, metadata=dates, dpi=DOTS)
+        figure.savefig(buffer, format=form, metadata=dates, dpi=DOTS)
     # Verdana has the same widths.
-    return held.getvalue().replace(b"'DejaVu Sans'", b"'DejaVu Sans', Verdana, sans-serif") if form == 'svg' \
-        else held.getvalue()
+    return buffer.getvalue().replace(b"'DejaVu Sans'", b"'DejaVu Sans', Verdana, sans-serif") if form == 'svg' \
+        else buffer.getvalue()
 
 
 def readable_width(figure: Figure) -> int:
     """How wide a picture is on a screen, in dots, where its smallest letters can still be read."""
-    smallest = min((each.get_fontsize() for each in figure.findobj(Text) if each.get_text().strip()), default=READABLE)
+    smallest = min((text.get_fontsize() for text in figure.findobj(Text) if text.get_text().strip()), default=READABLE)
     return math.ceil(float(figure.get_size_inches()[0]) * 96 * READABLE / smallest)
 
 
 def said(text: str) -> str:
     """A text that a picture can hold: what is no letter or sign is `?`."""
-    return ''.join(each if each.isprintable() else '?' for each in text)
+    return ''.join(letter if letter.isprintable() else '?' for letter in text)
 
 
 def framed(axes: Axes) -> None:

@@ -18,8 +18,8 @@ def sweep_figure(case: Case, sweep: Sweep) -> Figure:
     """Both targets of each row, and the cost where it is not the hot target. A row without a heat flow is a gap in the
     cost alone."""
     shown = Shown(case.basis)
-    priced = any(each.cost not in (None, each.hot) for each in sweep.points)
-    gaps = [each for each in sweep.points if each.cost is None]
+    priced = any(point.cost not in (None, point.hot) for point in sweep.points)
+    gaps = [point for point in sweep.points if point.cost is None]
     with styled():
         figure = blank(8, 5.4)
         axes = figure.subplots()
@@ -27,25 +27,25 @@ def sweep_figure(case: Case, sweep: Sweep) -> Figure:
         if priced:
             put_cost(axes.twinx(), sweep, shown)
         if gaps:
-            at = [each.contribution / 5 for each in gaps]
+            at = [point.contribution / 5 for point in gaps]
             axes.plot(at, [0] * len(at), 'x', color=INK, markersize=7, label='no heat flow: no cost', clip_on=False)
         note = '' if gaps else ' (the least cost is the hot target)'
         own = '\ncontributions of their own are replaced' if own_contributions(case) else ''
         entitled(axes, 'least difference in K', 'heat in kW',
                  f'Targets{" and least cost" if priced else ""} over the least difference{"" if priced else note}{own}')
-        legend_below(axes, [line for each in figure.axes for line in each.get_lines()])
+        legend_below(axes, [line for drawn_axes in figure.axes for line in drawn_axes.get_lines()])
         fitted(figure)
         spaced(axes)
     return figure
 
 
 def put_targets(axes: Axes, sweep: Sweep, shown: Shown) -> None:
-    across = [each.contribution / 5 for each in sweep.points]
-    for name, colour, heats in (('hot target', HOT, [each.hot for each in sweep.points]),
-                                ('cold target', COLD, [each.cold for each in sweep.points])):
+    across = [point.contribution / 5 for point in sweep.points]
+    for name, colour, heats in (('hot target', HOT, [point.hot for point in sweep.points]),
+                                ('cold target', COLD, [point.cold for point in sweep.points])):
         first, last = shown.kilowatts(heats[0]), shown.kilowatts(heats[-1])
         told = f'{name}: {first} to {last} kW' if first != last else f'{name}: {first} kW'
-        axes.plot(across, [float(shown.in_kilowatts(each)) for each in heats], color=colour, marker='o', markersize=3,
+        axes.plot(across, [float(shown.in_kilowatts(heat)) for heat in heats], color=colour, marker='o', markersize=3,
                   linewidth=1.4, label=told)
     axes.set_ylim(bottom=0)
     plainly(axes)
@@ -53,8 +53,8 @@ def put_targets(axes: Axes, sweep: Sweep, shown: Shown) -> None:
 
 
 def put_cost(axes: Axes, sweep: Sweep, shown: Shown) -> None:
-    across = [each.contribution / 5 for each in sweep.points]
-    costs = [float('nan') if each.cost is None else float(shown.in_cost(each.cost)) for each in sweep.points]
+    across = [point.contribution / 5 for point in sweep.points]
+    costs = [float('nan') if point.cost is None else float(shown.in_cost(point.cost)) for point in sweep.points]
     axes.plot(across, costs, color=COST, marker='s', markersize=3, linewidth=1.4, label='least cost (right scale)')
     axes.set_ylabel(wrapped(f'least cost, {said(shown.cost_unit)}', 4.0), color=COST)
     plainly(axes)

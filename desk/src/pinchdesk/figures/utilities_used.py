@@ -64,7 +64,7 @@ class Drawn:
 
     def used(self, side: Side) -> int:
         """How much utility of a side is used in all."""
-        return sum(each.heat for each in self.uses if each.utility.side is side)
+        return sum(use.heat for use in self.uses if use.utility.side is side)
 
     @property
     def beyond(self) -> int:
@@ -77,8 +77,8 @@ class Drawn:
 
     def balanced_below(self, side: Side, pinch: PinchPoint) -> int:
         """The heat of the streams and utilities of a side below a pinch."""
-        held = [each for each in self.uses if each.utility.side is side and is_below(each.utility, pinch)]
-        return side_below(self.case, side, pinch) + sum(each.heat for each in held)
+        uses_below = [use for use in self.uses if use.utility.side is side and is_below(use.utility, pinch)]
+        return side_below(self.case, side, pinch) + sum(use.heat for use in uses_below)
 
 
 def drawn_of(case: Case, targets: Targets, curves: Curves, flow: HeatFlow | Cut) -> Drawn:
@@ -87,18 +87,19 @@ def drawn_of(case: Case, targets: Targets, curves: Curves, flow: HeatFlow | Cut)
         return Drawn(case, targets, curves, (), False)
     uses: list[Used] = []
     for side, colours in ((Side.HOT, HEATERS), (Side.COLD, COOLERS)):
-        held = [each for each in case.utilities if each.side is side and flow.use(each.name)]
-        held.sort(key=lambda each: shifted(each, each.level), reverse=True)
-        uses += [Used(each, flow.use(each.name), colours[at % len(colours)]) for at, each in enumerate(held)]
+        utilities = [utility for utility in case.utilities if utility.side is side and flow.use(utility.name)]
+        utilities.sort(key=lambda utility: shifted(utility, utility.level), reverse=True)
+        uses += [Used(utility, flow.use(utility.name), colours[at % len(colours)])
+                 for at, utility in enumerate(utilities)]
     return Drawn(case, targets, curves, tuple(uses), True)
 
 
 def below_and_upto(points: Sequence[Point], temperature: int) -> tuple[Fraction, Fraction]:
     """The heats of a rising curve below a temperature, and up to it with what stands there."""
-    at = [each.heat for each in points if each.temperature == temperature]
+    at = [point.heat for point in points if point.temperature == temperature]
     if at:
         return Fraction(at[0]), Fraction(at[-1])
-    colder = [each for each in points if each.temperature < temperature]
+    colder = [point for point in points if point.temperature < temperature]
     if not colder or len(colder) == len(points):
         heat = Fraction(colder[-1].heat if colder else 0)
         return heat, heat
@@ -113,12 +114,12 @@ def balanced(points: Sequence[Point], uses: Sequence[Used]) -> tuple[list[Corner
     corners: list[Corner] = []
     spans: list[DrawnSpan] = []
     lower = Fraction(0)
-    for temperature in sorted({*(each.temperature for each in points), *(each.utility.level for each in uses)}):
+    for temperature in sorted({*(point.temperature for point in points), *(used.utility.level for used in uses)}):
         below, upto = (heat + lower for heat in below_and_upto(points, temperature))
         corners.append((below, temperature))
-        for each in (each for each in uses if each.utility.level == temperature):
-            spans.append(DrawnSpan(each, upto, upto + each.heat, temperature))
-            upto, lower = upto + each.heat, lower + each.heat
+        for use in (used for used in uses if used.utility.level == temperature):
+            spans.append(DrawnSpan(use, upto, upto + use.heat, temperature))
+            upto, lower = upto + use.heat, lower + use.heat
         if upto != below:
             corners.append((upto, temperature))
     return corners, spans
@@ -130,19 +131,19 @@ def stairs(drawn: Drawn) -> list[DrawnSpan]:
     the curve. What flows down between the utilities and the curve is the heat that lies between the two, so that the
     stairs are nowhere right of the curve."""
     made, at = [], Fraction(drawn.targets.hot)
-    for each in sorted(drawn.uses, key=lambda each: (-each.level, not each.hot)):
-        to = at - each.heat if each.hot else at + each.heat
-        made.append(DrawnSpan(each, at, to, each.level))
+    for use in sorted(drawn.uses, key=lambda used: (-used.level, not used.hot)):
+        to = at - use.heat if use.hot else at + use.heat
+        made.append(DrawnSpan(use, at, to, use.level))
         at = to
     return made
 
 
 def on_curve(corners: Sequence[Corner], heat: Fraction, wanted: Fraction) -> Fraction | None:
     """The temperature of a rising curve at a heat; where it has several there, the one nearest to that wanted."""
-    held: list[Fraction] = []
+    temperatures: list[Fraction] = []
     for one, other in zip(corners, corners[1:]):
         if one[0] == other[0] == heat:
-            held += [Fraction(one[1]), Fraction(other[1])]
+            temperatures += [Fraction(one[1]), Fraction(other[1])]
         elif one[0] <= heat <= other[0]:
-            held.append(one[1] + (heat - one[0]) / (other[0] - one[0]) * (other[1] - one[1]))
-    return max(min(held), min(max(held), wanted)) if held else None
+            temperatures.append(one[1] + (heat - one[0]) / (other[0] - one[0]) * (other[1] - one[1]))
+    return max(min(temperatures), min(max(temperatures), wanted)) if temperatures else None
