@@ -46,7 +46,7 @@ class Targets(Rows):
     def rows(self) -> Iterator[Row]:
         yield {'what': 'hot', 'value': self.hot}
         yield {'what': 'cold', 'value': self.cold}
-        yield from ({'what': 'pinch', 'value': each} for each in self.pinches)
+        yield from ({'what': 'pinch', 'value': pinch} for pinch in self.pinches)
 
 
 @dataclass(frozen=True)
@@ -96,16 +96,16 @@ class HeatFlow(Rows):
 
     def use(self, name: str) -> int:
         """The heat of this utility; 0 where it is none of the case."""
-        return next((each.heat for each in self.uses if each.name == name), 0)
+        return next((use.heat for use in self.uses if use.name == name), 0)
 
     def rows(self) -> Iterator[Row]:
         return move_rows(self.moves)
 
 
 def move_rows(moves: tuple[Move, ...]) -> Iterator[Row]:
-    for each in moves:
-        yield {'hot': each.hot.name, 'hot high': each.hot.high, 'hot low': each.hot.low, 'cold': each.cold.name,
-               'cold high': each.cold.high, 'cold low': each.cold.low, 'heat': each.heat}
+    for move in moves:
+        yield {'hot': move.hot.name, 'hot high': move.hot.high, 'hot low': move.hot.low, 'cold': move.cold.name,
+               'cold high': move.cold.high, 'cold low': move.cold.low, 'heat': move.heat}
 
 
 @dataclass(frozen=True)
@@ -121,7 +121,7 @@ class Cut(Rows):
     text: str = printed()
 
     def rows(self) -> Iterator[Row]:
-        return ({'part': each.name, 'high': each.high, 'low': each.low} for each in self.parts)
+        return ({'part': part.name, 'high': part.high, 'low': part.low} for part in self.parts)
 
 
 @dataclass(frozen=True)
@@ -144,7 +144,7 @@ class Curves(Rows):
 
     def rows(self) -> Iterator[Row]:
         for curve, points in (('hot', self.hot), ('cold', self.cold), ('net', self.net)):
-            yield from ({'curve': curve, 'heat': each.heat, 'temperature': each.temperature} for each in points)
+            yield from ({'curve': curve, 'heat': point.heat, 'temperature': point.temperature} for point in points)
 
 
 @dataclass(frozen=True)
@@ -181,8 +181,8 @@ class Sweep(Rows):
         return all(point.cost is not None for point in self.points)
 
     def rows(self) -> Iterator[Row]:
-        for each in self.points:
-            yield {'contribution': each.contribution, 'hot': each.hot, 'cold': each.cold, 'cost': each.cost}
+        for point in self.points:
+            yield {'contribution': point.contribution, 'hot': point.hot, 'cold': point.cold, 'cost': point.cost}
 
 
 @dataclass(frozen=True)
@@ -227,15 +227,16 @@ class Prices(Rows):
     @property
     def feasible(self) -> bool:
         """Whether there is a heat flow in each scenario and over each span."""
-        return all(each.segments if isinstance(each, SpanAnswer) else each.cost is not None for each in self.answers)
+        return all(answer.segments if isinstance(answer, SpanAnswer) else answer.cost is not None
+                   for answer in self.answers)
 
     def rows(self) -> Iterator[Row]:
-        for each in self.answers:
-            if isinstance(each, PriceScenarioAnswer):
-                yield {'scenario': each.name, 'cost': each.cost}
+        for answer in self.answers:
+            if isinstance(answer, PriceScenarioAnswer):
+                yield {'scenario': answer.name, 'cost': answer.cost}
             else:
-                yield from ({'span': each.utility, 'first': one.first, 'last': one.last, 'base': one.base,
-                             'slope': one.slope} for one in each.segments)
+                yield from ({'span': answer.utility, 'first': segment.first, 'last': segment.last, 'base': segment.base,
+                             'slope': segment.slope} for segment in answer.segments)
 
 
 @dataclass(frozen=True)
@@ -266,4 +267,5 @@ class SiteAnswer(Rows):
         return self.cut is None
 
     def rows(self) -> Iterator[Row]:
-        return ({'temperature': each.temperature, 'sink': each.sink, 'source': each.source} for each in self.profiles)
+        return ({'temperature': profile.temperature, 'sink': profile.sink, 'source': profile.source}
+                for profile in self.profiles)

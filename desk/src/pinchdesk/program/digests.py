@@ -21,14 +21,14 @@ class Digests:
 
 def desk_digest() -> str:
     """The digest of all modules and templates with their places in the package."""
-    files = sorted(each for pattern in ('*.py', 'report/templates/*') for each in PACKAGE.rglob(pattern)
-                   if each.is_file())
-    held = hashlib.sha256()
-    for each in files:
-        content = each.read_bytes()
-        held.update(f'{each.relative_to(PACKAGE).as_posix()}\0{len(content)}\0'.encode())
-        held.update(content)
-    return held.hexdigest()
+    files = sorted(path for pattern in ('*.py', 'report/templates/*') for path in PACKAGE.rglob(pattern)
+                   if path.is_file())
+    digest = hashlib.sha256()
+    for path in files:
+        content = path.read_bytes()
+        digest.update(f'{path.relative_to(PACKAGE).as_posix()}\0{len(content)}\0'.encode())
+        digest.update(content)
+    return digest.hexdigest()
 
 
 def digests() -> Digests:

@@ -85,7 +85,7 @@ def design_of(text: str) -> Design | Cut:
     lines = lines_of(text)
     if lines[0] == ['infeasible']:
         return cut_of(lines, text)
-    hot, cold, excess, cost = (Fraction(each) for each in lines[0][2::2])
+    hot, cold, excess, cost = (Fraction(number) for number in lines[0][2::2])
     return Design(hot, cold, excess, cost, text)
 
 
@@ -151,7 +151,7 @@ def segments_of(lines: Lines, last: int) -> tuple[Segment, ...]:
         fields = lines.pop(0)[2:]
         if fields == ['infeasible']:
             return ()
-        segments.append(Segment(*(int(each) for each in fields)))
+        segments.append(Segment(*(int(field) for field in fields)))
     return tuple(segments)
 
 

@@ -110,9 +110,9 @@ class Pinch:
 
     def prices(self, case: CaseText, study: StudyText, workers: int = 1) -> Prices:
         """The least cost at other prices."""
-        held = print_study(study).encode() if isinstance(study, Study) else as_bytes(study)
-        words, files = ['prices', 'case', 'study', str(workers)], {'case': case_bytes(case), 'study': held}
-        return self.answer(lambda text: printed.prices_of(read_study(held), text), words, files)
+        content = print_study(study).encode() if isinstance(study, Study) else as_bytes(study)
+        words, files = ['prices', 'case', 'study', str(workers)], {'case': case_bytes(case), 'study': content}
+        return self.answer(lambda text: printed.prices_of(read_study(content), text), words, files)
 
     def site(self, site: str | bytes) -> SiteAnswer:
         """The profiles and the heat flow of plants on shared mains."""

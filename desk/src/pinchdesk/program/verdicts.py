@@ -31,7 +31,7 @@ class Place:
     line: int = 0
 
     def __str__(self) -> str:
-        return ' '.join(each for each in (self.kind.value, self.name, str(self.line or '')) if each)
+        return ' '.join(word for word in (self.kind.value, self.name, str(self.line or '')) if word)
 
 
 @dataclass(frozen=True)
@@ -64,10 +64,10 @@ class Accepted(Rows):
     @cached_property
     def heats(self) -> Mapping[Place, Fraction]:
         """The penalties by their places."""
-        return {each.place: each.heat for each in self.penalties}
+        return {penalty.place: penalty.heat for penalty in self.penalties}
 
     def rows(self) -> Iterator[Row]:
-        return ({'place': str(each.place), 'penalty': each.heat} for each in self.penalties)
+        return ({'place': str(penalty.place), 'penalty': penalty.heat} for penalty in self.penalties)
 
 
 @dataclass(frozen=True)
@@ -96,9 +96,9 @@ Verdict = Accepted | Rejected | TooFine
 
 def ending(verdicts: Iterable[Verdict], flows: Iterable[object] = ()) -> tuple[Status, str]:
     """How a word ends with such answers, and what a status of 1 says."""
-    if any(isinstance(each, Cut) for each in flows):
+    if any(isinstance(flow, Cut) for flow in flows):
         return Status.NO, INFEASIBLE
-    kinds = {type(each) for each in verdicts}
+    kinds = {type(verdict) for verdict in verdicts}
     if Rejected in kinds:
         return Status.NO, REJECTED
     return Status.TOO_FINE if TooFine in kinds else Status.GOOD, REJECTED
