@@ -73,10 +73,10 @@ class Left:
 
 def open_branches(followed: Followed) -> tuple[Branch, ...]:
     """The branches that no statement uses, by the order of the streams and then of the statements."""
-    used = {each for statement in followed.network.statements for each in used_by(statement)}
-    held = [each for name, each in followed.branches.items() if name not in used]
-    order = {each.name: at for at, each in enumerate(followed.case.streams)}
-    return tuple(sorted(held, key=lambda each: (order[each.stream.name], each.statement)))
+    used = {branch_name for statement in followed.network.statements for branch_name in used_by(statement)}
+    branches = [branch for name, branch in followed.branches.items() if name not in used]
+    order = {stream.name: at for at, stream in enumerate(followed.case.streams)}
+    return tuple(sorted(branches, key=lambda branch: (order[branch.stream.name], branch.statement)))
 
 
 def used_by(statement: object) -> tuple[str, ...]:
@@ -90,13 +90,13 @@ def used_by(statement: object) -> tuple[str, ...]:
 
 def left_of(case: Case, branches: Sequence[Branch]) -> tuple[Left, ...]:
     """The branches with their names in the rest: that of the stream where it has one open branch, else their own."""
-    taken = {each.name for each in case.sources} | {'HOT', 'COLD'}
+    taken = {source.name for source in case.sources} | {'HOT', 'COLD'}
     made: list[Left] = []
-    for each in branches:
-        alone = sum(other.stream.name == each.stream.name for other in branches) == 1
-        name = each.stream.name if alone else apart(fitted(each.name.lstrip('.')) or 'B', taken)
+    for branch in branches:
+        alone = sum(other.stream.name == branch.stream.name for other in branches) == 1
+        name = branch.stream.name if alone else apart(fitted(branch.name.lstrip('.')) or 'B', taken)
         taken.add(name)
-        made.append(Left(name, each))
+        made.append(Left(name, branch))
     return tuple(made)
 
 
@@ -128,14 +128,14 @@ class Scale:
 def scale_of(lefts: Iterable[Left], case: Case, used: Mapping[str, Fraction]) -> Scale:
     """The numbers by which sizes and temperatures are taken: they make all of them whole, and the heats that utilities
     have given, as far as the limits of a case allow; else they are as large as these do, and sizes a power of ten."""
-    held = list(lefts)
-    sensible, latent = ([each for each in held if each.stream.latent is kind] for kind in (False, True))
-    most = min((int(LARGEST_LOAD / each.size) for each in latent), default=LARGEST_LOAD)
-    degrees, offset = degrees_of(sensible, [*(each.stream for each in held), *case.utilities], most)
-    limit = min((int(LARGEST_CP / each.size) for each in sensible), default=LARGEST_CP)
+    all_left = list(lefts)
+    sensible, latent = ([left for left in all_left if left.stream.latent is kind] for kind in (False, True))
+    most = min((int(LARGEST_LOAD / left.size) for left in latent), default=LARGEST_LOAD)
+    degrees, offset = degrees_of(sensible, [*(left.stream for left in all_left), *case.utilities], most)
+    limit = min((int(LARGEST_CP / left.size) for left in sensible), default=LARGEST_CP)
     limit = max(1, min(limit, most // degrees))
-    sizes = lcm(*(each.size.denominator for each in held))
-    for factor in (lcm(sizes, *(each.denominator for each in used.values())), sizes):
+    sizes = lcm(*(left.size.denominator for left in all_left))
+    for factor in (lcm(sizes, *(heat.denominator for heat in used.values())), sizes):
         if factor <= limit:
             return Scale(factor, degrees, offset)
     return Scale(int('1'.ljust(len(str(limit)), '0')), degrees, offset)
@@ -144,11 +144,11 @@ def scale_of(lefts: Iterable[Left], case: Case, used: Mapping[str, Fraction]) ->
 def degrees_of(lefts: Sequence[Left], sources: Iterable[Source], most: int) -> tuple[int, int]:
     """What temperatures are taken times, so that they are whole, or as large as the limits allow, and the offset that
     keeps them within these."""
-    wanted = lcm(*(each.state.denominator for each in lefts))
+    wanted = lcm(*(left.state.denominator for left in lefts))
     if wanted == 1:
         return 1, 0
-    ends = [end for each in sources for end in
-            ((each.low, each.high) if isinstance(each, Stream) else (shifted(each, each.level),) * 2)]
+    ends = [end for source in sources for end in
+            ((source.low, source.high) if isinstance(source, Stream) else (shifted(source, source.level),) * 2)]
     width = max(1, max(ends) - min(ends))
     degrees = min(wanted, (WARMEST - COLDEST) // width, most)
     return (degrees, COLDEST - degrees * min(ends)) if degrees > 1 else (1, 0)
@@ -177,7 +177,7 @@ def rest_stream(left: Left, scale: Scale, rounding: Rounding) -> Stream | None:
 def rest_utility(utility: Utility, used: Fraction, scale: Scale, rounding: Rounding) -> Utility:
     """A utility with its range less what it gives or takes already; a range is harder where it is narrower."""
     harder = rounding is Rounding.HARDER
-    least, most = (max(Fraction(0), each - used) * scale.factor for each in (utility.least, utility.most))
+    least, most = (max(Fraction(0), bound - used) * scale.factor for bound in (utility.least, utility.most))
     high = ANY_HEAT if utility.most == ANY_HEAT else min(ANY_HEAT, rounded(most, not harder))
     level = rounded(scale.place(utility, Fraction(utility.level)), False)
     return replace(utility, level=level, least=min(high, rounded(least, harder)), most=high,
@@ -188,33 +188,34 @@ def rest_case(case: Case, lefts: Sequence[Left], used: Mapping[str, Fraction], s
               rounding: Rounding) -> Case:
     """The case of what is left of a completed case: its streams, its utilities with what is left of their ranges, and
     its forbidden matches. All its heats are the scale's `factor` times those of the case."""
-    made = {each.name: rest_stream(each, scale, rounding) for each in lefts}
-    streams = tuple(each for each in made.values() if each)
-    names: dict[str, list[str]] = {each.name: [each.name] for each in case.utilities}
+    made = {open_branch.name: rest_stream(open_branch, scale, rounding) for open_branch in lefts}
+    streams = tuple(stream for stream in made.values() if stream)
+    names: dict[str, list[str]] = {utility.name: [utility.name] for utility in case.utilities}
     for left in lefts:
         if made[left.name]:
             names.setdefault(left.stream.name, []).append(left.name)
-    forbids = tuple(Forbid(hot, cold) for each in case.forbids
-                    for hot in names.get(each.hot, []) for cold in names.get(each.cold, []))
-    utilities = tuple(rest_utility(each, used[each.name], scale, rounding)
-                      for each in case.utilities if not each.invented)
-    kept = {each.name for each in streams} | {each.name for each in utilities}
+    forbids = tuple(Forbid(hot, cold) for forbid in case.forbids
+                    for hot in names.get(forbid.hot, []) for cold in names.get(forbid.cold, []))
+    utilities = tuple(rest_utility(utility, used[utility.name], scale, rounding)
+                      for utility in case.utilities if not utility.invented)
+    kept = {stream.name for stream in streams} | {utility.name for utility in utilities}
     basis = replace(case.basis, scale=case.basis.scale * scale.factor,
-                    names=tuple(each for each in case.basis.names if each[1] in kept))
+                    names=tuple(renamed for renamed in case.basis.names if renamed[1] in kept))
     return Case(case.contribution if scale.degrees == 1 else 0, streams, utilities, forbids, basis)
 
 
 def is_exact(lefts: Iterable[Left], case: Case, used: Mapping[str, Fraction], scale: Scale) -> bool:
     """Whether nothing is rounded at this scale."""
-    numbers = [number for each in lefts for number in ([each.size * scale.factor] if each.stream.latent else
-                                                       [each.size * scale.sizes, each.state * scale.degrees])]
-    ranged = [used[each.name] * scale.factor for each in case.utilities if (each.least, each.most) != (0, ANY_HEAT)]
-    return all(each.denominator == 1 for each in (*numbers, *ranged))
+    numbers = [number for left in lefts for number in ([left.size * scale.factor] if left.stream.latent else
+                                                       [left.size * scale.sizes, left.state * scale.degrees])]
+    ranged = [used[utility.name] * scale.factor for utility in case.utilities
+              if (utility.least, utility.most) != (0, ANY_HEAT)]
+    return all(scaled.denominator == 1 for scaled in (*numbers, *ranged))
 
 
 def used_heats(case: Case, network: Network) -> dict[str, Fraction]:
     """What each utility gives or takes already."""
-    heats = {each.name: Fraction(0) for each in case.utilities}
+    heats = {utility.name: Fraction(0) for utility in case.utilities}
     for one in network.exchangers:
         for name in {one.hot, one.cold} & set(heats):
             heats[name] += one.duty

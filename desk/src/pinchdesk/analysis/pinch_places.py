@@ -25,9 +25,10 @@ def temperatures_at(case: Case, side: Side, pinch: int) -> Temperatures:
     """Where the streams of a side stand that a pinch touches; of a side without one, where a stream with the
     contribution of the case would stand."""
     sign = 1 if side is Side.HOT else -1
-    shares = [each.contribution for each in case.streams if each.side is side and each.low <= pinch <= each.high]
-    held = [pinch + sign * share for share in shares or [case.contribution]]
-    return Temperatures(min(held), max(held))
+    shares = [stream.contribution for stream in case.streams
+              if stream.side is side and stream.low <= pinch <= stream.high]
+    temperatures = [pinch + sign * share for share in shares or [case.contribution]]
+    return Temperatures(min(temperatures), max(temperatures))
 
 
 def heat_below(stream: Stream, pinch: PinchPoint) -> int:
@@ -40,7 +41,7 @@ def heat_below(stream: Stream, pinch: PinchPoint) -> int:
 def side_below(case: Case, side: Side, pinch: PinchPoint) -> int:
     """The heat of all streams of a side below a pinch. Where the targets are used both sides have there the same, the
     cold one with the cold target."""
-    return sum(heat_below(each, pinch) for each in case.streams if each.side is side)
+    return sum(heat_below(stream, pinch) for stream in case.streams if stream.side is side)
 
 
 def is_below(utility: Utility, pinch: PinchPoint) -> bool:

@@ -80,19 +80,20 @@ class Rest:
         return self.used_on(Side.COLD)
 
     def used_on(self, side: Side) -> Fraction:
-        return sum((self.used[each.name] for each in self.followed.case.utilities if each.side is side), Fraction(0))
+        return sum((self.used[utility.name] for utility in self.followed.case.utilities if utility.side is side),
+                   Fraction(0))
 
     @property
     def cost_used(self) -> Fraction:
         """What the utilities cost that are used already."""
-        return sum((each.price * self.used[each.name] for each in self.followed.case.utilities), Fraction(0))
+        return sum((utility.price * self.used[utility.name] for utility in self.followed.case.utilities), Fraction(0))
 
     @property
     def excess(self) -> tuple[Fraction, Fraction]:
         """What the choice costs above the hot target of the whole, in W: at least and at most. Below 0 stands nothing,
         since no network has less than the target."""
-        least, most = (self.hot_used + (each.hot if each else 0) - self.whole.hot
-                       for each in (self.easier, self.harder))
+        least, most = (self.hot_used + (rest.hot if rest else 0) - self.whole.hot
+                       for rest in (self.easier, self.harder))
         return max(Fraction(0), least), most
 
     @property
@@ -116,7 +117,7 @@ def remaining(case: CaseText, network: NetworkText, pinch: Pinch | None = None) 
     check_ways(left)
     finished, verdict = judged(asked, followed, left)
     rest = Rest(followed, finished, verdict, left, whole, flow, used)
-    if not isinstance(verdict, Accepted) or not any(each.heat for each in left):
+    if not isinstance(verdict, Accepted) or not any(open_branch.heat for open_branch in left):
         return rest
     return posed_rest(asked, rest)
 
@@ -129,17 +130,17 @@ def ends_early(verdict: Verdict) -> bool:
 def check_ways(lefts: Iterable[Left]) -> None:
     """`Refused` where a branch is beyond its target: only a mix brings it back, and which one is not for the desk to
     say."""
-    for each in lefts:
-        if each.step < 0:
-            place = f'branch {each.branch.name}'
+    for left in lefts:
+        if left.step < 0:
+            place = f'branch {left.branch.name}'
             cause = 'is beyond the target of its stream: mix it with a branch that brings it back'
-            raise Refused(4, f'network {place}', 'beyond', f'network {place} of {each.stream.name} {cause}')
+            raise Refused(4, f'network {place}', 'beyond', f'network {place} of {left.stream.name} {cause}')
 
 
 def judged(pinch: Pinch, followed: Followed, lefts: Sequence[Left]) -> tuple[Followed, Verdict]:
     """The network with its open branches led to their targets, and what the audit says of it. Where nothing is left to
     lead it is audited for the case itself."""
-    case = finishing_case(followed, lefts) if any(each.heat for each in lefts) else followed.case
+    case = finishing_case(followed, lefts) if any(left.heat for left in lefts) else followed.case
     network = Network((*followed.network.statements, *finishing(completed(case), followed, lefts)))
     return follow(completed(case), network), pinch.audit(case, network)
 
@@ -148,30 +149,31 @@ def finishing_case(followed: Followed, lefts: Sequence[Left]) -> Case:
     """The case with the utilities that the network uses, of which none has to give a least heat, and with one more on a
     side that has such, at a level that reaches every branch. A side without any has `HOT` or `COLD` by itself."""
     case = followed.case
-    used = {name for each in followed.network.exchangers for name in (each.hot, each.cold)}
-    kept = [replace(each, least=0) for each in case.utilities if each.name in used and not each.invented]
-    taken = {each.name for each in case.sources}
-    ends = {side: [(each.target, each.contribution) for each in case.streams if each.side is not side] for side in Side}
-    if any(each.side is Side.HOT for each in kept):
+    used = {name for exchanger in followed.network.exchangers for name in (exchanger.hot, exchanger.cold)}
+    kept = [replace(utility, least=0) for utility in case.utilities if utility.name in used and not utility.invented]
+    taken = {source.name for source in case.sources}
+    ends = {side: [(stream.target, stream.contribution) for stream in case.streams if stream.side is not side]
+            for side in Side}
+    if any(utility.side is Side.HOT for utility in kept):
         level = max((target + share for target, share in ends[Side.HOT]), default=0)
         kept.append(Utility(apart('HOT', taken), Side.HOT, level, 0, ANY_HEAT, 0, 0))
-    if any(each.side is Side.COLD for each in kept):
+    if any(utility.side is Side.COLD for utility in kept):
         level = min((target - share for target, share in ends[Side.COLD]), default=0)
         kept.append(Utility(apart('COLD', taken), Side.COLD, level, 0, ANY_HEAT, 0, 0))
-    names = {each.name for each in case.streams} | {each.name for each in kept}
-    forbids = tuple(each for each in case.forbids if {each.hot, each.cold} <= names)
+    names = {stream.name for stream in case.streams} | {utility.name for utility in kept}
+    forbids = tuple(forbid for forbid in case.forbids if {forbid.hot, forbid.cold} <= names)
     return replace(case, utilities=tuple(kept), forbids=forbids)
 
 
 def finishing(case: Case, followed: Followed, lefts: Sequence[Left]) -> Iterator[Statement]:
     """The statements that lead every open branch to its target, mix those of a stream and end it. The utility that
     stands last on its side reaches every branch."""
-    last = {each.side: each.name for each in case.utilities}
-    exchangers = {each.name for each in followed.network.exchangers}
+    last = {utility.side: utility.name for utility in case.utilities}
+    exchangers = {exchanger.name for exchanger in followed.network.exchangers}
     branches = set(followed.branches)
     for stream in case.streams:
         at = ''
-        for left in (each for each in lefts if each.stream.name == stream.name):
+        for left in (open_branch for open_branch in lefts if open_branch.stream.name == stream.name):
             ready = left.branch.name
             if left.heat:
                 hot = stream.side is Side.HOT
@@ -197,7 +199,7 @@ def fresh(name: str, taken: set[str]) -> str:
 def posed_rest(pinch: Pinch, rest: Rest) -> Rest:
     """The rest with its case, or both of them, and their answers."""
     case = rest.followed.case
-    lefts = [each for each in rest.left if each.heat]
+    lefts = [left for left in rest.left if left.heat]
     scale = scale_of(lefts, case, rest.used)
     harder = posed(pinch, rest_case(case, lefts, rest.used, scale, Rounding.HARDER), scale)
     if is_exact(lefts, case, rest.used, scale):
@@ -211,7 +213,7 @@ def written_case(rest: Rest) -> Case | None:
     can hold, or the network is rejected."""
     if rest.harder is None:
         return None
-    lefts = [each for each in rest.left if each.heat]
+    lefts = [left for left in rest.left if left.heat]
     case = rest_case(rest.followed.case, lefts, rest.used, Scale(rest.harder.scale.sizes), Rounding.HARDER)
     return case if case.streams else None
 

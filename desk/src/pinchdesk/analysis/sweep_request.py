@@ -18,21 +18,21 @@ def contribution_of(text: str) -> int:
     """Half of a least difference in K, in tenths of °C; `WordsError` where that is no whole number, or out of its
     limits."""
     try:
-        held = exact(text.replace(',', '.')) * 5
+        contribution = exact(text.replace(',', '.')) * 5
     except ValueError:
-        held = Fraction(-1)
-    if held > 5 * MOST_KELVIN:
+        contribution = Fraction(-1)
+    if contribution > 5 * MOST_KELVIN:
         raise WordsError(f'a least difference is {MOST_KELVIN} K at most, and {shortened(text)} is more')
-    if held.denominator != 1 or held < 0:
+    if contribution.denominator != 1 or contribution < 0:
         raise WordsError(f'{shortened(text)} is no least difference in K: it has to be a number of fifths of a K, as '
                          '10 or 2.4')
-    return int(held)
+    return int(contribution)
 
 
 def asked_range(first: str, last: str, step: str, workers: int) -> tuple[int, int, int]:
     """The first and the last contribution and the step of a sweep that is asked for by least differences in K;
     `WordsError` where there is no such sweep."""
-    begin, end, by = (contribution_of(each) for each in (first, last, step))
+    begin, end, by = (contribution_of(difference) for difference in (first, last, step))
     if begin > end:
         raise WordsError(f'the first least difference, {first} K, is above the last one, {last} K')
     if not by:
@@ -53,7 +53,7 @@ def check_workers(workers: int) -> None:
 
 def own_contributions(case: Case) -> tuple[str, ...]:
     """The sources with a contribution of their own, which a sweep replaces."""
-    return tuple(each.name for each in case.sources if each.contribution != case.contribution)
+    return tuple(source.name for source in case.sources if source.contribution != case.contribution)
 
 
 def as_it_is(pinch: Pinch, text: CaseText, case: Case) -> SweepRow | None:

@@ -86,11 +86,11 @@ class WhatIf:
 
     @property
     def refused(self) -> bool:
-        return any(each.fault for each in self.outcomes)
+        return any(outcome.fault for outcome in self.outcomes)
 
     @property
     def infeasible(self) -> bool:
-        return any(isinstance(each.flow, Cut) for each in (self.base, *self.outcomes))
+        return any(isinstance(outcome.flow, Cut) for outcome in (self.base, *self.outcomes))
 
 
 def what_if(case: CaseText, scenarios: Iterable[CaseScenario], pinch: Pinch | None = None, workers: int = 0) -> WhatIf:
@@ -149,7 +149,7 @@ def told(case: Case, fault: Refused) -> str:
 
 def changed(case: Case, scenario: CaseScenario) -> ScenarioOutcome:
     """The case with the changes of a scenario; `Refused` where a change names what is not there."""
-    held, steps = case, []
+    changed_case, steps = case, []
     seen: set[tuple[str, Field]] = set()
     for change in scenario.changes:
         source = found(case, change)
@@ -158,12 +158,12 @@ def changed(case: Case, scenario: CaseScenario) -> ScenarioOutcome:
             raise refusal(change, f'scenario {scenario.name} changes this twice')
         seen.add(key)
     # A load of a sensible stream is over the span that its temperatures have in the end.
-    for change in sorted(scenario.changes, key=lambda each: each.field is Field.LOAD):
-        held, step = applied(case, held, change)
+    for change in sorted(scenario.changes, key=lambda scenario_change: scenario_change.field is Field.LOAD):
+        changed_case, step = applied(case, changed_case, change)
         steps.append(step)
-    order = {id(each): at for at, each in enumerate(scenario.changes)}
-    steps.sort(key=lambda each: order[id(each.change)])
-    return ScenarioOutcome(scenario, tuple(steps), completed(held))
+    order = {id(scenario_change): at for at, scenario_change in enumerate(scenario.changes)}
+    steps.sort(key=lambda made_step: order[id(made_step.change)])
+    return ScenarioOutcome(scenario, tuple(steps), completed(changed_case))
 
 
 def refusal(change: Change, cause: str) -> Refused:
@@ -173,7 +173,7 @@ def refusal(change: Change, cause: str) -> Refused:
 def found(case: Case, change: Change) -> Source | None:
     """The source that a change names; None where it is the contribution of the case. `Refused` where there is no such
     source, or it has no such field."""
-    source = next((each for each in case.sources if each.name == in_case(case, change.source)), None)
+    source = next((candidate for candidate in case.sources if candidate.name == in_case(case, change.source)), None)
     if source is None and change.source.lower() in SOURCES and change.field is Field.CONTRIBUTION:
         return None
     if source is None:
@@ -204,20 +204,23 @@ def applied(base: Case, case: Case, change: Change) -> tuple[Case, Step]:
     source = found(base, change)
     if source is None:
         behind, exact = moved(base.contribution, change)
-        shares = {each.name for each in base.sources if each.contribution == base.contribution}
-        streams = tuple(replace(each, contribution=behind) if each.name in shares else each for each in case.streams)
-        utilities = tuple(replace(each, contribution=behind) if each.name in shares else each
-                          for each in case.utilities)
+        shares = {base_source.name for base_source in base.sources if base_source.contribution == base.contribution}
+        streams = tuple(replace(case_stream, contribution=behind) if case_stream.name in shares else case_stream
+                        for case_stream in case.streams)
+        utilities = tuple(replace(case_utility, contribution=behind) if case_utility.name in shares else case_utility
+                          for case_utility in case.utilities)
         made = replace(case, contribution=behind, streams=streams, utilities=utilities)
         return made, Step(change, base.contribution, behind, exact)
     now = case.source(source.name)
     if isinstance(source, Stream):
         assert isinstance(now, Stream)
         stream, step = of_stream(source, now, change)
-        return replace(case, streams=tuple(stream if each is now else each for each in case.streams)), step
+        return replace(case, streams=tuple(stream if case_stream is now else case_stream
+                                           for case_stream in case.streams)), step
     assert isinstance(now, Utility)
     utility, step = of_utility(source, now, change, case)
-    return replace(case, utilities=tuple(utility if each is now else each for each in case.utilities)), step
+    return replace(case, utilities=tuple(utility if case_utility is now else case_utility
+                                         for case_utility in case.utilities)), step
 
 
 def moved(before: int, change: Change, divisor: Fraction = Fraction(1)) -> tuple[int, Fraction]:
@@ -255,9 +258,10 @@ def of_utility(base: Utility, now: Utility, change: Change, case: Case) -> tuple
 
 def plus_minus(case: Case, base: Targets, pinch: Pinch, workers: int = 0) -> tuple[PlusMinus, ...]:
     """What a little more of each stream of a case would do to its hot target."""
-    cases = [replace(case, streams=tuple(made if each is stream else each for each in case.streams))
+    cases = [replace(case, streams=tuple(made if case_stream is stream else case_stream
+                                         for case_stream in case.streams))
              for stream in case.streams for made in little_more(stream, case)]
-    rises = side_by_side(lambda each: rise(pinch, each, base), cases, workers)
+    rises = side_by_side(lambda changed_case: rise(pinch, changed_case, base), cases, workers)
     return tuple(PlusMinus(stream, *rises[3 * at:3 * at + 3]) for at, stream in enumerate(case.streams))
 
 
