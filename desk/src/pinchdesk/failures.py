@@ -36,5 +36,5 @@ def failure_of(fault: BaseException) -> tuple[Status, str]:
 def place_of(fault: BaseException) -> str:
     """The last line of the desk that the exception went through."""
     frames = traceback.extract_tb(fault.__traceback__)
-    own = [each for each in frames if Path(each.filename).is_relative_to(PACKAGE)] or frames
+    own = [frame for frame in frames if Path(frame.filename).is_relative_to(PACKAGE)] or frames
     return f'{Path(own[-1].filename).name} line {own[-1].lineno}' if own else 'nowhere'

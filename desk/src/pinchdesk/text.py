@@ -9,7 +9,7 @@ FORMULA = re.compile("'*[-=+@\t\r\n＝＋－＠]")
 
 def printable(text: str) -> str:
     """A text on one line, without what would steer a terminal."""
-    return ''.join(each if each.isprintable() else '?' for each in text)
+    return ''.join(character if character.isprintable() else '?' for character in text)
 
 
 def plain(text: str) -> str:
