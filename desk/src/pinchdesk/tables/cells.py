@@ -58,7 +58,7 @@ class Told:
         """Raises what was found: the first faults in one refusal."""
         if self.faults:
             first = self.faults[0]
-            texts = [each.text for each in self.faults[:MOST_FAULTS]]
+            texts = [fault.text for fault in self.faults[:MOST_FAULTS]]
             left = len(self.faults) - len(texts)
             raise Refused(3, first.place, first.cause, '\n'.join(texts + [f'and {left} more'] * bool(left)))
 
@@ -146,10 +146,10 @@ class CellReader:
 
     def measured(self, row: TableRow, column: int | None, kind: Kind) -> Entered | None:
         """A cell as a number of the program's unit; None where it is none, which is told as a fault."""
-        held = self.number(row, column)
-        if held is None or column is None:
+        number = self.number(row, column)
+        if number is None or column is None:
             return None
-        value, slack, own = held
+        value, slack, own = number
         text = self.unit_text(row, column, kind, own)
         if text is None:
             return None
@@ -199,21 +199,21 @@ class CellReader:
 
     def whole(self, row: TableRow, column: int | None, kind: Kind, scale: Fraction = Fraction(1)) -> int | None:
         """A cell as a whole number of the program's unit; what is rounded is told."""
-        held = self.measured(row, column, kind)
-        return None if held is None else self.rounded(row, column, kind, held, scale)
+        entered = self.measured(row, column, kind)
+        return None if entered is None else self.rounded(row, column, kind, entered, scale)
 
-    def rounded(self, row: TableRow, column: int | None, kind: Kind, held: Entered, scale: Fraction) -> int:
-        exact = held.value * scale
+    def rounded(self, row: TableRow, column: int | None, kind: Kind, entered: Entered, scale: Fraction) -> int:
+        exact = entered.value * scale
         nearest = rounded(exact)
         if nearest != exact:
-            self.told.rounding(row.number, column, f'{held.text} is rounded to {kind.shown(nearest, scale)}')
+            self.told.rounding(row.number, column, f'{entered.text} is rounded to {kind.shown(nearest, scale)}')
         return nearest
 
 
 def written(cell: Cell, value: Fraction, own: str, unit: str) -> str:
     """A number with its unit, as a message has it: `150 °C`, `16 x 1000 kcal/h`, and without marks of thousands."""
     number = cell.text.removesuffix(own).strip() if own and not cell.unit else cell.text
-    if sum(not each.isdigit() for each in number) > 1 or abs(value) >= 1000:
+    if sum(not character.isdigit() for character in number) > 1 or abs(value) >= 1000:
         number = plain(Decimal(value.numerator) / value.denominator)
     return f'{number} x {unit}' if unit[:1].isdigit() else f'{number} {unit}'
 

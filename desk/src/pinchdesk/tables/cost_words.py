@@ -12,12 +12,12 @@ from .numbers import NoNumber, Says, numeral_of, readings
 def percent_of(text: str) -> Fraction:
     """Percent of the words; `WordsError` where they are none, or below 0."""
     try:
-        held = exact(text.strip().removesuffix('%').replace(',', '.'))
+        percent = exact(text.strip().removesuffix('%').replace(',', '.'))
     except ValueError as fault:
         raise WordsError(f'{shortened(text)} is no number of percent') from fault
-    if held < 0:
+    if percent < 0:
         raise WordsError('the percent are at least 0')
-    return held
+    return percent
 
 
 def cost_of(text: str, shown: Shown) -> Fraction:

@@ -126,8 +126,8 @@ def below_titles(lines: Sequence[Line], sides: Mapping[int, Side], told: Told) -
 def as_case(table: Table) -> tuple[bytes, ...]:
     """The rows of a table as a case would have them, also where they stand between other separators, in a workbook, or
     without a contribution; nothing where they cannot be one."""
-    held = io.StringIO()
-    writer = csv.writer(held, lineterminator='\n')
+    output = io.StringIO()
+    writer = csv.writer(output, lineterminator='\n')
     for row in table.rows:
         fields = [cell.text for cell in row.cells]
         # Rows of a workbook have no end.
@@ -135,5 +135,5 @@ def as_case(table: Table) -> tuple[bytes, ...]:
         if len(fields) != CASE_FIELDS:
             return ()
         writer.writerow(fields)
-    text = held.getvalue().encode()
+    text = output.getvalue().encode()
     return (text, text + b'contribution,,0,,,,\n') if text else ()

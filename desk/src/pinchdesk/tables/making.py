@@ -82,7 +82,7 @@ class Maker:
 
     def check_counts(self) -> None:
         """Tells a fault for the first source and the first pair that are too many."""
-        hot, cold = ([row for row, each, _ in self.streams if each.side is side] for side in Side)
+        hot, cold = ([row for row, stream, _ in self.streams if stream.side is side] for side in Side)
         for rows, most, what in ((hot, MOST_HOT, 'hot streams'), (cold, MOST_COLD, 'cold streams'),
                                  ([row for row, _, _ in self.utilities], MOST_UTILITIES, 'heaters and coolers'),
                                  ([row for row, _ in self.forbids], MOST_FORBIDS, 'forbidden matches')):
@@ -126,7 +126,7 @@ class Maker:
     def take_contribution(self, line: Line) -> None:
         """The contribution of the case: the one number of its row."""
         heading = Heading.CONTRIBUTION if self.entries.given(line, Heading.CONTRIBUTION) else Heading.SUPPLY
-        used = {line.at(each) for each in (heading, Heading.KIND, Heading.NUMBER)}
+        used = {line.at(column_heading) for column_heading in (heading, Heading.KIND, Heading.NUMBER)}
         for column in sorted(set(line.columns.values()) - used):
             if self.reader.given(line.row, column):
                 cause = f'`{line.row.cell(column).text}`: a contribution of the case has one number and no name'
@@ -143,7 +143,7 @@ class Maker:
         if not line.name() or len(behind) != 1:
             self.told.fault(line.row.number, at, 'a forbidden match has two names, the hot one and the cold one')
             return
-        hot, cold = (self.entries.names.get(each, each) for each in (line.name(), behind[0]))
+        hot, cold = (self.entries.names.get(name, name) for name in (line.name(), behind[0]))
         self.forbids.append((line.row.number, Forbid(hot, cold)))
 
     def contribution(self, body: Body) -> tuple[int, Fraction, int]:
@@ -192,14 +192,14 @@ class Maker:
         whole = iter(made.prices)
         usual = {'heater': 0 if given else 1, 'cooler': 0}
         prices = [usual[line.kind] if value is None else next(whole) for _, line, value, _ in self.priced]
-        return [replace(each, price=price, contribution=share if own is None else own)
-                for (_, each, own), price in zip(self.utilities, prices)], made.basis
+        return [replace(utility, price=price, contribution=share if own is None else own)
+                for (_, utility, own), price in zip(self.utilities, prices)], made.basis
 
     def tell_rounded(self, made: Priced) -> None:
         """Tells the prices that are not what the table has, since they have to be whole and within the limits."""
         shown = Shown(made.basis)
-        held = [(row, line) for row, line, value, _ in self.priced if value is not None]
-        for at, (row, line) in enumerate(held):
+        with_price = [(row, line) for row, line, value, _ in self.priced if value is not None]
+        for at, (row, line) in enumerate(with_price):
             if made.rounded(at):
                 was, price = decimal(made.exact[at], 9), f'{shown.price(made.prices[at])} {shown.price_unit}'
                 self.told.note(row, line.at(Heading.PRICE), f'the price {was} is rounded to {price}')
@@ -212,7 +212,7 @@ class Maker:
         free = [(row, line) for row, line, value, _ in self.priced if value is None]
         for row, line in free:
             if names[line.kind] or line.kind == 'heater' and any(names.values()):
-                other = next(each for each in (*names[line.kind], *names['cooler']))
+                other = next(name for name in (*names[line.kind], *names['cooler']))
                 self.told.fault(row, line.at(Heading.PRICE), f'the price of {line.name()} is missing, and {other} has '
                                 'one')
         coolers = [line.name() for _, line in free if line.kind == 'cooler']

@@ -22,8 +22,8 @@ LETTERS = {'ä': 'ae', 'ö': 'oe', 'ü': 'ue', 'Ä': 'Ae', 'Ö': 'Oe', 'Ü': 'Ue
 
 def whole(name: str) -> str:
     """A name in the letters that a name may have, as long as it is; empty where none is left."""
-    held = ''.join(LETTERS.get(each, each) for each in name)
-    plain = ''.join(each for each in unicodedata.normalize('NFKD', held) if not unicodedata.combining(each))
+    spelled = ''.join(LETTERS.get(letter, letter) for letter in name)
+    plain = ''.join(letter for letter in unicodedata.normalize('NFKD', spelled) if not unicodedata.combining(letter))
     return re.sub(r'-+', '-', re.sub(r'[^A-Za-z0-9_]', '-', plain)).strip('-_')
 
 
@@ -35,25 +35,25 @@ def fitted(name: str) -> str:
 def fit_names(names: Iterable[str]) -> dict[str, str]:
     """The name in the case of each name in the table. A name that is fit stays; of the others two never become one,
     none becomes one that stays, and each keeps what tells it from the others."""
-    held = list(dict.fromkeys(names))
-    made = {each: each for each in held if FIT.fullmatch(each)}
-    full = {name: whole(name) or f'S{at}' for at, name in enumerate(held, 1)}
+    distinct = list(dict.fromkeys(names))
+    made = {fit: fit for fit in distinct if FIT.fullmatch(fit)}
+    full = {name: whole(name) or f'S{at}' for at, name in enumerate(distinct, 1)}
     taken = {*made, 'HOT', 'COLD'}
     shared = Counter(full.values())
-    for name in held:
+    for name in distinct:
         if name not in made and len(full[name]) <= LONGEST and shared[full[name]] == 1 and full[name] not in taken:
             made[name] = full[name]
     taken.update(made.values())
-    left = [name for name in held if name not in made]
+    left = [name for name in distinct if name not in made]
     order = sorted(shared)
-    cuts = Counter(each[:LONGEST].rstrip('-_') for each in order)
+    cuts = Counter(full_name[:LONGEST].rstrip('-_') for full_name in order)
     ways = {name: list(short_names(full[name], order, cuts)) for name in left}
     wanted = Counter(way for name in left for way in set(ways[name]))
     for name in left:
         free = [way for way in ways[name] if way not in taken and wanted[way] == 1]
         made[name] = free[0] if free else lettered(full[name], taken)
         taken.add(made[name])
-    return {name: made[name] for name in held}
+    return {name: made[name] for name in distinct}
 
 
 def number_behind(name: str) -> str:
@@ -76,7 +76,7 @@ def short_names(name: str, order: Sequence[str], cuts: Mapping[str, int]) -> Ite
     if cuts[cut] > 1:
         at = bisect_left(order, name)
         beside = (*order[max(at - 1, 0):at], *order[at + 1:at + 2])
-        alike = max(len(os.path.commonprefix([name, each])) for each in beside)
+        alike = max(len(os.path.commonprefix([name, neighbour])) for neighbour in beside)
         word = name.rfind('-', 0, alike) + 1
         yield joined(name, ('-' + name[word:] if alike - word < TAIL else name[alike:])[:TAIL])
     words = name.split('-')
@@ -97,7 +97,7 @@ def lettered(name: str, taken: set[str]) -> str:
     one of the plant's."""
     if name[:LONGEST].rstrip('-_') not in taken:
         return name[:LONGEST].rstrip('-_')
-    ends = (''.join(each) for size in count(1) for each in product(string.ascii_lowercase, repeat=size))
+    ends = (''.join(letters) for size in count(1) for letters in product(string.ascii_lowercase, repeat=size))
     return next(made for made in (joined(name, f'-{end}') for end in ends if end != 'a') if made not in taken)
 
 

@@ -44,11 +44,11 @@ class Numeral:
     def says(self) -> Says:
         """What it says of the decimal mark; `NoNumber` where its marks are no number's."""
         body = self.body
-        if any(each in body for each in GROUPS):
+        if any(group_mark in body for group_mark in GROUPS):
             if not GROUPED.fullmatch(body):
                 raise NoNumber('blanks or apostrophes that mark no thousands')
-            return Says(body[-1] if body[-1] in '.,' else next((each for each in '.,' if each in body), ''))
-        marks = [each for each in body if each in '.,']
+            return Says(body[-1] if body[-1] in '.,' else next((mark for mark in '.,' if mark in body), ''))
+        marks = [mark for mark in body if mark in '.,']
         if not marks:
             return Says.NOTHING
         return says_of_two(body, marks) if len(set(marks)) == 2 else says_of_one(body, marks)
@@ -59,8 +59,8 @@ class Numeral:
         if says in (Says.POINT, Says.COMMA) and says.value != mark:
             raise NoNumber(f'its decimal mark is `{says.value}`, and that of the table is `{mark}`')
         body = self.body
-        for each in GROUPS + ('.' if mark == ',' else ','):
-            body = body.replace(each, '')
+        for group_mark in GROUPS + ('.' if mark == ',' else ','):
+            body = body.replace(group_mark, '')
         sign = '-' if self.sign in ('-', '−') else ''
         return Decimal(sign + body.replace(mark, '.') + f'E{self.exponent}')
 

@@ -24,7 +24,7 @@ def told(table: Table) -> tuple[str, ...]:
 
 def check(content: bytes, name: str, first: Table, what: str, is_one: Callable[[Table], bool]) -> None:
     """`Refused` where the sheet that was read is no table of what is wanted, and other ones are."""
-    found = [each for each in first.others[:MOST_SHEETS] if is_such(content, name, each, is_one)]
+    found = [sheet for sheet in first.others[:MOST_SHEETS] if is_such(content, name, sheet, is_one)]
     if found:
         has = 'has one' if len(found) == 1 else 'have one'
         cause = f'sheet {first.sheet} has no table of {what}, and {", ".join(found)} {has}: say --sheet {found[0]}'

@@ -96,7 +96,7 @@ def temperature_of(text: str) -> str:
 
 def stepped(units: CaseUnits, numbers: ExactNumbers, case: Case) -> CaseUnits:
     """The units with the coarsest steps in which all numbers are whole, else with the finest that the limits hold."""
-    held: list[tuple[int, CaseUnits]] = []
+    fitting: list[tuple[int, CaseUnits]] = []
     for steps in (10, 100):
         stepping = with_zero(replace(units, steps=steps), numbers)
         for parts in PARTS:
@@ -104,11 +104,11 @@ def stepped(units: CaseUnits, numbers: ExactNumbers, case: Case) -> CaseUnits:
             amounts = list(amounts_of(numbers, tried))
             if all(limit.holds(rounded(amount)) for limit, amount in amounts):
                 apart = sum(amount.denominator != 1 for _, amount in amounts)
-                held.append((apart, tried))
-    if not held:
+                fitting.append((apart, tried))
+    if not fitting:
         raise Refused(3, '', 'units', 'no steps hold the numbers of this table in its own units')
-    least = min(apart for apart, _ in held)
-    best = [tried for apart, tried in held if apart == least]
+    least = min(apart for apart, _ in fitting)
+    best = [tried for apart, tried in fitting if apart == least]
     return best[0] if least == 0 else best[-1]
 
 

@@ -101,10 +101,10 @@ def priced(prices: Sequence[Fraction], units: Sequence[PriceUnit | None], hours:
         basis = Basis() if factor == 1 else Basis(price_unit='as in the table', price_divisor=factor,
                                                   cost_unit='price times W', cost_divisor=factor)
         return Priced(whole, basis, tuple(prices))
-    yearly = hours is not None or any(each.yearly for each in units if each)
-    per_watt = [common(price, each, yearly, hours) for price, each in zip(prices, units) if each]
+    yearly = hours is not None or any(unit.yearly for unit in units if unit)
+    per_watt = [common(price, unit, yearly, hours) for price, unit in zip(prices, units) if unit]
     times = 1 / common(Fraction(1), first, yearly, hours)
-    exact = tuple(each * times for each in per_watt)
+    exact = tuple(watt_price * times for watt_price in per_watt)
     factor, whole = whole_prices(exact)
     cost_unit = (first.money + '/' if first.money else 'per ') + ('a' if yearly else 'h')
     basis = Basis(price_unit=first.text, price_divisor=factor, cost_unit=cost_unit, cost_divisor=factor * times)
@@ -113,23 +113,23 @@ def priced(prices: Sequence[Fraction], units: Sequence[PriceUnit | None], hours:
 
 def check_together(units: Sequence[PriceUnit | None]) -> None:
     """`PriceFault` where some prices have a unit and some none, or where they are in two moneys."""
-    known = [each for each in units if each]
+    known = [unit for unit in units if unit]
     if known and len(known) < len(units):
         raise PriceFault('some prices have a unit, and some have none: write it with all of them')
-    for each in known:
-        said = two_moneys(known[0].money, each.money)
+    for unit in known:
+        said = two_moneys(known[0].money, unit.money)
         if said:
             raise PriceFault(said + ('' if said.startswith('`') else ': write all prices in one'))
 
 
 def common(price: Fraction, unit: PriceUnit, yearly: bool, hours: Fraction | None) -> Fraction:
     """A price per W and hour, or per W and year."""
-    held = price / unit.amount
+    per_watt = price / unit.amount
     if not yearly or unit.yearly:
-        return held
+        return per_watt
     if hours is None:
         raise PriceFault('prices per energy and prices per year: --hours says how many hours a year has')
-    return held * hours
+    return per_watt * hours
 
 
 def times_ten(below: int) -> int:
@@ -139,13 +139,13 @@ def times_ten(below: int) -> int:
 
 def whole_prices(prices: Sequence[Fraction]) -> tuple[Fraction, tuple[int, ...]]:
     """A factor that makes all prices whole and small enough, and the prices; where there is none they are rounded."""
-    below = lcm(*(each.denominator for each in prices)) if prices else 1
-    above = gcd(*(int(each * below) for each in prices)) or 1
+    below = lcm(*(price.denominator for price in prices)) if prices else 1
+    above = gcd(*(int(price * below) for price in prices)) or 1
     for factor in (Fraction(times_ten(below)), Fraction(below), Fraction(below, above)):
-        if all(abs(each * factor) <= MOST for each in prices):
-            return factor, tuple(int(each * factor) for each in prices)
-    largest = max(abs(each) for each in prices)
+        if all(abs(price * factor) <= MOST for price in prices):
+            return factor, tuple(int(price * factor) for price in prices)
+    largest = max(abs(price) for price in prices)
     factor = Fraction(10) ** (len(str(MOST)) - 1)
     while largest * factor > MOST:
         factor /= 10
-    return factor, tuple(rounded(each * factor) for each in prices)
+    return factor, tuple(rounded(price * factor) for price in prices)

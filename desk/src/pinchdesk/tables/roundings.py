@@ -35,16 +35,16 @@ def span_of(side: Side, ends: tuple[Fraction, Fraction], heat: Fraction, contrib
 
 def deficits(spans: Sequence[RoundingSpan]) -> Iterator[Fraction]:
     """What the cold streams need above each place more than the hot ones give there; it is the most at one of these."""
-    for place in sorted({end for each in spans for end in (each.low, each.high)}):
+    for place in sorted({end for span in spans for end in (span.low, span.high)}):
         for with_place in (False, True):
-            yield sum((each.above(place, with_place) * (1 if each.side is Side.COLD else -1) for each in spans),
+            yield sum((span.above(place, with_place) * (1 if span.side is Side.COLD else -1) for span in spans),
                       Fraction(0))
 
 
 def exact_targets(spans: Sequence[RoundingSpan]) -> tuple[Fraction, Fraction]:
     """The least hot and cold utility in W of streams whose numbers are exact."""
     hot = max([Fraction(0), *deficits(spans)])
-    surplus = sum((each.heat * (1 if each.side is Side.HOT else -1) for each in spans), Fraction(0))
+    surplus = sum((span.heat * (1 if span.side is Side.HOT else -1) for span in spans), Fraction(0))
     return hot, hot + surplus
 
 

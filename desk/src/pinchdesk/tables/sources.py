@@ -66,13 +66,13 @@ class Entries:
     def limited(self, line: Line, heading: Heading, kind: Kind, limit: Limit) -> int | None:
         """A number of a row as a whole one of the program's unit; a fault where it is outside its limits."""
         column = line.at(heading)
-        held = self.reader.measured(line.row, column, kind)
-        if held is None:
+        entered = self.reader.measured(line.row, column, kind)
+        if entered is None:
             return None
         scale = self.scale if limit.scaled else Fraction(1)
         name = 'duty' if limit is LOAD else heading.name.lower()
-        self.check(line, heading, limit, held.value, f'the {name} {held.text}')
-        return self.reader.rounded(line.row, column, kind, held, scale)
+        self.check(line, heading, limit, entered.value, f'the {name} {entered.text}')
+        return self.reader.rounded(line.row, column, kind, entered, scale)
 
     def check(self, line: Line, heading: Heading, limit: Limit, exact: Fraction, what: str) -> None:
         """Tells a fault where a number, before all heats are taken so many times, is outside its limits."""
@@ -93,9 +93,9 @@ class Entries:
 
     def none_of(self, line: Line, what: str, headings: tuple[Heading, ...]) -> None:
         """Tells a fault for each of these columns in which there is something."""
-        for each in headings:
-            if line.at(each) is not None and self.given(line, each):
-                self.told.fault(line.row.number, line.at(each), f'{what} has no {each.name.lower()}')
+        for heading in headings:
+            if line.at(heading) is not None and self.given(line, heading):
+                self.told.fault(line.row.number, line.at(heading), f'{what} has no {heading.name.lower()}')
 
     def temperature(self, line: Line, heading: Heading) -> int | None:
         if not self.given(line, heading):
@@ -161,8 +161,8 @@ class Entries:
         """The load of a latent stream, in W."""
         column, flow = line.at(Heading.LOAD), line.at(Heading.CP)
         if self.given(line, Heading.CP):
-            held = self.reader.measured(line.row, flow, Kind.FLOW)
-            if held is None or held.value != 0:
+            cp = self.reader.measured(line.row, flow, Kind.FLOW)
+            if cp is None or cp.value != 0:
                 self.told.fault(line.row.number, flow, 'supply and target are one: such a stream has a duty and no CP')
                 return None
         if not self.given(line, Heading.LOAD):
@@ -172,8 +172,8 @@ class Entries:
                 return None
             self.check(line, Heading.LATENT, LOAD, product.value, f'the duty {product.text}')
             return self.reader.rounded(line.row, line.at(Heading.LATENT), Kind.HEAT, product, self.scale)
-        held = self.reader.measured(line.row, column, Kind.HEAT)
-        if held is not None and held.value <= 0:
+        duty = self.reader.measured(line.row, column, Kind.HEAT)
+        if duty is not None and duty.value <= 0:
             self.told.fault(line.row.number, column, 'a duty is above 0 (in W): hot or cold says which way it goes')
             return None
         return self.limited(line, Heading.LOAD, Kind.HEAT, LOAD)
@@ -196,15 +196,15 @@ class Entries:
         if duty and side:
             self.duties.append((line, side, duty))
         if self.given(line, Heading.CP):
-            held = self.reader.measured(line.row, column, Kind.FLOW)
-            if held and not duty and self.is_open(line):
-                self.told.fault(line.row.number, column, f'{held.text} may be a CP or a specific heat, beside a mass '
+            cp = self.reader.measured(line.row, column, Kind.FLOW)
+            if cp and not duty and self.is_open(line):
+                self.told.fault(line.row.number, column, f'{cp.text} may be a CP or a specific heat, beside a mass '
                                 'flow: write its unit')
                 return None
-            if held is None or duty and not self.agree(line, held, duty, span):
+            if cp is None or duty and not self.agree(line, cp, duty, span):
                 return None
-            made = self.reader.rounded(line.row, column, Kind.FLOW, held, self.scale)
-            exact, what = held.value, f'the CP {held.text}'
+            made = self.reader.rounded(line.row, column, Kind.FLOW, cp, self.scale)
+            exact, what = cp.value, f'the CP {cp.text}'
         elif duty:
             column, made, exact = load, self.flow_of(line, duty, span), abs(duty.value) / span
             what = f'the CP of the duty {duty.text}, {decimal(exact / 100, 6)} kW/K,'

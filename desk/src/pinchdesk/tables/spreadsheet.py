@@ -105,12 +105,12 @@ class Table:
 
 def letters(column: int) -> str:
     """The letters of a column of a spreadsheet, counted from 0."""
-    held = ''
+    column_letters = ''
     column += 1
     while column:
         column, rest = divmod(column - 1, 26)
-        held = chr(ord('A') + rest) + held
-    return held
+        column_letters = chr(ord('A') + rest) + column_letters
+    return column_letters
 
 
 def read_table(content: bytes, name: str, sheet: str | None = None, separator: str | None = None) -> tuple[Table, ...]:
@@ -127,8 +127,8 @@ def read_table(content: bytes, name: str, sheet: str | None = None, separator: s
     if hint:
         # A spreadsheet's own line on what separates; it counts as a row.
         text, separator = text[hint.end():], separator or hint[1]
-        return tuple(moved(each, 1) for each in text_tables(text, [separator]))
-    separators = [separator] if separator else [each for each in SEPARATORS if each in text] or [',']
+        return tuple(moved(table, 1) for table in text_tables(text, [separator]))
+    separators = [separator] if separator else [sign for sign in SEPARATORS if sign in text] or [',']
     return text_tables(text, separators)
 
 
@@ -136,9 +136,9 @@ def text_tables(text: str, separators: list[str]) -> tuple[Table, ...]:
     """The readings of a text; `Refused` where no separator gives one."""
     made: list[Table] = []
     faults: list[Refused] = []
-    for each in separators:
+    for separator in separators:
         try:
-            made.append(text_table(text, each))
+            made.append(text_table(text, separator))
         except Refused as fault:
             faults.append(fault)
     if not made:
@@ -152,9 +152,9 @@ def text_of(content: bytes) -> str:
         encodings = ['utf-16']
     else:
         encodings = ['utf-8-sig', 'cp1252', 'latin-1']
-    for each in encodings:
+    for encoding in encodings:
         try:
-            text = content.decode(each)
+            text = content.decode(encoding)
         except UnicodeDecodeError:
             continue
         if '\0' not in text:
@@ -188,7 +188,7 @@ def text_table(text: str, separator: str) -> Table:
 
 def moved(table: Table, rows: int) -> Table:
     """The table as it stands below so many rows."""
-    return replace(table, rows=tuple(replace(each, number=each.number + rows) for each in table.rows))
+    return replace(table, rows=tuple(replace(row, number=row.number + rows) for row in table.rows))
 
 
 def too_large(what: str = '') -> Refused:
@@ -294,29 +294,29 @@ def with_remark(cell: Cell, value: Any) -> Cell:
 
 def cell_of(value: Any, written: Any) -> Cell:
     """A cell of a workbook, by its value and by what is written there."""
-    held = value.value
-    if held is not None and value.font is not None and value.font.strike:
-        return Cell(str(held), fault='struck out: take it out, or show it as it is meant')
-    if written.data_type == 'f' and held is None:
+    content = value.value
+    if content is not None and value.font is not None and value.font.strike:
+        return Cell(str(content), fault='struck out: take it out, or show it as it is meant')
+    if written.data_type == 'f' and content is None:
         return Cell(str(written.value), fault='a formula without a saved value: open and save the workbook')
     if value.data_type == 'e':
-        return Cell(str(held), fault=f'the error {held}')
-    if isinstance(held, bool):
-        return Cell(str(held), fault='a truth value')
-    if isinstance(held, (datetime.date, datetime.time, datetime.timedelta)):
-        return Cell(str(held), fault='a date: the spreadsheet took the number for one')
-    if isinstance(held, (int, float)):
-        return numbered(held, value.number_format or '')
-    return Cell(clean(str(held))) if held is not None else Cell()
+        return Cell(str(content), fault=f'the error {content}')
+    if isinstance(content, bool):
+        return Cell(str(content), fault='a truth value')
+    if isinstance(content, (datetime.date, datetime.time, datetime.timedelta)):
+        return Cell(str(content), fault='a date: the spreadsheet took the number for one')
+    if isinstance(content, (int, float)):
+        return numbered(content, value.number_format or '')
+    return Cell(clean(str(content))) if content is not None else Cell()
 
 
-def numbered(held: int | float, form: str) -> Cell:
+def numbered(stored: int | float, form: str) -> Cell:
     """A number as a workbook has it, with the fifteen digits that are shown of it."""
-    if isinstance(held, float) and not math.isfinite(held):
-        return Cell(str(held), fault='no number of a workbook')
-    number = Decimal(format(held, '.15g') if isinstance(held, float) else str(held))
+    if isinstance(stored, float) and not math.isfinite(stored):
+        return Cell(str(stored), fault='no number of a workbook')
+    number = Decimal(format(stored, '.15g') if isinstance(stored, float) else str(stored))
     if number and abs(number.adjusted()) > MOST_ZEROS:
-        return Cell(str(held)[:LONGEST_SHOWN], fault=f'a number with more than {MOST_ZEROS} zeros')
+        return Cell(str(stored)[:LONGEST_SHOWN], fault=f'a number with more than {MOST_ZEROS} zeros')
     return number_cell(number, form)
 
 
@@ -328,7 +328,8 @@ def number_cell(number: Decimal, form: str) -> Cell:
         return Cell(text, number, 'a percentage')
     if THOUSANDTH.search(plain):
         return Cell(text, number, f'shown as a thousandth or less of what it is, by its format {form}')
-    units = list(dict.fromkeys(unit_of_format(each) for each in sections(form) if PLACE.search(LITERAL.sub('', each))))
+    units = list(dict.fromkeys(unit_of_format(section) for section in sections(form)
+                               if PLACE.search(LITERAL.sub('', section))))
     fault = f'its format {form} writes one unit or another' if len(units) > 1 else ''
     return Cell(text, number, fault, units[0] if units else unit_of_format(first))
 

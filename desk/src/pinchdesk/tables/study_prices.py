@@ -50,10 +50,11 @@ def studied(content: bytes, case: Case) -> Studied:
         raise refusal(at, f'the prices are in {told}, and those of the case {shown.price_unit}')
     if not case.basis.price_unit or told == PER_WATT:
         return Studied(case, content)
-    held = [read_row(at, row, shown) for at, row in rows]
-    times = times_of(held, case)
+    study_rows = [read_row(at, row, shown) for at, row in rows]
+    times = times_of(study_rows, case)
     finer, text = with_finer(case, times), io.StringIO(newline='')
-    csv.writer(text, lineterminator='\n').writerows(in_program(each, times, Shown(finer.basis)) for each in held)
+    csv.writer(text, lineterminator='\n').writerows(in_program(study_row, times, Shown(finer.basis))
+                                                    for study_row in study_rows)
     note = f'its prices are taken in {shown.price_unit}, as those of the case'
     return Studied(finer, text.getvalue().encode(), () if told else (note,))
 
@@ -83,8 +84,8 @@ def price(at: int, text: str, shown: Shown) -> Fraction:
 def times_of(rows: Iterable[StudyRow], case: Case) -> int:
     """What the prices of a case are taken times, so that those of its study are whole too."""
     # HOT stands in at the price 1, whatever the others are taken times.
-    fixed = all(each.side is not Side.HOT for each in case.utilities)
-    largest, times = max((abs(Fraction(each.price)) for each in case.utilities), default=Fraction(0)), 1
+    fixed = all(utility.side is not Side.HOT for utility in case.utilities)
+    largest, times = max((abs(Fraction(utility.price)) for utility in case.utilities), default=Fraction(0)), 1
     for row in rows:
         for field, exact in row.prices.items():
             largest, times = max(largest, abs(exact)), times_ten(lcm(times, exact.denominator))
@@ -107,17 +108,18 @@ def with_finer(case: Case, times: int) -> Case:
     """A case with all its prices taken so many times, and its basis, so that they are shown as they were."""
     basis = replace(case.basis, price_divisor=case.basis.price_divisor * times,
                     cost_divisor=case.basis.cost_divisor * times)
-    return replace(case, utilities=tuple(replace(each, price=each.price * times) for each in case.utilities),
+    return replace(case, utilities=tuple(replace(utility, price=utility.price * times) for utility in case.utilities),
                    basis=basis)
 
 
 def in_program(row: StudyRow, times: int, shown: Shown) -> list[str]:
     """A row of a study with whole prices."""
-    held = {field: int(exact * times) for field, exact in row.prices.items()}
-    if row.fields[0] == 'span' and len(held) == 2 and held[3] - held[2] >= WIDEST:
+    prices = {field: int(exact * times) for field, exact in row.prices.items()}
+    if row.fields[0] == 'span' and len(prices) == 2 and prices[3] - prices[2] >= WIDEST:
         raise refusal(row.at, f'from {row.fields[2]} to {row.fields[3]} {shown.price_unit} there are '
-                      f'{held[3] - held[2] + 1} prices in steps of {shown.price(1)}, and a span has at most {WIDEST}')
-    return [str(held.get(field, text)) for field, text in enumerate(row.fields)]
+                      f'{prices[3] - prices[2] + 1} prices in steps of {shown.price(1)}, and a span has at most '
+                      f'{WIDEST}')
+    return [str(prices.get(field, text)) for field, text in enumerate(row.fields)]
 
 
 def refusal(at: int, cause: str) -> Refused:

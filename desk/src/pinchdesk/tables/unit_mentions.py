@@ -37,11 +37,11 @@ def names_other_unit(text: str, kind: Kind) -> bool:
     none."""
     if SAID[kind].search(text):
         return True
-    held = text.strip().strip('()[]').strip()
+    bare_text = text.strip().strip('()[]').strip()
     try:
-        unit, usual = unit_of(held, kind), unit_of(kind.default, kind)
+        unit, usual = unit_of(bare_text, kind), unit_of(kind.default, kind)
     except UnknownUnit:
         return False
     # A number with a unit is no unit where it is no power of ten.
-    whole = not held[0].isdigit() or is_multiple(held, kind)
+    whole = not bare_text[0].isdigit() or is_multiple(bare_text, kind)
     return whole and (unit.factor, unit.offset) != (usual.factor, usual.offset)

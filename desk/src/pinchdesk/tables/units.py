@@ -103,8 +103,9 @@ def multiple_of(text: str) -> tuple[int, str]:
     millions = MILLIONS.match(text.strip())
     if millions:
         return 10 ** 6, text.strip()[millions.end():]
-    held = RAISED.sub(lambda match: '^' + ''.join(str('⁰¹²³⁴⁵⁶⁷⁸⁹'.index(each)) for each in match[0]), text.strip())
-    match = TIMES.fullmatch(held.replace('×', 'x').replace('·', '*').replace('⋅', '*'))
+    with_powers = RAISED.sub(lambda match: '^' + ''.join(str('⁰¹²³⁴⁵⁶⁷⁸⁹'.index(digit)) for digit in match[0]),
+                             text.strip())
+    match = TIMES.fullmatch(with_powers.replace('×', 'x').replace('·', '*').replace('⋅', '*'))
     if not match:
         return 1, text
     tens = match['power'] or match['exponent']
@@ -193,10 +194,10 @@ def parsed(text: str) -> Any:
     return made
 
 
-def temperature_unit(text: str, held: str) -> Unit:
+def temperature_unit(text: str, plain: str) -> Unit:
     known = registry()
-    unit = parsed(held.replace('°C', 'degC').replace('°F', 'degF'))
-    zero, one = (Fraction(known.Quantity(Fraction(each), unit).to('kelvin').magnitude) for each in (0, 1))
+    unit = parsed(plain.replace('°C', 'degC').replace('°F', 'degF'))
+    zero, one = (Fraction(known.Quantity(Fraction(degrees), unit).to('kelvin').magnitude) for degrees in (0, 1))
     factor = one - zero
     return Unit(text, factor * IN_PROGRAM[Kind.TEMPERATURE], (zero - ZERO_CELSIUS) / factor)
 

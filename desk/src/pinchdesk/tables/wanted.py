@@ -14,12 +14,12 @@ MARKS = ('.', ',')
 def number(text: str, what: str) -> Fraction:
     """A number of the words above 0; `WordsError` where it is none."""
     try:
-        held = exact(text)
+        amount = exact(text)
     except ValueError:
-        held = Fraction(0)
-    if not Fraction(1, 10 ** 9) <= held < 10 ** 10:
+        amount = Fraction(0)
+    if not Fraction(1, 10 ** 9) <= amount < 10 ** 10:
         raise WordsError(f'{shortened(text)} is no {what}')
-    return held
+    return amount
 
 
 def wanted_by(difference: str | None, sheet: str | None, separator: str | None, decimal: str | None, scale: str = '1',

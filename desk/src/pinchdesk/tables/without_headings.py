@@ -41,7 +41,7 @@ def check_order(lines: Sequence[Line], mark: str, told: Told) -> None:
     tell_columns(streams, STREAM_COLUMNS, 'a stream', told)
     tell_columns(utilities, UTILITY_COLUMNS, 'a utility', told)
     for line in utilities:
-        if [each for each in UTILITY_COLUMNS[2:5] if given(line.cell(each))] == [Heading.LEAST]:
+        if [heading for heading in UTILITY_COLUMNS[2:5] if given(line.cell(heading))] == [Heading.LEAST]:
             column = line.at(Heading.LEAST)
             told.fault(line.row.number, column, 'without headings this may be the least heat or a price: give headings')
     check_names(streams, told)
@@ -51,9 +51,9 @@ def check_order(lines: Sequence[Line], mark: str, told: Told) -> None:
 
 
 def tell_columns(lines: Sequence[Line], order: Sequence[Heading], what: str, told: Told) -> None:
-    used = [each.name for each in order if any(given(line.cell(each)) for line in lines)]
+    used = [heading.name for heading in order if any(given(line.cell(heading)) for line in lines)]
     if used:
-        names = ', '.join(each if each == 'CP' else each.lower() for each in used)
+        names = ', '.join(name if name == 'CP' else name.lower() for name in used)
         told.notes.append(f'there are no headings: the columns of {what} are taken as {names}')
 
 
@@ -64,9 +64,9 @@ def given(cell: Cell) -> bool:
 def size_alone(line: Line) -> bool:
     """Whether of a stream both temperatures and a CP stand there alone and without units. A duty beside the CP has to
     agree with it, so that it says which is which."""
-    cells = [line.cell(each) for each in (Heading.SUPPLY, Heading.TARGET, Heading.CP)]
-    return all(given(each) for each in cells) and not given(line.cell(Heading.LOAD)) and not cells[0].unit \
-        and not cells[2].unit and not any(re.search(r'[^\W\d]|[°%]', each.text) for each in (cells[0], cells[2]))
+    cells = [line.cell(heading) for heading in (Heading.SUPPLY, Heading.TARGET, Heading.CP)]
+    return all(given(cell) for cell in cells) and not given(line.cell(Heading.LOAD)) and not cells[0].unit \
+        and not cells[2].unit and not any(re.search(r'[^\W\d]|[°%]', cell.text) for cell in (cells[0], cells[2]))
 
 
 def value(cell: Cell, mark: str) -> Decimal | None:
@@ -93,7 +93,7 @@ def check_names(streams: Sequence[Line], told: Told) -> None:
 
 def check_run(line: Line, mark: str, told: Told) -> None:
     """A stream that is called H1 or C1 runs as its name says."""
-    supply, target = (value(line.cell(each), mark) for each in (Heading.SUPPLY, Heading.TARGET))
+    supply, target = (value(line.cell(heading), mark) for heading in (Heading.SUPPLY, Heading.TARGET))
     if line.kind or supply is None or target is None or supply == target:
         return
     other = 'cold' if supply > target else 'hot'
@@ -106,12 +106,13 @@ def check_sizes(lines: Sequence[Line], mark: str, told: Told) -> None:
     """The third number is taken as the CP: it may be a duty, or the CP may be the first one. Refused where its size
     does not tell it from temperatures, or where the second and the third number look more like a pair than the first
     and the second."""
-    rows = [[value(line.cell(each), mark) for each in (Heading.SUPPLY, Heading.TARGET, Heading.CP)] for line in lines]
-    numbers = [[each for each in row if each is not None] for row in rows]
+    rows = [[value(line.cell(heading), mark) for heading in (Heading.SUPPLY, Heading.TARGET, Heading.CP)]
+            for line in lines]
+    numbers = [[number for number in row if number is not None] for row in rows]
     numbers = [row for row in numbers if len(row) == 3]
     if not numbers:
         return
-    warmest = max(abs(each) for row in numbers for each in row[:2])
+    warmest = max(abs(temperature) for row in numbers for temperature in row[:2])
     largest = max(abs(row[2]) for row in numbers)
     first, second, third = (sum((abs(row[at]) for row in numbers), Decimal(0)) for at in range(3))
     swapped = all(row[0] > 0 for row in numbers) and alike(second, third) < APART * alike(first, second) \

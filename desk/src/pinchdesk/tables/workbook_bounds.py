@@ -121,7 +121,7 @@ def hidden_by_merging(content: bytes) -> dict[str, list[tuple[int, int]]]:
     What it gives are the cells of each part that hold something and lie under a merged range, which hides them."""
     try:
         with zipfile.ZipFile(io.BytesIO(content)) as archive:
-            if sum(each.file_size for each in archive.infolist()) > MOST_UNPACKED:
+            if sum(part.file_size for part in archive.infolist()) > MOST_UNPACKED:
                 raise TooLarge(f'it has more than {MOST_UNPACKED} bytes when it is unpacked')
             parts = [name for name in archive.namelist() if name.endswith(('.xml', '.rels'))]
             checks = [checked_part(name, archive.read(name)) for name in parts]
