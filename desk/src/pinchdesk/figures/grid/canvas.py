@@ -56,10 +56,10 @@ def ends_at(sheet: Canvas, passage: Passage) -> tuple[tuple[float, float], tuple
 
 def utility_reach(sheet: Canvas, utility: Utility) -> tuple[float, float]:
     """From the first to the last exchanger of a utility."""
-    held = []
-    for each in sheet.plan.followed.passages:
-        if utility.name in (each.exchanger.hot, each.exchanger.cold):
-            ends = ends_at(sheet, each)
-            held.append(ends[0 if utility.side is Side.HOT else 1][0])
+    positions = []
+    for passage in sheet.plan.followed.passages:
+        if utility.name in (passage.exchanger.hot, passage.exchanger.cold):
+            ends = ends_at(sheet, passage)
+            positions.append(ends[0 if utility.side is Side.HOT else 1][0])
     margin = 0.6 * sheet.plan.type.pitch
-    return min(held) - margin, max(held) + margin
+    return min(positions) - margin, max(positions) + margin

@@ -53,8 +53,8 @@ class Placer:
 
     def __init__(self, followed: Followed, course: Course, tracks: Tracks) -> None:
         self.course, self.tracks = course, tracks
-        self.exchangers = {each.name: each for each in followed.network.exchangers}
-        self.streams = {each.name for each in followed.case.streams}
+        self.exchangers = {exchanger.name: exchanger for exchanger in followed.network.exchangers}
+        self.streams = {stream.name for stream in followed.case.streams}
         self.blocks: list[Block] = []
         self.block_of: dict[Key, int] = {}
         self.busy: list[list[Span]] = []
@@ -68,9 +68,9 @@ class Placer:
             other = self.course.nodes.get(('cold' if node.key[0] == 'hot' else 'hot', node.key[1])) \
                 if node.exchanger else None
             if other and other.key in self.block_of and other.zone == node.zone:
-                held = self.blocks[self.block_of[other.key]]
-                held.nodes.append(node)
-                held.span = self.span(held.nodes)
+                block = self.blocks[self.block_of[other.key]]
+                block.nodes.append(node)
+                block.span = self.span(block.nodes)
                 self.block_of[node.key] = self.block_of[other.key]
             else:
                 self.add([node])
@@ -78,7 +78,7 @@ class Placer:
             self.count(at)
 
     def add(self, nodes: list[Node]) -> None:
-        order = (-float(max(each.warmth for each in nodes)), len(self.blocks))
+        order = (-float(max(block_node.warmth for block_node in nodes)), len(self.blocks))
         self.blocks.append(Block(nodes, self.span(nodes), nodes[0].zone or 0, order))
         for node in nodes:
             self.block_of[node.key] = len(self.blocks) - 1
@@ -102,13 +102,13 @@ class Placer:
     def count(self, at: int) -> None:
         """Counts what a block waits for; one that waits for nothing may be placed."""
         block = self.blocks[at]
-        block.waits = sum(each.column is None for each in self.left(block))
+        block.waits = sum(left_block.column is None for left_block in self.left(block))
         if not block.waits:
             heappush(self.free.setdefault(block.zone, []), (block.order, at))
 
     def place(self, block: Block, base: int) -> None:
         """Takes the first column that is free for the bar; what waited for it may wait for nothing now."""
-        at = max([base, *((each.column or 0) + 1 for each in self.left(block))])
+        at = max([base, *((left_block.column or 0) + 1 for left_block in self.left(block))])
         while at < len(self.busy) and any(meets(block.span, span) for span in self.busy[at]):
             at += 1
         while len(self.busy) <= at:
@@ -116,18 +116,18 @@ class Placer:
         self.busy[at].append(block.span)
         block.column = at
         for other in (self.block_of[other.key] for node in block.nodes for other in self.behind[node.key]):
-            held = self.blocks[other]
-            held.waits -= 1
-            if not held.waits:
-                heappush(self.free.setdefault(held.zone, []), (held.order, other))
+            waiting_block = self.blocks[other]
+            waiting_block.waits -= 1
+            if not waiting_block.waits:
+                heappush(self.free.setdefault(waiting_block.zone, []), (waiting_block.order, other))
 
     def apart(self, waiting: list[int]) -> None:
         """Where streams pass exchangers in contrary orders, one of these gets a column for each side."""
         for at in waiting:
             block = self.blocks[at]
             for node in block.nodes:
-                if len(block.nodes) == 2 and all(self.blocks[self.block_of[each.key]].column is not None
-                                                 for each in self.before[node.key]):
+                if len(block.nodes) == 2 and all(self.blocks[self.block_of[left_node.key]].column is not None
+                                                 for left_node in self.before[node.key]):
                     block.nodes.remove(node)
                     block.span = self.span(block.nodes)
                     self.add([node])
@@ -142,7 +142,7 @@ class Placer:
         while True:
             while free:
                 self.place(self.blocks[heappop(free)[1]], base)
-            waiting = [at for at, each in enumerate(self.blocks) if each.zone == zone and each.column is None]
+            waiting = [at for at, block in enumerate(self.blocks) if block.zone == zone and block.column is None]
             if not waiting:
                 return
             self.apart(waiting)
@@ -185,8 +185,8 @@ def columns_of(followed: Followed, course: Course, tracks: Tracks, pinches: int)
             spans.append((base, len(placer.busy) - 1))
         elif len(placer.busy) == base:
             placer.busy.append([])
-    held = {key: placer.blocks[at].column or 0 for key, at in placer.block_of.items()}
+    column_of = {key: placer.blocks[at].column or 0 for key, at in placer.block_of.items()}
     # What no stream passes, as between two utilities, stands behind all else.
-    unpassed = [name for name in placer.exchangers if not {('hot', name), ('cold', name)} & held.keys()]
-    held |= {('hot', name): len(placer.busy) + at for at, name in enumerate(unpassed)}
-    return Columns(held, len(placer.busy) + len(unpassed), spans, lines)
+    unpassed = [name for name in placer.exchangers if not {('hot', name), ('cold', name)} & column_of.keys()]
+    column_of |= {('hot', name): len(placer.busy) + at for at, name in enumerate(unpassed)}
+    return Columns(column_of, len(placer.busy) + len(unpassed), spans, lines)

@@ -65,14 +65,14 @@ def key_of(statement: Statement, at: int, stream: Stream, made: dict[str, Node])
     if isinstance(statement, Pass):
         return (stream.side.value, statement.exchanger)
     kind = 'split' if isinstance(statement, Split) else 'mix'
-    before = [made[each] for each in inputs_of(statement) if each in made and made[each].key[0] == kind]
+    before = [made[branch] for branch in inputs_of(statement) if branch in made and made[branch].key[0] == kind]
     return before[0].key if before else (kind, str(at))
 
 
 def course_of(followed: Followed, pinches: tuple[PinchPoint, ...]) -> Course:
     """The nodes of all streams, each behind those that its stream passes before it."""
     course = Course()
-    passages = {each.exchanger.name: each for each in followed.passages}
+    passages = {passage.exchanger.name: passage for passage in followed.passages}
     for at, statement in enumerate(followed.network.statements, 1):
         inputs = inputs_of(statement)
         if inputs:
@@ -87,10 +87,10 @@ def draw_near(course: Course) -> None:
     """Puts each split as near to its branches as may be: one at a pinch stands on their side of it."""
     after: dict[Key, list[Node]] = {}
     for node in course.nodes.values():
-        for each in node.behind:
-            after.setdefault(each.key, []).append(node)
+        for before in node.behind:
+            after.setdefault(before.key, []).append(node)
     for node in reversed(list(course.nodes.values())):
-        zones = [each.zone for each in after.get(node.key, ()) if each.zone is not None]
+        zones = [next_node.zone for next_node in after.get(node.key, ()) if next_node.zone is not None]
         if node.key[0] == 'split' and zones:
             node.zone = min(zones) if node.stream.side is Side.HOT else max(zones)
 
@@ -113,44 +113,44 @@ def join(course: Course, key: Key, stream: Stream, statement: Statement) -> Node
 def merge(course: Course, gone: Node, node: Node) -> None:
     """Two mixes of which one feeds the other stand at one place."""
     node.behind.remove(gone)
-    node.behind.extend(each for each in gone.behind if each not in node.behind)
+    node.behind.extend(before for before in gone.behind if before not in node.behind)
     for table in (course.made, course.used):
-        for branch, held in table.items():
-            if held is gone:
+        for branch, branch_node in table.items():
+            if branch_node is gone:
                 table[branch] = node
     del course.nodes[gone.key]
 
 
 def place(node: Node, passages: dict[str, Passage], pinches: tuple[PinchPoint, ...]) -> None:
     """Puts a node into its zone: where its side works, but never back against the course of its stream."""
-    held = [each.zone for each in node.behind if each.zone is not None]
+    zones = [before.zone for before in node.behind if before.zone is not None]
     if node.exchanger:
         passage = passages[node.exchanger]
         side = passage.hot if node.key[0] == 'hot' else passage.cold
         own = zone_of(passage, side, pinches)
-        ends = [each for each in (side.inlet, side.outlet) if each is not None]
+        ends = [temperature for temperature in (side.inlet, side.outlet) if temperature is not None]
         node.warmth = max(ends, default=Fraction(0)) + shifted(node.stream, 0)
-        held += [] if own is None else [own]
+        zones += [] if own is None else [own]
     elif node.behind:
-        node.warmth = max(each.warmth for each in node.behind)
+        node.warmth = max(before.warmth for before in node.behind)
     hot = node.stream.side is Side.HOT
     fallback = begin_zone(node.stream, pinches)
-    node.zone = (max if hot else min)([*held, *([] if held else [fallback])])
+    node.zone = (max if hot else min)([*zones, *([] if zones else [fallback])])
 
 
 def begin_zone(stream: Stream, pinches: tuple[PinchPoint, ...]) -> int:
     """The zone in which a stream begins."""
     start = shifted(stream, stream.supply)
     if stream.side is Side.HOT:
-        return 2 * sum(start <= each.temperature for each in pinches)
-    return 2 * sum(start < each.temperature for each in pinches)
+        return 2 * sum(start <= pinch.temperature for pinch in pinches)
+    return 2 * sum(start < pinch.temperature for pinch in pinches)
 
 
 def zone_of(passage: Passage, side: SideState, pinches: tuple[PinchPoint, ...]) -> int | None:
     """The zone in which a side works; None where the network cannot be followed."""
     zone, duty = 0, passage.exchanger.duty
-    for each in pinches:
-        above = passage.above(side, each)
+    for pinch in pinches:
+        above = passage.above(side, pinch)
         if above is None:
             return None
         if above == duty:

@@ -41,11 +41,11 @@ def grid_figure(followed: Followed, pinches: tuple[PinchPoint, ...], verdict: Ve
     wide = max(plan.edges[1] + numbers[-1], 7.0)
     notes = textwrap.wrap(end_texts(plan), int(wide / 0.068))
     pinched = pinch_texts(plan, wide)
-    levels = max((each.level for each in pinched), default=0)
+    levels = max((pinch_text.level for pinch_text in pinched), default=0)
     top, bottom = 0.34 + 0.17 * len(title) + 0.35 + 0.15 * levels, 0.5 + 0.14 * len(notes)
     high = deep + top + bottom
     with styled():
-        heights = {name: [high - top - each for each in lanes] for name, lanes in heights.items()}
+        heights = {name: [high - top - depth for depth in depths] for name, depths in heights.items()}
         sheet = Canvas(Paper(wide, high), plan, heights, high - top - labels, high - top - slants, finding, verdict)
         put_title(sheet, title, high)
         put_pinches(sheet, pinched, high - top, bottom)
@@ -79,20 +79,20 @@ def put_title(sheet: Canvas, lines: list[str], high: float) -> None:
 def put_pinches(sheet: Canvas, texts: list[PinchText], top: float, bottom: float) -> None:
     """A line at each pinch, a band where exchangers work across it; its temperature on both scales above it."""
     plan = sheet.plan
-    for at, each in enumerate(texts):
+    for at, pinch_text in enumerate(texts):
         first, last = plan.columns.pinches[at]
         if last > first:
             sheet.paper.band(plan.x(first - 0.5), plan.x(last + 0.5), bottom, top + 0.03, '#eeeeee')
-        x, y = plan.pinch_x(at), top + 0.12 + 0.15 * each.level
+        x, y = plan.pinch_x(at), top + 0.12 + 0.15 * pinch_text.level
         sheet.paper.dashed(((x, bottom), (x, y - 0.08)), color=PALE, linestyle=(0, (6, 4)), linewidth=1, zorder=1)
         sheet.bars.append((x, bottom, top))
-        sheet.paper.ground(each.middle, y, width(each.text, each.size) + PAD, 0.14)
-        sheet.write(each.middle, y, each.text, color=PALE, fontsize=each.size)
+        sheet.paper.ground(pinch_text.middle, y, width(pinch_text.text, pinch_text.size) + PAD, 0.14)
+        sheet.write(pinch_text.middle, y, pinch_text.text, color=PALE, fontsize=pinch_text.size)
 
 
 def colour_of(passage: Passage, pinches: tuple[PinchPoint, ...]) -> str:
     """The colour of an exchanger by its side of the pinches."""
-    sides = {passage.side_of(each) for each in pinches}
+    sides = {passage.side_of(pinch) for pinch in pinches}
     if not sides or None in sides:
         return NEUTRAL
     if PinchSide.ACROSS in sides:
@@ -117,8 +117,8 @@ def put_exchangers(sheet: Canvas) -> None:
             fill = heated if isinstance(source, Utility) else 'white'
             circles.setdefault((fill, ink, weight), []).append(at)
         put_label(sheet, passage.exchanger.name, x, ink, bad)
-    for (fill, ink, weight), held in circles.items():
-        sheet.paper.points(held, 'o', markersize=sheet.plan.type.size * 0.8, markerfacecolor=fill,
+    for (fill, ink, weight), centres in circles.items():
+        sheet.paper.points(centres, 'o', markersize=sheet.plan.type.size * 0.8, markerfacecolor=fill,
                            markeredgecolor=ink, markeredgewidth=weight, zorder=6)
 
 
@@ -126,7 +126,7 @@ def put_label(sheet: Canvas, name: str, x: float, ink: str, bad: bool) -> None:
     """The name of an exchanger and its duties on its bar, which is broken there."""
     lines, upright, size = sheet.plan.labels[name], sheet.plan.type.upright, sheet.plan.type.size
     lines = ('   '.join(lines),) if upright else lines
-    wide, high = max(width(each, size, True) for each in lines) + PAD, len(lines) * size * 1.36 / 72 + PAD
+    wide, high = max(width(line, size, True) for line in lines) + PAD, len(lines) * size * 1.36 / 72 + PAD
     box = (x, sheet.labels, high, wide) if upright else (x, sheet.labels, wide, high)
     sheet.paper.ground(*box)
     if bad:
@@ -138,7 +138,7 @@ def put_label(sheet: Canvas, name: str, x: float, ink: str, bad: bool) -> None:
 def put_legend(sheet: Canvas, notes: list[str]) -> None:
     """What the colours say, where there is a pinch, and the units."""
     plan, x, y = sheet.plan, 0.25, 0.22 + 0.14 * len(notes)
-    used = {colour_of(each, plan.pinches) for each in plan.followed.passages}
+    used = {colour_of(passage, plan.pinches) for passage in plan.followed.passages}
     for colour, text in LEGEND:
         if colour in used:
             sheet.paper.line(((x, y), (x + 0.25, y)), Look(colour, 2, 2, 'projecting'))

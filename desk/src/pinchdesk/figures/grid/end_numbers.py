@@ -17,13 +17,13 @@ PAD = 0.034
 def margins(plan: GridLayout) -> list[float]:
     """Sets the plan's left end, and gives where the columns of CPs and loads end, right of the streams."""
     size = plan.type.size
-    ends: list[DrawnEnd] = [end_of(plan, each) for each in plan.rows]
-    names = max(width(each.name, size, True) for each in plan.rows)
-    left = max(width(each.left, size, each.missed) for each in ends)
+    ends: list[DrawnEnd] = [end_of(plan, row) for row in plan.rows]
+    names = max(width(row.name, size, True) for row in plan.rows)
+    left = max(width(end.left, size, end.missed) for end in ends)
     plan.left = 0.25 + names + 0.12 + left + 0.05
-    right = max(width(each.right, size, each.missed) for each in ends)
-    flows = max(width(text, size) for text in ['CP kW/K', *(each.flow for each in ends)])
-    loads = max(width(text, size) for text in ['load kW', *(each.load for each in ends)])
+    right = max(width(end.right, size, end.missed) for end in ends)
+    flows = max(width(text, size) for text in ['CP kW/K', *(end.flow for end in ends)])
+    loads = max(width(text, size) for text in ['load kW', *(end.load for end in ends)])
     first = right + 0.3 + flows
     return [first, first + 0.2 + loads, first + 0.2 + loads + 0.25]
 
@@ -34,16 +34,16 @@ def put_numbers(sheet: Canvas, numbers: list[float], top: float) -> None:
     plan, edges = sheet.plan, sheet.plan.edges
     for x, text in ((edges[1] + numbers[0], 'CP kW/K'), (edges[1] + numbers[1], 'load kW')):
         sheet.write(x, top + 0.02, text, ha='right', color=PALE)
-    for each in plan.rows:
-        y, end = sheet.heights[each.name][0], end_of(plan, each)
-        colour = FAULT if sheet.is_fault(each.name) else INK
-        sheet.write(0.25, y, each.name, ha='left', fontweight='bold', color=colour)
+    for row in plan.rows:
+        y, end = sheet.heights[row.name][0], end_of(plan, row)
+        colour = FAULT if sheet.is_fault(row.name) else INK
+        sheet.write(0.25, y, row.name, ha='left', fontweight='bold', color=colour)
         sheet.write(edges[1] + numbers[0], y, end.flow, ha='right')
         sheet.write(edges[1] + numbers[1], y, end.load, ha='right')
-        first, last = reach(plan, each) if isinstance(each, Stream) else edges
+        first, last = reach(plan, row) if isinstance(row, Stream) else edges
         for x, text, side in ((first, end.left, 'right'), (last, end.right, 'left')):
             if text:
-                put_end(sheet, (x, y), text, side, end.missed and reading(each, side))
+                put_end(sheet, (x, y), text, side, end.missed and reading(row, side))
 
 
 @dataclass(frozen=True)
@@ -69,10 +69,11 @@ def spots(plan: GridLayout, at: tuple[float, float], wide: float, side: str) -> 
 def put_end(sheet: Canvas, at: tuple[float, float], text: str, side: str, wrong: bool) -> None:
     """What stands at the end of a stream, where no bar passes."""
     wide = width(text, sheet.plan.type.size, wrong)
-    held = spots(sheet.plan, at, wide, side)
-    free = [each for each in held if sheet.is_free(each.x - each.wide / 2 - 0.02, each.x + each.wide / 2 + 0.02,
-                                                   each.y - each.high / 2, each.y + each.high / 2)]
-    spot = free[0] if free else held[0]
+    candidates = spots(sheet.plan, at, wide, side)
+    free = [candidate for candidate in candidates
+            if sheet.is_free(candidate.x - candidate.wide / 2 - 0.02, candidate.x + candidate.wide / 2 + 0.02,
+                             candidate.y - candidate.high / 2, candidate.y + candidate.high / 2)]
+    spot = free[0] if free else candidates[0]
     if not free:
         sheet.paper.ground(spot.x, spot.y, spot.wide + PAD, spot.high)
     mark = {'color': FAULT, 'fontweight': 'bold'} if wrong else {}

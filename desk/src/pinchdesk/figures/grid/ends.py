@@ -23,7 +23,8 @@ class DrawnEnd:
 def end_of(plan: GridLayout, row: Stream | Utility) -> DrawnEnd:
     shown = plan.shown
     if isinstance(row, Utility):
-        duties = [each.duty for each in plan.followed.network.exchangers if row.name in (each.hot, each.cold)]
+        duties = [exchanger.duty for exchanger in plan.followed.network.exchangers
+                  if row.name in (exchanger.hot, exchanger.cold)]
         level = '' if row.invented else shown.celsius(row.level)
         ends = (level, '') if row.side is Side.HOT else ('', level)
         return DrawnEnd(*ends, '', shown.kilowatts(sum(duties, Fraction(0))))
@@ -68,5 +69,5 @@ def reading(row: Stream | Utility, side: str) -> bool:
 
 def end_texts(plan: GridLayout) -> str:
     told = 'temperatures in °C, duties in kW; at a split the part of the stream that each branch has'
-    invented = any(isinstance(each, Utility) and each.invented for each in plan.rows)
+    invented = any(isinstance(row, Utility) and row.invented for row in plan.rows)
     return told + ('; HOT and COLD stand for a heater and a cooler of any level' if invented else '')

@@ -11,24 +11,24 @@ from .courses import Course, Key, Node
 
 
 def branches_of(followed: Followed, stream: Stream) -> list[str]:
-    return [name for name, each in followed.branches.items() if each.stream.name == stream.name]
+    return [name for name, branch in followed.branches.items() if branch.stream.name == stream.name]
 
 
 def lanes_of(followed: Followed, course: Course, columns: Columns, stream: Stream) -> dict[str, int]:
     """The lane of each branch of a stream: the first one of a split goes on in its lane, the others take the lowest
     that are free there."""
-    nodes = [each for each in course.nodes.values() if each.stream.name == stream.name]
-    nodes.sort(key=lambda each: columns.of[each.key], reverse=stream.side is Side.COLD)
+    nodes = [stream_node for stream_node in course.nodes.values() if stream_node.stream.name == stream.name]
+    nodes.sort(key=lambda stream_node: columns.of[stream_node.key], reverse=stream.side is Side.COLD)
     own = branches_of(followed, stream)
     ending, beginning = at_nodes(course.used, own), at_nodes(course.made, own)
     lanes, taken = {stream.name: 0}, {0}
     for node in nodes:
         inputs, outputs = ending.get(node.key, []), beginning.get(node.key, [])
-        held = sorted({lanes[each] for each in inputs if each in lanes}) or [0]
-        taken -= set(held)
+        freed = sorted({lanes[branch] for branch in inputs if branch in lanes}) or [0]
+        taken -= set(freed)
         # Branches that begin and end at one place are not drawn.
-        for name in (each for each in outputs if each not in inputs):
-            lane = held.pop(0) if held else next(at for at in range(len(own) + 1) if at not in taken)
+        for name in (branch for branch in outputs if branch not in inputs):
+            lane = freed.pop(0) if freed else next(at for at in range(len(own) + 1) if at not in taken)
             lanes[name] = lane
             taken.add(lane)
     return lanes
@@ -36,22 +36,22 @@ def lanes_of(followed: Followed, course: Course, columns: Columns, stream: Strea
 
 def at_nodes(nodes: Mapping[str, Node], branches: Iterable[str]) -> dict[Key, list[str]]:
     """The branches at each node."""
-    held: dict[Key, list[str]] = {}
-    for each in branches:
-        if each in nodes:
-            held.setdefault(nodes[each].key, []).append(each)
-    return held
+    branches_at: dict[Key, list[str]] = {}
+    for branch in branches:
+        if branch in nodes:
+            branches_at.setdefault(nodes[branch].key, []).append(branch)
+    return branches_at
 
 
 def share_of(followed: Followed, branch: str) -> Fraction:
     """The part of its stream that a branch is."""
-    held = followed.branches[branch]
-    return held.size / held.stream.size
+    followed_branch = followed.branches[branch]
+    return followed_branch.size / followed_branch.stream.size
 
 
 def drawn_branches(course: Course, names: Iterable[str]) -> list[str]:
     """Those that do not end where they begin."""
-    return [each for each in names if course.made.get(each) is None or course.made[each] is not course.used.get(each)]
+    return [name for name in names if course.made.get(name) is None or course.made[name] is not course.used.get(name)]
 
 
 def count_of(lanes: Mapping[str, int]) -> int:

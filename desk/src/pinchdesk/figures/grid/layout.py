@@ -70,36 +70,36 @@ class GridLayout:
 def labels_of(followed: Followed, pinches: tuple[PinchPoint, ...]) -> dict[str, tuple[str, ...]]:
     """The lines at each exchanger: its name, its duty in kW, and what it carries across the pinch."""
     shown, made = Shown(followed.case.basis), {}
-    for each in followed.passages:
-        crossings = [held for held in (each.crossing(pinch) for pinch in pinches) if held]
-        lines = [each.exchanger.name, shown.kilowatts(each.exchanger.duty)]
+    for passage in followed.passages:
+        crossings = [crossing for crossing in (passage.crossing(pinch) for pinch in pinches) if crossing]
+        lines = [passage.exchanger.name, shown.kilowatts(passage.exchanger.duty)]
         if crossings:
             lines.append(f'↯ {shown.kilowatts(max(crossings, key=abs))}')
-        made[each.exchanger.name] = tuple(lines)
+        made[passage.exchanger.name] = tuple(lines)
     return made
 
 
 def rows_of(followed: Followed) -> tuple[list[Stream | Utility], int]:
     """Hot utilities that are used, hot streams, cold streams, cold utilities that are used; and how many are hot."""
-    used = {name for each in followed.network.exchangers for name in (each.hot, each.cold)}
+    used = {name for exchanger in followed.network.exchangers for name in (exchanger.hot, exchanger.cold)}
     case = followed.case
-    held: list[list[Stream | Utility]] = []
+    rows_by_side: list[list[Stream | Utility]] = []
     for side in (Side.HOT, Side.COLD):
-        streams = [each for each in case.streams if each.side is side]
-        utilities = [each for each in case.utilities if each.side is side and each.name in used]
-        held.append([*utilities, *streams] if side is Side.HOT else [*streams, *utilities])
-    return [*held[0], *held[1]], len(held[0])
+        streams = [stream for stream in case.streams if stream.side is side]
+        utilities = [utility for utility in case.utilities if utility.side is side and utility.name in used]
+        rows_by_side.append([*utilities, *streams] if side is Side.HOT else [*streams, *utilities])
+    return [*rows_by_side[0], *rows_by_side[1]], len(rows_by_side[0])
 
 
 def type_of(columns: int, labels: dict[str, tuple[str, ...]], numbers: list[tuple[str, str]]) -> Type:
     """The largest letters with which all columns have room on the sheet: labels lie where they can, else they stand."""
-    lines = {shape(line) for each in labels.values() for line in each}
-    states = [{shape(each[places]) for each in numbers} for places in (0, 1)]
+    lines = {shape(line) for label in labels.values() for line in label}
+    states = [{shape(number[places]) for number in numbers} for places in (0, 1)]
     for upright in (False, True):
         for size in SIZES[:3] if not upright else SIZES[1:]:
             flat = max((width(line, size, True) for line in lines), default=0.3)
             for places in (0, 1):
-                warm = max((width(each, size - 0.5) for each in states[places]), default=0.2)
+                warm = max((width(state, size - 0.5) for state in states[places]), default=0.2)
                 # What stands upright is as wide as a line is high, and there are two in each column.
                 pitch = max(2 * size * 1.3 / 72, 0.2) if upright else max(warm + 0.05, flat + 0.06, 0.2)
                 if (columns + 1) * pitch <= ROOM or upright and size == SIZES[-1] and places:
@@ -110,11 +110,12 @@ def type_of(columns: int, labels: dict[str, tuple[str, ...]], numbers: list[tupl
 def numbers_of(followed: Followed) -> list[tuple[str, str]]:
     """What is written between columns, in two and in one decimals: temperatures, and shares behind splits."""
     shown = Shown(followed.case.basis)
-    held = [each.temperature for each in followed.branches.values()]
-    made = [(shown.celsius(each), shown.celsius(each, 1)) for each in held if each is not None]
-    for each in followed.network.statements:
-        if isinstance(each, Split):
-            parts = [share_of(followed, name) for name in (each.first, each.second)]
+    temperatures = [branch.temperature for branch in followed.branches.values()]
+    made = [(shown.celsius(temperature), shown.celsius(temperature, 1))
+            for temperature in temperatures if temperature is not None]
+    for statement in followed.network.statements:
+        if isinstance(statement, Split):
+            parts = [share_of(followed, name) for name in (statement.first, statement.second)]
             made += [(percent(part, 2), percent(part, 1)) for part in parts]
     return made
 
@@ -127,10 +128,10 @@ def percent(part: Fraction, places: int = 2) -> str:
 def plan_of(followed: Followed, pinches: tuple[PinchPoint, ...]) -> GridLayout:
     """The plan of a network."""
     rows, hot = rows_of(followed)
-    tracks = Tracks({each.name: at if at < hot else at + 2 for at, each in enumerate(rows)}, hot)
+    tracks = Tracks({row.name: at if at < hot else at + 2 for at, row in enumerate(rows)}, hot)
     course = course_of(followed, pinches)
     columns = columns_of(followed, course, tracks, len(pinches))
-    lanes = {each.name: lanes_of(followed, course, columns, each) for each in followed.case.streams}
+    lanes = {stream.name: lanes_of(followed, course, columns, stream) for stream in followed.case.streams}
     labels = labels_of(followed, pinches)
     type_ = type_of(columns.count, labels, numbers_of(followed))
     return GridLayout(followed, pinches, course, columns, lanes, rows, labels, type_)
@@ -141,17 +142,19 @@ def reach(plan: GridLayout, stream: Stream) -> tuple[float, float]:
     that."""
     left, right = plan.edges
     high, low = stream.high, stream.low
-    for at, each in enumerate(plan.pinches):
-        above = each.takes_level if stream.latent and low == each.temperature else None
-        if high < each.temperature or high == each.temperature and above is not True:
+    for at, pinch in enumerate(plan.pinches):
+        above = pinch.takes_level if stream.latent and low == pinch.temperature else None
+        if high < pinch.temperature or high == pinch.temperature and above is not True:
             left = plan.pinch_x(at)
-    for at, each in reversed(list(enumerate(plan.pinches))):
-        above = each.takes_level if stream.latent and low == each.temperature else None
-        if low > each.temperature or low == each.temperature and above is not False:
+    for at, pinch in reversed(list(enumerate(plan.pinches))):
+        above = pinch.takes_level if stream.latent and low == pinch.temperature else None
+        if low > pinch.temperature or low == pinch.temperature and above is not False:
             right = plan.pinch_x(at)
-    held = [plan.x(plan.columns.of[key]) for key, node in plan.course.nodes.items() if node.stream.name == stream.name]
+    positions = [plan.x(plan.columns.of[key]) for key, node in plan.course.nodes.items()
+                 if node.stream.name == stream.name]
     margin = plan.type.pitch * 0.75
-    return min([left, *(each - margin for each in held)]), max([right, *(each + margin for each in held)])
+    return (min([left, *(position - margin for position in positions)]),
+            max([right, *(position + margin for position in positions)]))
 
 
 def lane_heights(plan: GridLayout) -> tuple[dict[str, list[float]], float, float, float]:
@@ -161,28 +164,29 @@ def lane_heights(plan: GridLayout) -> tuple[dict[str, list[float]], float, float
     labels, slants, tall = 0.0, 0.0, plan.type.number
     # What stands upright stands above its lane, be it a temperature or a share.
     above, gap = (tall + 0.16, tall + 0.2) if plan.type.upright else (line * 2.0, line * 2.9)
-    for at, each in enumerate(plan.rows):
-        if each.side is Side.COLD and (at == 0 or plan.rows[at - 1].side is Side.HOT):
+    for at, row in enumerate(plan.rows):
+        if row.side is Side.COLD and (at == 0 or plan.rows[at - 1].side is Side.HOT):
             deep = band(plan)
             labels, slants = down + deep / 2, down + deep + 0.15
             down += deep + (0.3 if is_slanted(plan) else 0.0)
-        count = count_of(plan.lanes.get(each.name, {}))
-        heights[each.name] = [down + above + gap * lane for lane in range(count)]
+        count = count_of(plan.lanes.get(row.name, {}))
+        heights[row.name] = [down + above + gap * lane for lane in range(count)]
         down += above + gap * (count - 1) + line * 1.4
     return heights, labels, slants, down
 
 
 def is_slanted(plan: GridLayout) -> bool:
     """Whether an exchanger has a column for each side."""
-    held = plan.columns.of
-    return any(('cold', key[1]) in held and held['cold', key[1]] != at for key, at in held.items() if key[0] == 'hot')
+    column_of = plan.columns.of
+    return any(('cold', key[1]) in column_of and column_of['cold', key[1]] != at
+               for key, at in column_of.items() if key[0] == 'hot')
 
 
 def band(plan: GridLayout) -> float:
     """How tall the labels of exchangers are."""
     if not plan.type.upright:
-        return max((len(each) for each in plan.labels.values()), default=2) * plan.type.line + 0.16
-    return max((width('   '.join(each), plan.type.size, True) for each in plan.labels.values()), default=0.5) + 0.2
+        return max((len(lines) for lines in plan.labels.values()), default=2) * plan.type.line + 0.16
+    return max((width('   '.join(lines), plan.type.size, True) for lines in plan.labels.values()), default=0.5) + 0.2
 
 
 @dataclass(frozen=True)
@@ -200,9 +204,9 @@ def pinch_texts(plan: GridLayout, wide: float) -> list[PinchText]:
     case, shown, size = plan.followed.case, plan.shown, max(plan.type.size, 6.5)
     made: list[PinchText] = []
     taken: list[float] = []
-    for at, each in enumerate(plan.pinches):
-        hot, cold = (temperatures_at(case, side, each.temperature).told(shown) for side in (Side.HOT, Side.COLD))
-        text = f'pinch {shown.celsius(each.temperature)} °C shifted: hot {hot}, cold {cold}'
+    for at, pinch in enumerate(plan.pinches):
+        hot, cold = (temperatures_at(case, side, pinch.temperature).told(shown) for side in (Side.HOT, Side.COLD))
+        text = f'pinch {shown.celsius(pinch.temperature)} °C shifted: hot {hot}, cold {cold}'
         half = width(text, size) / 2
         middle = max(min(plan.pinch_x(at), wide - half - 0.1), half + 0.1)
         level = next((row for row, right in enumerate(taken) if right < middle - half), len(taken))

@@ -37,7 +37,7 @@ def put_stream(sheet: Canvas, stream: Stream) -> None:
     colour = FAULT if sheet.is_fault(stream.name) else HOT if stream.side is Side.HOT else COLD
     first, last = reach(plan, stream)
     begin, finish = (first, last) if stream.side is Side.HOT else (last, first)
-    ended = {each.branch for each in plan.followed.network.statements if isinstance(each, End)}
+    ended = {statement.branch for statement in plan.followed.network.statements if isinstance(statement, End)}
     for name in drawn_branches(plan.course, lanes):
         branch, y = plan.followed.branches[name], sheet.heights[stream.name][lanes[name]]
         made, used = node_at(plan.course, name)
@@ -82,7 +82,7 @@ def put_joints(sheet: Canvas, stream: Stream, lanes: Mapping[str, int], colour: 
     for node in course.nodes.values():
         if node.exchanger or node.stream.name != stream.name:
             continue
-        held = [lanes[name] for name in drawn if node in (course.made.get(name), course.used.get(name))]
-        x, heights = column(sheet, node), [sheet.heights[stream.name][each] for each in held]
+        joined_lanes = [lanes[name] for name in drawn if node in (course.made.get(name), course.used.get(name))]
+        x, heights = column(sheet, node), [sheet.heights[stream.name][lane] for lane in joined_lanes]
         if heights:
             sheet.paper.line(((x, min(heights)), (x, max(heights))), Look(colour, STREAM, 3, 'projecting'))
