@@ -14,11 +14,11 @@ SHAPE = re.compile(r'[+-]?(?:[0-9]+(?:\.[0-9]*)?|\.[0-9]+)(?:[eE](?P<exponent>[+
 
 def exact(text: str, longest: int = LONGEST) -> Fraction:
     """The number of a text, as `12.5`, `1e3` or `1/3`; a `ValueError` where it is none, or a longer one."""
-    held = text.strip()
-    match = SHAPE.fullmatch(held) if len(held) <= longest else None
+    stripped = text.strip()
+    match = SHAPE.fullmatch(stripped) if len(stripped) <= longest else None
     if not match or abs(int(match['exponent'] or '0')) > MOST_ZEROS:
         raise ValueError(f'{shortened(text)} is no number of at most {longest} signs')
-    return Fraction(held)
+    return Fraction(stripped)
 
 
 def shortened(text: str) -> str:
@@ -41,9 +41,9 @@ def whole(text: str) -> int:
 def seconds_of(text: str, flag: str = '--seconds') -> Fraction:
     """How long a search may take; `WordsError` where that is none, or more than a day."""
     try:
-        held = exact(text.replace(',', '.'))
+        seconds = exact(text.replace(',', '.'))
     except ValueError:
-        held = Fraction(0)
-    if not 0 < held <= DAY:
+        seconds = Fraction(0)
+    if not 0 < seconds <= DAY:
         raise WordsError(f'{flag} {shortened(text)}: it has to be a number of seconds above 0, at most a day')
-    return held
+    return seconds

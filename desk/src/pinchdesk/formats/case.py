@@ -107,9 +107,9 @@ class Case:
 
     def source(self, name: str) -> Source:
         """The stream or utility of this name; `KeyError` where there is none."""
-        for each in self.sources:
-            if each.name == name:
-                return each
+        for source in self.sources:
+            if source.name == name:
+                return source
         raise KeyError(name)
 
 
@@ -125,8 +125,8 @@ def actual(source: Source, temperature: int) -> int:
 
 def decoded(text: str | bytes) -> str:
     """A text without its byte order mark; bytes that are no UTF-8 can stand in comments alone."""
-    held = text.decode('utf-8', 'replace') if isinstance(text, bytes) else text
-    return held[1:] if held.startswith('\ufeff') else held
+    characters = text.decode('utf-8', 'replace') if isinstance(text, bytes) else text
+    return characters[1:] if characters.startswith('\ufeff') else characters
 
 
 def records(text: str | bytes) -> Iterator[tuple[int, list[str]]]:
@@ -201,8 +201,9 @@ class CaseReader:
         if self.contribution is None:
             raise refused_row('case', rows + 1, 'NoContribution')
         share = self.contribution
-        streams = tuple(replace(each, contribution=share if own is None else own) for each, own in self.streams)
-        utilities = tuple(replace(each, contribution=share if own is None else own) for each, own in self.utilities)
+        streams = tuple(replace(stream, contribution=share if own is None else own) for stream, own in self.streams)
+        utilities = tuple(replace(utility, contribution=share if own is None else own)
+                          for utility, own in self.utilities)
         return Case(share, streams, utilities, tuple(self.forbids), self.basis)
 
 
@@ -224,30 +225,30 @@ def read_case(text: str | bytes, own_units: bool = False) -> Case:
 def case_rows(case: Case) -> Iterator[list[str]]:
     """The rows of a case file, without the desk's comments."""
     yield ['contribution', '', str(case.contribution), '', '', '', '']
-    for each in case.sources:
-        own = '' if each.contribution == case.contribution else str(each.contribution)
-        if isinstance(each, Stream):
-            load = str(each.load) if each.latent else ''
-            yield [each.side.value, each.name, str(each.supply), str(each.target), str(each.cp), load, own]
-        elif not each.invented:
-            kind = 'heater' if each.side is Side.HOT else 'cooler'
-            yield [kind, each.name, str(each.level), str(each.least), str(each.most), str(each.price), own]
+    for source in case.sources:
+        own = '' if source.contribution == case.contribution else str(source.contribution)
+        if isinstance(source, Stream):
+            load = str(source.load) if source.latent else ''
+            yield [source.side.value, source.name, str(source.supply), str(source.target), str(source.cp), load, own]
+        elif not source.invented:
+            kind = 'heater' if source.side is Side.HOT else 'cooler'
+            yield [kind, source.name, str(source.level), str(source.least), str(source.most), str(source.price), own]
     for pair in case.forbids:
         yield ['forbid', pair.hot, pair.cold, '', '', '', '']
 
 
 def print_case(case: Case) -> str:
     """The case as a file; reading it gives the same case, but for utilities that are invented."""
-    held = io.StringIO(newline='')
-    csv.writer(held, lineterminator='\n').writerows([*basis_rows(case.basis), *case_rows(case)])
-    return held.getvalue()
+    case_file = io.StringIO(newline='')
+    csv.writer(case_file, lineterminator='\n').writerows([*basis_rows(case.basis), *case_rows(case)])
+    return case_file.getvalue()
 
 
 def print_comments(texts: Iterable[str]) -> str:
     """Comments as rows of a case file, which the program passes over."""
-    held = io.StringIO(newline='')
-    csv.writer(held, lineterminator='\n').writerows([f'# {text.lstrip("# ")}', *[''] * 6] for text in texts)
-    return held.getvalue()
+    comment_rows = io.StringIO(newline='')
+    csv.writer(comment_rows, lineterminator='\n').writerows([f'# {text.lstrip("# ")}', *[''] * 6] for text in texts)
+    return comment_rows.getvalue()
 
 
 def completed(case: Case) -> Case:
@@ -255,10 +256,10 @@ def completed(case: Case) -> Case:
     as the lowest, where it has no cooler: price 1 and 0, the contribution of the case (docs/FORMATS.md, *The text of
     `flow`*)."""
     added: list[Utility] = []
-    if not any(each.side is Side.HOT for each in case.utilities):
-        level = max(each.high for each in case.streams) + case.contribution
+    if not any(utility.side is Side.HOT for utility in case.utilities):
+        level = max(stream.high for stream in case.streams) + case.contribution
         added.append(Utility('HOT', Side.HOT, level, 0, ANY_HEAT, 1, case.contribution, True))
-    if not any(each.side is Side.COLD for each in case.utilities):
-        level = min(each.low for each in case.streams) - case.contribution
+    if not any(utility.side is Side.COLD for utility in case.utilities):
+        level = min(stream.low for stream in case.streams) - case.contribution
         added.append(Utility('COLD', Side.COLD, level, 0, ANY_HEAT, 0, case.contribution, True))
     return replace(case, utilities=(*case.utilities, *added))

@@ -71,12 +71,12 @@ def noted(basis: Basis, row: Sequence[str]) -> Basis:
 def between(text: str, least: Fraction) -> Fraction:
     """A number of at least this and at most one over it; a `ValueError` where it is none."""
     try:
-        held = exact(text, LONGEST)
+        number = exact(text, LONGEST)
     except ValueError:
-        held = Fraction(0)
-    if not least <= held <= 1 / least:
+        number = Fraction(0)
+    if not least <= number <= 1 / least:
         raise ValueError(f'`{shortened(text)}` is no number from {least} to {1 / least}')
-    return held
+    return number
 
 
 def basis_rows(basis: Basis) -> Iterator[list[str]]:

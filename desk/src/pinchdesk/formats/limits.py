@@ -68,11 +68,11 @@ def outside_of_row(row: Sequence[str]) -> str:
 def fitting_scale(heats: Iterable[tuple[Limit, Fraction]], now: Fraction) -> str:
     """What is said of the scale that brings all these heats, before any is taken, within their limits: that which is
     nearest to the present one. Empty where one is 0 or below that may not be."""
-    held = list(heats)
-    if any(heat < 0 or heat == 0 and limit.least for limit, heat in held):
+    limited_heats = list(heats)
+    if any(heat < 0 or heat == 0 and limit.least for limit, heat in limited_heats):
         return ''
-    for scale in sorted(SCALES, key=lambda each: (max(each / now, now / each), each)):
-        if all(limit.holds(rounded(heat * scale)) for limit, heat in held):
+    for scale in sorted(SCALES, key=lambda candidate: (max(candidate / now, now / candidate), candidate)):
+        if all(limit.holds(rounded(heat * scale)) for limit, heat in limited_heats):
             return f'--scale {decimal(scale, 3)} would do: all CPs and heats {PARTS[scale]}, and what the desk shows ' \
                    'is as in the table'
     return 'no --scale brings all within their limits: some are too large beside others that are too small'

@@ -69,16 +69,16 @@ class Network:
 
     @property
     def exchangers(self) -> tuple[Exchanger, ...]:
-        return tuple(each for each in self.statements if isinstance(each, Exchanger))
+        return tuple(statement for statement in self.statements if isinstance(statement, Exchanger))
 
 
 def read_network(text: str | bytes) -> Network:
     """The network of a text. `Refused` where it is none as far as this reader sees; names, limits and passes are for
     the program to check."""
-    held = text.decode('utf-8', 'replace') if isinstance(text, bytes) else text
+    network_text = text.decode('utf-8', 'replace') if isinstance(text, bytes) else text
     statements: list[Statement] = []
-    for line in held.split('\n'):
-        fields = [each for each in re.split('[ \t]+', line.removesuffix('\r')) if each]
+    for line in network_text.split('\n'):
+        fields = [field for field in re.split('[ \t]+', line.removesuffix('\r')) if field]
         if fields and not fields[0].startswith('#'):
             statements.append(statement_of(len(statements) + 1, fields))
     return Network(tuple(statements))
@@ -108,7 +108,7 @@ def ratio(at: int, text: str) -> Fraction:
 
 def print_network(network: Network) -> str:
     """The network as a text, with single spaces and fractions in lowest terms; reading it gives the same network."""
-    return ''.join(' '.join(words_of(each)) + '\n' for each in network.statements)
+    return ''.join(' '.join(words_of(statement)) + '\n' for statement in network.statements)
 
 
 def words_of(statement: Statement) -> list[str]:

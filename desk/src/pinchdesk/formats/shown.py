@@ -19,12 +19,12 @@ Number = int | Fraction
 def decimal(value: Number, places: int) -> str:
     """A number with at most so many decimals, rounded half away from 0, without zeros at its end: 5/3 in 2 places is
     1.67."""
-    held = Fraction(value)
-    whole = (abs(held) * 10 ** places * 2 + 1) // 2
+    fraction = Fraction(value)
+    whole = (abs(fraction) * 10 ** places * 2 + 1) // 2
     digits = str(whole).rjust(places + 1, '0')
     text = digits[:len(digits) - places] + ('.' + digits[len(digits) - places:] if places else '')
     text = text.rstrip('0').rstrip('.') if places else text
-    return '-' + text if held < 0 and text != '0' else text
+    return '-' + text if fraction < 0 and text != '0' else text
 
 
 def decimal_up(value: Number, places: int) -> str:
@@ -34,8 +34,8 @@ def decimal_up(value: Number, places: int) -> str:
 
 def is_rounded(value: Number, places: int) -> bool:
     """Whether so many decimals do not hold the number."""
-    held: Fraction = Fraction(value) * 10 ** places
-    return held.denominator != 1
+    in_last_place: Fraction = Fraction(value) * 10 ** places
+    return in_last_place.denominator != 1
 
 
 @dataclass(frozen=True)

@@ -87,12 +87,12 @@ def scale_of(rows: Sequence[tuple[int, Sequence[str]]]) -> Fraction:
             except ValueError as fault:
                 raise Refused(3, f'site row {at}', 'comment', f'site row {at} {row[0]}: {fault}') from fault
     head, *plants = found
-    held = {each or head or Fraction(1) for each in plants} | ({head} if head else set())
-    if len(held) > 1:
-        scales = ' and '.join(str(each) for each in sorted(held))
+    distinct_scales = {plant_scale or head or Fraction(1) for plant_scale in plants} | ({head} if head else set())
+    if len(distinct_scales) > 1:
+        scales = ' and '.join(str(scale) for scale in sorted(distinct_scales))
         cause = f'the plants are taken {scales} times, and one scale has to hold for all'
         raise Refused(3, f'site row {last}', 'scale', f'site row {last}: {cause}')
-    return next(iter(held), Fraction(1))
+    return next(iter(distinct_scales), Fraction(1))
 
 
 def streams_of(rows: list[tuple[Side, str, list[int]]], contribution: int) -> tuple[Stream, ...]:

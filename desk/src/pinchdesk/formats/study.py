@@ -88,8 +88,8 @@ def priced(item: Item, utility: str, price: int) -> PriceScenario:
 
 def print_study(study: Study) -> str:
     """The study as a file; reading it gives the same study."""
-    held = io.StringIO(newline='')
-    writer = csv.writer(held, lineterminator='\n')
+    study_file = io.StringIO(newline='')
+    writer = csv.writer(study_file, lineterminator='\n')
     writer.writerow(['#price', PER_WATT, '', ''])
     for item in study.items:
         if isinstance(item, Span):
@@ -97,4 +97,4 @@ def print_study(study: Study) -> str:
         else:
             writer.writerow(['scenario', item.name, '', ''])
             writer.writerows(['price', utility, price, ''] for utility, price in item.prices)
-    return held.getvalue()
+    return study_file.getvalue()
