@@ -41,8 +41,8 @@ class Column(enum.Enum):
 KINDS = {Field.SUPPLY: Kind.TEMPERATURE, Field.TARGET: Kind.TEMPERATURE, Field.LEVEL: Kind.TEMPERATURE,
          Field.CP: Kind.FLOW, Field.LOAD: Kind.HEAT, Field.LEAST: Kind.HEAT, Field.MOST: Kind.HEAT,
          Field.CONTRIBUTION: Kind.DIFFERENCE}
-FIELDS = {word: each for each in Field for word in each.value.split()}
-COLUMNS = {word: each for each in Column for word in each.value.split()}
+FIELDS = {word: field for field in Field for word in field.value.split()}
+COLUMNS = {word: column for column in Column for word in column.value.split()}
 
 
 @dataclass(frozen=True)
@@ -59,8 +59,8 @@ class ChangeLayout:
 def meaning_of(text: str) -> tuple[Column | Field | None, str]:
     """What a heading means, and the unit that stands with it."""
     for name, unit in parts_of(text) if len(text) <= LONGEST else ():
-        held = squeezed(name)
-        found = COLUMNS.get(held) or FIELDS.get(held)
+        squeezed_name = squeezed(name)
+        found = COLUMNS.get(squeezed_name) or FIELDS.get(squeezed_name)
         if found:
             return found, unit
     return None, ''
@@ -106,15 +106,15 @@ def layout_of(table: Table) -> ChangeLayout:
 
 
 def check_columns(table: Table, head: TableRow, columns: Mapping[Column, int], fields: Mapping[int, Field]) -> None:
-    for each in (Column.SCENARIO, Column.SOURCE):
-        if each not in columns:
-            raise table.refusal(head.number, None, f'no column has the heading {each.name.lower()}')
-    pair = [each in columns for each in (Column.FIELD, Column.VALUE)]
+    for needed_column in (Column.SCENARIO, Column.SOURCE):
+        if needed_column not in columns:
+            raise table.refusal(head.number, None, f'no column has the heading {needed_column.name.lower()}')
+    pair = [column in columns for column in (Column.FIELD, Column.VALUE)]
     if any(pair) and (not all(pair) or fields) or not any(pair) and not fields:
         cause = 'changes are in columns of fields (supply, CP ..), or in the two columns field and value'
         raise table.refusal(head.number, None, cause)
 
 
 def known_headings() -> str:
-    words = [each.name.lower() for each in Column] + [each.word for each in Field]
+    words = [column.name.lower() for column in Column] + [field.word for field in Field]
     return ', '.join(words) + '; take the column out, or head it `note`'

@@ -84,17 +84,17 @@ def read_changes(content: bytes, name: str, basis: Basis | None, sheet: str | No
     rows, passed = rows_of(layout, told)
     mark = decimal_mark(best, numbers_of(rows, layout), decimal)
     reader = ChangeReader(told, CellReader(told, mark, dict(layout.units), dict(layout.titles)), layout, basis)
-    held: dict[str, list[Change]] = {}
+    changes_of_scenario: dict[str, list[Change]] = {}
     for row in rows:
         scenario, changes = reader.row(row)
-        held.setdefault(scenario, []).extend(changes)
+        changes_of_scenario.setdefault(scenario, []).extend(changes)
     reader.cells.settle_units()
     units_in_words(passed, told, reader.cells.taken)
     told.settle()
-    if not held:
+    if not changes_of_scenario:
         raise Refused(3, '', 'no scenario', 'the table has no scenario')
     told.notes += other_sheets.told(best)
-    scenarios = tuple(CaseScenario(printable(name), tuple(changes)) for name, changes in held.items())
+    scenarios = tuple(CaseScenario(printable(name), tuple(changes)) for name, changes in changes_of_scenario.items())
     return CaseScenarios(scenarios, tuple(told.notes))
 
 
@@ -172,15 +172,15 @@ class ChangeReader:
             text = self.text(row, Column.FIELD)
             found = FIELDS.get(squeezed(text))
             if text and found is None:
-                fields = ', '.join(each.word for each in Field)
+                fields = ', '.join(field.word for field in Field)
                 self.told.fault(row.number, self.layout.columns[Column.FIELD], f'`{text}` is no field: {fields}')
             fields_at = {self.layout.columns[Column.VALUE]: found} if found else {}
         else:
-            fields_at = {at: each for at, each in self.layout.fields.items() if self.cells.given(row, at)}
+            fields_at = {at: field for at, field in self.layout.fields.items() if self.cells.given(row, at)}
             if not fields_at:
                 self.told.fault(row.number, None, 'the row changes nothing')
-        made = [self.change(row, at, source, each) for at, each in fields_at.items() if each]
-        return scenario, [each for each in made if each]
+        made = [self.change(row, at, source, field) for at, field in fields_at.items() if field]
+        return scenario, [change for change in made if change]
 
     def change(self, row: TableRow, at: int, source: str, field: Field) -> Change | None:
         """A change that stands in a cell; None where it is none, which is told."""
@@ -219,17 +219,17 @@ class ChangeReader:
     def measured(self, row: TableRow, at: int, field: Field, way: Way) -> Fraction | None:
         """A value in the program's unit, with the scale of the case; a change of a temperature is a difference."""
         kind = KINDS[field]
-        held = self.cells.measured(row, at, Kind.DIFFERENCE if kind is Kind.TEMPERATURE and way is Way.BY else kind)
-        if held is None:
+        entered = self.cells.measured(row, at, Kind.DIFFERENCE if kind is Kind.TEMPERATURE and way is Way.BY else kind)
+        if entered is None:
             return None
-        return held.value * self.basis.scale if self.basis and kind in (Kind.FLOW, Kind.HEAT) else held.value
+        return entered.value * self.basis.scale if self.basis and kind in (Kind.FLOW, Kind.HEAT) else entered.value
 
     def price(self, row: TableRow, at: int) -> Fraction | None:
         """A price in the unit of the case's prices, which it may name and no other."""
-        held = self.cells.number(row, at)
-        if held is None or self.basis is None:
-            return held[0] if held else None
-        value, _, own = held
+        number_with_unit = self.cells.number(row, at)
+        if number_with_unit is None or self.basis is None:
+            return number_with_unit[0] if number_with_unit else None
+        value, _, own = number_with_unit
         if not own and at not in self.layout.units and self.basis.price_unit:
             self.told.once(f'the prices have no unit: {self.basis.price_unit} is taken, as in the case')
         for text in (own, self.layout.units.get(at, '')):

@@ -62,9 +62,9 @@ class Crossed:
 
 def whole_pieces(case: Case, flow: HeatFlow) -> tuple[Piece, ...]:
     """Every stream, and each utility that is used, of a completed case."""
-    streams = [Piece(each, each.high, each.low, each.heat) for each in case.streams]
-    levels = [(each, shifted(each, each.level), flow.use(each.name)) for each in case.utilities]
-    return (*streams, *(Piece(each, level, level, use) for each, level, use in levels if use))
+    streams = [Piece(stream, stream.high, stream.low, stream.heat) for stream in case.streams]
+    levels = [(utility, shifted(utility, utility.level), flow.use(utility.name)) for utility in case.utilities]
+    return (*streams, *(Piece(utility, level, level, use) for utility, level, use in levels if use))
 
 
 def upper_part(piece: Piece, place: CutPlace) -> Piece | None:
@@ -90,14 +90,15 @@ def sensible(piece: Piece, high: int, low: int) -> Piece:
 
 def cascade(pieces: Sequence[Piece], place: CutPlace) -> int:
     """What everything above a place gives less what it takes: the heat that crosses it."""
-    return sum(each.signed for each in (upper_part(piece, place) for piece in pieces) if each)
+    return sum(part.signed for part in (upper_part(piece, place) for piece in pieces) if part)
 
 
 def places(pieces: Sequence[Piece], targets: Targets) -> tuple[CutPlace, ...]:
     """The places where no heat crosses, from the highest down; of those that cut alike the first."""
-    grid = sorted({end for each in pieces for end in (each.high, each.low)} | set(targets.pinches), reverse=True)
-    candidates = [CutPlace(each, takes, each in targets.pinches) for each in grid for takes in (False, True)]
-    return tuple(each for each in candidates if cascade(pieces, each) == 0)
+    grid = sorted({end for piece in pieces for end in (piece.high, piece.low)} | set(targets.pinches), reverse=True)
+    candidates = [CutPlace(temperature, takes, temperature in targets.pinches)
+                  for temperature in grid for takes in (False, True)]
+    return tuple(place for place in candidates if cascade(pieces, place) == 0)
 
 
 def regions(pieces: Sequence[Piece], cuts: Sequence[CutPlace]) -> tuple[Region, ...]:
@@ -106,8 +107,8 @@ def regions(pieces: Sequence[Piece], cuts: Sequence[CutPlace]) -> tuple[Region, 
     made: list[Region] = []
     left, upper = tuple(pieces), None
     for cut in cuts:
-        above = tuple(each for each in (upper_part(piece, cut) for piece in left) if each)
-        below = tuple(each for each in (lower_part(piece, cut) for piece in left) if each)
+        above = tuple(part for part in (upper_part(piece, cut) for piece in left) if part)
+        below = tuple(part for part in (lower_part(piece, cut) for piece in left) if part)
         if above and below:
             made.append(Region(upper, cut, above))
             left, upper = below, cut
@@ -117,8 +118,8 @@ def regions(pieces: Sequence[Piece], cuts: Sequence[CutPlace]) -> tuple[Region, 
 def crossed(pieces: Sequence[Piece], targets: Targets) -> tuple[Crossed, ...]:
     """The pinches across which heat goes at these uses, with the least of it."""
     made: list[Crossed] = []
-    for each in targets.pinches:
-        heats = [cascade(pieces, CutPlace(each, takes, True)) for takes in (False, True)]
+    for temperature in targets.pinches:
+        heats = [cascade(pieces, CutPlace(temperature, takes, True)) for takes in (False, True)]
         if 0 not in heats:
-            made.append(Crossed(each, min(heats)))
+            made.append(Crossed(temperature, min(heats)))
     return tuple(made)

@@ -98,7 +98,7 @@ class Passage:
     @property
     def least_difference(self) -> Fraction | None:
         ends = (self.hot_end, self.cold_end)
-        return None if None in ends else min(each for each in ends if each is not None)
+        return None if None in ends else min(end for end in ends if end is not None)
 
     def above(self, side: SideState, pinch: PinchPoint) -> Fraction | None:
         """How much of the duty this side gives or takes above a pinch."""
@@ -139,9 +139,9 @@ class Followed:
 
     def passage(self, exchanger: str) -> Passage:
         """The exchanger of this name; `KeyError` where there is none."""
-        for each in self.passages:
-            if each.exchanger.name == exchanger:
-                return each
+        for passage in self.passages:
+            if passage.exchanger.name == exchanger:
+                return passage
         raise KeyError(exchanger)
 
 
@@ -169,7 +169,7 @@ def pinches_of(targets: Targets, curves: Curves) -> tuple[PinchPoint, ...]:
     """The pinches with what stands at each: on the grand composite curve the first point of a temperature is without
     the loads that stand there, and where it is not 0 the pinch lies below them."""
     first = {point.temperature: point.heat for point in reversed(curves.net)}
-    return tuple(PinchPoint(each, first[each] != 0) for each in targets.pinches)
+    return tuple(PinchPoint(temperature, first[temperature] != 0) for temperature in targets.pinches)
 
 
 class Follower:
@@ -177,27 +177,27 @@ class Follower:
 
     def __init__(self, case: Case, network: Network) -> None:
         self.case, self.network = case, network
-        self.branches = {each.name: beginning(each) for each in case.streams}
-        self.exchangers = {each.name: each for each in network.exchangers}
+        self.branches = {stream.name: beginning(stream) for stream in case.streams}
+        self.exchangers = {exchanger.name: exchanger for exchanger in network.exchangers}
         self.sides: dict[tuple[str, Side], tuple[Branch, Branch]] = {}
-        self.ends: dict[str, list[StreamEnd]] = {each.name: [] for each in case.streams}
+        self.ends: dict[str, list[StreamEnd]] = {stream.name: [] for stream in case.streams}
 
     def take(self, at: int, statement: object) -> None:
         match statement:
             case Split(branch, first, size, second):
-                held = self.branches[branch]
-                self.make(first, held, size, held.state, at)
-                self.make(second, held, held.size - size, held.state, at)
+                divided = self.branches[branch]
+                self.make(first, divided, size, divided.state, at)
+                self.make(second, divided, divided.size - size, divided.state, at)
             case Pass(branch, exchanger, to):
-                held = self.branches[branch]
-                behind = self.make(to, held, held.size, passed(held, self.exchangers[exchanger].duty), at)
-                self.sides[exchanger, held.stream.side] = (held, behind)
+                before = self.branches[branch]
+                behind = self.make(to, before, before.size, passed(before, self.exchangers[exchanger].duty), at)
+                self.sides[exchanger, before.stream.side] = (before, behind)
             case Mix(first, second, to):
                 one, other = self.branches[first], self.branches[second]
                 self.make(to, one, one.size + other.size, mixed(one, other), at)
             case End(branch):
-                held = self.branches[branch]
-                self.ends[held.stream.name].append(StreamEnd(at, held))
+                last = self.branches[branch]
+                self.ends[last.stream.name].append(StreamEnd(at, last))
 
     def make(self, name: str, like: Branch, size: Fraction, state: Fraction | None, at: int) -> Branch:
         made = Branch(name, like.stream, size, state, at)
@@ -240,6 +240,6 @@ def follow(case: Case, network: Network) -> Followed:
     follower = Follower(case, network)
     for at, statement in enumerate(network.statements, 1):
         follower.take(at, statement)
-    passages = tuple(follower.passage(each) for each in network.exchangers)
-    ends = {name: tuple(each) for name, each in follower.ends.items()}
+    passages = tuple(follower.passage(exchanger) for exchanger in network.exchangers)
+    ends = {name: tuple(stream_ends) for name, stream_ends in follower.ends.items()}
     return Followed(case, network, follower.branches, passages, ends)

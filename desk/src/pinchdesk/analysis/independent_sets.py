@@ -46,7 +46,7 @@ class Partition:
 
     @property
     def members(self) -> int:
-        return sum(len(each) for each in self.sets)
+        return sum(len(independent_set) for independent_set in self.sets)
 
     @property
     def least_exchangers(self) -> int:
@@ -62,11 +62,11 @@ class Partition:
 def partition(members: Sequence[Member]) -> Partition:
     """The partition of members whose heats are 0 together into the most sets; `ValueError` where they do not balance.
     A member without heat counts for nothing."""
-    held = [each for each in members if each.heat]
-    if sum(each.heat for each in held):
+    with_heat = [member for member in members if member.heat]
+    if sum(member.heat for member in with_heat):
         raise ValueError('the heats do not balance')
-    pairs, rest = paired(held)
-    if all(each.utility for each in rest):
+    pairs, rest = paired(with_heat)
+    if all(member.utility for member in rest):
         return whole(pairs, rest)
     most = len(pairs) + bound(rest)
     masks = balancing(rest) if most > len(pairs) + 1 else None
@@ -95,8 +95,8 @@ def paired(members: Sequence[Member]) -> tuple[list[tuple[Member, ...]], list[Me
 
 
 def few_utilities(members: Sequence[Member]) -> bool:
-    hot = sum(each.utility and each.heat > 0 for each in members)
-    cold = sum(each.utility and each.heat < 0 for each in members)
+    hot = sum(member.utility and member.heat > 0 for member in members)
+    cold = sum(member.utility and member.heat < 0 for member in members)
     return hot < 2 or cold < 2
 
 
@@ -104,9 +104,9 @@ def taken_out(members: Sequence[Member], utilities: int) -> tuple[list[tuple[Mem
     """Pairs of equal heat with so many utilities in each, and the rest."""
     pairs: list[tuple[Member, ...]] = []
     rest = list(members)
-    for giver in [each for each in members if each.heat > 0]:
-        taker = next((each for each in rest if each.heat == -giver.heat and each.utility + giver.utility == utilities),
-                     None)
+    for giver in [member for member in members if member.heat > 0]:
+        taker = next((member for member in rest
+                      if member.heat == -giver.heat and member.utility + giver.utility == utilities), None)
         if taker is not None:
             pairs.append((giver, taker))
             rest.remove(giver)
@@ -117,8 +117,8 @@ def taken_out(members: Sequence[Member], utilities: int) -> tuple[list[tuple[Mem
 def bound(members: Sequence[Member]) -> int:
     """How many sets there can be behind the pairs: each has one member that gives and one that takes, a stream, and a
     third one where no two streams balance."""
-    gives = sum(each.heat > 0 for each in members)
-    streams = sum(not each.utility for each in members)
+    gives = sum(member.heat > 0 for member in members)
+    streams = sum(not member.utility for member in members)
     smallest = 3 if few_utilities(members) else 2
     return max(1, min(len(members) // smallest, gives, len(members) - gives, streams))
 
@@ -128,14 +128,14 @@ def peeled(members: Sequence[Member]) -> tuple[tuple[Member, ...], ...]:
     small = small_set(members)
     if small is None:
         return (tuple(members),)
-    return (small, *partition([each for each in members if each not in small]).sets)
+    return (small, *partition([member for member in members if member not in small]).sets)
 
 
 def small_set(members: Sequence[Member]) -> tuple[Member, ...] | None:
     """A balancing set of at most six members, of the fewest there are, that leaves some members with a stream; None
     where there is none."""
     places = range(len(members))
-    streams = sum(not each.utility for each in members)
+    streams = sum(not member.utility for member in members)
     for size in range(2, SMALL + 1):
         sums: dict[int, list[tuple[int, ...]]] = {}
         for part in combinations(places, size // 2):
@@ -143,7 +143,7 @@ def small_set(members: Sequence[Member]) -> tuple[Member, ...] | None:
         for part in combinations(places, size - size // 2):
             for other in sums.get(-sum(members[at].heat for at in part), []):
                 found = [members[at] for at in {*part, *other}]
-                if len(found) == size and 0 < sum(not each.utility for each in found) < streams:
+                if len(found) == size and 0 < sum(not member.utility for member in found) < streams:
                     return tuple(found)
     return None
 
@@ -154,7 +154,7 @@ def balancing(members: Sequence[Member]) -> Masks | None:
     if len(members) > MOST_SOURCES:
         return None
     half = len(members) // 2
-    first, second = (sums([each.heat for each in part]) for part in (members[:half], members[half:]))
+    first, second = (sums([member.heat for member in part]) for part in (members[:half], members[half:]))
     order = numpy.argsort(second, kind='stable')
     rising = second[order]
     begin, end = numpy.searchsorted(rising, -first, 'left'), numpy.searchsorted(rising, -first, 'right')
@@ -168,17 +168,17 @@ def balancing(members: Sequence[Member]) -> Masks | None:
 def sums(heats: Sequence[int]) -> Masks:
     """The sum of each subset, by its bits."""
     import numpy
-    held = numpy.zeros(1, dtype=numpy.int64)
-    for each in heats:
-        held = numpy.concatenate((held, held + each))
-    return held
+    subset_sums = numpy.zeros(1, dtype=numpy.int64)
+    for heat in heats:
+        subset_sums = numpy.concatenate((subset_sums, subset_sums + heat))
+    return subset_sums
 
 
 def parted(members: Sequence[Member], masks: Masks) -> list[int]:
     """The most sets into which the whole is parted, as bits. The masks go by rising size: the most sets of each come
     from those of a smaller one inside it, whose rest is one set more where it has a stream."""
     import numpy
-    streams = numpy.int64(sum(1 << at for at, each in enumerate(members) if not each.utility))
+    streams = numpy.int64(sum(1 << at for at, member in enumerate(members) if not member.utility))
     most, before = chained(masks, lambda differences: numpy.not_equal(differences & streams, 0))
     return merged(list(steps(masks, before)), int(streams))
 
@@ -191,7 +191,7 @@ def joinable_partition(members: Sequence[Member], near: Sequence[int]) -> Partit
     if masks is None or len(masks) > MOST_JOINED:
         return None
     rising = numpy.sort(masks)
-    can = numpy.array([is_joined(int(each), near) for each in rising])
+    can = numpy.array([is_joined(int(rising_mask), near) for rising_mask in rising])
     worth = numpy.where(can, 1, NEVER)
     most, before = chained(masks, lambda differences: numpy.take(worth, numpy.searchsorted(rising, differences)))
     if most[-1] < 0:
@@ -234,8 +234,8 @@ def steps(masks: Masks, before: Masks) -> Iterator[int]:
 
 def merged(found: list[int], streams: int) -> list[int]:
     """The sets, with utilities that balance among themselves joined to the first of them."""
-    sets = [each for each in found if each & streams]
-    for each in found:
-        if not each & streams:
-            sets[0] |= each
+    sets = [mask for mask in found if mask & streams]
+    for mask in found:
+        if not mask & streams:
+            sets[0] |= mask
     return sets

@@ -55,7 +55,7 @@ class RegionUnits:
     @property
     def least_joined(self) -> int | None:
         """Sources less the most sets that can be joined; None where that is not known."""
-        if all(each.joinable for each in self.sets) and self.exact:
+        if all(independent_set.joinable for independent_set in self.sets) and self.exact:
             return self.least
         return None if self.joined is None else self.sources - len(self.joined)
 
@@ -77,8 +77,8 @@ class Units:
     @property
     def levels(self) -> tuple[tuple[RegionUnits, ...], ...]:
         """Both ways to cut, where they cut something and differ."""
-        held = [self.at_pinches] if len(self.at_pinches) > 1 else []
-        return (*held, self.at_all) if len(self.at_all) > max(1, len(self.at_pinches)) else tuple(held)
+        pinch_levels = [self.at_pinches] if len(self.at_pinches) > 1 else []
+        return (*pinch_levels, self.at_all) if len(self.at_all) > max(1, len(self.at_pinches)) else tuple(pinch_levels)
 
 
 def least_units(case: CaseText, pinch: Pinch | None = None) -> Units | Cut:
@@ -95,19 +95,20 @@ def units_of(case: Case, targets: Targets, flow: HeatFlow) -> Units:
     pieces = whole_pieces(case, flow)
     cuts = places(pieces, targets)
     whole = counted(case, Region(None, None, pieces))
-    at_pinches = each_counted(case, pieces, [each for each in cuts if each.process])
+    at_pinches = each_counted(case, pieces, [cut for cut in cuts if cut.process])
     return Units(case, targets, flow, whole, at_pinches, each_counted(case, pieces, cuts), crossed(pieces, targets))
 
 
 def each_counted(case: Case, pieces: Sequence[Piece], cuts: Sequence[CutPlace]) -> tuple[RegionUnits, ...]:
-    return tuple(counted(case, each) for each in regions(pieces, cuts))
+    return tuple(counted(case, region) for region in regions(pieces, cuts))
 
 
 def counted(case: Case, region: Region) -> RegionUnits:
-    members = {Member(each.source.name, each.signed, isinstance(each.source, Utility)): each for each in region.pieces}
+    members = {Member(piece.source.name, piece.signed, isinstance(piece.source, Utility)): piece
+               for piece in region.pieces}
     parted = partition(list(members))
     sets = independent(case, members, parted)
-    if all(each.joinable for each in sets):
+    if all(independent_set.joinable for independent_set in sets):
         return RegionUnits(region, sets, parted)
     can = joinable_partition(list(members), near_of(case, list(members.values())))
     joined_sets = independent(case, members, can) if can else None
@@ -117,13 +118,13 @@ def counted(case: Case, region: Region) -> RegionUnits:
 
 
 def independent(case: Case, pieces: Mapping[Member, Piece], parted: Partition) -> tuple[IndependentSet, ...]:
-    made = [tuple(pieces[each] for each in held) for held in parted.sets]
-    return tuple(IndependentSet(each, tuple(joined(case, each))) for each in made)
+    made = [tuple(pieces[member] for member in members) for members in parted.sets]
+    return tuple(IndependentSet(set_pieces, tuple(joined(case, set_pieces))) for set_pieces in made)
 
 
 def near_of(case: Case, pieces: Sequence[Piece]) -> list[int]:
     """For each piece the bits of those with which it may exchange heat."""
-    return [sum(1 << at for at, other in enumerate(pieces) if allowed(case, each, other)) for each in pieces]
+    return [sum(1 << at for at, other in enumerate(pieces) if allowed(case, piece, other)) for piece in pieces]
 
 
 def joined(case: Case, pieces: Sequence[Piece]) -> Iterable[tuple[str, ...]]:
@@ -131,20 +132,20 @@ def joined(case: Case, pieces: Sequence[Piece]) -> Iterable[tuple[str, ...]]:
     left = list(pieces)
     while left:
         group = [left.pop(0)]
-        for each in group:
-            near = [other for other in left if allowed(case, each, other)]
+        for piece in group:
+            near = [other for other in left if allowed(case, piece, other)]
             group += near
             left = [other for other in left if other not in near]
-        yield tuple(each.source.name for each in group)
+        yield tuple(piece.source.name for piece in group)
 
 
 def allowed(case: Case, one: Piece, other: Piece) -> bool:
     """Whether two pieces may exchange some heat: one gives and the other takes, no row forbids it, they are no two
     utilities, and the hot one is somewhere as warm as the cold one."""
     hot, cold = (one, other) if one.source.side is Side.HOT else (other, one)
-    if hot.source.side is cold.source.side or all(isinstance(each.source, Utility) for each in (hot, cold)):
+    if hot.source.side is cold.source.side or all(isinstance(piece.source, Utility) for piece in (hot, cold)):
         return False
-    if any((each.hot, each.cold) == (hot.source.name, cold.source.name) for each in case.forbids):
+    if any((forbid.hot, forbid.cold) == (hot.source.name, cold.source.name) for forbid in case.forbids):
         return False
     levels = hot.high == hot.low and cold.high == cold.low
     return hot.high > cold.low or levels and hot.high == cold.low
