@@ -52,7 +52,7 @@ class FewExchangers:
     @property
     def text(self) -> str:
         """The network as a text, with what it is as comments at its head."""
-        return ''.join(f'# {each}\n' for each in self.comments()) + print_network(self.network)
+        return ''.join(f'# {comment}\n' for comment in self.comments()) + print_network(self.network)
 
     def comments(self) -> list[str]:
         shown, verdict = Shown(self.basis), self.verdict

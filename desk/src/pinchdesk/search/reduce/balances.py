@@ -23,8 +23,8 @@ class Sum:
 
     def plus(self, other: Sum, factor: Fraction = Fraction(1)) -> Sum:
         terms = dict(self.terms)
-        for at, each in other.terms.items():
-            terms[at] = terms.get(at, Fraction(0)) + factor * each
+        for at, multiple in other.terms.items():
+            terms[at] = terms.get(at, Fraction(0)) + factor * multiple
         return Sum(self.constant + factor * other.constant, terms)
 
     def at(self, point: Sequence[Fraction]) -> Fraction:
@@ -33,8 +33,8 @@ class Sum:
 
     def row(self, low: Fraction | None, high: Fraction | None, more: Terms = ()) -> LinearRow:
         """The row that keeps the sum between two bounds; `more` are further terms."""
-        below, above = (None if each is None else each - self.constant for each in (low, high))
-        return LinearRow((*((at, each) for at, each in self.terms.items() if each), *more), below, above)
+        below, above = (None if bound is None else bound - self.constant for bound in (low, high))
+        return LinearRow((*((at, multiple) for at, multiple in self.terms.items() if multiple), *more), below, above)
 
 
 NOTHING = Sum(Fraction(0), {})
@@ -55,11 +55,11 @@ class DutyModel:
         self.case, self.structure = case, structure
         self.names = tuple(structure.pairs)
         self.at = {name: at for at, name in enumerate(self.names)}
-        self.sources = {each.name: each for each in case.sources}
-        self.unit = Fraction(max(each.heat for each in case.streams), 1000)
+        self.sources = {source.name: source for source in case.sources}
+        self.unit = Fraction(max(any_stream.heat for any_stream in case.streams), 1000)
         # What costs are measured by: the greatest heat at the greatest price.
-        self.scale = 1000 * self.unit * max([1, *(abs(each.price) for each in case.utilities)])
-        self.most = tuple(self.exchanged(*(self.sources[each] for each in structure.pairs[name]))
+        self.scale = 1000 * self.unit * max([1, *(abs(utility.price) for utility in case.utilities)])
+        self.most = tuple(self.exchanged(*(self.sources[source_name] for source_name in structure.pairs[name]))
                           for name in self.names)
         self.ends: dict[tuple[str, Side], Ends] = {}
         self.lane_rows: list[LinearRow] = []
@@ -74,7 +74,7 @@ class DutyModel:
         reach = Fraction(warm - approach - cool)
         if reach < 0:
             return Fraction(0)
-        return min(given(each, reach) for each in (hot, cold))
+        return min(given(source, reach) for source in (hot, cold))
 
     def duty(self, name: str) -> Sum:
         return Sum(Fraction(0), {self.at[name]: self.unit})
@@ -134,23 +134,23 @@ class DutyModel:
     def cost(self) -> Sum:
         """What the utilities cost, in price times W."""
         whole = NOTHING
-        for each in self.case.utilities:
-            whole = whole.plus(self.sum_of(each), Fraction(each.price))
+        for utility in self.case.utilities:
+            whole = whole.plus(self.sum_of(utility), Fraction(utility.price))
         return whole
 
     def balance_rows(self) -> Iterator[LinearRow]:
         """Each stream exchanges its heat, and each utility within its range."""
-        for each in self.case.sources:
-            if isinstance(each, Stream):
-                yield self.sum_of(each).row(Fraction(each.heat), Fraction(each.heat))
+        for source in self.case.sources:
+            if isinstance(source, Stream):
+                yield self.sum_of(source).row(Fraction(source.heat), Fraction(source.heat))
             else:
-                yield self.sum_of(each).row(Fraction(each.least), Fraction(each.most))
+                yield self.sum_of(source).row(Fraction(source.least), Fraction(source.most))
         yield from self.lane_rows
 
     def approach_rows(self, optional: bool) -> Iterator[LinearRow]:
         """Both ends of each exchanger; where they are optional, of those that are there."""
         for name, pair in self.structure.pairs.items():
-            approach = Fraction(sum(self.sources[each].contribution for each in pair))
+            approach = Fraction(sum(self.sources[source_name].contribution for source_name in pair))
             hot, cold = self.side(name, Side.HOT), self.side(name, Side.COLD)
             slack = max(Fraction(0), approach - self.least_difference(pair)) if optional else Fraction(0)
             if optional and not slack:
@@ -161,26 +161,26 @@ class DutyModel:
 
     def least_difference(self, pair: tuple[str, str]) -> Fraction:
         """A difference that no two places of two sources go below, whatever the duties are."""
-        hot, cold = (self.sources[each] for each in pair)
+        hot, cold = (self.sources[source_name] for source_name in pair)
         return Fraction(self.coldest(hot) - self.warmest(cold))
 
     def coldest(self, hot: Source) -> int:
         if not isinstance(hot, Stream):
             return hot.level
         lanes = has_shares(self.structure.courses[hot.name])
-        return min([hot.target, *(beginning(each) for each in self.sources.values() if lanes)])
+        return min([hot.target, *(beginning(source) for source in self.sources.values() if lanes)])
 
     def warmest(self, cold: Source) -> int:
         if not isinstance(cold, Stream):
             return cold.level
         lanes = has_shares(self.structure.courses[cold.name])
-        return max([cold.target, *(beginning(each) for each in self.sources.values() if lanes)])
+        return max([cold.target, *(beginning(source) for source in self.sources.values() if lanes)])
 
     def cheapest(self) -> Program:
         """The least cost with all exchangers; one may have the duty 0."""
         count = len(self.names)
         rows = (*self.balance_rows(), *self.approach_rows(False))
-        highs = tuple(each / self.unit for each in self.most)
+        highs = tuple(heat / self.unit for heat in self.most)
         return Program((Fraction(0),) * count, highs, frozenset(), rows, tuple(self.cost.terms.items()))
 
     def fewest(self, cost: Fraction, most: int) -> Program:
@@ -204,7 +204,7 @@ class DutyModel:
         rows.append(LinearRow(tuple((count + at, Fraction(1)) for at in range(count)), None, Fraction(most)))
         if cost is not None:
             rows.append(self.cost.row(None, cost))
-        highs = (*(each / self.unit for each in self.most), *(Fraction(each > 0) for each in self.most))
+        highs = (*(heat / self.unit for heat in self.most), *(Fraction(heat > 0) for heat in self.most))
         return Program((Fraction(0),) * (2 * count), highs, frozenset(range(count, 2 * count)), tuple(rows), aim)
 
 

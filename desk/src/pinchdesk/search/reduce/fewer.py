@@ -65,16 +65,16 @@ class Fewer:
 
     def offer(self, costed: Costed | None) -> bool:
         """Takes what was found where no network of so many exchangers is cheaper, and none of as much is simpler."""
-        held = self.best.get(len(costed.duties)) if costed else None
-        if costed is None or held and held.cost < costed.cost:
+        best_so_far = self.best.get(len(costed.duties)) if costed else None
+        if costed is None or best_so_far and best_so_far.cost < costed.cost:
             return False
         judged = self.judge.of(costed)
         return judged is not None and self.take(judged)
 
     def take(self, judged: Judged) -> bool:
         """Takes a network where none of so many exchangers is cheaper, or as cheap and as simple."""
-        held = self.best.get(judged.count)
-        if held and (held.cost, held.splits) <= (judged.cost, judged.splits):
+        best_so_far = self.best.get(judged.count)
+        if best_so_far and (best_so_far.cost, best_so_far.splits) <= (judged.cost, judged.splits):
             return False
         self.best[judged.count] = judged
         self.tell(judged)
@@ -87,7 +87,7 @@ class Fewer:
         if self.take(plain):
             self.down(plain.structure, plain.count - 1, FIRST)
         while self.left(WIDE) > 0:
-            count = min(self.open(), key=lambda each: (self.idle.get(each, 0), each), default=None)
+            count = min(self.open(), key=lambda number: (self.idle.get(number, 0), number), default=None)
             if count is None:
                 break
             self.widen(count)
@@ -97,8 +97,8 @@ class Fewer:
     def down(self, structure: Structure, count: int, least: float = 0.0) -> None:
         """Takes one exchanger after another from a structure, until none can go, or the time is over."""
         while count > 0 and self.left(WIDE, least) > 0:
-            held = [self.chosen(with_ends(self.case, each), count) for each in kinds(structure)]
-            made = min((each for each in held if each), key=lambda each: each.cost, default=None)
+            choices = [self.chosen(with_ends(self.case, kind), count) for kind in kinds(structure)]
+            made = min((costed for costed in choices if costed), key=lambda costed: costed.cost, default=None)
             if made is None:
                 return
             self.offer(made)
@@ -106,9 +106,9 @@ class Fewer:
             count = min(count, len(made.duties)) - 1
 
     def chosen(self, structure: Structure, count: int, below: Fraction | None = None,
-               held: Structure | None = None) -> Costed | None:
+               earlier: Structure | None = None) -> Costed | None:
         """The cheapest with so many, below a cost; of equal ones one with few exchangers that are not held."""
-        fresh = frozenset(structure.pairs).difference(held.pairs) if held else frozenset()
+        fresh = frozenset(structure.pairs).difference(earlier.pairs) if earlier else frozenset()
         return cheapest_of(self.case, structure, count, max(1.0, min(SLICE, self.left(WIDE))), below, fresh)
 
     def open(self) -> Iterator[int]:
@@ -125,7 +125,7 @@ class Fewer:
 
     def widen(self, count: int) -> None:
         """Tries a wider structure for a number of exchangers."""
-        near = [self.best[each] for each in (count, count + 1, count - 1) if each in self.best]
+        near = [self.best[number] for number in (count, count + 1, count - 1) if number in self.best]
         from_one = self.chance.choice(near or self.rows())
         wide = widened(self.case, from_one.structure, self.pairs, self.chance.randint(*MORE), self.chance)
         before = self.best.get(count)
@@ -133,7 +133,7 @@ class Fewer:
         self.idle[count] = self.idle.get(count, 0) + 1
         if self.offer(made) and made and (before is None or made.cost < before.cost):
             # What is near may be bettered from here.
-            self.idle.update({each: 0 for each in (count - 1, count, count + 1)})
+            self.idle.update({number: 0 for number in (count - 1, count, count + 1)})
             self.down(made.structure, len(made.duties) - 1)
 
     def rows(self) -> list[Judged]:
@@ -147,9 +147,10 @@ class Fewer:
         for at, judged in enumerate(rows[1:], 1):
             if time.monotonic() > end:
                 break
-            held = rows[at - 1].structure
-            made = [self.chosen(with_ends(self.case, each), judged.count, None, held) for each in kinds(held)]
-            near = [each for each in made if each and (each.cost, len(each.duties)) <= (judged.cost, judged.count)]
+            earlier = rows[at - 1].structure
+            made = [self.chosen(with_ends(self.case, kind), judged.count, None, earlier) for kind in kinds(earlier)]
+            near = [costed for costed in made
+                    if costed and (costed.cost, len(costed.duties)) <= (judged.cost, judged.count)]
             rows[at] = self.judge.of(near[0] if near else None) or judged
         # The network that was given stays as it is.
-        return [each if each is self.begun else without_splits(self.judge, each, each.cost, end) for each in rows]
+        return [row if row is self.begun else without_splits(self.judge, row, row.cost, end) for row in rows]

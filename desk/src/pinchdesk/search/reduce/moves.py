@@ -23,9 +23,9 @@ def unsplit(course: Course) -> Iterator[Course]:
 def serial(parting: Parting) -> Iterator[Course]:
     """A parting with one of its lanes before or behind the others, which share what it had."""
     for at, lane in enumerate(parting.lanes):
-        others = [each for place, each in enumerate(parting.lanes) if place != at]
-        whole = sum((each.share for each in others), Fraction(0))
-        rest = parted(tuple(Lane(each.course, each.share / whole) for each in others), parting.level)
+        others = [other for place, other in enumerate(parting.lanes) if place != at]
+        whole = sum((other.share for other in others), Fraction(0))
+        rest = parted(tuple(Lane(other.course, other.share / whole) for other in others), parting.level)
         yield (*lane.course, *rest)
         yield (*rest, *lane.course)
 
@@ -60,8 +60,8 @@ def beside(step: Through | Parting, name: str) -> Iterator[Course]:
     """A step with an exchanger more beside it, with isothermal mixing, or in one of its lanes."""
     lanes = step.lanes if isinstance(step, Parting) else (Lane((step,), Fraction(1)),)
     if is_flat(lanes) and (isinstance(step, Through) or step.level):
-        made = (*(each.course for each in lanes), (Through(name),))
-        yield (Parting(tuple(Lane(each, Fraction(1, len(made))) for each in made), True),)
+        courses = (*(lane.course for lane in lanes), (Through(name),))
+        yield (Parting(tuple(Lane(lane_course, Fraction(1, len(courses))) for lane_course in courses), True),)
     elif isinstance(step, Parting):
         yield from within(step, lambda course: put_in(course, name))
 
@@ -76,13 +76,13 @@ def put_around(course: Course, name: str, share: Fraction) -> Iterator[Course]:
 
 def letter_of(case: Case, pair: tuple[str, str]) -> str:
     """With what the name of an exchanger begins: of a heater, a cooler, or two streams."""
-    utilities = {each.name for each in case.utilities}
+    utilities = {utility.name for utility in case.utilities}
     return 'H' if pair[0] in utilities else 'C' if pair[1] in utilities else 'E'
 
 
 def taken_names(case: Case, structure: Structure) -> set[str]:
     """The names that a new exchanger does not take: those of exchangers, and for the reader's sake those of sources."""
-    return {*structure.pairs, *(each.name for each in case.sources)}
+    return {*structure.pairs, *(source.name for source in case.sources)}
 
 
 def next_name(taken: set[str], letter: str) -> str:
@@ -119,7 +119,7 @@ def with_ends(case: Case, structure: Structure) -> Structure:
     """A structure in which each stream may end at each utility: the heaters of a cold stream from the coldest up, the
     coolers of a hot one from the warmest down."""
     taken, pairs, courses = taken_names(case, structure), dict(structure.pairs), dict(structure.courses)
-    forbidden = {(each.hot, each.cold) for each in case.forbids}
+    forbidden = {(forbid.hot, forbid.cold) for forbid in case.forbids}
     for stream in case.streams:
         for utility in case.utilities:
             pair = (stream.name, utility.name) if stream.side is Side.HOT else (utility.name, stream.name)
@@ -143,7 +143,7 @@ def may_meet(stream: Stream, utility: Utility) -> bool:
 
 def place_of(case: Case, course: Course, pairs: dict[str, tuple[str, str]], utility: Utility) -> int | None:
     """Where a utility stands among those at the end of a course; None where it is there already."""
-    levels = {each.name: each.level for each in case.utilities}
+    levels = {any_utility.name: any_utility.level for any_utility in case.utilities}
     side = utility.side is Side.COLD
     place = len(course)
     while place:

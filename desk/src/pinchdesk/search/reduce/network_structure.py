@@ -37,11 +37,11 @@ class Reader:
 
     def __init__(self, case: Case) -> None:
         self.places = 0
-        self.edges: dict[str, list[Edge]] = {each.name: [] for each in case.streams}
+        self.edges: dict[str, list[Edge]] = {stream.name: [] for stream in case.streams}
         self.ends: dict[str, int] = {}
-        self.starts = {each.name: self.place() for each in case.streams}
+        self.starts = {stream.name: self.place() for stream in case.streams}
         self.branches: dict[str, tuple[str, int, Fraction, Course]] = {
-            each.name: (each.name, self.starts[each.name], Fraction(each.size), ()) for each in case.streams}
+            stream.name: (stream.name, self.starts[stream.name], Fraction(stream.size), ()) for stream in case.streams}
 
     def place(self) -> int:
         self.places += 1
@@ -81,12 +81,12 @@ def structure_of(case: Case, network: Network) -> Structure:
     reader = Reader(case)
     for statement in network.statements:
         reader.take(statement)
-    pairs = {each.name: (each.hot, each.cold) for each in network.exchangers}
-    return Structure(pairs, {each.name: reader.course(each.name) for each in case.streams})
+    pairs = {exchanger.name: (exchanger.hot, exchanger.cold) for exchanger in network.exchangers}
+    return Structure(pairs, {stream.name: reader.course(stream.name) for stream in case.streams})
 
 
 def duties_of(network: Network) -> Duties:
-    return {each.name: each.duty for each in network.exchangers}
+    return {exchanger.name: exchanger.duty for exchanger in network.exchangers}
 
 
 def course_of(stream: str, edges: list[Edge], start: int, end: int) -> Course:
@@ -107,12 +107,13 @@ def contracted(edges: list[Edge], start: int, end: int) -> Reduced | None:
     """Without an edge on which nothing stands, where nothing else leaves its start or comes to its end: its two places
     are one."""
     for edge in edges:
-        alone = sum(each.start == edge.start for each in edges) == 1 or sum(each.end == edge.end for each in edges) == 1
+        alone = sum(any_edge.start == edge.start for any_edge in edges) == 1 \
+            or sum(any_edge.end == edge.end for any_edge in edges) == 1
         if edge.course or not alone:
             continue
-        left = [Edge(edge.start if each.start == edge.end else each.start,
-                     edge.start if each.end == edge.end else each.end, each.size, each.course)
-                for each in edges if each is not edge]
+        left = [Edge(edge.start if other.start == edge.end else other.start,
+                     edge.start if other.end == edge.end else other.end, other.size, other.course)
+                for other in edges if other is not edge]
         return left, start, edge.start if end == edge.end else end
     return None
 
@@ -120,23 +121,23 @@ def contracted(edges: list[Edge], start: int, end: int) -> Reduced | None:
 def in_a_row(edges: list[Edge], start: int, end: int) -> Reduced | None:
     """With two edges in a row as one."""
     for first in edges:
-        behind = [each for each in edges if each.start == first.end]
-        before = [each for each in edges if each.end == first.end]
+        behind = [edge for edge in edges if edge.start == first.end]
+        before = [edge for edge in edges if edge.end == first.end]
         if len(behind) == 1 and len(before) == 1:
             made = Edge(first.start, behind[0].end, first.size, (*first.course, *behind[0].course))
-            return [made, *(each for each in edges if each is not first and each is not behind[0])], start, end
+            return [made, *(edge for edge in edges if edge is not first and edge is not behind[0])], start, end
     return None
 
 
 def side_by_side(edges: list[Edge], start: int, end: int) -> Reduced | None:
     """With all edges between two places as one, a parting."""
     for first in edges:
-        lanes = [each for each in edges if (each.start, each.end) == (first.start, first.end)]
+        lanes = [edge for edge in edges if (edge.start, edge.end) == (first.start, first.end)]
         if len(lanes) > 1:
-            size = sum((each.size for each in lanes), Fraction(0))
-            course = parted(tuple(Lane(each.course, each.size / size) for each in lanes))
+            size = sum((lane.size for lane in lanes), Fraction(0))
+            course = parted(tuple(Lane(lane.course, lane.size / size) for lane in lanes))
             made = Edge(first.start, first.end, size, course)
-            return [made, *(each for each in edges if (each.start, each.end) != (first.start, first.end))], start, end
+            return [made, *(edge for edge in edges if (edge.start, edge.end) != (first.start, first.end))], start, end
     return None
 
 
@@ -182,7 +183,7 @@ class StructureWriter:
             begun.append(first)
             branch = rest
         lanes = zip((*begun, branch), shares, parting.lanes)
-        ended = [self.led(each, size * share, lane.course) for each, share, lane in lanes]
+        ended = [self.led(lane_branch, size * share, lane.course) for lane_branch, share, lane in lanes]
         joined = ended[0]
         for other in ended[1:]:
             to = self.name()
@@ -195,9 +196,10 @@ def shares_of(parting: Parting, duties: Duties) -> tuple[Fraction, ...]:
     """The share of each lane: in proportion to the duties where the parting is level."""
     if not parting.level:
         return tuple(lane.share for lane in parting.lanes)
-    held = [sum((duties[each] for each in throughs(lane.course)), Fraction(0)) for lane in parting.lanes]
-    whole = sum(held, Fraction(0))
-    return tuple(each / whole for each in held)
+    lane_duties = [sum((duties[exchanger] for exchanger in throughs(lane.course)), Fraction(0))
+                   for lane in parting.lanes]
+    whole = sum(lane_duties, Fraction(0))
+    return tuple(duty / whole for duty in lane_duties)
 
 
 def network_of(case: Case, structure: Structure, duties: Duties) -> Network:

@@ -34,7 +34,7 @@ class Shift:
     @property
     def told(self) -> str:
         """The way: `HOT (+H3) S3 (-E4) S1 (+C1) COLD`."""
-        legs = (f'({"+" if each.gains else "-"}{each.exchanger}) {each.source}' for each in self.legs)
+        legs = (f'({"+" if leg.gains else "-"}{leg.exchanger}) {leg.source}' for leg in self.legs)
         return ' '.join((self.source, *legs))
 
 
@@ -50,7 +50,7 @@ class Changes:
 
     def __init__(self, pairs: Pairs, changes: Mapping[str, Fraction], utilities: frozenset[str]) -> None:
         self.pairs, self.utilities = pairs, utilities
-        self.left = {name: each for name, each in changes.items() if each}
+        self.left = {name: change for name, change in changes.items() if change}
 
     def beyond(self, exchanger: str, source: str) -> str:
         hot, cold = self.pairs[exchanger]
@@ -116,5 +116,5 @@ def shifts(pairs: Pairs, before: Mapping[str, Fraction], after: Mapping[str, Fra
     while True:
         shift = changes.path() or changes.loop()
         if shift is None:
-            return tuple(sorted(found, key=lambda each: (each.loop, -each.heat)))
+            return tuple(sorted(found, key=lambda found_shift: (found_shift.loop, -found_shift.heat)))
         found.append(shift)

@@ -45,8 +45,8 @@ def knobs(course: Course) -> Iterator[Knob]:
     """For each two lanes of a parting: what the first has of what both have, and the course with another such part."""
     for at, step in enumerate(course):
         if isinstance(step, Parting):
-            for held, turned in (*lane_knobs(step), *inner_knobs(step)):
-                yield held, lambda part, at=at, turned=turned: (  # type: ignore[misc]
+            for part_before, turned in (*lane_knobs(step), *inner_knobs(step)):
+                yield part_before, lambda part, at=at, turned=turned: (  # type: ignore[misc]
                     *course[:at], turned(part), *course[at + 1:])
 
 
@@ -64,12 +64,12 @@ def lane_knobs(parting: Parting) -> Iterator[tuple[Fraction, Callable[[Fraction]
 
 def inner_knobs(parting: Parting) -> Iterator[tuple[Fraction, Callable[[Fraction], Parting]]]:
     for at, lane in enumerate(parting.lanes):
-        for held, turned in knobs(lane.course):
+        for part_before, turned in knobs(lane.course):
             def made(part: Fraction, at: int = at, lane: object = lane,
                      turned: Callable[[Fraction], Course] = turned) -> Parting:
                 changed = replace(parting.lanes[at], course=turned(part))
                 return Parting((*parting.lanes[:at], changed, *parting.lanes[at + 1:]))
-            yield held, made
+            yield part_before, made
 
 
 def reshared(case: Case, costed: Costed, end: float) -> Costed:
@@ -79,21 +79,21 @@ def reshared(case: Case, costed: Costed, end: float) -> Costed:
         at = 0
         while time.monotonic() < end:
             structure = fixed(best.structure, best.duties)
-            held = list(knobs(structure.courses[stream]))
-            if at >= len(held):
+            stream_knobs = list(knobs(structure.courses[stream]))
+            if at >= len(stream_knobs):
                 break
-            best = turned_best(case, structure, stream, held[at], best, end)
+            best = turned_best(case, structure, stream, stream_knobs[at], best, end)
             at += 1
     return best
 
 
 def turned_best(case: Case, structure: Structure, stream: str, knob: Knob, best: Costed, end: float) -> Costed:
     """The cheapest that was found with one knob."""
-    held, turned = knob
+    part_before, turned = knob
 
     def cost(part: float) -> float:
         return least_cost(case, structure.with_course(stream, turned(Fraction(part)))) if 0 < part < 1 else float('inf')
-    part, least = searched(cost, float(held), float(best.cost), end)
+    part, least = searched(cost, float(part_before), float(best.cost), end)
     if least >= float(best.cost) - GAIN * abs(float(best.cost)):
         return best
     for most in SIMPLE:

@@ -35,11 +35,11 @@ def simpler(case: CaseText, network: NetworkText, pinch: Pinch | None = None, se
     or than is allowed (price times W). It is the network itself where nothing was found, where it is not accepted, or
     where its branches are joined across one another. For so many seconds other pairs and places are tried too. Each
     simpler network is told on the way."""
-    judge, held = Judge(pinch or Pinch(), case_of(case)), held_network(network)
+    judge, given_network = Judge(pinch or Pinch(), case_of(case)), held_network(network)
     try:
-        begun = judge.given(held)
+        begun = judge.given(given_network)
     except (NotAccepted, OddCourse):
-        return held
+        return given_network
     cost = begun.cost if most_cost is None else max(begun.cost, most_cost)
     return simplified(judge, begun, cost, time.monotonic() + seconds, tell).network
 

@@ -64,8 +64,8 @@ def throughs(course: Course) -> Iterator[str]:
 
 def partings(course: Course) -> int:
     """How many splits a course wants: of n lanes there are n - 1."""
-    held = [step for step in course if isinstance(step, Parting)]
-    return sum(len(step.lanes) - 1 + sum(partings(lane.course) for lane in step.lanes) for step in held)
+    own_partings = [step for step in course if isinstance(step, Parting)]
+    return sum(len(step.lanes) - 1 + sum(partings(lane.course) for lane in step.lanes) for step in own_partings)
 
 
 def splits(structure: Structure) -> int:
@@ -80,7 +80,7 @@ def parted(lanes: tuple[Lane, ...], level: bool = False) -> Course:
     for lane in lanes:
         inner = lane.course[0] if len(lane.course) == 1 else None
         if isinstance(inner, Parting) and not inner.level:
-            flat.extend(Lane(each.course, each.share * lane.share) for each in inner.lanes)
+            flat.extend(Lane(inner_lane.course, inner_lane.share * lane.share) for inner_lane in inner.lanes)
         else:
             flat.append(lane)
     filled = [lane for lane in flat if lane.course]
@@ -128,7 +128,7 @@ def with_levels(course: Course) -> Course:
 
 def levelled(structure: Structure) -> Structure:
     """A structure with isothermal mixing wherever that is linear."""
-    return replace(structure, courses={name: with_levels(each) for name, each in structure.courses.items()})
+    return replace(structure, courses={name: with_levels(course) for name, course in structure.courses.items()})
 
 
 class OddCourse(Refused):

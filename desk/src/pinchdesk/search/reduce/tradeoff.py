@@ -172,7 +172,7 @@ def named_like(case: Case, judged: Judged, before: Structure, taken: set[str]) -
     for name, pair in pairs.items():
         if name in names:
             continue
-        like = next((each for each in free if before.pairs[each] == pair), None)
+        like = next((free_name for free_name in free if before.pairs[free_name] == pair), None)
         if like is not None:
             free.remove(like)
         names[name] = like or next_name(taken, letter_of(case, pair))
@@ -195,7 +195,7 @@ def named(course: Course, names: Mapping[str, str]) -> Course:
 def difference(case: Case, before: Judged, after: Judged) -> TradeOffRow:
     """What changed from one network to the next."""
     pairs = {**before.structure.pairs, **after.structure.pairs}
-    gone = tuple(each for each in before.network.exchangers if each.name not in after.duties)
-    come = tuple(each for each in after.network.exchangers if each.name not in before.duties)
-    utilities = frozenset(each.name for each in case.sources if not isinstance(each, Stream))
+    gone = tuple(exchanger for exchanger in before.network.exchangers if exchanger.name not in after.duties)
+    come = tuple(exchanger for exchanger in after.network.exchangers if exchanger.name not in before.duties)
+    utilities = frozenset(source.name for source in case.sources if not isinstance(source, Stream))
     return TradeOffRow(after, gone, come, shifts(pairs, before.duties, after.duties, utilities))

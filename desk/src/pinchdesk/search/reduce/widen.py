@@ -19,7 +19,7 @@ Pair = tuple[str, str]
 
 def pairs_of(case: Case) -> tuple[Pair, ...]:
     """The pairs of two streams, or of a stream and a utility, that may exchange heat, and can by their temperatures."""
-    forbidden = {(each.hot, each.cold) for each in case.forbids}
+    forbidden = {(forbid.hot, forbid.cold) for forbid in case.forbids}
     return tuple((hot.name, cold.name) for hot in case.sources if hot.side is Side.HOT
                  for cold in case.sources if cold.side is Side.COLD
                  if (hot.name, cold.name) not in forbidden and can_exchange(hot, cold))
@@ -32,29 +32,29 @@ def can_exchange(hot: Source, cold: Source) -> bool:
 
 
 # Shares that are tried where the sizes of two streams say none.
-SHARES = tuple(Fraction(*each) for each in ((1, 4), (1, 3), (1, 2), (2, 3), (3, 4)))
+SHARES = tuple(Fraction(*ratio) for ratio in ((1, 4), (1, 3), (1, 2), (2, 3), (3, 4)))
 
 
 def split_off(case: Case, structure: Structure, pairs: Sequence[Pair], chance: Random) -> Structure:
     """A structure with one exchanger more, which on one of its streams has a lane of its own."""
     pair = chance.choice(pairs)
-    parted = [each for each in pair if structure.courses.get(each)]
+    parted = [source_name for source_name in pair if structure.courses.get(source_name)]
     if not parted:
         return structure
     name, stream = next_name(taken_names(case, structure), letter_of(case, pair)), chance.choice(parted)
     courses = dict(structure.courses)
-    for each in pair:
-        if each == stream:
-            share = share_of(case.source(each), case.source(pair[each == pair[0]]), chance)
-            courses[each] = chance.choice(list(put_around(courses[each], name, share)))
-        elif each in courses:
-            courses[each] = chance.choice(list(put_in(courses[each], name)))
+    for source_name in pair:
+        if source_name == stream:
+            share = share_of(case.source(source_name), case.source(pair[source_name == pair[0]]), chance)
+            courses[source_name] = chance.choice(list(put_around(courses[source_name], name, share)))
+        elif source_name in courses:
+            courses[source_name] = chance.choice(list(put_in(courses[source_name], name)))
     return Structure({**structure.pairs, name: pair}, courses)
 
 
 def share_of(stream: Source, partner: Source, chance: Random) -> Fraction:
     """The share of a lane that has the CP of its partner, or one by chance."""
-    sizes = [each.cp if isinstance(each, Stream) else 0 for each in (stream, partner)]
+    sizes = [source.cp if isinstance(source, Stream) else 0 for source in (stream, partner)]
     if 0 < sizes[1] < sizes[0] and chance.random() < 0.7:
         return Fraction(sizes[1], sizes[0])
     return chance.choice(SHARES)
@@ -65,11 +65,11 @@ def widened(case: Case, structure: Structure, pairs: Sequence[Pair], count: int,
     ends of its streams; of every two one has a lane more."""
     if chance.random() < 0.5:
         structure = split_off(case, structure, pairs, chance)
-    held, courses, taken = dict(structure.pairs), dict(structure.courses), taken_names(case, structure)
+    wider_pairs, courses, taken = dict(structure.pairs), dict(structure.courses), taken_names(case, structure)
     for pair in chance.choices(pairs, k=count):
         name = next_name(taken, letter_of(case, pair))
-        held[name] = pair
-        for each in pair:
-            if each in courses:
-                courses[each] = chance.choice(list(put_in(courses[each], name)))
-    return with_ends(case, Structure(held, courses))
+        wider_pairs[name] = pair
+        for source_name in pair:
+            if source_name in courses:
+                courses[source_name] = chance.choice(list(put_in(courses[source_name], name)))
+    return with_ends(case, Structure(wider_pairs, courses))
