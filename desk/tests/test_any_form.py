@@ -120,11 +120,11 @@ forms = some.builds(Form, some.sampled_from([*LANGUAGES]), some.sampled_from([*W
 
 def plain(case: Case) -> Case:
     """A case without what no form here has: contributions, ranges, prices and forbidden matches of its own."""
-    streams = [replace(each, contribution=case.contribution) for each in case.streams]
-    utilities = [replace(each, contribution=case.contribution, least=0, most=10 ** 12, price=int(each.side is Side.HOT))
-                 for each in case.utilities]
-    return Case(case.contribution, tuple(sorted(streams, key=lambda each: each.side is Side.COLD)),
-                tuple(sorted(utilities, key=lambda each: each.side is Side.COLD)))
+    streams = [replace(stream, contribution=case.contribution) for stream in case.streams]
+    utilities = [replace(utility, contribution=case.contribution, least=0, most=10 ** 12,
+                         price=int(utility.side is Side.HOT)) for utility in case.utilities]
+    return Case(case.contribution, tuple(sorted(streams, key=lambda stream: stream.side is Side.COLD)),
+                tuple(sorted(utilities, key=lambda utility: utility.side is Side.COLD)))
 
 
 def check_again(case: Case, form: Form, content: bytes) -> None:
@@ -137,8 +137,8 @@ def check_again(case: Case, form: Form, content: bytes) -> None:
 @settings(max_examples=120)
 @given(cases, forms, some.sampled_from(';\t|'))
 def test_a_case_in_any_form_is_read_as_that_case(case: Case, form: Form, separator: str) -> None:
-    held = plain(case)
-    sheets = sheets_of(held, form)
+    plain_case = plain(case)
+    sheets = sheets_of(plain_case, form)
     if len(sheets) > 1:
         pages: list[list[list[object]]] = [[[*row] for row in sheet] for sheet in sheets]
         content = workbook(pages[0], **{f'Part {at}': page for at, page in enumerate(pages[1:], 2)})
@@ -146,4 +146,4 @@ def test_a_case_in_any_form_is_read_as_that_case(case: Case, form: Form, separat
         text = io.StringIO()
         csv.writer(text, delimiter=separator).writerows(sheets[0])
         content = text.getvalue().encode()
-    check_again(held, form, content)
+    check_again(plain_case, form, content)

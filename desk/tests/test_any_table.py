@@ -45,27 +45,27 @@ def tables(draw: Any) -> tuple[Case, str, str]:
     mark = draw(some.sampled_from('.,'))
     separator = draw(some.sampled_from(';\t|,'))
     warm = draw(some.sampled_from([*UNITS]))
-    flow, heat, apart = (draw(some.sampled_from([*each])) for each in (FLOWS, HEATS, DIFFERENCES))
+    flow, heat, apart = (draw(some.sampled_from([*factors])) for factors in (FLOWS, HEATS, DIFFERENCES))
     units = {'supply': warm, 'target': warm, 'CP': flow, 'duty': heat, 'contribution': apart, 'least': heat,
              'most': heat}
     rows = []
-    for each in case.sources:
-        share = written(each.contribution * DIFFERENCES[apart], mark)
-        if isinstance(each, Stream):
-            size = ['', written(each.load * HEATS[heat], mark)] if each.latent else [written(each.cp * FLOWS[flow],
-                                                                                             mark), '']
-            ends = [written(UNITS[warm](end), mark) for end in (each.supply, each.target)]
-            rows.append([each.side.value, each.name, *ends, *size, share, '', '', ''])
+    for source in case.sources:
+        share = written(source.contribution * DIFFERENCES[apart], mark)
+        if isinstance(source, Stream):
+            size = ['', written(source.load * HEATS[heat], mark)] if source.latent else [
+                written(source.cp * FLOWS[flow], mark), '']
+            ends = [written(UNITS[warm](end), mark) for end in (source.supply, source.target)]
+            rows.append([source.side.value, source.name, *ends, *size, share, '', '', ''])
         else:
-            bounds = [written(bound * HEATS[heat], mark) for bound in (each.least, each.most)]
-            kind = 'heater' if each.side is Side.HOT else 'cooler'
-            rows.append([kind, each.name, written(UNITS[warm](each.level), mark), '', '', '', share, *bounds,
-                         str(each.price)])
-    rows += [['forbid', each.hot, each.cold] for each in case.forbids]
+            bounds = [written(bound * HEATS[heat], mark) for bound in (source.least, source.most)]
+            kind = 'heater' if source.side is Side.HOT else 'cooler'
+            rows.append([kind, source.name, written(UNITS[warm](source.level), mark), '', '', '', share, *bounds,
+                         str(source.price)])
+    rows += [['forbid', forbid.hot, forbid.cold] for forbid in case.forbids]
     rows.append(['contribution', '', '', '', '', '', written(case.contribution * DIFFERENCES[apart], mark)])
     style = draw(some.sampled_from(['heading', 'row', 'cell']))
-    head = [f'{each} ({units[each]})' if style == 'heading' and each in units else each for each in HEAD]
-    below = [[units.get(each, '') for each in HEAD]] if style == 'row' else []
+    head = [f'{heading} ({units[heading]})' if style == 'heading' and heading in units else heading for heading in HEAD]
+    below = [[units.get(heading, '') for heading in HEAD]] if style == 'row' else []
     if style == 'cell':
         rows = [[f'{cell} {units[HEAD[at]]}' if HEAD[at] in units and cell[:1] in '-0123456789' and cell else cell
                  for at, cell in enumerate(row)] for row in rows]
@@ -75,18 +75,18 @@ def tables(draw: Any) -> tuple[Case, str, str]:
 
 
 @given(tables(), some.sampled_from(['utf-8', 'utf-8-sig', 'latin-1', 'utf-16']))
-def test_a_case_printed_as_a_table_is_read_as_the_same_case(held: tuple[Case, str, str], encoding: str) -> None:
-    case, text, mark = held
+def test_a_case_printed_as_a_table_is_read_as_the_same_case(printed: tuple[Case, str, str], encoding: str) -> None:
+    case, text, mark = printed
     again = made(text.encode(encoding), Wanted(decimal=mark)).case
     assert replace(again, basis=Basis()) == replace(case, basis=Basis())
 
 
 @settings(max_examples=20)
 @given(tables())
-def test_a_case_printed_as_a_workbook_is_read_as_the_same_case(held: tuple[Case, str, str]) -> None:
-    case, text, mark = held
+def test_a_case_printed_as_a_workbook_is_read_as_the_same_case(printed: tuple[Case, str, str]) -> None:
+    case, text, mark = printed
     lines = text.replace('\r\n', '\n').replace('\r', '\n').split('\n')
-    separator = next(each for each in '\t|;,' if len(lines[0].split(each)) == len(HEAD))
+    separator = next(mark_between for mark_between in '\t|;,' if len(lines[0].split(mark_between)) == len(HEAD))
     assume(separator != ',')
     book = workbook([list(line.split(separator)) for line in lines])
     again = made(book, Wanted(decimal=mark), 't.xlsx').case
@@ -94,16 +94,16 @@ def test_a_case_printed_as_a_workbook_is_read_as_the_same_case(held: tuple[Case,
 
 
 @given(some.binary(max_size=200))
-def test_any_bytes_are_a_table_or_refused(held: bytes) -> None:
+def test_any_bytes_are_a_table_or_refused(content: bytes) -> None:
     try:
-        made(held)
+        made(content)
     except Refused as fault:
         assert fault.text
 
 
 @given(some.text(some.sampled_from('HC1,;.\t\n "50°Ckhotcldnamesuprg'), max_size=120))
-def test_any_text_is_a_table_or_refused(held: str) -> None:
+def test_any_text_is_a_table_or_refused(text: str) -> None:
     try:
-        made(held)
+        made(text)
     except Refused as fault:
         assert fault.text

@@ -98,7 +98,7 @@ def test_a_duty_whose_sign_contradicts_its_temperatures_is_refused(heading: str,
 def test_duties_with_signs_that_agree_are_read() -> None:
     head = 'Stream;Supply (°C);Target (°C);ΔH (kW)\n'
     for rows in ('H1;150;60;-180\nC1;20;125;262.5', 'H1;150;60;180\nC1;20;125;262.5'):
-        assert [each[4] for each in streams(f'{head}{rows}\n')] == [200, 250]
+        assert [stream[4] for stream in streams(f'{head}{rows}\n')] == [200, 250]
     both = 'Stream;Supply (°C);Target (°C);CP (kW/K);ΔH (kW)\n'
     assert 'warms up' in refusal(f'{both}C1;20;125;2.5;-262.5\n')
 
@@ -136,7 +136,7 @@ NAMES = [
 
 @pytest.mark.parametrize('names, wanted', NAMES)
 def test_names_keep_what_tells_them_apart(names: list[str], wanted: list[str | None]) -> None:
-    found = [fit_names(names)[each] for each in names]
+    found = [fit_names(names)[name] for name in names]
     assert [one if two else None for one, two in zip(found, wanted)] == wanted
     assert len(set(found)) == len(found)
 
@@ -148,8 +148,8 @@ WORDS = some.lists(some.sampled_from(['Rauchgas', 'Kessel', 'overhead', 'vapour'
 @given(some.lists(WORDS, min_size=1, max_size=8, unique=True))
 def test_any_names_are_fit_and_apart(names: list[str]) -> None:
     found = fit_names(names)
-    assert len(set(found.values())) == len(names) and all(FIT.fullmatch(each) for each in found.values())
-    assert all(found[each] == each for each in names if FIT.fullmatch(each))
+    assert len(set(found.values())) == len(names) and all(FIT.fullmatch(fit) for fit in found.values())
+    assert all(found[name] == name for name in names if FIT.fullmatch(name))
 
 
 @given(some.sampled_from(['Rauchgas Kessel', 'Column 1 overhead vapour', 'E-100 A/B product cooler no.', 'Feed']),
@@ -157,4 +157,4 @@ def test_any_names_are_fit_and_apart(names: list[str]) -> None:
 def test_a_number_at_the_end_of_a_name_stays(stem: str, one: int, other: int) -> None:
     assume(one != other)
     found = fit_names([f'{stem} {one}', f'{stem} {other}'])
-    assert [each.rpartition('-')[2] for each in found.values()] == [str(one), str(other)]
+    assert [fit.rpartition('-')[2] for fit in found.values()] == [str(one), str(other)]

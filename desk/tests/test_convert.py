@@ -40,10 +40,10 @@ def test_kelvins_and_fahrenheits_are_not_taken_for_celsius() -> None:
 
 
 def test_a_number_with_two_readings_is_refused_with_both() -> None:
-    held = 'Strom;Ein;Aus;CP\n'.replace('Ein', 'in').replace('Aus', 'out') + 'S1;150;60;32.000\n'
-    assert refusal(held) == 'row 2 column 4: `32.000` may be 32 or 32000: say --decimal . or --decimal ,'
-    assert streams(held, replace(TEN, decimal='.'))[0][4] == 3200
-    assert 'the CP 32000 kW/K is outside its limits' in refusal(held, replace(TEN, decimal=','))
+    table = 'Strom;Ein;Aus;CP\n'.replace('Ein', 'in').replace('Aus', 'out') + 'S1;150;60;32.000\n'
+    assert refusal(table) == 'row 2 column 4: `32.000` may be 32 or 32000: say --decimal . or --decimal ,'
+    assert streams(table, replace(TEN, decimal='.'))[0][4] == 3200
+    assert 'the CP 32000 kW/K is outside its limits' in refusal(table, replace(TEN, decimal=','))
     assert 'may be 1250 or 1.25' in refusal('S1\t150\t60\t1,250\n')
     assert streams('S1\t150,5\t60\t1,250\n')[0] == ('hot', 'S1', 1505, 600, 125, 0)
 
@@ -56,9 +56,9 @@ def test_a_cp_and_a_duty_that_disagree_are_refused() -> None:
 
 
 def test_what_the_program_refuses_is_refused_by_the_row_of_the_table(pinch: Pinch) -> None:
-    held = 'My plant,,,\n\nname,supply,target,CP\nA,150,60,2\nA,20,120,3\n'
+    table = 'My plant,,,\n\nname,supply,target,CP\nA,150,60,2\nA,20,120,3\n'
     with pytest.raises(Refused) as fault:
-        checked(made(held), pinch)
+        checked(made(table), pinch)
     assert (fault.value.status, fault.value.text) == (3, 'row 5: the name is used above already (SameName)')
     hot = 'name,supply,target,CP\n' + ''.join(f'H{at},150,60,2\n' for at in range(31))
     with pytest.raises(Refused) as fault:
@@ -71,13 +71,13 @@ def test_what_the_program_refuses_is_refused_by_the_row_of_the_table(pinch: Pinc
 
 def test_a_textbook_sheet_meets_its_published_targets(pinch: Pinch) -> None:
     """Case 4S1 of Shenoy (1995), with a title, units in a row of their own, duties beside CPs, a sum and a note."""
-    held = workbook([['Case 4S1'], [],
+    book = workbook([['Case 4S1'], [],
                      ['Stream', 'Inlet temperature', 'Outlet temperature', 'Heat capacity flow', 'Duty'],
                      ['', '°C', '°C', 'kW/°C', 'kW'], ['H1', 175, 45, 10, 1300], ['H2', 125, 65, 40, 2400],
                      ['C1', 20, 155, 20, 2700], ['C2', 40, 112, 15, 1080], ['Sum', None, None, None, 7480],
                      ['from the book']])
     for difference, published in (('20', (605_000, 525_000, (1150,))), ('13', (360_000, 280_000, (1185,)))):
-        case = checked(made(held, Wanted(difference=difference), '4s1.xlsx'), pinch).case
+        case = checked(made(book, Wanted(difference=difference), '4s1.xlsx'), pinch).case
         targets = pinch.targets(case)
         assert (targets.hot, targets.cold, targets.pinches) == published
 
@@ -109,9 +109,9 @@ def test_a_table_in_any_layout_is_read(text: str) -> None:
 
 
 def test_latin_1_and_utf_16_are_read() -> None:
-    held = 'Strom;Eintrittstemperatur (°C);Austrittstemperatur (°C);Wärmestrom (kW)\nKühler;150,0;60,0;180,0\n'
+    table = 'Strom;Eintrittstemperatur (°C);Austrittstemperatur (°C);Wärmestrom (kW)\nKühler;150,0;60,0;180,0\n'
     for encoding in ('utf-8', 'utf-8-sig', 'latin-1', 'utf-16'):
-        assert streams(held.encode(encoding)) == [('hot', 'Kuehler', 1500, 600, 200, 0)]
+        assert streams(table.encode(encoding)) == [('hot', 'Kuehler', 1500, 600, 200, 0)]
 
 
 def test_no_unit_at_all_is_told() -> None:
@@ -123,10 +123,10 @@ def test_no_unit_at_all_is_told() -> None:
 
 
 def test_what_is_rounded_is_told() -> None:
-    held = made('name,supply °C,target °C,CP kW/K\nH,150.04,60,2.346\n')
+    conversion = made('name,supply °C,target °C,CP kW/K\nH,150.04,60,2.346\n')
     assert streams('name,supply °C,target °C,CP kW/K\nH,150.04,60,2.346\n') == [('hot', 'H', 1500, 600, 235, 0)]
-    assert held.notes == ('row 2 column 2: 150.04 °C is rounded to 150 °C',
-                          'row 2 column 4: 2.346 kW/K is rounded to 2.35 kW/K')
+    assert conversion.notes == ('row 2 column 2: 150.04 °C is rounded to 150 °C',
+                                'row 2 column 4: 2.346 kW/K is rounded to 2.35 kW/K')
     notes = made('name,supply °C,target °C,duty kW\nH,150,60,181\n').notes
     assert notes == ('row 2 column 4: from 181 kW the CP is rounded to 2.01 kW/K, which makes 180.9 kW',)
     notes = made('name,supply °C,target °C,CP kW/K\nH,150,60,2\n', Wanted(difference='18.3 °F')).notes
@@ -150,18 +150,18 @@ def test_prices_that_are_rounded_are_told_in_their_unit() -> None:
 
 
 def test_a_scale_takes_all_heats_times_ten() -> None:
-    held = ('kind,name,supply °C,target °C,CP kW/K,duty kW,most kW\nhot,H,150,60,0.0234,,\ncold,B,90,90,,1.5,\n'
-            'heater,S,200,,,,7\n')
-    case = made(held, replace(TEN, scale=Fraction(10))).case
-    assert [(each.cp, each.load) for each in case.streams] == [(23, 0), (0, 15000)]
+    table = ('kind,name,supply °C,target °C,CP kW/K,duty kW,most kW\nhot,H,150,60,0.0234,,\ncold,B,90,90,,1.5,\n'
+             'heater,S,200,,,,7\n')
+    case = made(table, replace(TEN, scale=Fraction(10))).case
+    assert [(stream.cp, stream.load) for stream in case.streams] == [(23, 0), (0, 15000)]
     assert case.utilities[0].most == 70000 and case.basis.scale == 10
     assert 'the CP is 0' in refusal('name,supply,target,CP\nH,150,60,0.004\n')
 
 
 def test_latent_streams_have_equal_temperatures_and_a_duty() -> None:
-    held = 'kind,name,supply,target,CP,duty (MW)\nhot,condenser,82,82,-,3.6\ncold,reboiler,116,116,,3.677\n'
-    assert streams(held) == [('hot', 'condenser', 820, 820, 0, 3_600_000),
-                             ('cold', 'reboiler', 1160, 1160, 0, 3_677_000)]
+    table = 'kind,name,supply,target,CP,duty (MW)\nhot,condenser,82,82,-,3.6\ncold,reboiler,116,116,,3.677\n'
+    assert streams(table) == [('hot', 'condenser', 820, 820, 0, 3_600_000),
+                              ('cold', 'reboiler', 1160, 1160, 0, 3_677_000)]
     assert 'has to say hot or cold' in refusal('name,supply,target,duty\nB,90,90,5\n')
     assert 'the duty is missing' in refusal('kind,name,supply,target,duty\nhot,B,90,90,\n')
     assert 'has a duty and no CP' in refusal('kind,name,supply,target,CP,duty\nhot,B,90,90,4,5\n')
@@ -169,19 +169,19 @@ def test_latent_streams_have_equal_temperatures_and_a_duty() -> None:
 
 
 def test_utilities_have_prices_and_all_costs_come_back(pinch: Pinch) -> None:
-    held = ('kind;name;supply °C;target °C;CP kW/K;price\nhot;H;170;60;3;\ncold;C;80;140;4;\n'
-            'heater;HP;250;;;35,5 EUR/MWh\nheater;LP;91;;;20 EUR/MWh\ncooler;CW;15;;;\n')
-    case = made(held).case
-    assert [each.price for each in case.utilities] == [355, 200, 0]
+    table = ('kind;name;supply °C;target °C;CP kW/K;price\nhot;H;170;60;3;\ncold;C;80;140;4;\n'
+             'heater;HP;250;;;35,5 EUR/MWh\nheater;LP;91;;;20 EUR/MWh\ncooler;CW;15;;;\n')
+    case = made(table).case
+    assert [utility.price for utility in case.utilities] == [355, 200, 0]
     assert (case.basis.price_unit, case.basis.cost_unit) == ('EUR/MWh', 'EUR/h')
-    assert [each.price for each in made(held.replace(' EUR/MWh', '').replace('price', 'Price €/MWh')).case.utilities] \
-        == [355, 200, 0]
-    assert made(held.replace('EUR/MWh', 'EUR/(kW a)'),
+    assert [utility.price for utility
+            in made(table.replace(' EUR/MWh', '').replace('price', 'Price €/MWh')).case.utilities] == [355, 200, 0]
+    assert made(table.replace('EUR/MWh', 'EUR/(kW a)'),
                 replace(TEN, hours=Fraction(8000))).case.basis.cost_unit == 'EUR/a'
-    assert 'is a price per mass' in refusal(held.replace('EUR/MWh', 'EUR/t'))
-    assert 'none of a price' in refusal(held.replace('EUR/MWh', 'EUR/m3'))
-    assert 'is missing' in refusal(held.replace('20 EUR/MWh', ''))
-    assert '--hours' in refusal(held.replace('20 EUR/MWh', '20 EUR/(kW a)'))
+    assert 'is a price per mass' in refusal(table.replace('EUR/MWh', 'EUR/t'))
+    assert 'none of a price' in refusal(table.replace('EUR/MWh', 'EUR/m3'))
+    assert 'is missing' in refusal(table.replace('20 EUR/MWh', ''))
+    assert '--hours' in refusal(table.replace('20 EUR/MWh', '20 EUR/(kW a)'))
     assert pinch.targets(case).hot >= 0
     cooler = 'kind;name;supply;target;CP;price\nhot;H;170;60;3;\ncooler;BFW;140;;;-3'
     assert 'no heater with one' in refusal(cooler + ' EUR/MWh\n')
@@ -189,8 +189,8 @@ def test_utilities_have_prices_and_all_costs_come_back(pinch: Pinch) -> None:
 
 
 def test_a_contribution_and_forbidden_matches() -> None:
-    held = 'contribution,,5,,,,\nhot,Feed gas,150.5,60,2,,\ncold,C,20,100,3,,2.5\nforbid,Feed gas,C,,,,\n'
-    case = made(held, Wanted()).case
+    table = 'contribution,,5,,,,\nhot,Feed gas,150.5,60,2,,\ncold,C,20,100,3,,2.5\nforbid,Feed gas,C,,,,\n'
+    case = made(table, Wanted()).case
     assert (case.contribution, case.streams[1].contribution) == (50, 25)
     assert (case.forbids[0].hot, case.forbids[0].cold) == ('Feed-gas', 'C')
     headed = 'kind,name,supply,target,CP\nhot,H,150,60,2\ncold,C,20,100,3\nforbid,H,C,,\ncontribution,,5,,\n'
@@ -210,16 +210,16 @@ def test_the_least_difference_may_have_a_unit() -> None:
 
 
 def test_names_are_made_fit_and_told() -> None:
-    held = ('name,supply °C,target °C,CP kW/K\nKühlwasser Rücklauf,150,60,2\nColumn 1/overhead vapour,150,60,2\n'
-            'Column 1/overhead liquid,150,60,2\n温度,150,60,2\n<script>alert(1)</script>,150,60,2\nfit,150,60,2\n'
-            '=1+1,150,60,2\n')
-    case = made(held).case
-    names = [each.name for each in case.streams]
+    table = ('name,supply °C,target °C,CP kW/K\nKühlwasser Rücklauf,150,60,2\nColumn 1/overhead vapour,150,60,2\n'
+             'Column 1/overhead liquid,150,60,2\n温度,150,60,2\n<script>alert(1)</script>,150,60,2\nfit,150,60,2\n'
+             '=1+1,150,60,2\n')
+    case = made(table).case
+    names = [stream.name for stream in case.streams]
     assert names == ['Kuehlwasser-Ruec', 'Column-1-vapour', 'Column-1-liquid', 'S4', 'script-alert-1-s', 'fit',
                      '1-plus-1']
     assert len(set(names)) == 7
     assert case.basis.names[1] == ('Column 1/overhead vapour', 'Column-1-vapour')
-    assert 'the name `温度` becomes S4' in made(held).notes
+    assert 'the name `温度` becomes S4' in made(table).notes
     assert read_case(example('four-stream.csv')).basis.names == ()
 
 
@@ -264,7 +264,7 @@ def test_comments_stay_in_the_case() -> None:
 
 def test_all_faults_are_told_at_once() -> None:
     said = refusal('name,supply,target,CP\nA,x,60,2\nB,150,y,2\n').split('\n')
-    assert [each.partition(':')[0] for each in said] == ['row 2 column 2', 'row 3 column 3']
+    assert [line.partition(':')[0] for line in said] == ['row 2 column 2', 'row 3 column 3']
 
 
 # Workbooks.
@@ -278,9 +278,9 @@ def test_a_workbook_is_read() -> None:
 
 def test_a_named_sheet_is_read() -> None:
     rows: list[list[object]] = [['name', 'supply', 'target', 'CP'], ['H', 150, 60, 2]]
-    held = workbook([['nothing here']], Plant=rows)
-    assert streams(held, replace(TEN, sheet='Plant')) == [('hot', 'H', 1500, 600, 200, 0)]
-    assert 'there is no sheet Site: the workbook has Streams, Plant' in refusal(held, replace(TEN, sheet='Site'))
+    book = workbook([['nothing here']], Plant=rows)
+    assert streams(book, replace(TEN, sheet='Plant')) == [('hot', 'H', 1500, 600, 200, 0)]
+    assert 'there is no sheet Site: the workbook has Streams, Plant' in refusal(book, replace(TEN, sheet='Site'))
     assert refusal(workbook([['name', 'supply', 'target', 'CP'], ['H', 150, 'x',
                                                                   2]])).startswith('sheet Streams row 2 column C')
 
@@ -299,18 +299,18 @@ def test_units_of_formats_and_of_merged_titles_are_seen() -> None:
         page.append(row)
     page.merge_cells('B1:C1')
     page['D3'].number_format = '0.000 "MW/K"'
-    held = io.BytesIO()
-    book.save(held)
-    assert streams(held.getvalue()) == [('hot', 'H', 1500, 600, 200, 0)]
+    saved = io.BytesIO()
+    book.save(saved)
+    assert streams(saved.getvalue()) == [('hot', 'H', 1500, 600, 200, 0)]
     page['A1'], page['B1'], page['D1'] = 'stream', 'Temperatures [K]', 'CP'
     page['D2'], page['D3'].number_format = 'MW/K', '0.000'
-    held = io.BytesIO()
-    book.save(held)
-    assert streams(held.getvalue()) == [('hot', 'H', 1500, 600, 200, 0)]
+    saved = io.BytesIO()
+    book.save(saved)
+    assert streams(saved.getvalue()) == [('hot', 'H', 1500, 600, 200, 0)]
     page['D3'].number_format = '0.0%'
-    held = io.BytesIO()
-    book.save(held)
-    assert 'a percentage' in refusal(held.getvalue())
+    saved = io.BytesIO()
+    book.save(saved)
+    assert 'a percentage' in refusal(saved.getvalue())
 
 
 def test_numbers_of_formulas_have_fifteen_digits() -> None:
@@ -320,7 +320,8 @@ def test_numbers_of_formulas_have_fifteen_digits() -> None:
 
 
 def test_what_is_no_workbook_is_refused() -> None:
-    for held, name in ((b'PK\x03\x04rubbish', 'a.xlsx'), (b'\xd0\xcf\x11\xe0old', 'a.xls'), (b'name,supply', 'a.xlsx')):
+    for content, name in ((b'PK\x03\x04rubbish', 'a.xlsx'), (b'\xd0\xcf\x11\xe0old', 'a.xls'),
+                          (b'name,supply', 'a.xlsx')):
         with pytest.raises(Refused) as fault:
-            case_of_table(held, name, TEN)
+            case_of_table(content, name, TEN)
         assert 'workbook' in fault.value.text
