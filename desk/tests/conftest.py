@@ -86,7 +86,7 @@ def pinch() -> Pinch:
     return Pinch()
 
 
-def held(*values: object) -> tuple[object, ...]:
+def as_objects(*values: object) -> tuple[object, ...]:
     """Values that are compared with those of another type: fractions and decimals with whole numbers."""
     return values
 

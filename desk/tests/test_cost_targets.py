@@ -4,7 +4,7 @@ from __future__ import annotations
 from fractions import Fraction
 
 import pytest
-from conftest import example, held
+from conftest import as_objects, example
 from costed import AROMATICS, ONE_TWO, SMALL, costed_case, data_of, law_rows, near, plants, targets, uses_of
 from hypothesis import given, settings
 from hypothesis import strategies as st
@@ -23,7 +23,7 @@ from pinchdesk.program.answers import HeatFlow
 def test_the_small_case_is_as_it_was_worked_by_hand(pinch: Pinch) -> None:
     found = targets(SMALL, pinch)
     rows = [(area.interval.heat, area.interval.cold_end, area.interval.warm_end) for area in found.area.intervals]
-    assert held(*rows) == ((50000, 30, 45), (150000, 35, 10), (30000, 60, 40))
+    assert as_objects(*rows) == ((50000, 30, 45), (150000, 35, 10), (30000, 60, 40))
     for area, mean, metres in zip(found.area.intervals, ('36.995', '19.956', '49.326'), ('4.055', '33.825', '1.825')):
         assert near(area.mean, mean) and near(area.area, metres)
     assert near(found.area.area, '39.704') and not found.area.bound

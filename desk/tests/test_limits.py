@@ -8,7 +8,7 @@ from pathlib import Path
 
 import openpyxl
 import pytest
-from conftest import CASES, example, held, pinchdesk
+from conftest import CASES, as_objects, example, pinchdesk
 from tabled import TEN, made, refusal, saved, streams, workbook
 
 from pinchdesk import Pinch, Refused, read_case
@@ -169,7 +169,7 @@ def test_the_exact_targets_of_a_case_in_whole_numbers_are_those_of_the_program(n
     case, targets = read_case(example(f'{name}.csv')), pinch.targets(example(f'{name}.csv'))
     spans = [span_of(each.side, (Fraction(each.supply), Fraction(each.target)), Fraction(each.heat),
                      Fraction(each.contribution)) for each in case.streams]
-    assert held(*exact_targets(spans)) == (targets.hot, targets.cold)
+    assert as_objects(*exact_targets(spans)) == (targets.hot, targets.cold)
 
 
 @pytest.mark.parametrize('words', ['targets #', 'sweep # 5 15 5', 'whatif #', 'draw curves # -o c.svg',

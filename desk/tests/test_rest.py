@@ -6,7 +6,7 @@ from fractions import Fraction
 from pathlib import Path
 
 import pytest
-from conftest import CASES, NETWORKS, example, held
+from conftest import CASES, NETWORKS, as_objects, example
 from hypothesis import given, settings
 from hypothesis import strategies as st
 
@@ -27,14 +27,14 @@ LATENT = 'contribution,,50,,,,\nhot,H,1500,700,10,,\ncold,B,900,900,0,8000,\n'
 
 def targets_of(rest: Rest) -> tuple[object, ...]:
     assert rest.harder and rest.exact
-    return held(rest.harder.hot, rest.harder.cold)
+    return as_objects(rest.harder.hot, rest.harder.cold)
 
 
 @pytest.mark.parametrize('name', CASES)
 def test_the_rest_of_an_empty_network_is_the_whole(name: str, pinch: Pinch) -> None:
     case = example(f'{name}.csv')
     rest, whole = remaining(case, '', pinch), pinch.targets(case)
-    assert targets_of(rest) == (whole.hot, whole.cold) and held(*rest.excess) == (0, 0)
+    assert targets_of(rest) == (whole.hot, whole.cold) and as_objects(*rest.excess) == (0, 0)
     assert rest.harder and rest.harder.targets == whole and rest.good == (name != 'too-little-cooling')
     assert written_case(rest) == read_case(case)
 
@@ -43,7 +43,7 @@ def test_the_rest_of_an_empty_network_is_the_whole(name: str, pinch: Pinch) -> N
 def test_the_rest_of_a_whole_network_is_nothing(name: str, pinch: Pinch) -> None:
     rest = remaining(example(f'{name}.csv'), example(f'{name}-network.txt'), pinch)
     assert isinstance(rest.verdict, Accepted) and rest.good and not rest.left and written_case(rest) is None
-    assert held(*rest.excess) == (rest.verdict.excess, rest.verdict.excess)
+    assert as_objects(*rest.excess) == (rest.verdict.excess, rest.verdict.excess)
     assert (rest.hot_used, rest.cold_used, rest.cost_used) == (rest.verdict.hot, rest.verdict.cold, rest.verdict.cost)
 
 
@@ -56,7 +56,7 @@ def test_what_is_left_without_the_last_statements_costs_no_more_than_the_whole_n
     rest = remaining(case, endless, pinch)
     assert rest.good and rest.harder is None and len(rest.left) == len(rest.followed.case.streams)
     whole = pinch.audit(case, network)
-    assert isinstance(whole, Accepted) and held(*rest.excess) == (whole.excess, whole.excess)
+    assert isinstance(whole, Accepted) and as_objects(*rest.excess) == (whole.excess, whole.excess)
 
 
 @pytest.mark.parametrize('name', NETWORKS)
@@ -101,13 +101,13 @@ def without_last(network: Network) -> Network | None:
 
 def test_a_match_above_the_pinch_costs_nothing_and_its_end_stands_at_the_pinch(pinch: Pinch) -> None:
     rest = remaining(FOUR, AHEAD, pinch)
-    assert targets_of(rest) == (20_000, 60_000) and held(*rest.excess) == (0, 0) and rest.good
-    assert [held(each.name, each.branch.name, each.state, each.heat) for each in rest.left] == [
+    assert targets_of(rest) == (20_000, 60_000) and as_objects(*rest.excess) == (0, 0) and rest.good
+    assert [as_objects(each.name, each.branch.name, each.state, each.heat) for each in rest.left] == [
         ('C1', 'C1', 200, 230_000), ('H2', 'a', 900, 90_000), ('H4', 'H4', 1500, 180_000)]
     sheets = rest_sheets(rest)
     assert [row[1:3] + row[6:] for row in sheets[2].rows] == [
         ('C1', 'C1', 'above below'), ('H2', 'a', 'below'), ('H4', 'H4', 'above below')]
-    assert [held(*row[1:4]) for row in sheets[3].rows] == [('above', 1, 1), ('below', 2, 1)]
+    assert [as_objects(*row[1:4]) for row in sheets[3].rows] == [('above', 1, 1), ('below', 2, 1)]
     assert written_case(rest) == read_case('contribution,,50,,,,\ncold,C1,200,1350,200,,\nhot,H2,900,600,300,,\n'
                                            'hot,H4,1500,300,150,,\n')
 
@@ -118,19 +118,19 @@ def test_a_heater_too_many_counts_and_a_temperature_between_tenths_is_exact(pinc
     rest = remaining(FOUR, ACROSS, pinch)
     assert rest.left[1].state == Fraction(4100, 3) and rest.harder and rest.harder.scale.degrees == 3
     assert targets_of(rest) == (101_250, 191_250) and rest.hot_used == 50_000
-    assert held(*rest.excess) == (131_250, 131_250) and rest.good and not list(rounding_notes(rest))
+    assert as_objects(*rest.excess) == (131_250, 131_250) and rest.good and not list(rounding_notes(rest))
     assert list(file_notes(rest)) == [
         'in the case of the rest branch a of H2 begins at 136.6 °C, rounded from 136.666667 (410/3)']
     posed = written_case(rest)
     assert posed and posed.streams[1].supply == 1366
     assert 101_250 <= pinch.targets(posed).hot <= 101_250 + 200
-    assert [held(*row) for row in rest_sheets(rest)[-1].rows] == [('exchanger E1', 100)]
+    assert [as_objects(*row) for row in rest_sheets(rest)[-1].rows] == [('exchanger E1', 100)]
 
 
 def test_the_example_that_is_begun_loses_what_its_heater_gives_below_the_pinch(pinch: Pinch) -> None:
     rest = remaining(FOUR, example('four-stream-begun.txt'), pinch)
-    assert held(*rest.excess) == (20_000, 20_000) and targets_of(rest) == (20_000, 80_000)
-    assert [held(*row) for row in rest_sheets(rest)[-1].rows] == [('exchanger Q1', 20)]
+    assert as_objects(*rest.excess) == (20_000, 20_000) and targets_of(rest) == (20_000, 80_000)
+    assert [as_objects(*row) for row in rest_sheets(rest)[-1].rows] == [('exchanger Q1', 20)]
 
 
 def test_sizes_that_are_fractions_are_scaled(pinch: Pinch) -> None:
@@ -162,8 +162,8 @@ def test_what_no_scale_holds_is_rounded_to_both_sides_and_told(pinch: Pinch) -> 
 def test_of_a_latent_stream_the_load_is_left(pinch: Pinch) -> None:
     network = 'exchanger E1 H B 3000\npass H E1 a\nsplit B b 5000 c\npass b E1 d\n'
     rest = remaining(LATENT, network, pinch)
-    assert [held(each.name, each.heat) for each in rest.left] == [('H', 5000), ('c', 3000), ('d', 2000)]
-    assert targets_of(rest) == (3000, 3000) and held(*rest.excess) == (0, 0)
+    assert [as_objects(each.name, each.heat) for each in rest.left] == [('H', 5000), ('c', 3000), ('d', 2000)]
+    assert targets_of(rest) == (3000, 3000) and as_objects(*rest.excess) == (0, 0)
     posed = written_case(rest)
     assert posed and [each.load for each in posed.streams] == [0, 3000, 2000]
 
@@ -184,7 +184,7 @@ def test_own_contributions_ranges_and_forbidden_matches_are_kept(pinch: Pinch) -
 def test_a_utility_that_gave_all_has_nothing_left_and_one_that_gave_too_much_is_rejected(pinch: Pinch) -> None:
     case = 'contribution,,50,,,,\ncold,C,300,1300,100,,\nheater,S,2200,0,40000,2,\nheater,R,2000,0,90000,3,\n'
     rest = remaining(case, 'exchanger Q1 S C 40000\npass C Q1 a\n', pinch)
-    assert rest.good and isinstance(rest.whole_flow, HeatFlow) and held(*rest.excess) == (0, 0)
+    assert rest.good and isinstance(rest.whole_flow, HeatFlow) and as_objects(*rest.excess) == (0, 0)
     assert rest.harder and [each.most for each in rest.harder.case.utilities] == [0, 90_000]
     assert rest.cost_used == 80_000 and rest.harder.cost == 180_000 and rest.whole_flow.cost == 260_000
     over = remaining(case, 'exchanger Q1 S C 40001\npass C Q1 a\n', pinch)

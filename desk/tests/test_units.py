@@ -5,7 +5,7 @@ from functools import lru_cache
 from pathlib import Path
 
 import pytest
-from conftest import CASES, NETWORKS, example, held
+from conftest import CASES, NETWORKS, as_objects, example
 from hypothesis import given
 from hypothesis import strategies as st
 
@@ -65,7 +65,7 @@ def test_a_pinch_that_heat_crosses_is_no_cut_and_utility_pinches_are(pinch: Pinc
 def test_the_text_has_the_sums_and_the_exchangers_of_a_network(pinch: Pinch) -> None:
     case, network = example('four-stream.csv'), example('four-stream-network.txt')
     sheets = units_sheets(counted(pinch, case), follow(completed(read_case(case)), read_network(network)))
-    assert [held(*row[1:]) for row in sheets[0].rows[:3]] == [(6, 1, 5, 6, 0), (5, 2, 3, 3, 0), (4, 1, 3, 3, 0)]
+    assert [as_objects(*row[1:]) for row in sheets[0].rows[:3]] == [(6, 1, 5, 6, 0), (5, 2, 3, 3, 0), (4, 1, 3, 3, 0)]
     assert [row[2] for row in sheets[1].rows[1:]] == [
         'hot: H2 240 = cold: C3 240', 'hot: H4 90 + HOT 20 = cold: C1 110',
         'hot: H2 90 + H4 90 = cold: C1 120 + COLD 60']
@@ -77,7 +77,7 @@ def test_each_exchanger_of_a_network_is_on_a_side_or_across(name: str, pinch: Pi
     units = counted(pinch, case)
     rows = units_sheets(units, follow(units.case, network))[0].rows
     columns = len(rows[0])
-    assert held(*rows[0][columns - 2:]) == (len(network.exchangers), 0)
+    assert as_objects(*rows[0][columns - 2:]) == (len(network.exchangers), 0)
     for level in units.levels:
         at = 1 if level is units.levels[0] else 2 + len(units.levels[0])
         inside, partly = (sum(int(str(row[column])) for row in rows[at:at + len(level)])
@@ -94,7 +94,7 @@ def test_a_forbidden_match_parts_a_set_that_balances(pinch: Pinch) -> None:
     assert (units.whole.least, units.whole.least_joined) == (2, 3)
     assert [each.parts for each in units.whole.sets if not each.joinable] == [(('A',), ('C',))]
     sheets = units_sheets(units)
-    assert sheets[0].headings[4] == 'that can be joined' and held(*sheets[0].rows[0][3:5]) == (2, 3)
+    assert sheets[0].headings[4] == 'that can be joined' and as_objects(*sheets[0].rows[0][3:5]) == (2, 3)
     assert sheets[1].rows[0][3] == 'forbidden matches or temperatures part it: A | C' and 0 in sheets[1].marked
     free = counted(pinch, case.replace('forbid,A,C,,,,\n', ''))
     assert (free.whole.least, free.whole.least_joined) == (2, 2)

@@ -6,7 +6,7 @@ from fractions import Fraction
 from pathlib import Path
 
 import pytest
-from conftest import EXAMPLES, example, held
+from conftest import EXAMPLES, as_objects, example
 from hypothesis import given
 from hypothesis import strategies as st
 from tabled import workbook
@@ -142,10 +142,10 @@ def test_each_row_is_what_pinch_says_of_the_changed_case(pinch: Pinch) -> None:
     for each in (made.base, *made.outcomes):
         assert each.targets == pinch.targets(print_case(each.case)) and each.flow == pinch.flow(print_case(each.case))
     rows = what_if_sheets(made)[0].rows
-    assert [held(*row[:6]) for row in rows[:3]] == [
+    assert [as_objects(*row[:6]) for row in rows[:3]] == [
         ('base', 20, None, 60, None, 85), ('feed warmer', 20, 0, 80, 20, 85),
         ('less product', Fraction('36.2'), Fraction('16.2'), Fraction('51.3'), Fraction('-8.7'), 85)]
-    assert [held(*row[6:8]) for row in rows[1:3]] == [(57_000, 0), (105_160, 48_160)]
+    assert [as_objects(*row[6:8]) for row in rows[1:3]] == [(57_000, 0), (105_160, 48_160)]
     assert list(rounding_notes(made)) == ['row 4 column 4: CP of H4: 1.425 kW/K is rounded to 1.43 kW/K']
 
 
