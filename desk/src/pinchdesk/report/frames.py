@@ -19,11 +19,11 @@ def columns_of(headings: Sequence[str], rows: Sequence[Sequence[Cell]]) -> dict[
     made: dict[str, Column] = {}
     for at, name in enumerate(names_of(headings, width)):
         cells = [row[at] if at < len(row) else None for row in rows]
-        texts = [each if isinstance(each, str) else None for each in cells]
-        if any(isinstance(each, str) for each in cells) and not any(isinstance(each, Decimal) for each in cells):
+        texts = [cell if isinstance(cell, str) else None for cell in cells]
+        if any(isinstance(cell, str) for cell in cells) and not any(isinstance(cell, Decimal) for cell in cells):
             made[name] = texts
             continue
-        made[name] = [float(each) if isinstance(each, Decimal) else nan for each in cells]
+        made[name] = [float(cell) if isinstance(cell, Decimal) else nan for cell in cells]
         if any(texts):
             made[name + SAID] = texts
     return made
@@ -34,7 +34,7 @@ def names_of(headings: Sequence[str], width: int) -> list[str]:
     blank = not any(headings)
     given = FACTS[width] if blank and width in FACTS else [*headings, *[''] * (width - len(headings))]
     names: list[str] = []
-    for at, each in enumerate(given, 1):
-        name = each or ('what' if at == 1 else f'column {at}')
+    for at, heading in enumerate(given, 1):
+        name = heading or ('what' if at == 1 else f'column {at}')
         names.append(name if name not in names else f'{name} ({at})')
     return names

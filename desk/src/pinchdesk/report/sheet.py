@@ -49,9 +49,9 @@ def form_of(output: str | None, told: str | None) -> str:
 def rendered(sheets: Sequence[Sheet], form: str) -> str | bytes:
     """The sheets in a form, one below the other; a workbook has a sheet for each."""
     if form == 'text':
-        return '\n'.join(as_text(each) for each in sheets)
+        return '\n'.join(as_text(sheet) for sheet in sheets)
     if form == 'csv':
-        return '\r\n'.join(as_csv(each) for each in sheets)
+        return '\r\n'.join(as_csv(sheet) for sheet in sheets)
     if form == 'xlsx':
         return as_workbook(sheets)
     raise WordsError(f'{form} is no form of a table: {", ".join(FORMS)}')
@@ -81,11 +81,11 @@ def as_text(sheet: Sheet) -> str:
 
 def as_csv(sheet: Sheet) -> str:
     """Comma-separated, with a decimal point; lines end as spreadsheets write them. No text is a formula."""
-    held = io.StringIO(newline='')
+    written = io.StringIO(newline='')
     head = [sheet.headings] if any(sheet.headings) else []
-    csv.writer(held).writerows([text_of(cell) if isinstance(cell, Decimal) else plain(text_of(cell)) for cell in row]
-                               for row in (*head, *sheet.rows))
-    return held.getvalue()
+    csv.writer(written).writerows([text_of(cell) if isinstance(cell, Decimal) else plain(text_of(cell)) for cell in row]
+                                  for row in (*head, *sheet.rows))
+    return written.getvalue()
 
 
 def as_workbook(sheets: Sequence[Sheet]) -> bytes:
@@ -106,9 +106,9 @@ def as_workbook(sheets: Sequence[Sheet]) -> bytes:
                 if at - 2 in sheet.marked:
                     place.fill = PatternFill('solid', fgColor='F8C9C4')
         fit_columns(page, sheet)
-    held = io.BytesIO()
-    book.save(held)
-    return held.getvalue()
+    workbook = io.BytesIO()
+    book.save(workbook)
+    return workbook.getvalue()
 
 
 def fit_columns(page: object, sheet: Sheet) -> None:
@@ -120,5 +120,5 @@ def fit_columns(page: object, sheet: Sheet) -> None:
 
 def title_of(title: str, number: int) -> str:
     """A title that a sheet of a workbook may have."""
-    fit = ''.join(' ' if each in '[]:*?/\\' else each for each in title).strip()[:31].strip("' ")
+    fit = ''.join(' ' if letter in '[]:*?/\\' else letter for letter in title).strip()[:31].strip("' ")
     return fit or f'Sheet {number}'

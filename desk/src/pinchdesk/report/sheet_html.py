@@ -12,14 +12,14 @@ MARKED = ' style="background-color: #f8c9c4; color: #222222"'
 
 def as_html(sheets: Iterable[Sheet], notes: Iterable[str] = ()) -> str:
     """The tables one below the other, and what is told below them."""
-    told = ''.join(f'<li>{escape(text_of(each))}</li>' for each in notes)
+    told = ''.join(f'<li>{escape(text_of(note))}</li>' for note in notes)
     return '<div>' + ''.join(map(table_of, sheets)) + (f'<ul>{told}</ul>' if told else '') + '</div>'
 
 
 def table_of(sheet: Sheet) -> str:
     """A table with its title; a marked row has a colour."""
     title = f'<caption style="text-align: left">{escape(text_of(sheet.title))}</caption>' if sheet.title else ''
-    heads = ''.join(f'<th>{escape(text_of(each))}</th>' for each in sheet.headings)
+    heads = ''.join(f'<th>{escape(text_of(heading))}</th>' for heading in sheet.headings)
     head = f'<thead><tr>{heads}</tr></thead>' if any(sheet.headings) else ''
     rows = ''.join(f'<tr{MARKED if at in sheet.marked else ""}>{"".join(map(cell_of, row))}</tr>'
                    for at, row in enumerate(sheet.rows))
