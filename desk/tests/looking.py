@@ -28,8 +28,8 @@ def undrawn(figure: Figure) -> set[int]:
         for axis in (axes.xaxis, axes.yaxis):
             low, high = sorted(axis.get_view_interval())
             ticks = [*axis.get_major_ticks(), *axis.get_minor_ticks()]
-            hidden = [each for each in ticks if not axes.axison or not low <= each.get_loc() <= high]
-            found.update(id(label) for each in hidden for label in (each.label1, each.label2))
+            hidden = [tick for tick in ticks if not axes.axison or not low <= tick.get_loc() <= high]
+            found.update(id(label) for tick in hidden for label in (tick.label1, tick.label2))
     return found
 
 
@@ -40,10 +40,10 @@ def texts_of(figure: Figure) -> list[tuple[str, Bbox, Any]]:
         figure.canvas.draw()
         renderer = figure.canvas.get_renderer()
         hidden = undrawn(figure)
-        found = [each for each in figure.findobj(Text)
-                 if each.get_visible() and each.get_text().strip() and id(each) not in hidden]
-        boxes = [(each.get_text(), Text.get_window_extent(each, renderer), each) for each in found]
-    return [(text, box.padded(-0.6), each) for text, box, each in boxes]
+        found = [drawn for drawn in figure.findobj(Text)
+                 if drawn.get_visible() and drawn.get_text().strip() and id(drawn) not in hidden]
+        boxes = [(drawn.get_text(), Text.get_window_extent(drawn, renderer), drawn) for drawn in found]
+    return [(text, box.padded(-0.6), drawn) for text, box, drawn in boxes]
 
 
 def overlapping(figure: Figure) -> list[tuple[str, str]]:
@@ -54,46 +54,47 @@ def overlapping(figure: Figure) -> list[tuple[str, str]]:
 def cut_off(figure: Figure) -> list[str]:
     """Texts and legends that the picture's edge cuts, or that lie beyond it."""
     frame = figure.bbox
-    legends = [('a legend', each.get_window_extent()) for each in figure.findobj(Legend)]
+    legends = [('a legend', legend.get_window_extent()) for legend in figure.findobj(Legend)]
     return [text for text, box in [*((text, box) for text, box, _ in texts_of(figure)), *legends]
             if box.x0 < frame.x0 or box.x1 > frame.x1 or box.y0 < frame.y0 or box.y1 > frame.y1]
 
 
 def svg_texts(figure: Figure) -> list[str]:
     """The texts of the picture as a file."""
-    held = rendered(figure, 'svg').decode()
-    return [unescape(re.sub('<[^>]*>', '', each)).strip() for each in re.findall('<text.*?</text>', held, re.S)]
+    picture = rendered(figure, 'svg').decode()
+    return [unescape(re.sub('<[^>]*>', '', element)).strip()
+            for element in re.findall('<text.*?</text>', picture, re.S)]
 
 
 def bars_of(figure: Figure) -> list[tuple[list[Any], str]]:
     """The bars of exchangers in a grid diagram: their points in dots, and their colours."""
     found: list[tuple[list[Any], str]] = []
-    for each in figure.findobj(PathPatch):
-        if each.get_zorder() != BARS:
+    for patch in figure.findobj(PathPatch):
+        if patch.get_zorder() != BARS:
             continue
-        path = each.get_path()
-        for point, code in zip(each.get_transform().transform(path.vertices), path.codes):
+        path = patch.get_path()
+        for point, code in zip(patch.get_transform().transform(path.vertices), path.codes):
             if code == Path.MOVETO:
-                found.append(([], to_hex(each.get_edgecolor())))
+                found.append(([], to_hex(patch.get_edgecolor())))
             found[-1][0].append(point)
     return found
 
 
 def lines_named(axes: Any, name: str) -> list[list[tuple[float, float]]]:
     """The points of the lines of a diagram that have this name inside it."""
-    return [points_of(each) for each in axes.get_lines() if each.get_gid() == name]
+    return [points_of(line) for line in axes.get_lines() if line.get_gid() == name]
 
 
 def line_of(axes: Any, label: str) -> list[tuple[float, float]]:
     """The points of the line that has this label in the legend."""
-    return next(points_of(each) for each in axes.get_lines() if each.get_label() == label)
+    return next(points_of(line) for line in axes.get_lines() if line.get_label() == label)
 
 
 def points_of(line: Line2D) -> list[tuple[float, float]]:
-    return [(float(each[0]), float(each[1])) for each in line.get_xydata()]
+    return [(float(point[0]), float(point[1])) for point in line.get_xydata()]
 
 
 def dashed_of(figure: Figure) -> set[float]:
     """Where the upright dashed lines of a grid diagram stand, in inches."""
-    return {float(each.get_xdata()[0]) for each in figure.findobj(Line2D)
-            if each.get_linestyle() == '--' and each.get_xdata()[0] == each.get_xdata()[1]}
+    return {float(line.get_xdata()[0]) for line in figure.findobj(Line2D)
+            if line.get_linestyle() == '--' and line.get_xdata()[0] == line.get_xdata()[1]}

@@ -63,31 +63,31 @@ def rows_of(case: Case, units: tuple[str, ...]) -> list[list[str]]:
     def number(kind: int, value: int) -> str:
         return written(UNITS[kind][units[kind]](value))
     rows = []
-    for each in case.sources:
-        share = number(APART, each.contribution)
-        if isinstance(each, Stream):
-            size = ['', number(HEAT, each.load)] if each.latent else [number(FLOW, each.cp), '']
-            ends = [number(WARM, each.supply), number(WARM, each.target)]
-            rows.append([each.side.value, each.name, *ends, *size, share])
+    for source in case.sources:
+        share = number(APART, source.contribution)
+        if isinstance(source, Stream):
+            size = ['', number(HEAT, source.load)] if source.latent else [number(FLOW, source.cp), '']
+            ends = [number(WARM, source.supply), number(WARM, source.target)]
+            rows.append([source.side.value, source.name, *ends, *size, share])
         else:
-            kind = 'heater' if each.side is Side.HOT else 'cooler'
-            rows.append([kind, each.name, number(WARM, each.level), '', '', '', share, number(HEAT, each.least),
-                         number(HEAT, each.most), str(each.price)])
-    rows += [['forbid', each.hot, each.cold] for each in case.forbids]
+            kind = 'heater' if source.side is Side.HOT else 'cooler'
+            rows.append([kind, source.name, number(WARM, source.level), '', '', '', share, number(HEAT, source.least),
+                         number(HEAT, source.most), str(source.price)])
+    rows += [['forbid', pair.hot, pair.cold] for pair in case.forbids]
     return [*rows, ['contribution', '', '', '', '', '', number(APART, case.contribution)]]
 
 
 @some.composite
 def mixed(draw: Any) -> Mixed:
     case = read_case(example(f'{draw(some.sampled_from(CASES))}.csv'))
-    units = tuple(draw(some.sampled_from([*each])) for each in UNITS)
+    units = tuple(draw(some.sampled_from([*units_of_kind])) for units_of_kind in UNITS)
     rows = rows_of(case, units)
     styles = [draw(some.sampled_from(['heading', 'row', 'above', 'cell', 'said'] + ['nowhere'] * (unit == usual)))
               for unit, usual in zip(units, DEFAULTS)]
-    head = [f'{each} ({units[KINDS[each]]})' if each in KINDS and styles[KINDS[each]] == 'heading' else each
-            for each in HEAD]
-    below, above = ([units[KINDS[each]] if each in KINDS and styles[KINDS[each]] == style else '' for each in HEAD]
-                    for style in ('row', 'above'))
+    head = [f'{heading} ({units[KINDS[heading]]})' if heading in KINDS and styles[KINDS[heading]] == 'heading'
+            else heading for heading in HEAD]
+    below, above = ([units[KINDS[heading]] if heading in KINDS and styles[KINDS[heading]] == style else ''
+                     for heading in HEAD] for style in ('row', 'above'))
     for row in rows:
         for at, cell in enumerate(row):
             kind = KINDS.get(HEAD[at]) if at < len(HEAD) else None
@@ -122,15 +122,15 @@ def note_row(text: str, column: int) -> list[str]:
     return [''] * column + [text]
 
 
-def is_same(content: bytes, held: Mixed, name: str = 't.csv') -> bool:
+def is_same(content: bytes, table: Mixed, name: str = 't.csv') -> bool:
     """Whether the table is read as the case that it says; False where it is refused."""
     try:
         again = made(content, Wanted(decimal='.'), name).case
     except Refused as fault:
-        assert not held.plain, fault.text
+        assert not table.plain, fault.text
         event('refused')
         return False
-    assert replace(again, basis=Basis()) == replace(held.case, basis=Basis())
+    assert replace(again, basis=Basis()) == replace(table.case, basis=Basis())
     event('read')
     return True
 
@@ -143,13 +143,13 @@ def text_of(rows: list[list[str]], separator: str) -> bytes:
 
 @settings(max_examples=300)
 @given(mixed(), some.sampled_from(';\t|,'))
-def test_a_mixed_table_is_read_as_its_case_or_refused(held: Mixed, separator: str) -> None:
-    is_same(text_of(held.rows, separator), held)
+def test_a_mixed_table_is_read_as_its_case_or_refused(table: Mixed, separator: str) -> None:
+    is_same(text_of(table.rows, separator), table)
 
 
 @settings(max_examples=30)
 @given(mixed())
-def test_a_mixed_workbook_is_read_as_its_case_or_refused(held: Mixed) -> None:
+def test_a_mixed_workbook_is_read_as_its_case_or_refused(table: Mixed) -> None:
     rows: list[list[object]] = [[Decimal(cell) if cell.replace('.', '').replace('-', '').isdigit() else cell or None
-                                 for cell in row] for row in held.rows]
-    is_same(workbook(rows), held, 't.xlsx')
+                                 for cell in row] for row in table.rows]
+    is_same(workbook(rows), table, 't.xlsx')

@@ -33,8 +33,8 @@ BEYOND = """return [...document.querySelectorAll('body *')]
 def driver() -> Iterator[Any]:
     options = webdriver.ChromeOptions()
     options.binary_location = CHROMIUM
-    for each in ('--headless', '--no-sandbox', '--disable-gpu', '--host-resolver-rules=MAP * ~NOTFOUND'):
-        options.add_argument(each)
+    for word in ('--headless', '--no-sandbox', '--disable-gpu', '--host-resolver-rules=MAP * ~NOTFOUND'):
+        options.add_argument(word)
     from selenium.webdriver.chrome.service import Service
     made = webdriver.Chrome(service=Service(DRIVER or ''), options=options)
     yield made
@@ -45,7 +45,7 @@ def driver() -> Iterator[Any]:
 def page(tmp_path_factory: pytest.TempPathFactory) -> Path:
     """A page with a grid of many columns."""
     names = ('crude.csv', 'crude-network.txt')
-    case, network = (Given(each, str(EXAMPLES / each), example(each)) for each in names)
+    case, network = (Given(name, str(EXAMPLES / name), example(name)) for name in names)
     path = tmp_path_factory.mktemp('narrow') / 'page.html'
     path.write_text(page_of(review_of(Pinch(), case, [network]), unfolded=True), encoding='utf-8')
     return path
@@ -62,7 +62,7 @@ def seen(driver: Any, page: Path, wide: int) -> list[list[Any]]:
 
 
 def test_on_a_narrow_screen_the_grid_scrolls_in_its_box_and_the_page_does_not(driver: Any, page: Path) -> None:
-    pictures = {each[0]: each[1:] for each in seen(driver, page, NARROW)}
+    pictures = {picture[0]: picture[1:] for picture in seen(driver, page, NARROW)}
     assert len(pictures) == 4
     assert driver.execute_script('return [innerWidth, document.documentElement.scrollWidth]') == [NARROW, NARROW]
     assert driver.execute_script(BEYOND) == []
@@ -94,4 +94,4 @@ def smallest(name: str) -> float:
         figure = drawings[name](case, *answers, pinch.flow(content))
     else:
         figure = grid_figure(follow(case, read_network(text)), pinches_of(*answers), pinch.audit(content, text))
-    return min(float(each.get_fontsize()) for each in figure.findobj(Text) if each.get_text().strip())
+    return min(float(letters.get_fontsize()) for letters in figure.findobj(Text) if letters.get_text().strip())

@@ -39,13 +39,13 @@ def test_windows_end_where_no_heat_crosses(pinch: Pinch) -> None:
     case = completed(read_case(example('two-steam-levels.csv')))
     flow = pinch.flow(case)
     assert not isinstance(flow, Cut)
-    made = windows.windows(case, {each.name: each.heat for each in flow.uses})
+    made = windows.windows(case, {use.name: use.heat for use in flow.uses})
     assert len(made) == 3
     for window in made:
-        assert sum(each.most for each in window.hots) == sum(each.most for each in window.colds)
-    heats = {each.name: each.heat for each in case.streams} | {each.name: each.heat for each in flow.uses}
+        assert sum(piece.most for piece in window.hots) == sum(piece.most for piece in window.colds)
+    heats = {stream.name: stream.heat for stream in case.streams} | {use.name: use.heat for use in flow.uses}
     for name, heat in heats.items():
-        assert sum(each.most for window in made for each in window.pieces if each.name == name) == heat
+        assert sum(piece.most for window in made for piece in window.pieces if piece.name == name) == heat
 
 
 def test_more_cost_buys_fewer_exchangers(pinch: Pinch) -> None:
@@ -69,7 +69,7 @@ def test_equal_pairs_that_follow_each_other_are_one() -> None:
     matches = {0: Match('H', 'C', Fraction(2000)), 1: Match('H', 'C', Fraction(3000))}
     size = {'H': Fraction(10), 'C': Fraction(25)}
     plan = StagedPlan(matches, {'H': ({0: size['H']}, {1: size['H']}), 'C': ({1: size['C']}, {0: size['C']})})
-    assert [each.duty for each in joined(case, plan).matches.values()] == [5000]
+    assert [match.duty for match in joined(case, plan).matches.values()] == [5000]
     other = StagedPlan(matches, {'H': ({0: size['H']}, {1: size['H']}), 'C': ({0: size['C']}, {1: size['C']})})
     assert len(joined(case, other).matches) == 2
 
@@ -119,8 +119,8 @@ def test_a_network_is_told_in_the_units_of_its_case(table: str, scale: str, cost
     folder = tmp_path / 'ways'
     done = pinchdesk('tradeoff', str(case), str(out), '--seconds', '0.1', '--form', 'csv', '--networks', str(folder))
     assert done.out.startswith(f'exchangers,cost {unit},above the floor {unit},excess kW')
-    held = next(folder.iterdir()).read_text()
-    assert f'\n# cost {cost} {unit}, floor {cost} {unit}, excess 0 kW\n{times}' in held
+    text = next(folder.iterdir()).read_text()
+    assert f'\n# cost {cost} {unit}, floor {cost} {unit}, excess 0 kW\n{times}' in text
     (tmp_path / 'list').write_text(f'case\n{case}\n{EXAMPLES}/tc3.csv\n')
     done = pinchdesk('many', 'network', str(tmp_path / 'list'), '--seconds', '60', '--form', 'csv')
     first, other = csv.DictReader(io.StringIO(done.out))

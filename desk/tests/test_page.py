@@ -32,7 +32,7 @@ document.body.setAttribute('data-seen', JSON.stringify(found));
 
 
 def given(*names: str) -> list[Given]:
-    return [Given(each, str(EXAMPLES / each), example(each)) for each in names]
+    return [Given(name, str(EXAMPLES / name), example(name)) for name in names]
 
 
 @pytest.fixture(scope='module')
@@ -49,7 +49,7 @@ def words_of(page: str) -> str:
 
 
 def test_all_that_was_printed_is_on_the_page(steam: str, pinch: Pinch) -> None:
-    case, network = (example(each) for each in STEAM)
+    case, network = (example(name) for name in STEAM)
     verdict = pinch.audit(case, network)
     assert isinstance(verdict, Accepted)
     text = words_of(steam)
@@ -58,7 +58,7 @@ def test_all_that_was_printed_is_on_the_page(steam: str, pinch: Pinch) -> None:
 
 
 def test_numbers_are_in_engineers_units(steam: str, pinch: Pinch) -> None:
-    case, network = (example(each) for each in STEAM)
+    case, network = (example(name) for name in STEAM)
     shown, targets, verdict = Shown(read_case(case).basis), pinch.targets(case), pinch.audit(case, network)
     assert isinstance(verdict, Accepted)
     text = words_of(steam)
@@ -76,7 +76,7 @@ def test_the_page_stands_alone_and_styles_do_not_meet(steam: str) -> None:
 
 
 def test_prices_and_costs_of_the_page_have_the_units_of_the_table(tmp_path: Path) -> None:
-    table, case, page = (tmp_path / each for each in ('table.csv', 'case.csv', 'page.html'))
+    table, case, page = (tmp_path / name for name in ('table.csv', 'case.csv', 'page.html'))
     table.write_text('kind;name;supply;target;CP;price\nhot;Kühlung;170;60;3;\ncold;C;80;140;10;\n'
                      'heater;ST;180;;;120 EUR/(kW a)\ncooler;Fluß;15;;;5 EUR/(kW a)\n')
     assert main(['case', '-d', '10', str(table), '-o', str(case)]) == 0
@@ -114,7 +114,7 @@ def test_a_page_is_written_whole_or_not_at_all(tmp_path: Path) -> None:
     assert refused.status == 3 and page.read_text() == 'before' and 'tc3-network.txt' in refused.err
     assert pinchdesk('page', str(case), '-o', str(case)).status == 2
     assert case.read_bytes() == example('four-stream.csv')
-    assert sorted(each.name for each in tmp_path.iterdir()) == ['-page.html', "it's - a case.csv"]
+    assert sorted(file.name for file in tmp_path.iterdir()) == ['-page.html', "it's - a case.csv"]
 
 
 @pytest.mark.parametrize(('words', 'status'), [
@@ -137,12 +137,12 @@ def test_pictures_are_files_and_have_statuses(words: tuple[str, ...], status: in
     (tmp_path / 'a b').mkdir()
     rejected = tmp_path / 'less.txt'
     rejected.write_bytes(example('four-stream-network.txt').replace(b'COLD 60000', b'COLD 59000'))
-    held = [str(EXAMPLES / each[1:-1]) if each.startswith('{') else each for each in words]
-    if held[-1].startswith('-grid'):
-        held[-2:] = [f'--output={held[-1]}']
-    assert main(held) == status
-    made = [each for each in tmp_path.rglob('*') if each.is_file() and each != rejected]
-    assert len(made) == (status < 2) and all(each.stat().st_size > 1000 for each in made)
+    given_words = [str(EXAMPLES / word[1:-1]) if word.startswith('{') else word for word in words]
+    if given_words[-1].startswith('-grid'):
+        given_words[-2:] = [f'--output={given_words[-1]}']
+    assert main(given_words) == status
+    made = [file for file in tmp_path.rglob('*') if file.is_file() and file != rejected]
+    assert len(made) == (status < 2) and all(file.stat().st_size > 1000 for file in made)
 
 
 @WITH_BROWSER
@@ -157,11 +157,11 @@ def test_a_browser_shows_the_page_whole(width: int, steam: str, tmp_path: Path) 
 def sheets_of(pdf: Path, page: str) -> list[list[str]]:
     """The lines of each sheet of paper. No heading, no title of a table and no row of headings stands last on one."""
     done = subprocess.run(['pdftotext', '-layout', str(pdf), '-'], capture_output=True, check=True)
-    sheets = [[' '.join(line.split()) for line in each.splitlines() if line.strip()]
-              for each in done.stdout.decode().split('\f')]
-    headings = {words_of(each) for each in re.findall(r'<(?:h[1-4]|caption|summary|th)\b.*?</', page, re.S)}
-    headings |= {words_of(each) for each in re.findall('<thead>.*?</thead>', page, re.S)}
-    assert len(sheets) > 3 and not [each[-1] for each in sheets if each and each[-1] in headings]
+    sheets = [[' '.join(line.split()) for line in sheet.splitlines() if line.strip()]
+              for sheet in done.stdout.decode().split('\f')]
+    headings = {words_of(element) for element in re.findall(r'<(?:h[1-4]|caption|summary|th)\b.*?</', page, re.S)}
+    headings |= {words_of(element) for element in re.findall('<thead>.*?</thead>', page, re.S)}
+    assert len(sheets) > 3 and not [lines[-1] for lines in sheets if lines and lines[-1] in headings]
     return sheets
 
 
@@ -170,8 +170,8 @@ def sheets_of(pdf: Path, page: str) -> list[list[str]]:
 def test_on_paper_no_heading_stands_alone_and_no_line_is_cut(steam: str, pinch: Pinch, tmp_path: Path) -> None:
     path, page = tmp_path / 'page.pdf', steam.replace('<details>', '<details open>')
     path.write_bytes(as_pdf(page))
-    text = ''.join(''.join(''.join(each).split()) for each in sheets_of(path, page))
-    verdict = pinch.audit(*(example(each) for each in STEAM))
+    text = ''.join(''.join(''.join(lines).split()) for lines in sheets_of(path, page))
+    verdict = pinch.audit(*(example(name) for name in STEAM))
     for line in (pinch.flow(example(STEAM[0])).text + verdict.text).splitlines():
         assert ''.join(line.split()) in text
 
@@ -179,11 +179,11 @@ def test_on_paper_no_heading_stands_alone_and_no_line_is_cut(steam: str, pinch: 
 @WITH_BROWSER
 def test_a_browser_prints_the_page(tmp_path: Path) -> None:
     path, names = tmp_path / 'page of a case.pdf', ('crude.csv', 'crude-network.txt')
-    done: Done = pinchdesk('page', *(str(EXAMPLES / each) for each in names), '-o', str(path))
+    done: Done = pinchdesk('page', *(str(EXAMPLES / name) for name in names), '-o', str(path))
     assert done.status == 0, done.err
     assert path.read_bytes().startswith(b'%PDF')
     if which('pdftotext'):
         case, network = given(*names)
         # A table that has no room below a picture begins on a sheet of its own.
         page = page_of(review_of(Pinch(), case, [network]), True)
-        assert any(each[0] == 'Exchangers' for each in sheets_of(path, page) if each)
+        assert any(lines[0] == 'Exchangers' for lines in sheets_of(path, page) if lines)
