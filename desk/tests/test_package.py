@@ -11,7 +11,7 @@ from pathlib import Path
 from typing import Any
 
 import pytest
-from conftest import DESK, command, example
+from conftest import DESK, EXAMPLES, command, example
 from conftest import pinchdesk as pinchdesk_here
 
 import pinchdesk
@@ -139,6 +139,21 @@ def test_an_import_loads_little_and_sets_nothing_of_the_process() -> None:
     loaded, count = first.rsplit(' ', 1)
     assert loaded == "['pinchdesk', 'pinchdesk.version']" and int(count) < 250
     assert last == 'True False True'
+
+
+# What the command loads for a word, as a Python of its own tells it.
+LOADED = """
+import sys
+from pinchdesk.cli.main import main
+print(main(sys.argv[1:]), *sorted(name for name in sys.modules if name.endswith('_word') or name in (
+    'matplotlib', 'scipy', 'numpy', 'openpyxl', 'pint', 'jinja2', 'multiprocessing', 'concurrent', 'pinchdesk.tables')))
+"""
+
+
+def test_a_word_loads_no_other_one_and_no_library_of_another_one() -> None:
+    done = subprocess.run([sys.executable, '-c', LOADED, 'targets', str(EXAMPLES / 'tc3.csv')], capture_output=True,
+                          text=True, check=True, env={**os.environ, 'PYTHONPATH': str(DESK / 'src')})
+    assert done.stdout.splitlines()[-1] == '0 pinchdesk.words.targets_word'
 
 
 def test_a_long_field_is_read_and_the_limit_of_csv_stays() -> None:

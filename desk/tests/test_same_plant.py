@@ -15,7 +15,7 @@ from sameplant import PLAIN, STYLES, Files, Page, Said, Told, cells_of, csv_cell
 from pinchdesk import Pinch, Refused, read_case
 from pinchdesk.cli.main import main
 from pinchdesk.formats.site import read_site
-from pinchdesk.words.all_words import WORDS
+from pinchdesk.words.all_words import all_words
 from pinchdesk.words.word import WordGroup
 
 Parts = list[Told | str]
@@ -171,9 +171,9 @@ def test_every_word_is_walked() -> None:
     """What is not here has no number of its own: `case` has its notes, which are tested where they are made; or needs
     what is in no table, cost laws: `cost` and `supertarget` (test_cost_words)."""
     walked = {words.split()[0] for words in (*TABLES, *SEARCHES)} | {'draw', 'page', 'case'}
-    assert walked == {word.name for word in WORDS} - {'cost', 'supertarget'}
-    assert {words.split()[0] for words in PICTURES} == {part.name for group in WORDS if isinstance(group, WordGroup)
-                                                        for part in group.parts} - {'area', 'driving', 'supertarget'}
+    assert walked == {word.name for word in all_words()} - {'cost', 'supertarget'}
+    parts = {part.name for group in all_words() if isinstance(group, WordGroup) for part in group.parts}
+    assert {words.split()[0] for words in PICTURES} == parts - {'area', 'driving', 'supertarget'}
     assert {words.split()[0] for words in MANY} == walked - {'draw', 'page', 'case'}
 
 

@@ -22,7 +22,7 @@ from pinchdesk.errors import Status
 from pinchdesk.formats.plain_files import read_bytes
 from pinchdesk.report.facts import Fact
 from pinchdesk.search.budget import nobody
-from pinchdesk.words.all_words import WORDS, word_of
+from pinchdesk.words.all_words import PLACES, all_words, word_of
 from pinchdesk.words.audit_word import audit
 from pinchdesk.words.flow_word import flow
 from pinchdesk.words.rest_word import REST_CASE, rest
@@ -39,7 +39,7 @@ def files_of(**names: str) -> Files:
 
 
 def each_word() -> Iterator[Word[Any]]:
-    for word in WORDS:
+    for word in all_words():
         yield from word.parts if isinstance(word, WordGroup) else [word]
 
 
@@ -93,6 +93,10 @@ def test_the_options_that_a_word_declares_are_those_that_it_takes(word: Word[Any
     declared = {option.name: option.default if option.flags else dataclasses.MISSING for option in word.declared}
     assert fields == declared
     assert word.roles and pickle.loads(pickle.dumps(Job(0, ('x',), word.options(**dict.fromkeys(fields)), Files({}))))
+
+
+def test_each_word_stands_where_its_name_says() -> None:
+    assert [word.name for word in all_words()] == list(PLACES)
 
 
 def test_no_word_and_no_part_is_another_thing() -> None:

@@ -15,7 +15,7 @@ from conftest import CASES, EXAMPLES, NETWORKS, Done, command, example
 
 from pinchdesk import Accepted, Pinch
 from pinchdesk.formats.written_files import write_whole
-from pinchdesk.words.all_words import WORDS
+from pinchdesk.words.all_words import PLACES
 
 FOUR, FOUR_NETWORK = str(EXAMPLES / 'four-stream.csv'), str(EXAMPLES / 'four-stream-network.txt')
 PREHEATER = [str(EXAMPLES / 'preheater.csv'), str(EXAMPLES / 'preheater-network.txt')]
@@ -276,7 +276,7 @@ def desk_text() -> str:
             '        85           90            80\n')
 
 
-@pytest.mark.parametrize('word', [*(each.name for each in WORDS), 'many'])
+@pytest.mark.parametrize('word', [*PLACES, 'many'])
 def test_help_has_an_example_that_runs(word: str, desk: Captured, monkeypatch: pytest.MonkeyPatch,
                                        tmp_path: Path) -> None:
     monkeypatch.chdir(EXAMPLES.parent)

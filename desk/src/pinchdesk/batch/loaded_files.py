@@ -3,10 +3,13 @@ from __future__ import annotations
 
 from collections import Counter
 from collections.abc import Iterable, Mapping
+from typing import TYPE_CHECKING
 
 from ..formats.plain_files import read_bytes
 from ..words.word import Files, TextFile
-from .inputs import Listed
+
+if TYPE_CHECKING:
+    from .inputs import Listed
 
 
 def read_files(paths: Mapping[str, tuple[str, ...]]) -> Files:

@@ -5,13 +5,10 @@ from argparse import Namespace
 from collections.abc import Mapping, Sequence
 from dataclasses import replace
 from pathlib import Path
-from typing import Any
+from typing import TYPE_CHECKING, Any
 
 from ..batch.arguments import options_of, paths_of
-from ..batch.inputs import listed
 from ..batch.loaded_files import read_files
-from ..batch.order import Order, done_all
-from ..batch.results import Results
 from ..errors import OutputError, WordsError
 from ..formats.written_files import check_place, write_whole
 from ..report.sheet import rendered
@@ -20,6 +17,9 @@ from ..words.word import Answer, Word
 from .further_files import check_further, write_further
 from .progress import progress, tell
 from .standard_streams import put, say
+
+if TYPE_CHECKING:
+    from ..batch.results import Results
 
 MOST_PROCESSES = 256
 
@@ -85,7 +85,9 @@ def write(content: str | bytes, notes: Sequence[str], output: str | None, inputs
 
 
 def results_of(word: Word[Any], names: tuple[str, ...], parsed: Namespace) -> Results:
-    """What comes of a word over many cases."""
+    """What comes of a word over many cases, for which more is loaded than for one."""
+    from ..batch.inputs import listed
+    from ..batch.order import Order, done_all
     rows = listed(parsed.place, word.roles, paths_of(word.roles[1:], parsed))
     order = Order(names, options_of(word, parsed), parsed.scheduler, parsed.processes, parsed.into, parsed.ending,
                   getattr(parsed, 'scenarios', None), parsed.place, parsed.output)

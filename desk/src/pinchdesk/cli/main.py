@@ -24,7 +24,8 @@ def main(arguments: Sequence[str] | None = None) -> int:
         sys.stderr.reconfigure(errors='backslashreplace')
     try:
         begun = started() if arguments is None else time.monotonic()
-        parsed = parser(answered, done_over_many).parse_args(arguments, Namespace(begun=begun))
+        words = sys.argv[1:] if arguments is None else arguments
+        parsed = parser(answered, done_over_many, words).parse_args(words, Namespace(begun=begun))
         return int(parsed.doing(parsed))
     except SystemExit as ended:
         return int(ended.code or 0)

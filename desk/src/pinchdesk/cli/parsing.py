@@ -8,12 +8,11 @@ from functools import partial
 from typing import Any, NoReturn
 
 from ..batch.arguments import add_in_many, add_options, add_role, by_flag, by_place
-from ..batch.local import processors
 from ..errors import WordsError
 from ..formats.amounts import whole
 from ..report.sheet import FORMS
 from ..version import __version__
-from ..words.all_words import WORDS
+from ..words.all_words import PLACES, all_words, word_on_top
 from ..words.word import Word, WordGroup
 from .standard_streams import put
 
@@ -43,17 +42,27 @@ class Version(argparse.Action):
         parser.exit()
 
 
-def parser(answered: Doing, done_over_many: Doing) -> ArgumentParser:
-    """The parser of the command, with what is done of a word, and of one over many cases."""
+def parser(answered: Doing, done_over_many: Doing, arguments: Sequence[str]) -> ArgumentParser:
+    """The parser of the command for these arguments, with what is done of a word, and of one over many cases."""
     top = Parser(prog='pinchdesk', description='From an engineer\'s spreadsheet to a page for the reviewer, around '
                                                'the proved program pinch.')
     top.add_argument('--version', action=Version, nargs=0, help='print the version, and end')
     words = top.add_subparsers(dest='word', metavar='WORD', required=True)
-    add_words(words, WORDS, (), add_word, answered)
-    many = add_parser(words, MANY.name, MANY.summary, MANY.example)
-    add_words(many.add_subparsers(dest='part', metavar='PART', required=True), WORDS, (), add_word_of_many,
-              done_over_many)
+    first = arguments[0] if arguments else ''
+    if first != MANY.name:
+        add_words(words, asked_words(arguments), (), add_word, answered)
+    if first not in PLACES:
+        many = add_parser(words, MANY.name, MANY.summary, MANY.example)
+        after = arguments[1:] if first == MANY.name else ()
+        add_words(many.add_subparsers(dest='part', metavar='PART', required=True), asked_words(after), (),
+                  add_word_of_many, done_over_many)
     return top
+
+
+def asked_words(arguments: Sequence[str]) -> Words:
+    """The word with which arguments begin, alone, so that no other is loaded; all of them where that is none, since
+    help and errors list them."""
+    return (word_on_top(arguments[0]),) if arguments and arguments[0] in PLACES else all_words()
 
 
 def add_parser(under: Any, name: str, summary: str, example: str) -> ArgumentParser:
@@ -99,6 +108,7 @@ def add_word(under: Any, word: Word[Any], _: tuple[str, ...]) -> ArgumentParser:
 
 def add_word_of_many(under: Any, word: Word[Any], names: tuple[str, ...]) -> ArgumentParser:
     """A word over many cases: where the cases are, its options, and who does it."""
+    from ..batch.local import processors
     kept = ' --into FOLDER' if word.to_file else ''
     added = add_parser(under, word.name, f'{word.summary}: for many cases',
                        f'pinchdesk many {" ".join(names)} {MANY_LIST}{kept}')

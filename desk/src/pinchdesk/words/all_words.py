@@ -1,40 +1,45 @@
-"""All words, in the order in which help lists them."""
+"""All words, in the order in which help lists them. Each is loaded when it is asked for: all of them take longer to
+load than most answers."""
 from __future__ import annotations
 
 from collections.abc import Sequence
+from importlib import import_module
 from typing import Any
 
-from .audit_word import AUDIT
-from .case_word import CASE_OF_TABLE
-from .cost_word import COST
-from .draw_word import DRAW
-from .flow_word import FLOW
-from .network_word import NETWORK_OF_FEW
-from .page_word import PAGE_OF_REVIEW
-from .prices_word import PRICES
-from .rest_word import REST
-from .site_word import SITE_OF_PLANTS
-from .supertarget_word import SUPERTARGET
-from .sweep_word import SWEEP
-from .table_word import TABLE_OF_EXCHANGERS
-from .targets_word import TARGETS
-from .tradeoff_word import TRADEOFF
-from .units_word import UNITS
-from .whatif_word import WHATIF
 from .word import Word, WordGroup
 
-WORDS: tuple[Word[Any] | WordGroup, ...] = (
-    CASE_OF_TABLE, TARGETS, FLOW, AUDIT, SWEEP, PRICES, SITE_OF_PLANTS, TABLE_OF_EXCHANGERS, UNITS, REST, WHATIF,
-    COST, SUPERTARGET, NETWORK_OF_FEW, TRADEOFF, DRAW, PAGE_OF_REVIEW)
+# Where each word stands in this package.
+PLACES = {
+    'case': 'case_word.CASE_OF_TABLE', 'targets': 'targets_word.TARGETS', 'flow': 'flow_word.FLOW',
+    'audit': 'audit_word.AUDIT', 'sweep': 'sweep_word.SWEEP', 'prices': 'prices_word.PRICES',
+    'site': 'site_word.SITE_OF_PLANTS', 'table': 'table_word.TABLE_OF_EXCHANGERS', 'units': 'units_word.UNITS',
+    'rest': 'rest_word.REST', 'whatif': 'whatif_word.WHATIF', 'cost': 'cost_word.COST',
+    'supertarget': 'supertarget_word.SUPERTARGET', 'network': 'network_word.NETWORK_OF_FEW',
+    'tradeoff': 'tradeoff_word.TRADEOFF', 'draw': 'draw_word.DRAW', 'page': 'page_word.PAGE_OF_REVIEW',
+}
+
+
+def word_on_top(name: str) -> Word[Any] | WordGroup:
+    """A word, or those that follow one, by its name; `KeyError` where there is none."""
+    module, _, constant = PLACES[name].partition('.')
+    word: Word[Any] | WordGroup = getattr(import_module(f'.{module}', __package__), constant)
+    return word
+
+
+def all_words() -> tuple[Word[Any] | WordGroup, ...]:
+    return tuple(word_on_top(name) for name in PLACES)
 
 
 def word_of(names: Sequence[str]) -> Word[Any]:
     """A word, or a part of one, by its names; `KeyError` where there is none."""
-    word: Word[Any] | WordGroup | None = None
-    words: Sequence[Word[Any] | WordGroup] = WORDS
-    for name in names:
-        word = {known.name: known for known in words}[name]
-        words = word.parts if isinstance(word, WordGroup) else ()
+    word = word_on_top(names[0] if names else '')
+    for name in names[1:]:
+        word = {part.name: part for part in parts_of(word)}[name]
     if not isinstance(word, Word):
         raise KeyError(' '.join(names))
     return word
+
+
+def parts_of(word: Word[Any] | WordGroup) -> Sequence[Word[Any] | WordGroup]:
+    """The words that follow one."""
+    return word.parts if isinstance(word, WordGroup) else ()
