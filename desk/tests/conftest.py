@@ -38,6 +38,12 @@ def few_of(names: Iterable[str], few: Collection[str] = FEW) -> list[Any]:
                          marks=[] if name in few else [pytest.mark.long]) for name in names]
 
 
+def tried(few: int, many: int) -> settings:
+    """How many examples a property has of which each takes long: few, or with --all many."""
+    is_all = settings().max_examples == settings.get_profile('all').max_examples
+    return settings(max_examples=many if is_all else few)
+
+
 def pytest_addoption(parser: pytest.Parser) -> None:
     parser.addoption('--all', action='store_true', help='the tests that are marked as long too, and more examples')
 

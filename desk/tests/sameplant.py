@@ -169,7 +169,8 @@ class Files:
             results = results_of(word, names, parsed)
             said.append(Said((results.sheet(),), rendered([results.sheet()], parsed.form)))
             return results.status
-        parsed = parser(ask, ask_many).parse_args(self.words(text))
+        words = self.words(text)
+        parsed = parser(ask, ask_many, words).parse_args(words)
         parsed.doing(parsed)
         return said[0]
 

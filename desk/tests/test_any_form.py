@@ -8,8 +8,8 @@ from dataclasses import dataclass, replace
 from decimal import Decimal
 from fractions import Fraction
 
-from conftest import CASES, example
-from hypothesis import event, given, settings
+from conftest import CASES, example, tried
+from hypothesis import event, given
 from hypothesis import strategies as some
 from tabled import made, workbook
 
@@ -134,7 +134,7 @@ def check_again(case: Case, form: Form, content: bytes) -> None:
     assert replace(again, basis=Basis()) == case
 
 
-@settings(max_examples=120)
+@tried(30, 120)
 @given(cases, forms, some.sampled_from(';\t|'))
 def test_a_case_in_any_form_is_read_as_that_case(case: Case, form: Form, separator: str) -> None:
     plain_case = plain(case)

@@ -9,8 +9,8 @@ from fractions import Fraction
 from typing import Any
 
 from anycase import shares, streams, utilities
-from conftest import CASES, example
-from hypothesis import assume, given, settings
+from conftest import CASES, example, tried
+from hypothesis import assume, given
 from hypothesis import strategies as some
 from tabled import made, workbook
 
@@ -81,7 +81,7 @@ def test_a_case_printed_as_a_table_is_read_as_the_same_case(printed: tuple[Case,
     assert replace(again, basis=Basis()) == replace(case, basis=Basis())
 
 
-@settings(max_examples=20)
+@tried(6, 20)
 @given(tables())
 def test_a_case_printed_as_a_workbook_is_read_as_the_same_case(printed: tuple[Case, str, str]) -> None:
     case, text, mark = printed

@@ -5,9 +5,9 @@ from fractions import Fraction
 
 import numpy
 import pytest
-from conftest import example
+from conftest import example, tried
 from costed import AROMATICS, costed_case, data_of, plants, uses_of
-from hypothesis import given, settings
+from hypothesis import given
 from hypothesis import strategies as st
 
 from pinchdesk import Pinch, completed, follow, read_case, read_network
@@ -67,7 +67,7 @@ def test_the_floor_rises_with_finer_slices_and_stays_under_the_network(pinch: Pi
     assert [floor.slice for floor in floors] == [20, 10, 5]
 
 
-@settings(max_examples=8)
+@tried(3, 8)
 @given(plants())
 def test_no_network_of_the_program_is_under_the_floor(pinch: Pinch, case: str) -> None:
     whole = completed(read_case(case))

@@ -4,9 +4,9 @@ from __future__ import annotations
 from fractions import Fraction
 
 import pytest
-from conftest import as_objects, example
+from conftest import example, as_objects, tried
 from costed import AROMATICS, ONE_TWO, SMALL, costed_case, data_of, law_rows, near, plants, targets, uses_of
-from hypothesis import given, settings
+from hypothesis import given
 from hypothesis import strategies as st
 
 from pinchdesk import Pinch, Refused, Side, Stream, print_case, read_case
@@ -115,7 +115,7 @@ def meet(one: Enclosure, other: Enclosure) -> bool:
     return one.low <= other.high and other.low <= one.high
 
 
-@settings(max_examples=20)
+@tried(8, 20)
 @given(duties())
 def test_shells_and_factors_are_those_of_the_mirrored_exchanger(duty: Duty) -> None:
     part = Fraction(9, 10)
@@ -253,7 +253,7 @@ def area_of(case: str, pinch: Pinch) -> AreaTarget:
     return area_target(data_of(case), uses_of(case, pinch))
 
 
-@settings(max_examples=15)
+@tried(4, 15)
 @given(plants(), st.lists(st.fractions(min_value=0, max_value=1, max_denominator=1000), max_size=4))
 def test_a_finer_cut_changes_nothing(pinch: Pinch, case: str, shares: list[Fraction]) -> None:
     found = area_of(case, pinch)
@@ -277,7 +277,7 @@ def between(interval: HeatInterval, side: EndTemperatures, *places: Fraction) ->
                              for place in places))
 
 
-@settings(max_examples=15)
+@tried(4, 15)
 @given(plants())
 def test_mirroring_hot_and_cold_changes_nothing(pinch: Pinch, case: str) -> None:
     members = carriers(data_of(case), uses_of(case, pinch))
@@ -291,7 +291,7 @@ def mirrored_carrier(carrier: Carrier) -> Carrier:
     return Carrier(source, EndTemperatures(-carrier.ends.inlet, -carrier.ends.outlet), carrier.heat, carrier.resistance)
 
 
-@settings(max_examples=15)
+@tried(4, 15)
 @given(plants(equal=True), st.integers(1, 200))
 def test_a_warmer_hot_utility_never_raises_the_area(pinch: Pinch, case: str, warmer: int) -> None:
     """With equal films and the same uses."""

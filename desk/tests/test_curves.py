@@ -7,8 +7,8 @@ from dataclasses import replace
 from fractions import Fraction
 
 import pytest
-from conftest import CASES, example, few_of
-from hypothesis import given, settings
+from conftest import CASES, example, few_of, tried
+from hypothesis import given
 from hypothesis import strategies as some
 from looking import cut_off, line_of, lines_named, overlapping, svg_texts, texts_of
 from matplotlib.figure import Figure
@@ -227,7 +227,7 @@ def named(held: list[Stream], added: list[Utility]) -> Case:
                 tuple(replace(each, name=f'UTILITY-{at:08}') for at, each in enumerate(added)))
 
 
-@settings(max_examples=12)
+@tried(3, 12)
 @given(streams(), utilities())
 def test_whatever_the_case_is_the_pictures_are_right_and_can_be_read(held: list[Stream], added: list[Utility]) -> None:
     pinch, content = Pinch(), print_case(named(held, added)).encode()

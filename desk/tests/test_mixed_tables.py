@@ -10,8 +10,8 @@ from decimal import Decimal
 from fractions import Fraction
 from typing import Any
 
-from conftest import CASES, example
-from hypothesis import event, given, settings
+from conftest import CASES, example, tried
+from hypothesis import event, given
 from hypothesis import strategies as some
 from tabled import made, workbook
 
@@ -141,13 +141,13 @@ def text_of(rows: list[list[str]], separator: str) -> bytes:
     return content.getvalue().encode()
 
 
-@settings(max_examples=300)
+@tried(60, 300)
 @given(mixed(), some.sampled_from(';\t|,'))
 def test_a_mixed_table_is_read_as_its_case_or_refused(table: Mixed, separator: str) -> None:
     is_same(text_of(table.rows, separator), table)
 
 
-@settings(max_examples=30)
+@tried(6, 30)
 @given(mixed())
 def test_a_mixed_workbook_is_read_as_its_case_or_refused(table: Mixed) -> None:
     rows: list[list[object]] = [[Decimal(cell) if cell.replace('.', '').replace('-', '').isdigit() else cell or None

@@ -5,7 +5,8 @@ from __future__ import annotations
 from fractions import Fraction
 
 import pytest
-from hypothesis import given, settings
+from conftest import tried
+from hypothesis import given
 from hypothesis import strategies as some
 from plant_tables import SEIDER, TABLES
 from tabled import made, refusal
@@ -49,7 +50,7 @@ def test_the_targets_of_a_table_in_its_own_units_are_those_of_its_numbers(name: 
     assert print_case(read_case(print_case(converted.case), own_units=True)) == print_case(converted.case)
 
 
-@settings(max_examples=25)
+@tried(8, 25)
 @given(some.lists(some.tuples(some.integers(-300, 900), some.integers(1, 600), some.integers(1, 999), some.booleans()),
                   min_size=1, max_size=6))
 def test_whole_numbers_of_a_table_give_its_exact_targets(rows: list[tuple[int, int, int, bool]]) -> None:

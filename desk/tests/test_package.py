@@ -156,6 +156,24 @@ def test_a_word_loads_no_other_one_and_no_library_of_another_one() -> None:
     assert done.stdout.splitlines()[-1] == '0 pinchdesk.words.targets_word'
 
 
+# The same of `case`, which needs units; whoever asks for pandas later has it.
+UNITS = """
+import sys
+from pinchdesk.cli.main import main
+print(main(), *sorted(name for name in sys.modules if name in ('pint', 'pandas', 'xarray', 'dask')))
+import pandas
+print(pandas.Series([1]).sum())
+"""
+
+
+def test_a_command_loads_pint_without_the_packages_whose_classes_it_knows() -> None:
+    pytest.importorskip('pandas')
+    done = subprocess.run([sys.executable, '-c', UNITS, 'case', '-d', '10', str(EXAMPLES / 'table.csv')],
+                          capture_output=True, text=True, check=True,
+                          env={**os.environ, 'PYTHONPATH': str(DESK / 'src')})
+    assert done.stdout.splitlines()[-2:] == ['0 pint', '1']
+
+
 def test_a_long_field_is_read_and_the_limit_of_csv_stays() -> None:
     limit, long = csv.field_size_limit(), 'x' * 200_000
     commented = f'# {long},,,,,,\n' + example('tc3.csv').decode()

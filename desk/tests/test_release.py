@@ -17,8 +17,8 @@ import members
 import pytest
 import wheel_file
 from checked import Commit, State
-from conftest import DESK
-from hypothesis import given, settings
+from conftest import DESK, tried
+from hypothesis import given
 from hypothesis import strategies as st
 from members import Member
 
@@ -147,7 +147,7 @@ def desk() -> list[Member]:
 
 
 @given(SHARED, st.binary(max_size=30))
-@settings(max_examples=15)
+@tried(5, 15)
 def test_a_wheel_is_the_same_bytes_each_time_and_its_record_has_each_file(shared: list[Member], program: bytes) -> None:
     few = [file for file in desk() if file.path.startswith('pinchdesk-')]
     first = wheel_file.wheel('9.9.9', few, shared, program, COMMIT, False)

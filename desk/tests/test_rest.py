@@ -6,8 +6,8 @@ from fractions import Fraction
 from pathlib import Path
 
 import pytest
-from conftest import CASES, NETWORKS, as_objects, example
-from hypothesis import given, settings
+from conftest import CASES, NETWORKS, example, as_objects, tried
+from hypothesis import given
 from hypothesis import strategies as st
 
 from pinchdesk import (Accepted, Case, Cut, Network, Pinch, Refused, Rejected, Stream, completed, print_case, read_case,
@@ -255,7 +255,7 @@ def cases(draw: st.DrawFn) -> Case:
     return read_case('\n'.join(rows) + '\n')
 
 
-@settings(max_examples=8)
+@tried(3, 8)
 @given(cases(), st.data())
 def test_splits_alone_leave_the_whole(case: Case, data: st.DataObject) -> None:
     """A network that only splits moves no heat: the targets of its rest are those of the whole, in any fractions."""
@@ -270,7 +270,7 @@ def test_splits_alone_leave_the_whole(case: Case, data: st.DataObject) -> None:
     assert sum((each.heat for each in rest.left), Fraction(0)) == sum(each.heat for each in case.streams)
 
 
-@settings(max_examples=8)
+@tried(3, 8)
 @given(cases(), st.integers(2, 9))
 def test_moved_and_scaled_temperatures_have_the_same_targets(case: Case, degrees: int) -> None:
     """The case with all temperatures taken several times, shifted and without contributions, as fractions make it."""

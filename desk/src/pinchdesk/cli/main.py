@@ -12,19 +12,23 @@ from ..errors import DeskError, OutputError, Status
 from ..failures import failure_of
 from ..program.causes import lines_of
 from .answering import answered, done_over_many
+from .lean_units import load_units_alone
 from .parsing import parser
 from .standard_streams import fill, say
 from .start_time import started
 
 
 def main(arguments: Sequence[str] | None = None) -> int:
-    """Runs the command; the status is what it gives back, whatever happens."""
+    """Runs the command; the status is what it gives back, whatever happens. Without arguments of a call it is that of
+    this process."""
     fill()
     if hasattr(sys.stderr, 'reconfigure'):
         sys.stderr.reconfigure(errors='backslashreplace')
     try:
-        begun = started() if arguments is None else time.monotonic()
-        words = sys.argv[1:] if arguments is None else arguments
+        begun, words = time.monotonic(), arguments
+        if words is None:
+            begun, words = started(), sys.argv[1:]
+            load_units_alone()
         parsed = parser(answered, done_over_many, words).parse_args(words, Namespace(begun=begun))
         return int(parsed.doing(parsed))
     except SystemExit as ended:
