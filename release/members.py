@@ -12,9 +12,10 @@ from pathlib import Path
 
 from checked import Commit
 
-# What of the commit is packed as it stands. A licence is packed where there is one.
-PACKED = re.compile(r'README\.md|CHANGELOG\.md|(LICEN[CS]E|COPYING)[^/]*|examples/.+|docs/.+\.(md|png|svg)|'
-                    r'desk/README\.md|crates/pinch/README\.md')
+# What of the commit is packed as it stands: with each document those to which it links. A licence is packed where there
+# is one.
+PACKED = re.compile(r'(README|CHANGELOG|CONTRIBUTING)\.md|(LICEN[CS]E|COPYING)[^/]*|examples/.+|docs/.+\.(md|png|svg)|'
+                    r'(desk|checks|release|crates/[a-z_]+)/README\.md')
 LICENCE = re.compile(r'(LICEN[CS]E|COPYING)[^/]*')
 NAME = re.compile(r'[A-Za-z0-9._/-]+')
 DOCUMENTS, PAGES = 'share/doc/pinch', 'share/man/man1'

@@ -9,6 +9,7 @@ from typing import Any
 
 import pytest
 from conftest import DESK
+from members import PACKED
 
 ROOT = DESK.parent
 PLACES = ('*.md', 'docs/*.md', 'crates/*/README.md', 'desk/README.md', 'examples/README.md', 'checks/README.md',
@@ -42,6 +43,13 @@ def test_each_link_leads_to_a_file_and_to_one_of_its_headings(document: Path) ->
         target = (document.parent / name).resolve() if name else document
         assert target.exists(), link
         assert not place or anchors_of(target).count(place) == 1, link
+
+
+def test_in_a_release_each_link_leads_to_a_file_that_is_packed_too() -> None:
+    packed = [path for path in DOCUMENTS if PACKED.fullmatch(path.relative_to(ROOT).as_posix())]
+    linked = {(document.parent / link.partition('#')[0]).resolve() for document in packed
+              for link in LINK.findall(text_of(document)) if not link.startswith(('http', '#'))}
+    assert [path for path in linked if not PACKED.fullmatch(path.relative_to(ROOT).as_posix())] == []
 
 
 def test_each_picture_is_shown_and_none_is_missing_or_large() -> None:
