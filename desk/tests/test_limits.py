@@ -11,7 +11,7 @@ import pytest
 from conftest import CASES, as_objects, example, pinchdesk
 from tabled import TEN, made, refusal, saved, streams, workbook
 
-from pinchdesk import Pinch, Refused, read_case
+from pinchdesk import Pinch, Refused, read, read_case
 from pinchdesk.analysis.change_table import read_changes
 from pinchdesk.analysis.what_if import what_if
 from pinchdesk.formats.comments import Basis
@@ -154,6 +154,10 @@ def test_the_format_of_a_currency_agrees_with_its_heading() -> None:
 
 # How far roundings take the targets.
 
+ROUNDED_TABLE = 'Stream;Supply (°C);Target (°C);CP (kW/K)\nH1;150,03;60;2,001\nC1;20;125;2,5123\n'
+ROUNDED_SAID = 'by what is rounded the hot target is 0.091 kW too low, and the cold target stays'
+
+
 def test_what_is_rounded_says_how_far_the_targets_are_off(pinch: Pinch) -> None:
     seider = ('Stream;Ts (°F);Tt (°F);CP (Btu/(h °F))\nH1;260;160;30000\nH2;250;130;15000\nC1;120;235;20000\n'
               'C2;180;240;40000\n')
@@ -173,12 +177,29 @@ def test_the_exact_targets_of_a_case_in_whole_numbers_are_those_of_the_program(n
 
 
 @pytest.mark.parametrize('words', ['targets #', 'sweep # 5 15 5', 'whatif #', 'draw curves # -o c.svg',
-                                   'draw composite # -o c.svg', 'draw sweep # 5 15 5 -o c.svg', 'page # -o c.html'])
-def test_a_word_that_shows_targets_says_how_far_they_are_off(words: str, tmp_path: Path) -> None:
-    (tmp_path / 't.csv').write_text('Stream;Supply (°C);Target (°C);CP (kW/K)\nH1;150,03;60;2,001\nC1;20;125;2,5123\n')
+                                   'draw composite # -o c.svg', 'draw sweep # 5 15 5 -o c.svg', 'page # -o c.html',
+                                   'draw grid # net.txt -o c.svg'])
+def test_a_word_that_shows_targets_says_how_far_they_are_off(words: str, tmp_path: Path, pinch: Pinch) -> None:
+    (tmp_path / 't.csv').write_text(ROUNDED_TABLE)
     assert pinchdesk('case', '-d', '10', 't.csv', '-o', 'c.csv', cwd=tmp_path).status == 0
     (tmp_path / 'whole.csv').write_bytes(example('tc3.csv'))
-    said = 'by what is rounded the hot target is 0.091 kW too low, and the cold target stays'
-    done = pinchdesk(*words.replace('#', 'c.csv').split(), cwd=tmp_path)
-    assert done.status == 0 and done.err.count(f'pinchdesk: c.csv: {said}\n') == 1
-    assert 'rounded' not in pinchdesk(*words.replace('#', 'whole.csv').split(), cwd=tmp_path).err
+    for case in ('c.csv', 'whole.csv'):
+        (tmp_path / 'net.txt').write_text(pinch.design((tmp_path / case).read_bytes()).text)
+        done = pinchdesk(*words.replace('#', case).split(), cwd=tmp_path)
+        rounded = case == 'c.csv'
+        assert done.status == 0 and done.err.count(f'pinchdesk: c.csv: {ROUNDED_SAID}\n') == rounded
+        assert 'rounded' in done.err or not rounded
+        if words.startswith('page'):
+            assert (f'<p>B{ROUNDED_SAID[1:]}.</p>' in (tmp_path / 'c.html').read_text()) == rounded
+
+
+def test_each_answer_and_picture_in_a_notebook_says_how_far_the_targets_are_off() -> None:
+    plant, whole = read(ROUNDED_TABLE.encode(), 't.csv', difference=10), read(example('tc3.csv'), 'tc3.csv')
+    for asked, said in ((plant, True), (whole, False)):
+        network = asked.pinch.design(asked.text).text
+        swept = asked.sweep(10, 20, 10)
+        for answer in (asked.targets(), asked.flow(), swept, asked.audit(network), asked.table(network),
+                       asked.units(network), asked.rest(network), asked.what_if(), asked.curves(),
+                       asked.grid(network), swept.figure()):
+            assert answer.notes.count(ROUNDED_SAID) == said
+            assert (f'<li>{ROUNDED_SAID}</li>' in (answer._repr_html_() or '')) == said

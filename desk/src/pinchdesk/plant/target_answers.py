@@ -49,8 +49,7 @@ def plant_targets(case: Case, targets: Targets) -> PlantTargets:
     shown = Shown(case.basis)
     exact = ExactTargets(shown.in_kilowatts(targets.hot), shown.in_kilowatts(targets.cold),
                          tuple(Fraction(pinch, 10) for pinch in targets.pinches))
-    return PlantTargets(sheets=tuple(targets_sheets(case, targets)), text=targets.text, exact=exact,
-                        notes=(case.basis.rounding,) if case.basis.rounding else ())
+    return PlantTargets(sheets=tuple(targets_sheets(case, targets)), text=targets.text, exact=exact)
 
 
 @dataclass(frozen=True)
@@ -134,7 +133,7 @@ class PlantSweep(PlantAnswer):
     def figure(self) -> ShownFigure:
         """The picture of it."""
         from ..figures import ShownFigure, sweep_figure
-        return ShownFigure(sweep_figure(self.case, self.sweep))
+        return ShownFigure(sweep_figure(self.case, self.sweep), self.notes)
 
 
 def plant_sweep(case: Case, sweep: Sweep, base: SweepRow | None) -> PlantSweep:
@@ -169,7 +168,7 @@ class PlantPrices(PlantAnswer):
     def figure(self, utility: str | None = None) -> ShownFigure:
         """The picture of the spans, of several those of this utility alone."""
         from ..figures import ShownFigure, prices_figure
-        return ShownFigure(prices_figure(self.case, self.prices, utility))
+        return ShownFigure(prices_figure(self.case, self.prices, utility), self.notes)
 
 
 def plant_prices(case: Case, prices: Prices, notes: tuple[str, ...]) -> PlantPrices:

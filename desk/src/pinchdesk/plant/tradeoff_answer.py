@@ -54,7 +54,7 @@ class PlantTradeoff(PlantAnswer):
     def figure(self) -> ShownFigure:
         """The picture of it."""
         from ..figures import ShownFigure, tradeoff_figure
-        return ShownFigure(tradeoff_figure(self.traded))
+        return ShownFigure(tradeoff_figure(self.traded), self.notes)
 
 
 def plant_tradeoff(traded: TradeOff) -> PlantTradeoff:

@@ -3,9 +3,9 @@ for what several answers share."""
 from __future__ import annotations
 
 import os
-from dataclasses import dataclass, field
+from dataclasses import dataclass, field, replace
 from functools import cached_property
-from typing import TYPE_CHECKING
+from typing import TYPE_CHECKING, TypeVar
 
 from ..analysis.audited import audited
 from ..analysis.change_table import CaseScenarios, read_changes
@@ -41,6 +41,8 @@ from .tradeoff_answer import PlantTradeoff, PlantUnits, PlantWhatIf, plant_trade
 
 if TYPE_CHECKING:
     from ..figures import ShownFigure
+
+Noted = TypeVar('Noted', bound=PlantAnswer)
 
 
 @dataclass(frozen=True)
@@ -80,31 +82,40 @@ class Plant:
     def pinches(self) -> tuple[PinchPoint, ...]:
         return pinches_of(self.asked_targets, self.asked_curves)
 
+    @property
+    def rounding(self) -> tuple[str, ...]:
+        """How far what its table rounded takes the targets, where it does."""
+        return (self.case.basis.rounding,) if self.case.basis.rounding else ()
+
+    def noted(self, answer: Noted) -> Noted:
+        """An answer that says first how far its numbers may be off."""
+        return replace(answer, notes=(*self.rounding, *answer.notes))
+
     def _repr_html_(self) -> str:
         return PlantAnswer(sheets=(case_streams(self.completed),), notes=self.notes)._repr_html_()
 
     def targets(self) -> PlantTargets:
         """The least hot and cold utility, and the pinches."""
-        return plant_targets(self.completed, self.asked_targets)
+        return self.noted(plant_targets(self.completed, self.asked_targets))
 
     def flow(self) -> PlantFlow:
         """A heat flow of least cost with its proof, or the proof that there is none."""
-        return plant_flow(self.completed, self.asked_flow)
+        return self.noted(plant_flow(self.completed, self.asked_flow))
 
     def sweep(self, first: Number, last: Number, step: Number, workers: int = USUAL_WORKERS) -> PlantSweep:
         """Targets and least cost at each least difference from the first to the last one, in K."""
         asked = asked_range(as_text(first), as_text(last), as_text(step), workers)
         printed = self.pinch.sweep(self.text, *asked, workers)
-        return plant_sweep(self.completed, printed, as_it_is(self.pinch, self.text, self.completed))
+        return self.noted(plant_sweep(self.completed, printed, as_it_is(self.pinch, self.text, self.completed)))
 
     def audit(self, network: FileGiven) -> PlantAudit:
         """Whether a network is valid, what it costs, and where it loses heat."""
-        return plant_audit(*self.judged(network))
+        return self.noted(plant_audit(*self.judged(network)))
 
     def table(self, network: FileGiven) -> PlantAudit:
         """The exchangers of a network: temperatures, differences, duties, side of the pinch, penalties."""
         followed, verdict = self.judged(network)
-        return plant_table(followed, self.pinches, verdict)
+        return self.noted(plant_table(followed, self.pinches, verdict))
 
     def judged(self, network: FileGiven) -> tuple[Followed, Verdict]:
         """A network that was followed, and what the audit says of it."""
@@ -124,7 +135,8 @@ class Plant:
         with about(case=self.name, network=file.path if file else ''):
             found = find_network(self.text, most, percent, seconds_of(as_text(seconds)),
                                  file.content if file else None, pinch=self.pinch)
-        return plant_network(found, list(plant_audit(follow(self.completed, found.network), found.verdict).sheets))
+        judged = plant_audit(follow(self.completed, found.network), found.verdict)
+        return self.noted(plant_network(found, list(judged.sheets)))
 
     def tradeoff(self, network: FileGiven | None = None, seconds: Number = 30) -> PlantTradeoff:
         """Exchangers against cost: networks of fewer and fewer exchangers, from one that is given or searched for."""
@@ -132,8 +144,8 @@ class Plant:
         from ..search.reduce.tradeoff import tradeoff
         file = None if network is None else file_of(network, 'network')
         with about(case=self.name, network=file.path if file else ''):
-            return plant_tradeoff(tradeoff(self.case, file.content if file else None, self.pinch,
-                                           float(seconds_of(as_text(seconds)))))
+            return self.noted(plant_tradeoff(tradeoff(self.case, file.content if file else None, self.pinch,
+                                                      float(seconds_of(as_text(seconds))))))
 
     def units(self, network: FileGiven | None = None) -> PlantUnits:
         """The least number of exchangers by the books' rule, beside those of a network."""
@@ -142,13 +154,13 @@ class Plant:
         if network is not None:
             followed, verdict = self.judged(network)
             notes = () if isinstance(verdict, Accepted) else (headline(followed, verdict),)
-        return plant_units(self.completed, least_units(self.text, self.pinch), followed, notes)
+        return self.noted(plant_units(self.completed, least_units(self.text, self.pinch), followed, notes))
 
     def rest(self, network: FileGiven) -> PlantRest:
         """What is left of a network with open branches, and what the choice so far costs."""
         file = file_of(network, 'network')
         with about(case=self.name, network=file.path):
-            return plant_rest(remaining(self.text, file.content, self.pinch))
+            return self.noted(plant_rest(remaining(self.text, file.content, self.pinch)))
 
     def prices(self, study: FileGiven, workers: int = USUAL_WORKERS) -> PlantPrices:
         """The least cost at other prices, in the unit of the case's prices."""
@@ -156,7 +168,7 @@ class Plant:
         file = file_of(study, 'study')
         with about(case=self.name, study=file.path):
             answer = study_answer(self.pinch, self.case, file.content, workers)
-        return plant_prices(answer.case, answer.prices, answer.notes)
+        return self.noted(plant_prices(answer.case, answer.prices, answer.notes))
 
     def what_if(self, changes: FileGiven | None = None, sheet: str | None = None, decimal: str | None = None,
                 workers: int = USUAL_WORKERS) -> PlantWhatIf:
@@ -167,18 +179,19 @@ class Plant:
             scenarios = CaseScenarios(()) if file is None else \
                 read_changes(file.content, file.path, self.case.basis, sheet, decimal)
             answered = compared(AskedCase(self.case, self.asked_targets), scenarios.variants, self.pinch, workers)
-        return plant_what_if(answered, scenarios.notes)
+        return self.noted(plant_what_if(answered, scenarios.notes))
 
     def curves(self) -> ShownFigure:
         """Composite, balanced and grand composite curves."""
         from ..figures import ShownFigure, curves_figure
-        return ShownFigure(curves_figure(self.completed, self.asked_targets, self.asked_curves, self.asked_flow))
+        return ShownFigure(curves_figure(self.completed, self.asked_targets, self.asked_curves, self.asked_flow),
+                           self.rounding)
 
     def grid(self, network: FileGiven, most: int = 60) -> ShownFigure:
         """The grid diagram of a network of at most so many exchangers."""
         from ..figures import ShownFigure, grid_figure
         followed, verdict = self.judged(network)
-        return ShownFigure(grid_figure(followed, self.pinches, verdict, most))
+        return ShownFigure(grid_figure(followed, self.pinches, verdict, most), self.rounding)
 
     def page(self, *networks: FileGiven) -> str:
         """The page for the reviewer with these networks side by side, as HTML."""

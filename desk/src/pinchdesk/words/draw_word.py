@@ -71,7 +71,8 @@ def grid(files: Files, options: GridOptions = GridOptions(), tell: Telling = nob
         followed, verdict = audited(pinch, case.content, network.content)
         pinches = asked_pinches(pinch, case.content)
     from ..figures import grid_figure
-    return ended(picture(grid_figure(followed, pinches, verdict, options.most)), [verdict])
+    drawn = picture(grid_figure(followed, pinches, verdict, options.most))
+    return ended(replace(drawn, notes=rounding_told(case, followed.case)), [verdict])
 
 
 def site(files: Files, _: NoOptions = NoOptions(), tell: Telling = nobody) -> Answer:
@@ -86,9 +87,10 @@ def area(files: Files, _: NoOptions = NoOptions(), tell: Telling = nobody) -> An
     file = files.one('case')
     with about(case=file.name):
         from ..costs.area_target import asked_area
-        target = asked_area(Pinch(), completed_case(file.content))
+        case = completed_case(file.content)
+        target = asked_area(Pinch(), case)
     from ..figures.area_curves import area_figure
-    return picture(area_figure(target))
+    return replace(picture(area_figure(target)), notes=rounding_told(file, case))
 
 
 def driving(files: Files, _: NoOptions = NoOptions(), tell: Telling = nobody) -> Answer:
@@ -100,7 +102,7 @@ def driving(files: Files, _: NoOptions = NoOptions(), tell: Telling = nobody) ->
         target = asked_area(pinch, whole)
         duties = asked_duties(pinch, whole, network.content) if network else {}
     from ..figures.area_curves import driving_forces_figure
-    return picture(driving_forces_figure(target, duties))
+    return replace(picture(driving_forces_figure(target, duties)), notes=rounding_told(case, whole))
 
 
 def over_difference(files: Files, options: SweepOptions, tell: Telling = nobody) -> Answer:
