@@ -2,7 +2,10 @@
 from __future__ import annotations
 
 import re
+import shlex
 import subprocess
+from datetime import date
+from hashlib import sha256
 from html import unescape
 from pathlib import Path
 from shutil import which
@@ -10,11 +13,14 @@ from shutil import which
 import pytest
 from conftest import EXAMPLES, Done, example, pinchdesk
 
-from pinchdesk import Accepted, Pinch, read_case
+from pinchdesk import Accepted, Pinch, completed, read_case
 from pinchdesk.cli.main import main
 from pinchdesk.formats.shown import Shown
+from pinchdesk.program.digests import desk_digest
 from pinchdesk.report.page import Given, page_of, review_of
+from pinchdesk.report.page_head import difference_told
 from pinchdesk.report.pdf import as_pdf, browser, run_browser
+from pinchdesk.version import __version__
 
 STEAM = ('two-reactors-steam.csv', 'two-reactors-steam-network.txt')
 WITH_BROWSER = pytest.mark.skipif(browser() is None, reason='no browser to look at the page with')
@@ -96,6 +102,53 @@ def test_hostile_names_and_texts_are_only_shown() -> None:
     page = page_of(review_of(Pinch(), hostile, [Given('"><img src=x onerror=alert(3)>', 'y', network.content)]))
     assert '<script' not in page and '<img src=x' not in page
     assert '&lt;script&gt;alert(1)&lt;/script&gt;{{ 7 * 7 }}' in page and '&lt;script&gt;alert(2)' in page
+
+
+def test_a_page_says_what_it_is_and_how_it_is_made_again(tmp_path: Path, pinch: Pinch) -> None:
+    names = ('own-contributions.csv', 'own-contributions-network.txt')
+    for name in names:
+        (tmp_path / name).write_bytes(example(name))
+    said = ('--title', 'Heat recovery <2>', '--plant', 'Unit & 3', '--author', 'A. "B"\x1b', '--revision', 'C',
+            '--date', '1 May')
+    assert pinchdesk('page', *names, *said, '-o', 'p.html', cwd=tmp_path).status == 0
+    page = (tmp_path / 'p.html').read_text('utf-8')
+    assert '<h1>Heat recovery &lt;2&gt;</h1>' in page and '<title>Heat recovery &lt;2&gt;</title>' in page
+    text = words_of(page)
+    for wanted in ('plant Unit & 3 author A. "B"? revision C date 1 May',
+                   'ΔTmin 10 K, by the row `contribution` of the case: each stream and utility contributes 5 K, but '
+                   'off-gas 15 K, reboiler 2.5 K, steam 2.5 K',
+                   f'desk pinchdesk {__version__} {desk_digest()}',
+                   *(f'{name} {sha256(example(name)).hexdigest()}' for name in names),
+                   f'program pinch {sha256(Path(pinch.path).read_bytes()).hexdigest()}'):
+        assert wanted in text
+    command = re.search('<pre>(pinchdesk page .*?)</pre>', page)
+    assert command
+    words = shlex.split(unescape(command[1]))[1:]
+    assert pinchdesk(*words[:-1], 'again.html', cwd=tmp_path).status == 0
+    assert (tmp_path / 'again.html').read_text('utf-8') == page
+
+
+def test_a_page_has_the_day_on_which_it_is_made(steam: str) -> None:
+    assert f'date {date.today().isoformat()} ΔTmin 10 K' in words_of(steam)
+
+
+@pytest.mark.parametrize(('head', 'options', 'origin'), [
+    ('', ('-d', '18 °F'), 'by -d 18 °F'), ('ΔTmin = 10 °C;;;\n', (), 'by row 1 of the table'),
+    ('', (), 'by row 3 of the table')])
+def test_a_page_says_where_the_least_difference_comes_from(head: str, options: tuple[str, ...], origin: str,
+                                                           tmp_path: Path) -> None:
+    row = '' if head or options else 'contribution;;5;;\n'
+    (tmp_path / 't.csv').write_text(f'{head}kind;name;supply °C;target °C;CP kW/K\nhot;H;150;60;2\n{row}')
+    assert pinchdesk('case', *options, 't.csv', '-o', 'c.csv', cwd=tmp_path).status == 0
+    case = (tmp_path / 'c.csv').read_text()
+    assert difference_told(read_case(case)) == f'10 K, {origin}: each stream and utility contributes 5 K'
+    changed = case.replace('contribution,,50,', 'contribution,,60,')
+    assert difference_told(read_case(changed)).startswith('12 K, by the row `contribution` of the case: each ')
+
+
+def test_of_many_own_contributions_the_page_says_how_many_there_are() -> None:
+    told = difference_told(completed(read_case(example('refinery.csv'))))
+    assert told.endswith('contributes 10 K, but 21 of 36 have one of their own, 5 to 25 K')
 
 
 def test_without_a_heat_flow_the_page_says_why(tmp_path: Path, capfd: pytest.CaptureFixture[str]) -> None:

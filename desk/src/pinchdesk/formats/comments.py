@@ -15,6 +15,8 @@ from .cost_rows import CostRow, printed_cost_row, read_cost_row, with_row
 LEAST_SCALE, LEAST_DIVISOR, LONGEST = Fraction(1, 10 ** 6), Fraction(1, 10 ** 30), 400
 # How the comment begins that says how far roundings take the targets.
 ROUNDED = 'by what is rounded '
+# How the one begins that says what the least difference is, and where it comes from.
+DIFFERENCE = 'least difference '
 
 
 @dataclass(frozen=True)
@@ -24,7 +26,8 @@ class Basis:
     All heats, CPs and loads of the case are `scale` times the plant's. A price of the case divided by `price_divisor`
     is in `price_unit`; a cost divided by `cost_divisor` (and by the scale) is in `cost_unit`. `names` has each name
     that was made fit, as (name in the table, name in the case); `cost_rows` what is said of areas and money;
-    `rounding` how far what the table rounded takes the targets, empty where it does not. `units` are those of the table
+    `rounding` how far what the table rounded takes the targets, empty where it does not; `difference` the least
+    difference and where it comes from, as `10 K, by -d 10`, empty where nothing says it. `units` are those of the table
     where the case has them, in place of tenths of °C and W."""
 
     scale: Fraction = Fraction(1)
@@ -35,6 +38,7 @@ class Basis:
     names: tuple[tuple[str, str], ...] = ()
     cost_rows: tuple[CostRow, ...] = ()
     rounding: str = ''
+    difference: str = ''
     units: CaseUnits | None = None
 
 
@@ -44,6 +48,8 @@ def noted(basis: Basis, row: Sequence[str]) -> Basis:
     word, first, second = row[0], read_again(row[1]), row[2]
     if word.startswith(f'# {ROUNDED}'):
         return replace(basis, rounding=printable(word[2:LONGEST]))
+    if word.startswith(f'# {DIFFERENCE}'):
+        return replace(basis, difference=printable(word[2:LONGEST]).removeprefix(DIFFERENCE))
     cost_row = read_cost_row(row)
     if cost_row:
         return replace(basis, cost_rows=with_row(basis.cost_rows, cost_row))

@@ -25,6 +25,7 @@ from ..program.answers import Curves, Cut, HeatFlow, Targets
 from ..program.run import Pinch
 from ..program.verdicts import Accepted, Verdict
 from ..report.page import Given, case_streams, page_of, review_of
+from ..report.page_head import PageHead
 from ..search.find import find_network
 from ..tables.convert import is_case
 from ..tables.cost_words import cost_of, percent_of
@@ -193,10 +194,13 @@ class Plant:
         followed, verdict = self.judged(network)
         return ShownFigure(grid_figure(followed, self.pinches, verdict, most), self.rounding)
 
-    def page(self, *networks: FileGiven) -> str:
-        """The page for the reviewer with these networks side by side, as HTML."""
+    def page(self, *networks: FileGiven, title: str | None = None, plant: str | None = None, author: str | None = None,
+             revision: str | None = None, date: str | None = None) -> str:
+        """The page for the reviewer with these networks side by side, as HTML. The rest is what stands at its head; the
+        date is today's unless it is said."""
+        head = PageHead(title, plant, author, revision, date)
         files = [file_of(network, f'network {at}') for at, network in enumerate(networks, 1)]
-        return page_of(review_of(self.pinch, Given(self.name, self.name, self.text.encode()), files))
+        return page_of(review_of(self.pinch, Given(self.name, self.name, self.text.encode()), files), head=head)
 
 
 def read(source: str | os.PathLike[str] | bytes, name: str = '', *, difference: Number | None = None,

@@ -31,9 +31,9 @@ def desk_digest() -> str:
     return digest.hexdigest()
 
 
-def digests() -> Digests:
-    """Those of this machine; `ProgramError` where there is no program, or it cannot be read."""
-    path = found()
+def digests(program: str | None = None) -> Digests:
+    """Those of this machine, or with another program; `ProgramError` where there is none, or it cannot be read."""
+    path = program or found()
     try:
         return Digests(desk_digest(), hashlib.sha256(Path(path).read_bytes()).hexdigest())
     except OSError as fault:

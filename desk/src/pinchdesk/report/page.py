@@ -19,10 +19,12 @@ from ..formats.case import ANY_HEAT, Case, Side, completed, read_case
 from ..formats.network import read_network
 from ..formats.shown import Shown
 from ..program.answers import Curves, Cut, HeatFlow, Targets
+from ..program.digests import Digests, digests
 from ..program.run import Pinch
 from ..program.verdicts import Accepted, Rejected, Verdict, ending
 from .answer_sheets import audit_sheets, flow_sheets, targets_sheets
 from .exchangers import exchangers_sheet, mixes_sheets, streams_sheet, sums_sheet
+from .page_head import PageHead, digests_sheet, head_sheet, made_again
 from .sheet import Cell, Sheet
 
 if TYPE_CHECKING:
@@ -219,11 +221,12 @@ def compared(networks: Sequence[Reviewed], shown: Shown) -> Sheet:
 
 @dataclass(frozen=True)
 class Review:
-    """A case and its networks, answered and judged, as the page has them."""
+    """A case and its networks, answered and judged, as the page has them, and who did it."""
 
     case: Given
     answered: Answered
     networks: tuple[Reviewed, ...]
+    digests: Digests
 
     @property
     def ending(self) -> tuple[Status, str]:
@@ -234,19 +237,23 @@ class Review:
 def review_of(pinch: Pinch, case: Given, networks: Sequence[Given]) -> Review:
     answered, verdicts = answers_of(pinch, case, networks)
     return Review(case, answered, tuple(reviewed(answered, network, verdict)
-                                        for network, verdict in zip(networks, verdicts)))
+                                        for network, verdict in zip(networks, verdicts)), digests(pinch.path))
 
 
-def page_of(review: Review, unfolded: bool = False) -> str:
+def page_of(review: Review, unfolded: bool = False, head: PageHead = PageHead()) -> str:
     """The page. `unfolded` where what is folded shall be seen, as on paper."""
     answered, networks = review.answered, review.networks
     shown = Shown(answered.case.basis)
+    files = [('case', review.case), *(('network', network.given) for network in networks)]
     values = {
         'case': review.case, 'answered': answered, 'networks': networks, 'shown': shown, 'unfolded': unfolded,
         'targets': targets_sheets(answered.case, answered.targets), 'tables': case_sheets(answered),
         'flow': flow_sheets(answered.case, answered.flow), 'cut': isinstance(answered.flow, Cut),
         'curves': curves_of(answered),
         'compared': compared(networks, shown) if networks else None, 'bars': bars,
+        'title': head.titled(review.case.name), 'head': head_sheet(head, answered.case),
+        'again': made_again(head, [file.name for _, file in files]),
+        'digests': digests_sheet(review.digests, [(what, file.name, file.content) for what, file in files]),
     }
     page: str = template().render(values)
     return page

@@ -30,7 +30,7 @@ class Wanted:
 class Converted:
     """A case that was made of a table: `origins` has the row of the table behind each row of the case, `notes` is
     told, `exact` are its streams before anything was rounded; `blocks` and `body` are the table as it was
-    understood."""
+    understood; `difference` is the least difference and where it comes from."""
 
     case: Case
     table: Table
@@ -40,3 +40,4 @@ class Converted:
     exact: tuple[RoundingSpan, ...] = ()
     blocks: Blocks = Blocks()
     body: Body = Body((), (), (), ())
+    difference: str = ''

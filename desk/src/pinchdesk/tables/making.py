@@ -59,7 +59,13 @@ class Maker:
             case = in_own_units(case, self.numbers(exact_share), self.reader, body.lines, self.told)
             rows = [share_row, *rows]
         return Converted(case, self.told.table, tuple(rows), tuple(self.told.notes), body.comments, exact, self.blocks,
-                         body)
+                         body, f'{Shown().celsius(2 * share)} K, {self.origin(share_row)}')
+
+    def origin(self, row: int) -> str:
+        """Where the least difference comes from: the words, or this row of the table."""
+        if self.wanted.difference is not None:
+            return f'by -d {self.wanted.difference}'
+        return f'by {self.told.table.place(row, None)} of the table'
 
     def numbers(self, share: Fraction) -> ExactNumbers:
         """What the table says of each source, before anything was rounded."""

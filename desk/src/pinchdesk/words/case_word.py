@@ -5,7 +5,7 @@ from dataclasses import dataclass, replace
 
 from ..errors import of_file
 from ..formats.case import print_case, print_comments
-from ..formats.comments import basis_rows
+from ..formats.comments import DIFFERENCE, basis_rows
 from ..program.run import Pinch
 from ..search.budget import Telling, nobody
 from ..tables.convert import Converted, Wanted, case_of_table, checked
@@ -54,7 +54,7 @@ def converted(pinch: Pinch, file: TextFile, wanted: Wanted) -> Converted:
 
 def case_text(table: Converted) -> str:
     """A case as a file, with what is told of its table as comments at its head."""
-    return print_comments(table.comments) + print_case(table.case)
+    return print_comments([*table.comments, DIFFERENCE + table.difference]) + print_case(table.case)
 
 
 def case_told(table: Converted) -> str:

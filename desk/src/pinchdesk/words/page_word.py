@@ -3,18 +3,24 @@ from __future__ import annotations
 
 from collections import Counter
 from collections.abc import Sequence
+from dataclasses import fields
 from pathlib import PurePath
 
 from ..program.run import Pinch
 from ..report.page import Given, page_of, review_of
+from ..report.page_head import PageHead
 from ..report.pdf import as_pdf
 from ..search.budget import Telling, nobody
 from ..text import printable
 from .forms import PAGE
 from .shared import CASE, rounding_told
-from .word import Answer, Files, NoOptions, Role, TextFile, Word
+from .word import Answer, Files, Option, Role, TextFile, Word
 
 NETWORKS_BESIDE = Role('network', 'network texts, shown side by side', several=True, needed=False)
+SAID = {'title': 'the title of the page, in place of one with the name of the case', 'plant': 'the plant that it is of',
+        'author': 'who made it', 'revision': 'its revision', 'date': 'its date, in place of the day when it is made'}
+DECLARED = tuple(Option(field.name, SAID[field.name], (f'--{field.name}',), metavar='TEXT')
+                 for field in fields(PageHead))
 
 
 def shown_files(files: Sequence[TextFile]) -> list[Given]:
@@ -25,14 +31,15 @@ def shown_files(files: Sequence[TextFile]) -> list[Given]:
             for file, name in zip(files, last)]
 
 
-def page(files: Files, _: NoOptions = NoOptions(), tell: Telling = nobody) -> Answer:
+def page(files: Files, head: PageHead = PageHead(), tell: Telling = nobody) -> Answer:
     case, *networks = shown_files([files.one('case'), *files.several('network')])
     review = review_of(Pinch(), case, networks)
     status, no = review.ending
-    return Answer(in_form=lambda form: as_pdf(page_of(review, True)) if form == 'pdf' else page_of(review),
+    return Answer(in_form=lambda form: as_pdf(page_of(review, True, head)) if form == 'pdf'
+                  else page_of(review, head=head),
                   notes=rounding_told(files.one('case'), review.answered.case), status=status, no=no)
 
 
 PAGE_OF_REVIEW = Word('page', 'all of a case and its networks on one page for the reviewer, .html or .pdf',
                       'pinchdesk page examples/tc3.csv examples/tc3-network.txt -o page.html', (CASE, NETWORKS_BESIDE),
-                      NoOptions, page, forms=PAGE, to_file=True, ending='html')
+                      PageHead, page, DECLARED, PAGE, to_file=True, ending='html')
