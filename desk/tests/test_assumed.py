@@ -79,10 +79,10 @@ def test_a_utility_without_a_price_beside_priced_ones_of_its_side_is_refused() -
 
 def test_coolers_without_any_price_cost_nothing_and_that_is_told() -> None:
     table = made(f'{PRICED}heater;st;180;;;30\ncooler;cw;20;;;\ncooler;air;40;;;\n')
-    assert 'no price stands with cw, air: a cooler costs nothing' in table.notes
-    assert 'no cooler is given: COLD stands in, and costs nothing' in made(f'{PRICED}heater;st;180;;;30\n').notes
+    assert 'no price is given for cw, air: a cooler costs nothing' in table.notes
+    assert 'no cooler is given: COLD is added, and costs nothing' in made(f'{PRICED}heater;st;180;;;30\n').notes
     none = made(PRICED.replace(' (EUR/MWh)', '') + 'heater;st;180;;;\ncooler;cw;20;;;\n')
-    assert 'no price stands with the utilities: a heater costs 1 per W, and a cooler nothing' in none.notes
+    assert 'no price is given for the utilities: a heater costs 1 per W, and a cooler nothing' in none.notes
 
 
 # Duties.
@@ -105,7 +105,7 @@ def test_duties_with_signs_that_agree_are_read() -> None:
 
 def test_of_a_cp_and_a_duty_that_differ_a_little_the_cp_counts_and_that_is_told() -> None:
     table = made('name,supply °C,target °C,CP kW/K,duty kW\nH,150,60,2.0,182\n')
-    assert table.notes == ('row 2 column 5: the CP 2.0 kW/K counts, which makes 180 kW, and not the duty 182 kW',)
+    assert table.notes == ('row 2 column 5: the CP 2.0 kW/K is used, which makes 180 kW, not the duty 182 kW',)
 
 
 # What a sweep replaces.

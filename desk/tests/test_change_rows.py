@@ -64,7 +64,7 @@ def test_which_sheet_of_scenarios_is_read_is_told() -> None:
     assert notes == ('of the sheets the first one, Streams, is read, not Later (--sheet)',)
     with pytest.raises(Refused) as fault:
         read_changes(workbook([['Cover']], Later=rows), 't.xlsx', Basis())
-    assert fault.value.text == 'sheet Streams has no table of scenarios, and Later has one: say --sheet Later'
+    assert fault.value.text == 'sheet Streams has no table of scenarios, and Later has one: use --sheet Later'
 
 
 def test_many_cases_in_scenarios_tell_what_their_table_passes_over(tmp_path: Path) -> None:

@@ -41,7 +41,7 @@ def test_kelvins_and_fahrenheits_are_not_taken_for_celsius() -> None:
 
 def test_a_number_with_two_readings_is_refused_with_both() -> None:
     table = 'Strom;Ein;Aus;CP\n'.replace('Ein', 'in').replace('Aus', 'out') + 'S1;150;60;32.000\n'
-    assert refusal(table) == 'row 2 column 4: `32.000` may be 32 or 32000: say --decimal . or --decimal ,'
+    assert refusal(table) == 'row 2 column 4: `32.000` may be 32 or 32000: use --decimal . or --decimal ,'
     assert streams(table, replace(TEN, decimal='.'))[0][4] == 3200
     assert 'the CP 32000 kW/K is outside its limits' in refusal(table, replace(TEN, decimal=','))
     assert 'may be 1250 or 1.25' in refusal('S1\t150\t60\t1,250\n')
@@ -116,9 +116,9 @@ def test_latin_1_and_utf_16_are_read() -> None:
 
 def test_no_unit_at_all_is_told() -> None:
     notes = made('name,supply,target,CP\nH,150,60,2\n').notes
-    assert sorted(notes) == ['no unit stands with the column `CP`: kW/K is taken',
-                             'no unit stands with the column `supply`: °C '
-                             'is taken', 'no unit stands with the column `target`: °C is taken']
+    assert sorted(notes) == ['no unit is given for the column `CP`: kW/K is taken',
+                             'no unit is given for the column `supply`: °C '
+                             'is taken', 'no unit is given for the column `target`: °C is taken']
     assert not made('name,supply °C,target °C,CP kW/K\nH,150,60,2\n').notes
 
 
@@ -185,7 +185,7 @@ def test_utilities_have_prices_and_all_costs_come_back(pinch: Pinch) -> None:
     assert pinch.targets(case).hot >= 0
     cooler = 'kind;name;supply;target;CP;price\nhot;H;170;60;3;\ncooler;BFW;140;;;-3'
     assert 'no heater with one' in refusal(cooler + ' EUR/MWh\n')
-    assert 'no heater is given: HOT stands in, at the price 1' in made(cooler + '\n').notes
+    assert 'no heater is given: HOT is added, at the price 1' in made(cooler + '\n').notes
 
 
 def test_a_contribution_and_forbidden_matches() -> None:
@@ -198,7 +198,7 @@ def test_a_contribution_and_forbidden_matches() -> None:
     assert 'two names' in refusal('hot,H,150,60,2\nforbid,H,,,\n')
     assert 'a second contribution' in refusal('contribution,,5\ncontribution,,5\nhot,H,150,60,2\n', Wanted())
     assert '-d gives one too' in refusal('contribution,,5\nhot,H,150,60,2\n')
-    assert 'say the least difference' in refusal('hot,H,150,60,2\n', Wanted())
+    assert 'give the least difference' in refusal('hot,H,150,60,2\n', Wanted())
 
 
 def test_the_least_difference_may_have_a_unit() -> None:

@@ -187,7 +187,7 @@ def test_what_is_missing_is_refused_by_its_name(row: str, told: str, pinch: Pinc
 
 
 def test_two_moneys_are_refused(pinch: Pinch) -> None:
-    with pytest.raises(Refused, match=r'two moneys|another money'):
+    with pytest.raises(Refused, match=r'two currencies|another currency'):
         targets(SMALL.replace('#capital,$', '#capital,EUR'), pinch)
 
 

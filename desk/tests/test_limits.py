@@ -103,7 +103,7 @@ def test_a_workbook_whose_first_sheet_has_no_table_names_those_that_have() -> No
     rows: list[list[object]] = [['Stream', 'Supply (°C)', 'Target (°C)', 'CP (kW/K)'], ['H', 150, 60, 2]]
     cover: list[list[object]] = [['Plant A'], ['Rev 3']]
     said = refusal(workbook(cover, Plant=rows, Prices=[['a']], Winter=rows))
-    assert said == 'the sheets Plant and Winter have streams: say --sheet Plant'
+    assert said == 'the sheets Plant and Winter have streams: use --sheet Plant'
     assert streams(workbook(cover, Plant=rows), replace(TEN, sheet='Plant'))[0][1] == 'H'
     assert 'no stream' in refusal(workbook(cover, Prices=[['a']]))
     numbers: list[list[object]] = [['Revision', 3], ['Sheets', 2]]
@@ -116,17 +116,17 @@ PRICED = 'Kind;Name;Supply °C;Target °C;CP kW/K;{}\nhot;H;150;60;2;\ncold;C;20
 
 
 @pytest.mark.parametrize('heading, price, said', [
-    ('Price ($)', '30', '`$` is a money, and a price is per something: write $/MWh'),
-    ('Price $', '30', '`$` is a money, and a price is per something: write $/MWh'),
-    ('Price', '30 €', '`€` is a money, and a price is per something: write €/MWh'),
-    ('Price (EUR)', '30', '`EUR` is a money, and a price is per something: write EUR/MWh'),
-    ('Price (EUR/MWh)', '$30', '`$30`: the money stands behind the number with its unit, as 30 $/MWh'),
-    ('Price (EUR/MWh)', '30 $', 'two moneys, `EUR/MWh` in the heading and `$` here'),
-    ('Price (EUR/MWh)', '30 $/MWh', 'two moneys, `EUR/MWh` in the heading and `$/MWh` here'),
+    ('Price ($)', '30', '`$` is a currency, and a price is per unit of heat: write $/MWh'),
+    ('Price $', '30', '`$` is a currency, and a price is per unit of heat: write $/MWh'),
+    ('Price', '30 €', '`€` is a currency, and a price is per unit of heat: write €/MWh'),
+    ('Price (EUR)', '30', '`EUR` is a currency, and a price is per unit of heat: write EUR/MWh'),
+    ('Price (EUR/MWh)', '$30', '`$30`: the currency follows the number with its unit, as 30 $/MWh'),
+    ('Price (EUR/MWh)', '30 $', 'two currencies, `EUR/MWh` in the heading and `$` here'),
+    ('Price (EUR/MWh)', '30 $/MWh', 'two currencies, `EUR/MWh` in the heading and `$/MWh` here'),
     ('Price (EUR/MWh)', '30 EUR/GJ', 'two units, `EUR/MWh` in the heading and `EUR/GJ` here'),
     ('Price (EUR/t)', '30', '`EUR/t` is a price per mass: the latent heat has to stand in a column, or the pressure'),
     ('Price (EUR/m2)', '30', 'a price is per heat, as EUR/MWh, or per power and year'),
-    ('Price ($/MMBtu)', '30 USD/MMBtu', '`$` may be another money than USD: write one of them')])
+    ('Price ($/MMBtu)', '30 USD/MMBtu', '`$` may be another currency than USD: write one of them')])
 def test_money_is_told_in_the_engineers_words(heading: str, price: str, said: str) -> None:
     assert said in refusal(PRICED.format(heading, price))
 
@@ -138,7 +138,7 @@ def test_signs_and_names_of_one_money_go_together() -> None:
     both = 'kind;name;supply °C;target °C;CP kW/K;price\nhot;H;150;60;2;\nheater;a;180;;;30 €/MWh\n' \
            'heater;b;200;;;40 EUR/MWh\n'
     assert [each.price for each in made(both).case.utilities] == [30, 40]
-    assert '$ and EUR are two moneys' in refusal(both.replace('€', '$'))
+    assert '$ and EUR are two currencies' in refusal(both.replace('€', '$'))
 
 
 def test_the_format_of_a_currency_agrees_with_its_heading() -> None:
@@ -149,7 +149,7 @@ def test_the_format_of_a_currency_agrees_with_its_heading() -> None:
     book.active['F3'].number_format = '#,##0.00 [$€-407]'
     assert made(saved(book)).case.utilities[0].price == 30
     book.active['F3'].number_format = '[$$-409]#,##0.00'
-    assert 'two moneys, `€/MWh` in the heading and `$` here' in refusal(saved(book))
+    assert 'two currencies, `€/MWh` in the heading and `$` here' in refusal(saved(book))
 
 
 # How far roundings take the targets.

@@ -141,7 +141,7 @@ def test_what_a_network_may_cost_is_asked_in_the_unit_that_is_told(table: str, s
     refused = pinchdesk('network', str(case), '--seconds', '1', '--cost', less)
     assert refused.status == 2 and f' {unit}, the least cost of a heat flow' in refused.err
     for asked, told in ((f'{more} USD/d', f'the costs of the case are in {unit}, and `USD/d` is another unit'),
-                        ('dear', f'dear is no number of a cost: one is wanted in {unit}'),
+                        ('dear', f'dear is not a cost: it needs a number, in {unit}'),
                         ('32.000', 'the cost 32.000 may be 32 or 32000')):
         refused = pinchdesk('network', str(case), '--cost', asked)
         assert (refused.status, refused.err) == (2, f'pinchdesk: {told}\n')

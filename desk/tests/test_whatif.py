@@ -113,7 +113,7 @@ REFUSED = [
     ('S;C1;supply;5 %', 'a temperature has no percentage'), ('S;C1;CP;5 %', '`5 %` may be a part or a change'),
     ('S;C1;supply;30 kW', 'the unit `kW` is not known here: °C, K, °F'), (';C1;supply;30', 'the scenario is missing'),
     ('S;;supply;30', 'the source is missing'), ('S;C1;;30', 'the field is missing'),
-    ('S;C1;CP;1,250', '`1,250` may be 1250 or 1.25: say --decimal'),
+    ('S;C1;CP;1,250', '`1,250` may be 1250 or 1.25: use --decimal'),
     ('S;C1;CP;2\nS;C1;load;200', 'row 3 column 4: scenario S changes this twice'),
     ('S;C1;supply;2\nS;C1;supply;3', 'scenario S changes this twice'),
     ('S;case;supply;2', '`case` is no source of it'),
@@ -162,7 +162,7 @@ def test_what_is_refused_or_infeasible_says_so_in_its_row(pinch: Pinch, tmp_path
     changes.write_text(table)
     assert main(['whatif', str(case), str(changes)]) == 3
     said = capsys.readouterr()
-    assert '> turned' in said.out and 'no unit stands with the column `value`: °C is taken' in said.err
+    assert '> turned' in said.out and 'no unit is given for the column `value`: °C is taken' in said.err
     case.write_bytes(STEAM)
     changes.write_text(HEAD + 'none;HP;most;1 kW\n')
     assert main(['whatif', str(case), str(changes), '--form', 'csv']) == 1

@@ -97,7 +97,7 @@ def test_no_heat_flow_is_no_good_answer(desk: Captured) -> None:
 def test_a_sweep_is_in_least_differences(desk: Captured) -> None:
     done = desk('sweep', FOUR, '0', '20', '10', '--workers', '2', '--form', 'csv')
     assert done.out.split('\r\n')[1:4] == ['0,0,40,0,', '10,20,60,20000,the case as it is', '20,65,105,65000,']
-    for words, said in ((['x', '10', '1'], 'x is no least difference'), (['0', '10', '0.1'], '0.1 is no least'),
+    for words, said in ((['x', '10', '1'], 'x is not a least difference'), (['0', '10', '0.1'], '0.1 is not a least'),
                         (['0', '10', '0'], 'the step is 0'), (['10', '0', '1'], '10 K, is above the last one, 0 K'),
                         (['0', '1000', '1'], '200 K at most, and 1000 is more'),
                         (['0', '200', '0.2'], '1000 rows at most, and this one would have 1001: take a step of 0.4 K'),
@@ -164,9 +164,9 @@ ERRORS = [
     (['sweep', 'bad.csv', '0', '10', '1'], 3, 'bad.csv: case row'),
     (['table', 'bad.csv', 'bad.txt'], 3, 'bad.csv: case row 2'),
     (['table', FOUR, 'bad.txt'], 3, 'bad.txt: network line 1'),
-    (['case', '-d', 'x', 'table.csv'], 2, 'x is no least difference'),
-    (['case', '--scale', '3', 'table.csv'], 2, '3 is no scale'),
-    (['case', '--hours', '-1', 'table.csv'], 2, '-1 is no number of hours'),
+    (['case', '-d', 'x', 'table.csv'], 2, 'x is not a least difference'),
+    (['case', '--scale', '3', 'table.csv'], 2, '3 is not a scale'),
+    (['case', '--hours', '-1', 'table.csv'], 2, '-1 is not a number of hours'),
     (['case', '--separator', ';;', 'table.csv'], 2, ';; is no'),
     (['case', 'table.csv'], 3, 'table.csv: no contribution'),
     (['case', '-d', '10', 'bad.csv'], 3, 'pinchdesk: bad.csv: row 1: the table has a contribution, and -d'),

@@ -24,8 +24,8 @@ def contribution_of(text: str) -> int:
     if contribution > 5 * MOST_KELVIN:
         raise WordsError(f'a least difference is {MOST_KELVIN} K at most, and {shortened(text)} is more')
     if contribution.denominator != 1 or contribution < 0:
-        raise WordsError(f'{shortened(text)} is no least difference in K: it has to be a number of fifths of a K, as '
-                         '10 or 2.4')
+        raise WordsError(f'{shortened(text)} is not a least difference in K: it needs a number of fifths of a K, as 10 '
+                         'or 2.4')
     return int(contribution)
 
 

@@ -84,7 +84,7 @@ def decimal_mark(table: Table, cells: Iterable[tuple[int, int, Cell]], told: str
             raise table.refusal(row, column, f'`{cell.text}` and {first[1]} have different decimal marks')
     if first is None and either:
         row, column, numeral, text = either
-        raise table.refusal(row, column, f'`{text}` may be {readings(numeral)}: say --decimal . or --decimal ,')
+        raise table.refusal(row, column, f'`{text}` may be {readings(numeral)}: use --decimal . or --decimal ,')
     return first[0].value if first else '.'
 
 
@@ -170,7 +170,7 @@ class CellReader:
             return None
         if not own and not headed:
             where = f'the column `{title}`' if title else f'numbers of {kind.name.lower()}'
-            self.told.once(f'no unit stands with {where}: {kind.default} is taken')
+            self.told.once(f'no unit is given for {where}: {kind.default} is taken')
             self.taken.setdefault(kind, where)
         else:
             self.seen(row.number, kind, column, own or headed)
@@ -189,7 +189,7 @@ class CellReader:
                           if contradicts(unit, other, kind)), None)
             if found:
                 unit, row, column = found
-                cause = f'the unit `{unit}` stands with this number, and none with {where}: write it with all of them'
+                cause = f'this number has the unit `{unit}`, and none is given for {where}: write it with all of them'
                 self.told.fault(row, column, cause)
 
     @property

@@ -71,7 +71,7 @@ def tables_converted(tables: Sequence[Table], wanted: Wanted) -> Converted:
         except Refused as fault:
             faults.append((sum(len(list(row.filled())) for row in table.rows), fault))
     if len(cases) > 1:
-        raise Refused(3, '', 'separator', 'what separates the fields may be one sign or another: say --separator')
+        raise Refused(3, '', 'separator', 'the fields may be separated by one sign or another: use --separator')
     if not cases:
         raise max(faults, key=lambda fault: fault[0])[1]
     return cases[0]

@@ -14,9 +14,9 @@ def percent_of(text: str) -> Fraction:
     try:
         percent = exact(text.strip().removesuffix('%').replace(',', '.'))
     except ValueError as fault:
-        raise WordsError(f'{shortened(text)} is no number of percent') from fault
+        raise WordsError(f'{shortened(text)} is not a percentage') from fault
     if percent < 0:
-        raise WordsError('the percent are at least 0')
+        raise WordsError('a percentage is at least 0')
     return percent
 
 
@@ -28,7 +28,7 @@ def cost_of(text: str, shown: Shown) -> Fraction:
             raise WordsError(f'the cost {text} may be {readings(numeral)}')
         value = Fraction(numeral.value(numeral.says.value or '.'))
     except NoNumber as fault:
-        raise WordsError(f'{text} is no number of a cost: one is wanted in {shown.cost_unit}') from fault
+        raise WordsError(f'{text} is not a cost: it needs a number, in {shown.cost_unit}') from fault
     if numeral.unit and numeral.unit.split() != shown.cost_unit.split():
         raise WordsError(f'the costs of the case are in {shown.cost_unit}, and `{numeral.unit}` is another unit')
     return shown.in_program(value)

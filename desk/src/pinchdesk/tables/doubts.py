@@ -47,7 +47,7 @@ def beside(line: Line, lines: Sequence[Line], told: Told, settled: bool) -> None
             told.note(line.row.number, column, f'passed over, under no heading: `{cell.text[:60]}`')
         elif told.table.separator == ',' and not settled and cell.text.isdigit() and decimals_before(
                 line.row, column) and not is_of_numbers(layout, column, lines):
-            cause = f'`{line.row.cell(column - 1).text},{cell.text}` may be one number: quote it, or say --decimal .'
+            cause = f'`{line.row.cell(column - 1).text},{cell.text}` may be one number: quote it, or use --decimal .'
             told.fault(line.row.number, column, cause)
 
 

@@ -28,7 +28,7 @@ def half(difference: str, told: Told) -> tuple[int, Fraction]:
         unit = unit_of(numeral.unit or 'K', Kind.DIFFERENCE)
         exact = unit.exact(Fraction(numeral.value(numeral.says.value or '.'))) / 2
     except (NoNumber, UnknownUnit) as fault:
-        raise WordsError(f'{difference} is no least difference: a number is wanted, in K or with its unit') from fault
+        raise WordsError(f'{difference} is not a least difference: it needs a number, in K or with its unit') from fault
     if not CONTRIBUTION.holds(rounded(exact)):
         raise Refused(3, '', 'OutOfRange', f'the least difference {difference} is outside its limits, 0 to 200 K')
     nearest = rounded(exact)

@@ -168,7 +168,7 @@ class Maker:
             self.told.note(said.row, said.column, f'the least difference is taken, {said.text}')
             difference = said.text
         if difference is None:
-            cause = 'no contribution: say the least difference, as -d 10'
+            cause = 'no contribution: give the least difference, as -d 10'
             self.told.faults.append(Refused(3, '', 'no contribution', cause))
             return 0, Fraction(0), 0
         if self.reader.fahrenheit and is_bare(difference):
@@ -191,7 +191,7 @@ class Maker:
         if self.wanted.hours is not None and not (given and given[0][1]):
             self.told.once('--hours changes nothing, since no price has a unit')
         if given and given[0][1] is None:
-            self.told.once('no unit stands with the prices: they are taken per W, in their proportion')
+            self.told.once('no unit is given for the prices: they are taken per W, in their proportion')
         self.tell_rounded(made)
         if given and not any(line.kind == 'heater' for _, line, _, _ in self.priced):
             self.without_heater(made.basis)
@@ -223,15 +223,15 @@ class Maker:
                                 'one')
         coolers = [line.name() for _, line in free if line.kind == 'cooler']
         if not any(names.values()) and free:
-            self.told.once('no price stands with the utilities: a heater costs 1 per W, and a cooler nothing')
+            self.told.once('no price is given for the utilities: a heater costs 1 per W, and a cooler nothing')
         elif any(names.values()) and coolers:
-            self.told.once(f'no price stands with {", ".join(coolers)}: a cooler costs nothing')
+            self.told.once(f'no price is given for {", ".join(coolers)}: a cooler costs nothing')
         elif any(names.values()) and not names['cooler']:
-            self.told.once('no cooler is given: COLD stands in, and costs nothing')
+            self.told.once('no cooler is given: COLD is added, and costs nothing')
 
     def without_heater(self, basis: Basis) -> None:
         """Where prices stand and no heater does, `HOT` stands in at the price 1 per W, which no unit of prices has."""
         if basis.price_unit:
             row = self.priced[0][0]
             raise self.told.table.refusal(row, None, 'there are prices, and no heater with one: add the heater')
-        self.told.once('no heater is given: HOT stands in, at the price 1')
+        self.told.once('no heater is given: HOT is added, at the price 1')

@@ -27,11 +27,11 @@ def two_moneys(one: str, other: str) -> str:
         return ''
     for sign, code in ((first, second), (second, first)):
         if code in SHARED.get(sign, ()):
-            return f'`{sign}` may be another money than {code}: write one of them'
-    return f'{one or "none"} and {other or "none"} are two moneys'
+            return f'`{sign}` may be another currency than {code}: write one of them'
+    return f'{one or "none"} and {other or "none"} are two currencies'
 
 
 def fault_of(own: str, headed: str, own_money: str, headed_money: str) -> str:
     """What is said of the money of a cell beside that of its heading; empty where they are one."""
     said = two_moneys(own_money, headed_money)
-    return said if said.startswith('`') else f'two moneys, `{headed}` in the heading and `{own}` here' if said else ''
+    return said if not said or said.startswith('`') else f'two currencies, `{headed}` in the heading and `{own}` here'

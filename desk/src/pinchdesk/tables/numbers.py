@@ -46,7 +46,7 @@ class Numeral:
         body = self.body
         if any(group_mark in body for group_mark in GROUPS):
             if not GROUPED.fullmatch(body):
-                raise NoNumber('blanks or apostrophes that mark no thousands')
+                raise NoNumber('blanks or apostrophes that do not separate thousands')
             return Says(body[-1] if body[-1] in '.,' else next((mark for mark in '.,' if mark in body), ''))
         marks = [mark for mark in body if mark in '.,']
         if not marks:
@@ -70,7 +70,7 @@ def says_of_two(body: str, marks: list[str]) -> Says:
     last, other = marks[-1], '.,'.replace(marks[-1], '')
     whole, _, _ = body.rpartition(last)
     if last in marks[:-1] or not re.fullmatch(rf'[0-9]{{1,3}}(?:[{other}][0-9]{{3}})+', whole):
-        raise NoNumber('points and commas that are no marks of thousands')
+        raise NoNumber('points and commas that do not separate thousands')
     return Says(last)
 
 
@@ -80,7 +80,7 @@ def says_of_one(body: str, marks: list[str]) -> Says:
     other = '.,'.replace(mark, '')
     if len(marks) > 1:
         if not re.fullmatch(rf'[0-9]{{1,3}}(?:[{mark}][0-9]{{3}})+', body):
-            raise NoNumber('more than one mark, and they are none of thousands')
+            raise NoNumber('more than one mark, and they do not separate thousands')
         return Says(other)
     return Says.EITHER if re.fullmatch(rf'[1-9][0-9]{{0,2}}[{mark}][0-9]{{3}}', body) else Says(mark)
 

@@ -27,7 +27,7 @@ def check(content: bytes, name: str, first: Table, what: str, is_one: Callable[[
     found = [sheet for sheet in first.others[:MOST_SHEETS] if is_such(content, name, sheet, is_one)]
     if found:
         has = 'has one' if len(found) == 1 else 'have one'
-        cause = f'sheet {first.sheet} has no table of {what}, and {", ".join(found)} {has}: say --sheet {found[0]}'
+        cause = f'sheet {first.sheet} has no table of {what}, and {", ".join(found)} {has}: use --sheet {found[0]}'
         raise Refused(3, f'sheet {first.sheet}', 'no table', cause)
 
 

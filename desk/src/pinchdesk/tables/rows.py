@@ -210,7 +210,7 @@ def headed_line(row: TableRow, layout: Layout, section: Section | None, told: To
     text = row.cell(column).text if column is not None else ''
     kind = kind_of(text) if text and text not in EMPTY else ''
     if kind is None and len(list(row.filled())) > 1 and not SUM.fullmatch(text) and not is_comment(row):
-        told.fault(row.number, column, f'`{text}` is no kind: hot, cold, heater, cooler, contribution, forbid')
+        told.fault(row.number, column, f'`{text}` is not a kind: use hot, cold, heater, cooler, contribution or forbid')
         return None
     line = Line(row, kind or '', layout.columns, layout, section)
     return replace(line, kind=utility_kind(line))

@@ -40,7 +40,7 @@ def chosen_sheets(content: bytes) -> Table:
         whole = streams[0].table is tables[0] and len(streams[0].sides) == 2
         if not whole:
             names = [summary.table.sheet for summary in streams]
-            cause = f'the sheets {" and ".join(names)} have streams: say --sheet {names[0]}'
+            cause = f'the sheets {" and ".join(names)} have streams: use --sheet {names[0]}'
             raise Refused(3, f'sheet {names[0]}', 'sheets', cause)
         streams = streams[:1]
     utilities = [summary for summary in found if summary.utilities]

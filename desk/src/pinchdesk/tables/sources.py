@@ -149,7 +149,7 @@ class Entries:
         if supply == target and not line.kind and line.section and line.section.side:
             return line.section.side
         if supply == target and not line.kind:
-            self.told.fault(row, None, 'supply and target are one: a column `kind` has to say hot or cold')
+            self.told.fault(row, None, 'supply and target are the same: a column `kind` has to say hot or cold')
             return None
         runs = Side.HOT if supply > target else Side.COLD
         if line.kind and supply != target and runs.value != line.kind:
@@ -163,12 +163,13 @@ class Entries:
         if self.given(line, Heading.CP):
             cp = self.reader.measured(line.row, flow, Kind.FLOW)
             if cp is None or cp.value != 0:
-                self.told.fault(line.row.number, flow, 'supply and target are one: such a stream has a duty and no CP')
+                cause = 'supply and target are the same: such a stream has a duty and no CP'
+                self.told.fault(line.row.number, flow, cause)
                 return None
         if not self.given(line, Heading.LOAD):
             product = self.product(line, Heading.LATENT)
             if product is None:
-                self.told.fault(line.row.number, column, 'supply and target are one: the duty is missing')
+                self.told.fault(line.row.number, column, 'supply and target are the same: the duty is missing')
                 return None
             self.check(line, Heading.LATENT, LOAD, product.value, f'the duty {product.text}')
             return self.reader.rounded(line.row, line.at(Heading.LATENT), Kind.HEAT, product, self.scale)
@@ -277,7 +278,7 @@ class Entries:
         open_part = flow.slack * span + duty.slack + abs(flow.value)
         if apart <= open_part and apart <= MOST_APART * max(abs(made), said):
             if apart:
-                what = f'the CP {flow.text} counts, which makes {Kind.HEAT.shown(made)}, and not the duty {duty.text}'
+                what = f'the CP {flow.text} is used, which makes {Kind.HEAT.shown(made)}, not the duty {duty.text}'
                 self.told.rounding(line.row.number, line.at(Heading.LOAD), what)
             return True
         what = f'the CP {flow.text} makes {Kind.HEAT.shown(made)} between both temperatures, and the duty is ' \

@@ -119,7 +119,7 @@ def read_table(content: bytes, name: str, sheet: str | None = None, separator: s
     if is_workbook(content):
         return (workbook_table(content, sheet),)
     if content.startswith(b'\xd0\xcf\x11\xe0') or name.lower().endswith(('.xlsx', '.xlsm')):
-        raise Refused(3, '', 'no workbook', 'this is no .xlsx workbook: save it as .xlsx, or as text (.csv)')
+        raise Refused(3, '', 'no workbook', 'this is not an .xlsx workbook: save it as .xlsx, or as text (.csv)')
     if sheet is not None:
         raise Refused(3, '', 'no sheets', 'this is a text, and has no sheets')
     text = text_of(content)

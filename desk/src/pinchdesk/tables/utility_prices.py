@@ -28,7 +28,7 @@ class PriceReader:
             return None, None
         text = line.row.cell(column).text
         if LEADING.fullmatch(text):
-            cause = f'`{text}`: the money stands behind the number with its unit, as 30 $/MWh, or in the heading'
+            cause = f'`{text}`: the currency follows the number with its unit, as 30 $/MWh, or in the heading'
             self.told.fault(line.row.number, column, cause)
             return None, None
         number = self.reader.number(line.row, column)
@@ -104,6 +104,6 @@ class PriceReader:
 def unknown_price(unit: str) -> str:
     """What is said of a unit that is none of a price."""
     if is_money(unit):
-        return f'`{unit}` is a money, and a price is per something: write {unit}/MWh'
-    return f'the unit `{unit}` is none of a price: a price is per heat, as EUR/MWh, or per power and year, as ' \
+        return f'`{unit}` is a currency, and a price is per unit of heat: write {unit}/MWh'
+    return f'the unit `{unit}` is not that of a price: a price is per heat, as EUR/MWh, or per power and year, as ' \
            'EUR/(kW a)'

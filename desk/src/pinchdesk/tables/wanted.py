@@ -18,7 +18,7 @@ def number(text: str, what: str) -> Fraction:
     except ValueError:
         amount = Fraction(0)
     if not Fraction(1, 10 ** 9) <= amount < 10 ** 10:
-        raise WordsError(f'{shortened(text)} is no {what}')
+        raise WordsError(f'{shortened(text)} is not a {what}')
     return amount
 
 
@@ -27,11 +27,11 @@ def wanted_by(difference: str | None, sheet: str | None, separator: str | None, 
     """How the words ask the table to be read; `WordsError` where one of them is none."""
     times = number(scale, 'scale')
     if times not in SCALES:
-        raise WordsError(f'{scale} is no scale: a power of ten is wanted, from 0.001 to 1000')
+        raise WordsError(f'{scale} is not a scale: it needs a power of ten, from 0.001 to 1000')
     sign = '\t' if separator == 'tab' else separator
     if sign is not None and (len(sign) != 1 or sign in '"\r\n'):
-        raise WordsError(f'{sign} is no separator: one sign is wanted')
+        raise WordsError(f'{sign} is not a separator: it needs one sign')
     if decimal is not None and decimal not in MARKS:
-        raise WordsError(f'{shortened(decimal)} is no decimal mark: a point or a comma is wanted')
+        raise WordsError(f'{shortened(decimal)} is not a decimal mark: it needs a point or a comma')
     yearly = number(hours, 'number of hours') if hours is not None else None
     return Wanted(difference, sheet, sign, decimal, times, yearly)

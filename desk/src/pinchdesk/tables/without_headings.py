@@ -87,7 +87,7 @@ def check_names(streams: Sequence[Line], told: Told) -> None:
             continue
         number = int(name) if name.isdigit() and len(name) <= LONGEST else -1
         if number <= last:
-            told.fault(line.row.number, line.at(Heading.NAME), f'`{name}` stands where a name is wanted: give headings')
+            told.fault(line.row.number, line.at(Heading.NAME), f'`{name}` is where a name is expected: give headings')
         last = max(number, last)
 
 

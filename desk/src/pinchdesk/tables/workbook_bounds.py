@@ -99,7 +99,7 @@ def place_of(text: str) -> tuple[int, int]:
     """The row and the column of a place as `C5`, counted from 1."""
     match = PLACE.fullmatch(text)
     if not match:
-        raise NoWorkbook(f'`{text[:20]}` is no place of a cell')
+        raise NoWorkbook(f'`{text[:20]}` is not the place of a cell')
     column = 0
     for letter in match[1]:
         column = column * 26 + ord(letter) - ord('A') + 1
