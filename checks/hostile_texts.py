@@ -1,4 +1,4 @@
-"""Inputs that nobody means well with, for each reader of the desk: texts, workbooks, and what is no plain file."""
+"""Inputs that nobody means well with, for each reader of the desk: texts, workbooks, and what is not a plain file."""
 from collections.abc import Iterator
 import io
 import os
@@ -161,7 +161,7 @@ def workbooks(rows: list[list[str]]) -> Iterator[tuple[str, bytes]]:
 
 
 def no_files(folder: str) -> Iterator[tuple[str, str]]:
-    """Paths of what is no plain file."""
+    """Paths of what is not a plain file."""
     os.mkdir(os.path.join(folder, 'folder'))
     os.mkfifo(os.path.join(folder, 'fifo'))
     os.symlink('loop', os.path.join(folder, 'loop'))

@@ -27,7 +27,8 @@ def refusal(text: str, basis: Basis = Basis()) -> str:
 def test_a_scenario_whose_name_begins_with_a_hash_is_one() -> None:
     table = read(f'{HEAD}#1 hotter;S1;supply;+10 K\nless;S3;target;115 °C\n')
     assert [variant.name for variant in table.variants] == ['#1 hotter', 'less']
-    assert table.notes == ('row 2: a scenario, since it has a value, and no comment: `#1 hotter S1 supply +10 K`',)
+    assert table.notes == ('row 2: taken as a scenario, since it has a value, not as a comment: '
+                           '`#1 hotter S1 supply +10 K`',)
     assert 'may be a comment or a scenario' in refusal(f'{HEAD}# hotter;S1;supply;+10 K\nless;S3;target;115 °C\n')
     assert 'may be a comment or a scenario' in refusal('scenario;source;CP\n#;S1;5 kW/K\nless;S3;4 kW/K\n')
 

@@ -95,7 +95,7 @@ def test_what_the_search_refuses_is_refused_by_its_call(pinch: Pinch) -> None:
 
 def test_a_process_that_does_not_begin_is_told(pinch: Pinch, monkeypatch: pytest.MonkeyPatch) -> None:
     monkeypatch.setattr(child, 'SOURCE', Path('/nowhere'))
-    with pytest.raises(ProgramError, match='the process of the search ends when it begins'):
+    with pytest.raises(ProgramError, match='the process of the search ends as soon as it is started'):
         find_network(example('tc3.csv'), pinch=pinch, seconds=60)
 
 

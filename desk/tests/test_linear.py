@@ -64,7 +64,7 @@ def test_a_program_of_many_choices_is_solved_apart(monkeypatch: pytest.MonkeyPat
         there = apart.solve(program, 60)
         assert apart.child is not None and here is not None and there is not None and there.aim == here.aim
     monkeypatch.setattr(child, 'SOURCE', Path('/nowhere'))
-    with pytest.raises(ProgramError, match='ends when it begins'):
+    with pytest.raises(ProgramError, match='ends as soon as it is started'):
         process.Apart().solve(program, 60)
 
 

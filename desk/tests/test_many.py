@@ -264,7 +264,7 @@ def test_an_empty_folder_has_no_case(desk: Desk, tmp_path: Path) -> None:
     assert desk('targets', str(tmp_path)) == Done(3, '', f'pinchdesk: {tmp_path}: there is no case in it\n')
 
 
-WRONG = [(['targets', LIST, '--processes', '0'], '0 is no number of processes'),
+WRONG = [(['targets', LIST, '--processes', '0'], '0 is not a number of processes'),
          (['page', LIST], 'required: --into'), (['draw', LIST], 'invalid choice'), (['many', LIST], 'invalid choice'),
          (['prices', LIST], 'four-stream.csv has no study: give the list a column `study`'),
          (['sweep', LIST], 'required: FIRST, LAST, STEP')]
@@ -278,7 +278,7 @@ def test_words_that_are_none(words: list[str], said: str, capfd: pytest.CaptureF
 
 def test_without_a_program_nothing_is_begun(desk: Desk, monkeypatch: pytest.MonkeyPatch) -> None:
     monkeypatch.setenv('PINCH', '/nowhere/pinch')
-    assert desk('targets', LIST) == Done(2, '', 'pinchdesk: $PINCH is /nowhere/pinch, and that is no program\n')
+    assert desk('targets', LIST) == Done(2, '', 'pinchdesk: $PINCH is /nowhere/pinch, which is not a program\n')
 
 
 def test_each_case_is_taken_in_each_scenario(desk: Desk, tmp_path: Path) -> None:

@@ -145,7 +145,7 @@ def test_an_answer_that_cannot_be_written_is_one_row(desk: Desk, here: Path) -> 
     os.rmdir('r/tc3.txt')
     os.mkfifo('r/tc3.txt')
     ended = desk('many', 'targets', 'list', '--into', 'r')
-    assert ended.status == 2 and 'is no plain file' in ended.out
+    assert ended.status == 2 and 'is not a plain file' in ended.out
     assert 'cannot be made a folder' in desk('many', 'targets', 'list', '--into', 'tc3.csv').err
 
 
@@ -180,7 +180,7 @@ def test_a_pipe_or_a_device_is_no_file(desk: Desk, here: Path) -> None:
                       ['prices', 'tc3.csv', path], ['whatif', 'tc3.csv', path], ['many', 'targets', path],
                       ['many', 'targets', 'tc3.txt', '--scenarios', path], ['network', 'tc3.csv', '--start', path]):
             ended = desk(*words)
-            assert ended.status == 3 and f'{path}: is no plain file' in ended.err
+            assert ended.status == 3 and f'{path}: is not a plain file' in ended.err
     Path('list').write_text('pipe\ntc3.csv\n')
     ended = desk('many', 'targets', 'list', '--form', 'csv')
     assert [row['answer'] for row in csv.DictReader(io.StringIO(ended.out))] == ['refused', 'good']

@@ -139,7 +139,7 @@ def test_sizes_that_are_fractions_are_scaled(pinch: Pinch) -> None:
     assert rest.harder and rest.harder.scale.sizes == 21 and targets_of(rest) == (20_000, 60_000)
     posed = written_case(rest)
     assert posed and posed.basis.scale == 21 and [each.cp for each in posed.streams[1:4]] == [300, 7, 5993]
-    assert list(file_notes(rest)) == ['in the case of the rest all heats and CPs are taken 21 times (#scale)']
+    assert list(file_notes(rest)) == ['in the case of the rest all heats and CPs are multiplied by 21 (#scale)']
 
 
 def test_what_no_scale_holds_is_rounded_to_both_sides_and_told(pinch: Pinch) -> None:

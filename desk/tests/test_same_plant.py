@@ -199,7 +199,7 @@ def test_cases_of_different_units_share_no_column_of_costs(plain: Files, other: 
 def test_a_second_scale_or_unit_is_refused() -> None:
     for rows in (b'#scale,10,,,,,\n#scale,100,,,,,\n', b'#price,EUR/MWh,10,,,,\n#price,EUR/MWh,1,,,,\n',
                  b'#cost,EUR/h,10,,,,\n#cost,EUR/a,10,,,,\n'):
-        with pytest.raises(Refused, match='case row 2 #.*: a row above says another one'):
+        with pytest.raises(Refused, match='case row 2 #.*: a row above says something else'):
             read_case(rows + b'contribution,,50,,,,\nhot,H,1000,500,10,,\n')
         same = rows.split(b'\n')[0] + b'\n'
         assert read_case(same * 2 + b'contribution,,50,,,,\nhot,H,1000,500,10,,\n').streams
@@ -215,7 +215,7 @@ def test_a_site_of_scaled_plants_has_one_scale() -> None:
         assert read_site(SCALED.format(*rows)).basis.scale == 10
     assert read_site(SCALED.format('', '', '')).basis.scale == 1
     for rows, row in ((('', TEN, ''), 4), (('', TEN, HUNDRED), 7), ((TEN, HUNDRED, HUNDRED), 8)):
-        with pytest.raises(Refused, match=f'site row {row}: the plants are taken .* times, and one scale has to hold'):
+        with pytest.raises(Refused, match=f'site row {row}: the plants have the scales .*, and one has to hold'):
             read_site(SCALED.format(*rows))
-    with pytest.raises(Refused, match='site row 1 #scale: `x` is no number'):
+    with pytest.raises(Refused, match='site row 1 #scale: `x` is not a number'):
         read_site(SCALED.format('#scale,x,,,,,\n', '', ''))

@@ -167,8 +167,8 @@ LIMITED = [
     ('ulimit -f 1; $D draw curves $1/tc3.csv -o x.svg 2>&1 | cat >&2', 0, 'x.svg: cannot be written: File too large'),
     ('ulimit -v 30000; $D targets $1/tc3.csv', 2, 'there is not enough memory'),
     ('ulimit -v 250000; $D whatif $1/tc3.csv --workers 16', 2, 'room'),
-    ('mkfifo f; $D targets f', 3, 'f: is no plain file'),
-    ('mkfifo f; $D targets $1/tc3.csv -o f', 2, 'is no plain file')]
+    ('mkfifo f; $D targets f', 3, 'f: is not a plain file'),
+    ('mkfifo f; $D targets $1/tc3.csv -o f', 2, 'is not a plain file')]
 
 
 @pytest.mark.parametrize('line, status, said', LIMITED)

@@ -136,6 +136,6 @@ def test_comments_in_any_letters_and_long_fields_are_passed_over() -> None:
 def test_comments_of_the_desk_that_say_what_cannot_be_are_refused() -> None:
     rows = 'contribution,,50,,,,\nhot,H,1000,500,10,,\n'
     for comment in ('#scale,x,,,,,', '#scale,0,,,,,', '#price,EUR/MWh,1/0,,,,', '#cost,EUR/h,,,,,'):
-        with pytest.raises(Refused, match=f'case row 1 {comment.split(",")[0]}: .* is no number from'):
+        with pytest.raises(Refused, match=f'case row 1 {comment.split(",")[0]}: .* is not a number from'):
             read_case(f'{comment}\n{rows}')
     assert read_case(f'#,x,,,,,\n# scale,x,,,,,\n{rows}').basis == Basis()

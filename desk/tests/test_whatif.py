@@ -107,7 +107,8 @@ def test_prices_and_heats_are_in_the_units_of_the_table_that_the_case_came_from(
 
 
 REFUSED = [
-    ('S;X;supply;30', 'row 2 column 4: `X` is no source of it'), ('S;C1;level;30', 'C1 has no level: it has supply, '),
+    ('S;X;supply;30', 'row 2 column 4: `X` is not a source of the case'),
+    ('S;C1;level;30', 'C1 has no level: it has supply, '),
     ('S;HOT;price;3', '`HOT` is added where the case has no such utility'), ('S;C1;heat flow;3', '`heat flow` is no'),
     ('S;C1;supply;warm', 'row 2 column 4: `warm`: no number'), ('S;C1;supply;', 'a number is missing'),
     ('S;C1;supply;5 %', 'a temperature has no percentage'), ('S;C1;CP;5 %', '`5 %` may be a part or a change'),
@@ -116,7 +117,7 @@ REFUSED = [
     ('S;C1;CP;1,250', '`1,250` may be 1250 or 1.25: use --decimal'),
     ('S;C1;CP;2\nS;C1;load;200', 'row 3 column 4: scenario S changes this twice'),
     ('S;C1;supply;2\nS;C1;supply;3', 'scenario S changes this twice'),
-    ('S;case;supply;2', '`case` is no source of it'),
+    ('S;case;supply;2', '`case` is not a source of the case'),
 ]
 
 
@@ -169,7 +170,7 @@ def test_what_is_refused_or_infeasible_says_so_in_its_row(pinch: Pinch, tmp_path
     assert 'none,20,0,60,0,85,no heat flow,' in capsys.readouterr().out
     changes.write_text(HEAD + 'none;XP;most;1 kW\n')
     assert main(['whatif', str(case), str(changes)]) == 3
-    assert f'pinchdesk: {changes}: row 2 column 4: `XP` is no source of it' in capsys.readouterr().err
+    assert f'pinchdesk: {changes}: row 2 column 4: `XP` is not a source of the case' in capsys.readouterr().err
 
 
 def test_a_hostile_name_is_made_harmless(pinch: Pinch, tmp_path: Path, capsys: pytest.CaptureFixture[str]) -> None:

@@ -101,7 +101,7 @@ def test_a_sweep_is_in_least_differences(desk: Captured) -> None:
                         (['0', '10', '0'], 'the step is 0'), (['10', '0', '1'], '10 K, is above the last one, 0 K'),
                         (['0', '1000', '1'], '200 K at most, and 1000 is more'),
                         (['0', '200', '0.2'], '1000 rows at most, and this one would have 1001: take a step of 0.4 K'),
-                        (['0', '10', '1', '--workers', '17'], '17 is no number of workers: 1 to 16')):
+                        (['0', '10', '1', '--workers', '17'], '17 is not a number of workers: 1 to 16')):
         done = desk('sweep', FOUR, *words)
         assert done.status == 2 and said in done.err
     assert desk('sweep', FOUR, '0', '199.8', '0.2').status == 0
@@ -290,7 +290,7 @@ def test_help_has_an_example_that_runs(word: str, desk: Captured, monkeypatch: p
 
 def test_a_program_that_is_not_there_is_told(desk: Captured, monkeypatch: pytest.MonkeyPatch) -> None:
     monkeypatch.setenv('PINCH', '/nowhere/pinch')
-    assert desk('targets', FOUR).err == 'pinchdesk: $PINCH is /nowhere/pinch, and that is no program\n'
+    assert desk('targets', FOUR).err == 'pinchdesk: $PINCH is /nowhere/pinch, which is not a program\n'
     monkeypatch.setenv('PINCH', '/bin/false')
     assert desk('targets', FOUR) == Done(2, '', "pinchdesk: /bin/false answered what `pinch targets` does not: ''\n")
 

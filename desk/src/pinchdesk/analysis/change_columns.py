@@ -117,4 +117,4 @@ def check_columns(table: Table, head: TableRow, columns: Mapping[Column, int], f
 
 def known_headings() -> str:
     words = [column.name.lower() for column in Column] + [field.word for field in Field]
-    return ', '.join(words) + '; take the column out, or head it `note`'
+    return ', '.join(words) + '; take the column out, or give it the heading `note`'

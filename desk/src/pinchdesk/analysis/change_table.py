@@ -121,7 +121,8 @@ def rows_of(layout: ChangeLayout, told: Told) -> tuple[list[TableRow], list[Word
                        'the `#`; a comment has no value')
         elif row.number > layout.head:
             if is_comment(row):
-                told.note(row.number, None, f'a scenario, since it has a value, and no comment: `{shortened(text)}`')
+                cause = f'taken as a scenario, since it has a value, not as a comment: `{shortened(text)}`'
+                told.note(row.number, None, cause)
             rows.append(row)
             passed += [Words(row.number, column, row.cell(column).text) for column in notes]
         if why:
@@ -173,7 +174,7 @@ class ChangeReader:
             found = FIELDS.get(squeezed(text))
             if text and found is None:
                 fields = ', '.join(field.word for field in Field)
-                self.told.fault(row.number, self.layout.columns[Column.FIELD], f'`{text}` is no field: {fields}')
+                self.told.fault(row.number, self.layout.columns[Column.FIELD], f'`{text}` is not a field: use {fields}')
             fields_at = {self.layout.columns[Column.VALUE]: found} if found else {}
         else:
             fields_at = {at: field for at, field in self.layout.fields.items() if self.cells.given(row, at)}
@@ -187,7 +188,7 @@ class ChangeReader:
         cell = row.cell(at)
         if cell.number is not None and cell.number < 0:
             cause = (f'{cell.text} may be a change or a new value: write it as a text, `by {cell.text}` or '
-                     f'`to {cell.text}` (a workbook keeps no sign `+` of a number)')
+                     f'`to {cell.text}` (a workbook does not keep the sign `+` of a number)')
             self.told.fault(row.number, at, cause)
             return None
         word, number = written_of(cell)
@@ -204,7 +205,7 @@ class ChangeReader:
         kind = KINDS.get(field)
         cause = ''
         if kind is Kind.TEMPERATURE:
-            cause = 'a temperature has no percentage: say how many K'
+            cause = 'a temperature does not change by a percentage: give the change in K'
         elif word == 'to' or not word and number[0] not in SIGNED:
             cause = f'`{number}` may be a part or a change: `+5 %` and `-5 %` are changes'
         try:

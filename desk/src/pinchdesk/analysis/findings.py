@@ -16,7 +16,7 @@ REASONS = {
     'ColdEndApproach': 'too close at its cold end: the hot side leaves at {found}, and the cold one enters so warm '
                        'that {wanted} is needed',
     'MissedTarget': 'the target is missed: {found} instead of {wanted}',
-    'Unfinished': 'not the whole stream reaches its end: {found} of {wanted}',
+    'Unfinished': 'only a part of the stream reaches its end: {found} of {wanted}',
     'Overdrawn': 'more than there is: {found}, and there is {wanted}',
     'UtilityRange': 'outside its range: {found}, and the bound is {wanted}',
     'Forbidden': 'these two may not exchange heat',

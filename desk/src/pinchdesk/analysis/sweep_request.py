@@ -48,7 +48,7 @@ def asked_range(first: str, last: str, step: str, workers: int) -> tuple[int, in
 
 def check_workers(workers: int) -> None:
     if not 1 <= workers <= MOST_WORKERS:
-        raise WordsError(f'{workers} is no number of workers: 1 to {MOST_WORKERS}')
+        raise WordsError(f'{workers} is not a number of workers: 1 to {MOST_WORKERS}')
 
 
 def own_contributions(case: Case) -> tuple[str, ...]:

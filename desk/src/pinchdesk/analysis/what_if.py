@@ -178,7 +178,8 @@ def found(case: Case, change: Change) -> Source | None:
         return None
     if source is None:
         invented = change.source in ('HOT', 'COLD')
-        why = 'is added where the case has no such utility: give it a row there' if invented else 'is no source of it'
+        why = 'is added where the case has no such utility: give it a row there' if invented else \
+            'is not a source of the case'
         raise refusal(change, f'`{change.source}` {why}')
     fields = OF_UTILITY if isinstance(source, Utility) else LATENT if source.latent else SENSIBLE
     if change.field.word not in fields:
@@ -251,7 +252,7 @@ def of_utility(base: Utility, now: Utility, change: Change, case: Case) -> tuple
     name = field.name.lower()
     before: int = getattr(base, name)
     if field is Field.MOST and before == ANY_HEAT and change.way is not Way.TO:
-        raise refusal(change, f'{base.name} has no most that could be changed: say the new one')
+        raise refusal(change, f'{base.name} has no most that could be changed: give the new one')
     behind, exact = moved(before, change, case.basis.price_divisor if field is Field.PRICE else Fraction(1))
     return replace(now, **{name: behind}), Step(change, before, behind, exact)
 

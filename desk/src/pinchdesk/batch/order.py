@@ -53,7 +53,7 @@ class Order:
         """The names of the files of the answers."""
         ending = self.ending.removeprefix('.') if self.ending is not None else word_of(self.words).ending
         if not ending or os.sep in ending or '\0' in ending:
-            raise WordsError(f'{self.ending} is no ending of a file')
+            raise WordsError(f'{self.ending} is not an ending of a file')
         return names_of(rows, ending)
 
     def read(self, rows: Sequence[Listed]) -> list[str]:
@@ -180,7 +180,7 @@ def many(word: str, cases: str | os.PathLike[str] | Mapping[str, Held | Sequence
     try:
         found_word = word_of(names)
     except KeyError as fault:
-        raise WordsError(f'{word} is no word of the desk that takes many cases') from fault
+        raise WordsError(f'{word} is not a word that takes many cases') from fault
     taken = taken_of(found_word, words)
     order = Order(names, taken.options, scheduler, processes or processors(), into, ending)
     if not isinstance(cases, Mapping):

@@ -100,7 +100,7 @@ def done_over_many(word: Word[Any], names: tuple[str, ...], parsed: Namespace) -
     if parsed.output is not None:
         check_place(parsed.output, inputs)
     if not 1 <= parsed.processes <= MOST_PROCESSES:
-        raise WordsError(f'{parsed.processes} is no number of processes: 1 to {MOST_PROCESSES}')
+        raise WordsError(f'{parsed.processes} is not a number of processes: 1 to {MOST_PROCESSES}')
     form = TABLE.of(parsed.output, parsed.form)
     with progress(word.name):
         results = results_of(word, names, parsed)

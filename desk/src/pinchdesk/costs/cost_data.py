@@ -87,7 +87,7 @@ class CostData:
     def range_of(self, row: UtilityRange) -> EndTemperatures:
         utility = self.case.source(row.utility)
         if not isinstance(utility, Utility):
-            raise refused(f'#range of {row.utility}', 'it is no utility')
+            raise refused(f'#range of {row.utility}', 'it is not a utility')
         unit = unit_of(row.unit, Kind.TEMPERATURE)
         ends = EndTemperatures(unit.exact(row.supply), unit.exact(row.target))
         if (ends.inlet > ends.outlet) != (utility.side is Side.HOT):

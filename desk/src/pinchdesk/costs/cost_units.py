@@ -51,7 +51,7 @@ def factor_of(text: str, wanted: str) -> Fraction:
     written = re.sub(r'\bsq\.?\s*(ft|m)\b', r'\g<1>2', written)
     above, *below = written.split('/')
     if len(text) > LONGEST or not SHAPE.fullmatch(written):
-        raise NoUnit(f'`{text[:LONGEST]}` is no unit that is known here')
+        raise NoUnit(f'`{text[:LONGEST]}` is not a known unit')
     # What stands after a stroke is below it, all of it: kW/m2K is kW/(m2 K).
     powers = [*tokens(text, above, 1), *(token for part in below for token in tokens(text, part, -1))]
     product = ' * '.join(f'{name} ** {power}' for name, power in powers)
@@ -60,7 +60,7 @@ def factor_of(text: str, wanted: str) -> Fraction:
         amount = known.Quantity(Fraction(1), known.parse_units(product)).to(wanted)
     except Exception as fault:
         # pint has no error of its own for each text that it cannot read.
-        raise NoUnit(f'`{text}` is no unit of this kind, as {shown(wanted)}') from fault
+        raise NoUnit(f'`{text}` is not a unit of this kind, as {shown(wanted)}') from fault
     return Fraction(amount.magnitude)
 
 
@@ -74,10 +74,10 @@ def tokens(text: str, part: str, sign: int) -> list[tuple[str, int]]:
     found: list[tuple[str, int]] = []
     bare = re.sub(r'[().\s]+', ' ', part).strip()
     if TOKEN.sub('', bare).strip():
-        raise NoUnit(f'`{text}` is no unit that is known here')
+        raise NoUnit(f'`{text}` is not a known unit')
     for match in TOKEN.finditer(bare):
         name = NAMES.get(match['name'], match['name'])
         if name not in KNOWN:
-            raise NoUnit(f'`{text}` is no unit that is known here: `{match["name"]}`')
+            raise NoUnit(f'`{text}` is not a known unit: `{match["name"]}`')
         found.append((name, sign * int(match['power'] or '1')))
     return found

@@ -17,7 +17,7 @@ def exact(text: str, longest: int = LONGEST) -> Fraction:
     stripped = text.strip()
     match = SHAPE.fullmatch(stripped) if len(stripped) <= longest else None
     if not match or abs(int(match['exponent'] or '0')) > MOST_ZEROS:
-        raise ValueError(f'{shortened(text)} is no number of at most {longest} signs')
+        raise ValueError(f'{shortened(text)} is not a number of at most {longest} signs')
     return Fraction(stripped)
 
 

@@ -81,9 +81,9 @@ def read_units(row: Sequence[str]) -> CaseUnits:
     _, temperature, heat, watts, steps, zero, parts = row
     name = read_again(heat)
     if temperature not in TEMPERATURES:
-        raise ValueError(f'`{temperature[:LONGEST]}` is no unit of temperatures: {", ".join(TEMPERATURES)}')
+        raise ValueError(f'`{temperature[:LONGEST]}` is not a unit of temperatures: {", ".join(TEMPERATURES)}')
     if not re.fullmatch(r'[^\s,][^,]{0,39}', name):
-        raise ValueError(f'`{name[:LONGEST]}` is no unit of heats')
+        raise ValueError(f'`{name[:LONGEST]}` is not a unit of heats')
     numbers = [exact(text, LONGEST) for text in (watts, zero, parts)]
     if not steps.isascii() or not steps.isdigit() or int(steps[:4]) not in STEPS or min(numbers[0], numbers[2]) <= 0:
         raise ValueError('a degree has 1, 10 or 100 steps, and a unit of heats is above 0')

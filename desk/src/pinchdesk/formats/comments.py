@@ -70,7 +70,7 @@ def noted(basis: Basis, row: Sequence[str]) -> Basis:
     else:
         return basis
     if made != basis and not is_first:
-        raise ValueError('a row above says another one')
+        raise ValueError('a row above says something else')
     return made
 
 
@@ -81,7 +81,7 @@ def between(text: str, least: Fraction) -> Fraction:
     except ValueError:
         number = Fraction(0)
     if not least <= number <= 1 / least:
-        raise ValueError(f'`{shortened(text)}` is no number from {least} to {1 / least}')
+        raise ValueError(f'`{shortened(text)}` is not a number from {least} to {1 / least}')
     return number
 
 

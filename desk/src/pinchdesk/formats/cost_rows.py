@@ -175,7 +175,7 @@ def needed(text: str, what: str) -> str:
 def service_of(text: str) -> Service | None:
     words = {service.value: service for service in Service}
     if text and text not in words:
-        raise ValueError(f'`{text}` is no kind of exchangers: heater, cooler, exchanger, or empty for all')
+        raise ValueError(f'`{text}` is not a kind of exchanger: heater, cooler, exchanger, or empty for all')
     return words.get(text)
 
 
@@ -204,9 +204,9 @@ def law_of(fields: Sequence[str]) -> CostLaw:
 def build_of(fields: Sequence[str]) -> Build:
     flows, pers = {flow.value: flow for flow in Flow}, {per.value: per for per in Per}
     if fields[1] not in flows:
-        raise ValueError(f'`{fields[1]}` is no way to build exchangers: counter-current or 1-2')
+        raise ValueError(f'`{fields[1]}` is not a way to build exchangers: counter-current or 1-2')
     if fields[5] not in pers:
-        raise ValueError(f'`{fields[5]}` is nothing that a cost law is of: shell or exchanger')
+        raise ValueError(f'`{fields[5]}` cannot have a cost law: use shell or exchanger')
     part = exact(fields[2]) if fields[2] else None
     if part is None and fields[1] == Flow.ONE_TWO.value or part is not None and not 0 < part < 1:
         raise ValueError('a 1-2 shell needs the part of the greatest effectiveness that it may reach, as 0.9')
@@ -225,7 +225,7 @@ def capital_of(fields: Sequence[str]) -> Capital:
 def annual_of(fields: Sequence[str]) -> Annual:
     forms = {form.value: form for form in AnnualForm}
     if fields[0] not in forms:
-        raise ValueError(f'`{fields[0]}` is no way to make a cost a year: factor, recovery or compound')
+        raise ValueError(f'`{fields[0]}` is not a way to make a cost annual: factor, recovery or compound')
     form = forms[fields[0]]
     hours = above_zero(fields[3], 'number of hours') if fields[3] else None
     if form is AnnualForm.FACTOR:
@@ -274,7 +274,7 @@ def with_row(rows: tuple[CostRow, ...], row: CostRow) -> tuple[CostRow, ...]:
     for other in rows:
         if subject(other) == subject(row):
             if other != row:
-                raise ValueError('a row above says another one')
+                raise ValueError('a row above says something else')
             return rows
     return (*rows, row)
 

@@ -10,11 +10,11 @@ LONGEST = 8_388_608
 
 
 def read_bytes(path: str) -> bytes:
-    """What a file holds; `Refused` where it cannot be read, is no plain file, or is longer than any file may be."""
+    """What a file holds; `Refused` where it cannot be read, is not a plain file, or is longer than any file may be."""
     try:
         with open(path, 'rb', opener=at_once) as handle:
             if not stat.S_ISREG(os.fstat(handle.fileno()).st_mode):
-                cause = 'is no plain file, but a pipe or a device: write it to a file'
+                cause = 'is not a plain file, but a pipe or a device: write it to a file'
                 raise Refused(6, '', 'no plain file', cause, path)
             content = handle.read(LONGEST + 1)
     except (OSError, ValueError) as fault:

@@ -90,7 +90,7 @@ def scale_of(rows: Sequence[tuple[int, Sequence[str]]]) -> Fraction:
     distinct_scales = {plant_scale or head or Fraction(1) for plant_scale in plants} | ({head} if head else set())
     if len(distinct_scales) > 1:
         scales = ' and '.join(str(scale) for scale in sorted(distinct_scales))
-        cause = f'the plants are taken {scales} times, and one scale has to hold for all'
+        cause = f'the plants have the scales {scales}, and one has to hold for all'
         raise Refused(3, f'site row {last}', 'scale', f'site row {last}: {cause}')
     return next(iter(distinct_scales), Fraction(1))
 

@@ -41,10 +41,10 @@ def check_place(path: str, inputs: Iterable[str]) -> None:
     if not path or path.endswith(os.sep) or os.path.isdir(path):
         raise OutputError(f'{path or "(no name)"}: is a folder, not a file')
     if os.path.lexists(path) and not os.path.isfile(path):
-        raise OutputError(f'{path}: is no plain file, and is not written over')
+        raise OutputError(f'{path}: is not a plain file, and is not overwritten')
     key = key_of(path)
     if any(key_of(read) == key for read in inputs):
-        raise OutputError(f'{path}: is an input, and is not written over')
+        raise OutputError(f'{path}: is an input, and is not overwritten')
     if not os.path.isdir(Path(path).parent):
         raise OutputError(f'{path}: cannot be written: there is no folder {Path(path).parent}')
 
@@ -56,7 +56,7 @@ def check_apart(outputs: Iterable[str], inputs: Iterable[str]) -> None:
     for path in outputs:
         key = key_of(path)
         if key in read:
-            raise OutputError(f'{path}: is an input, and is not written over')
+            raise OutputError(f'{path}: is an input, and is not overwritten')
         if key in taken:
             raise OutputError(f'{path}: two answers would go there, since it is {taken[key]} too')
         taken[key] = path

@@ -58,9 +58,9 @@ def as_text(number: Number) -> str:
     try:
         value = Decimal(str(number))
     except InvalidOperation as fault:
-        raise WordsError(f'{printable(str(number))[:40]} is no number') from fault
+        raise WordsError(f'{printable(str(number))[:40]} is not a number') from fault
     if not value.is_finite() or value and abs(value.adjusted()) > MOST_DIGITS:
-        raise WordsError(f'{number} is no number of a plant')
+        raise WordsError(f'{number} is not a number of a plant')
     text = f'{value:f}'
     # Three digits behind a point may be thousands in a text, and are none in a number.
     return text + '0' if re.fullmatch(r'-?[0-9]+\.[0-9]{3}', text) else text

@@ -37,7 +37,7 @@ def found() -> str:
     if told:
         path = shutil.which(told)
         if not path:
-            raise ProgramError(f'$PINCH is {told}, and that is no program')
+            raise ProgramError(f'$PINCH is {told}, which is not a program')
         return os.path.abspath(path)
     own = own_program(PACKAGE)
     if own.is_file() and os.access(own, os.X_OK):

@@ -215,7 +215,7 @@ def file_notes(rest: Rest) -> Iterator[str]:
     if scale is None:
         return
     if scale.sizes > 1:
-        yield f'in the case of the rest all heats and CPs are taken {scale.sizes} times (#scale)'
+        yield f'in the case of the rest all heats and CPs are multiplied by {scale.sizes} (#scale)'
     for left in (left for left in rest.left if left.heat and not left.stream.latent):
         if left.state.denominator != 1:
             low = decimal(Fraction(rounded(left.state, False), 10), 1)

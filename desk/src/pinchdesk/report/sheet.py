@@ -54,7 +54,7 @@ def rendered(sheets: Sequence[Sheet], form: str) -> str | bytes:
         return '\r\n'.join(as_csv(sheet) for sheet in sheets)
     if form == 'xlsx':
         return as_workbook(sheets)
-    raise WordsError(f'{form} is no form of a table: {", ".join(FORMS)}')
+    raise WordsError(f'{form} is not a form of a table: {", ".join(FORMS)}')
 
 
 def text_of(cell: Cell) -> str:

@@ -63,7 +63,7 @@ def proved(traded: TradeOff) -> str:
     last = traded.rows[-1].exchangers
     ended = 'the search was stopped; ' if traded.stopped else ''
     return (f'Each network was accepted by the audit, and none costs less than the floor; {ended}no cheaper networks '
-            f'were found, and none of fewer than {last} exchangers, which is no proof that there are none.')
+            f'were found, and none of fewer than {last} exchangers, which does not prove that there are none.')
 
 
 def network_texts(traded: TradeOff) -> dict[str, str]:

@@ -19,7 +19,7 @@ class NotAccepted(DeskError):
     """The network that is given is not accepted: what is told of it, and its verdict."""
 
     def __init__(self, told: str, verdict: Rejected | TooFine) -> None:
-        super().__init__(f'the network is {told}: only an accepted one is changed')
+        super().__init__(f'the network is {told}: only an accepted one can be changed')
         self.status, self.no = ending([verdict])
 
 

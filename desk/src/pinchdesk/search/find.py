@@ -121,7 +121,7 @@ def found_in(state: SearchState, ended: str, basis: Basis) -> FewExchangers:
     if best is None and ended == INTERRUPTED:
         raise NoNetwork('interrupted before there was a network', Status.STOPPED)
     if best is None:
-        raise NoNetwork('no network was found in the time, and `pinch design` has none', Status.FAILED)
+        raise NoNetwork('no network was found in time, and `pinch design` has none', Status.FAILED)
     staged = state.staged if state.staged is not None and state.staged[0] <= best.count else None
     return FewExchangers(best.network, best.verdict, min(state.bound, best.count), staged, ended, basis)
 

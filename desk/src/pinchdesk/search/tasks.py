@@ -71,7 +71,7 @@ class TradeoffTask:
         task = replace(self.search, seconds=self.search.seconds / 3)
         found = task.run(tell)
         if found is None:
-            raise ProgramError('no network was found in the time')
+            raise ProgramError('no network was found in time')
         return simpler(task.case, found.network, Pinch(task.program), tell=lambda less: tell(SearchState(less)))
 
 
@@ -98,7 +98,7 @@ class SearchProcess:
         except Silent:
             return
         except Gone as fault:
-            raise ProgramError('the process of the search ends when it begins') from fault
+            raise ProgramError('the process of the search ends as soon as it is started') from fault
         try:
             self.child.ask(task, until)
             while (message := self.message(until)) is not None:

@@ -136,5 +136,4 @@ class OddCourse(Refused):
 
     def __init__(self, stream: str) -> None:
         place, cause = f'network stream {stream}', 'branches are joined across one another'
-        super().__init__(4, place, cause, f'{place}: its {cause}, and only splits that are closed inside one another '
-                                          'are changed')
+        super().__init__(4, place, cause, f'{place}: its {cause}, and only nested splits can be changed')

@@ -131,7 +131,7 @@ class FoundSoFar:
         if self.begun is None:
             first = self.first
             if first is None:
-                raise NoNetwork('no network was found in the time, and `pinch design` has none', Status.FAILED)
+                raise NoNetwork('no network was found in time, and `pinch design` has none', Status.FAILED)
             return TradeOff(judge.case, floor, first, (TradeOffRow(first),), self.stopped)
         rows = self.rows or tuple(rows_of(judge, self.begun, on_the_front(self.best)))
         return TradeOff(judge.case, floor, self.begun, rows, self.stopped)

@@ -65,7 +65,7 @@ class Apart:
             try:
                 self.child.told(time.monotonic() + BEGIN_IN)
             except Gone as fault:
-                raise ProgramError('the process of the solver ends when it begins') from fault
+                raise ProgramError('the process of the solver ends as soon as it is started') from fault
             except Silent as fault:
                 raise OutOfTime(-math.inf) from fault
         return self.child
