@@ -2,12 +2,13 @@
 from __future__ import annotations
 
 import re
+from collections.abc import Iterable
 from functools import lru_cache
 from html import unescape
-from itertools import combinations
+from itertools import combinations, pairwise
 from typing import Any
 
-from matplotlib.colors import to_hex
+from matplotlib.colors import to_hex, to_rgb
 from matplotlib.figure import Figure
 from matplotlib.legend import Legend
 from matplotlib.lines import Line2D
@@ -18,6 +19,7 @@ from matplotlib.transforms import Bbox
 
 from pinchdesk.figures import rendered
 from pinchdesk.figures.grid.diagram import BARS
+from pinchdesk.figures.labels import meets
 from pinchdesk.figures.style import styled
 
 
@@ -57,6 +59,24 @@ def cut_off(figure: Figure) -> list[str]:
     legends = [('a legend', legend.get_window_extent()) for legend in figure.findobj(Legend)]
     return [text for text, box in [*((text, box) for text, box, _ in texts_of(figure)), *legends]
             if box.x0 < frame.x0 or box.x1 > frame.x1 or box.y0 < frame.y0 or box.y1 > frame.y1]
+
+
+def pale(figure: Figure) -> list[str]:
+    """Texts whose contrast on white is less than 4.5 (WCAG 2.1)."""
+    return [text for text, _, drawn in texts_of(figure) if 1.05 / (luminance(drawn.get_color()) + 0.05) < 4.5]
+
+
+def luminance(colour: Any) -> float:
+    parts = (part / 12.92 if part <= 0.04045 else ((part + 0.055) / 1.055) ** 2.4 for part in to_rgb(colour))
+    return sum(weight * part for weight, part in zip((0.2126, 0.7152, 0.0722), parts))
+
+
+def on_lines(figure: Figure, lines: Iterable[Any]) -> list[str]:
+    """Labels of the first diagram through which one of these lines passes."""
+    axes = figure.axes[0]
+    pieces = [points for line in lines for points in pairwise(axes.transData.transform(line))]
+    return [text for text, box, drawn in texts_of(figure)
+            if drawn in axes.texts and any(meets(box, *piece) for piece in pieces)]
 
 
 def svg_texts(figure: Figure) -> list[str]:

@@ -10,7 +10,7 @@ import pytest
 from conftest import CASES, example, few_of, tried
 from hypothesis import given
 from hypothesis import strategies as some
-from looking import cut_off, line_of, lines_named, overlapping, svg_texts, texts_of
+from looking import cut_off, line_of, lines_named, overlapping, pale, svg_texts, texts_of
 from matplotlib.figure import Figure
 
 from pinchdesk import Case, Cut, Pinch, Side, Stream, Utility, completed, print_case, read_case
@@ -56,6 +56,7 @@ def curves(pinch: Pinch, content: bytes) -> Figure:
 def assert_readable(figure: Figure) -> None:
     assert overlapping(figure) == []
     assert cut_off(figure) == []
+    assert pale(figure) == []
 
 
 @pytest.mark.parametrize('name', few_of(CASES))

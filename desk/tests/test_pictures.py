@@ -9,12 +9,15 @@ from time import process_time
 import pytest
 from branched import THREE, THREE_NETWORK
 from conftest import NETWORKS, example
-from looking import bars_of, cut_off, dashed_of, overlapping, svg_texts, texts_of
+from looking import bars_of, cut_off, dashed_of, on_lines, overlapping, pale, svg_texts, texts_of
 from matplotlib.figure import Figure
 
 from pinchdesk import Accepted, Pinch, Rejected, WordsError, completed, follow, read_case, read_network
 from pinchdesk.analysis.follow import pinches_of
+from pinchdesk.costs.area_target import asked_area
+from pinchdesk.costs.network_areas import asked_duties
 from pinchdesk.figures import grid_figure, prices_figure, rendered, site_figure, sweep_figure
+from pinchdesk.figures.area_curves import driving_forces_figure
 from pinchdesk.figures.grid.layout import plan_of
 from pinchdesk.figures.labels import meets
 from pinchdesk.figures.style import ACROSS, FAULT
@@ -32,6 +35,7 @@ def grid(pinch: Pinch, content: bytes, text: bytes, most: int = 60) -> Figure:
 def assert_readable(figure: Figure) -> None:
     assert overlapping(figure) == []
     assert cut_off(figure) == []
+    assert pale(figure) == []
 
 
 @pytest.mark.parametrize('name', NETWORKS)
@@ -207,6 +211,15 @@ def test_a_site_has_its_boiler_its_cooling_and_its_mains(pinch: Pinch) -> None:
     texts = svg_texts(figure)
     for wanted in ('Site profiles: boiler 25 kW, cooling 9 kW', 'HP 235 °C', 'HP 225 °C', 'LP 105 °C'):
         assert wanted in texts
+
+
+def test_of_driving_forces_each_exchanger_has_its_name_and_no_line_passes_through_one(pinch: Pinch) -> None:
+    content, text = example('reactors-cost.csv'), example('reactors-cost-network.txt')
+    case = completed(read_case(content))
+    figure = driving_forces_figure(asked_area(pinch, case), asked_duties(pinch, case, text))
+    assert_readable(figure)
+    assert {exchanger.name for exchanger in read_network(text).exchangers} <= set(svg_texts(figure))
+    assert on_lines(figure, [line.get_xydata() for line in figure.axes[0].get_lines()]) == []
 
 
 def test_a_picture_is_the_same_each_time_in_each_form(pinch: Pinch) -> None:

@@ -10,6 +10,7 @@ from matplotlib.figure import Figure
 from ..costs.area_target import AreaTarget, IntervalArea
 from ..costs.shells import Duty
 from .axes import entitled, fitted, legend_below, spaced
+from .labels import Labels, Xy
 from .style import ACROSS, COLD, HOT, NEUTRAL, PALE, blank, framed, said, styled
 
 # So many intervals have their area written beside them, the largest first.
@@ -35,8 +36,8 @@ def area_figure(target: AreaTarget) -> Figure:
 def put_curves(axes: Axes, intervals: Sequence[IntervalArea]) -> None:
     pieces = [area.interval for area in intervals]
     across = [float(place) / 1000 for piece in pieces for place in (piece.begin, piece.end)]
-    for label, colour, ends in (('hot, utilities with it', HOT, [piece.hot for piece in pieces]),
-                                ('cold, utilities with it', COLD, [piece.cold for piece in pieces])):
+    for label, colour, ends in (('hot streams and utilities', HOT, [piece.hot for piece in pieces]),
+                                ('cold streams and utilities', COLD, [piece.cold for piece in pieces])):
         upright = [float(temperature) / 10 for end in ends for temperature in (end.low, end.high)]
         axes.plot(across, upright, color=colour, linewidth=1.6, label=label)
     for piece in pieces:
@@ -65,24 +66,33 @@ def driving_forces_figure(target: AreaTarget, exchangers: Mapping[str, Duty] | N
         figure = blank(8, 5.4)
         axes = figure.subplots()
         pieces = [area.interval for area in target.intervals]
-        axes.plot([float(end) / 10 for piece in pieces for end in (piece.cold.low, piece.cold.high)],
-                  [float(gap) for piece in pieces for gap in (piece.cold_end, piece.warm_end)], color=NEUTRAL,
-                  linewidth=1.6, label='balanced composite curves')
-        for name, duty in (exchangers or {}).items():
-            put_exchanger(axes, name, duty)
+        curve = [(float(end) / 10, float(gap)) for piece in pieces
+                 for end, gap in ((piece.cold.low, piece.cold_end), (piece.cold.high, piece.warm_end))]
+        axes.plot(*zip(*curve), color=NEUTRAL, linewidth=1.6, label='balanced composite curves')
+        lines = {name: ends_of(duty) for name, duty in (exchangers or {}).items()}
+        for line in lines.values():
+            axes.plot(*zip(*line), color=ACROSS, linewidth=1.2, marker='o', markersize=3)
+        if lines:
+            axes.get_lines()[-1].set_label('exchangers of the network')
         axes.set_ylim(bottom=0)
         entitled(axes, 'cold temperature in °C', 'difference in K', 'Driving forces')
         legend_below(axes)
         framed(axes)
         fitted(figure)
         spaced(axes)
+        labels = Labels(axes, [curve, *lines.values()])
+        for name, line in lines.items():
+            labels.put(said(name), *along(line), color=ACROSS, fontsize=8)
     return figure
 
 
-def put_exchanger(axes: Axes, name: str, duty: Duty) -> None:
-    """The differences at both ends of an exchanger."""
-    ends = ((duty.cold.low, duty.hot.low - duty.cold.low), (duty.cold.high, duty.hot.high - duty.cold.high))
-    axes.plot([float(end) / 10 for end, _ in ends], [float(gap) / 10 for _, gap in ends], color=ACROSS, linewidth=1.2,
-              marker='o', markersize=3)
-    axes.annotate(said(name), (float(ends[1][0]) / 10, float(ends[1][1]) / 10), xytext=(3, 2),
-                  textcoords='offset points', fontsize=7.5, color=ACROSS)
+def along(line: Sequence[Xy]) -> list[Xy]:
+    """Places on a straight line for its name, the middle first; at an end it may meet another line."""
+    (left, low), (right, high) = line
+    return [(left + part * (right - left), low + part * (high - low)) for part in (0.5, 0.7, 0.3)]
+
+
+def ends_of(duty: Duty) -> list[Xy]:
+    """The differences at both ends of an exchanger, over the temperatures of its cold side."""
+    return [(float(cold) / 10, float(hot - cold) / 10)
+            for hot, cold in ((duty.hot.low, duty.cold.low), (duty.hot.high, duty.cold.high))]

@@ -87,7 +87,7 @@ class Labels:
         self.taken.append(box)
         line = None
         if is_far(place):
-            line = {'arrowstyle': '-', 'color': '#999999', 'linewidth': 0.6, 'shrinkA': 0, 'shrinkB': 2}
+            line = {'arrowstyle': '-', 'color': '#888888', 'linewidth': 0.6, 'shrinkA': 0, 'shrinkB': 2}
             self.leaders.append(self.leader(at, box))
         return self.axes.annotate(text, at, (dx, dy), textcoords='offset points', ha=ACROSS[-side], va=UPRIGHT[-end],
                                   arrowprops=line, annotation_clip=False, zorder=6, **style)

@@ -13,10 +13,11 @@ from matplotlib.backends.backend_agg import FigureCanvasAgg
 from matplotlib.figure import Figure
 from matplotlib.text import Text
 
-HOT, COLD, INK, PALE, FAULT = '#c0392b', '#2471a3', '#222222', '#777777', '#e00000'
+# Each colour can be read as a text on white: by WCAG its contrast is 4.5 at least.
+HOT, COLD, INK, PALE, FAULT = '#c0392b', '#2471a3', '#222222', '#6b6b6b', '#d80000'
 ABOVE, BELOW, BETWEEN, ACROSS, NEUTRAL = '#a04000', '#1f618d', '#1e8449', '#8e1fb5', '#333333'
-HEATERS = ('#e67e22', '#b9770e', '#d35400', '#f1948a', '#7b241c')
-COOLERS = ('#17a589', '#2e86c1', '#117864', '#7fb3d5', '#1b4f72')
+HEATERS = ('#b85400', '#8a6500', '#a3325d', '#7b241c', '#5f4b8b')
+COOLERS = ('#0f7d68', '#5b5ea6', '#33691e', '#1b4f72', '#5d6d7e')
 FORMS = ('svg', 'png', 'pdf')
 # Texts stay texts in a vector picture; none is read as mathematics, whatever signs it has.
 STYLE: dict[str, Any] = {
