@@ -37,6 +37,9 @@ def add_options(parser: ArgumentParser, options: Iterable[Option], in_many: bool
         place: Any = parser
         if option.one_of:
             place = groups[option.one_of] = groups.get(option.one_of) or parser.add_mutually_exclusive_group()
+        if option.switch:
+            place.add_argument(*option.flags, dest=option.name, help=option.help, action='store_true')
+            continue
         how: dict[str, Any] = {'help': option.help, 'type': option.reads, 'metavar': option.metavar or None}
         if option.choices:
             how['choices'] = option.choices

@@ -16,7 +16,7 @@ from ..formats.plain_files import read_bytes
 from ..tables.convert import is_case
 from ..tables.headings import unknown_headings
 from ..tables.spreadsheet import Table, TableRow, read_table
-from ..words.word import Role
+from ..words.word import Role, placed
 
 NAME = 'name'
 # What the files of a folder end with: of tables, and of all else.
@@ -95,7 +95,7 @@ def fitting(tables: Sequence[Table], roles: Sequence[Role]) -> Table:
     files."""
     check_headings(tables, roles)
     headed = [table for table in tables if head_of(table, roles)]
-    readings = headed or [table for table in tables if width(table) <= len(roles) or roles[-1].several]
+    readings = headed or [table for table in tables if width(table) <= len(roles) or placed(roles)[-1].several]
     widest = max(map(width, readings), default=0)
     readings = [table for table in readings if width(table) == widest]
     if len(readings) != 1:
@@ -148,9 +148,9 @@ def head_of(table: Table, roles: Sequence[Role]) -> TableRow | None:
 
 def rows_of(table: Table, roles: Sequence[Role], place: str,
             common: Mapping[str, tuple[str, ...]]) -> tuple[Listed, ...]:
-    head, last = head_of(table, roles), len(roles) - 1
+    head, in_places = head_of(table, roles), placed(roles)
     body = [row for row in table.rows if row is not head and not remark(row)]
-    columns = headings(head, roles) if head else {column: roles[min(column, last)].name
+    columns = headings(head, roles) if head else {column: in_places[min(column, len(in_places) - 1)].name
                                                   for column in range(width(table))}
     check_remarks(table, head, columns, place)
     if body and roles[0].name not in columns.values():

@@ -20,7 +20,7 @@ from ..program.run import as_bytes, case_bytes, found, network_bytes
 from ..search.budget import Telling, nobody
 from ..tables.units import registry
 from ..words.all_words import word_of
-from ..words.word import Files, Role, TextFile
+from ..words.word import Files, Role, TextFile, placed
 from .arguments import taken_of
 from .inputs import Listed, listed
 from .job import Job, JobOutcome
@@ -197,6 +197,7 @@ def many(word: str, cases: str | os.PathLike[str] | Mapping[str, Held | Sequence
 def files_of(name: str, contents: Held | Sequence[Held], roles: Sequence[Role]) -> Mapping[str, tuple[TextFile, ...]]:
     """The files of a case that is held here, in the order in which the word takes them."""
     listed_contents = [contents] if isinstance(contents, (Case, Network, Study, str, bytes)) else list(contents)
+    roles = placed(roles)
     needed = [role for role in roles if role.needed]
     if len(listed_contents) < len(needed) or len(listed_contents) > len(roles) and not roles[-1].several:
         raise WordsError(f'{name}: {", ".join(role.name for role in roles)} are needed, and {len(listed_contents)} are '

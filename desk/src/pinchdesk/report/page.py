@@ -221,12 +221,15 @@ def compared(networks: Sequence[Reviewed], shown: Shown) -> Sheet:
 
 @dataclass(frozen=True)
 class Review:
-    """A case and its networks, answered and judged, as the page has them, and who did it."""
+    """A case and its networks, answered and judged, as the page has them, and who did it; `table` is that of the case,
+    where it is given, and `understood` how it was."""
 
     case: Given
     answered: Answered
     networks: tuple[Reviewed, ...]
     digests: Digests
+    table: Given | None = None
+    understood: Sheet | None = None
 
     @property
     def ending(self) -> tuple[Status, str]:
@@ -245,6 +248,7 @@ def page_of(review: Review, unfolded: bool = False, head: PageHead = PageHead())
     answered, networks = review.answered, review.networks
     shown = Shown(answered.case.basis)
     files = [('case', review.case), *(('network', network.given) for network in networks)]
+    files += [('table', review.table)] if review.table else []
     values = {
         'case': review.case, 'answered': answered, 'networks': networks, 'shown': shown, 'unfolded': unfolded,
         'targets': targets_sheets(answered.case, answered.targets), 'tables': case_sheets(answered),
@@ -252,8 +256,9 @@ def page_of(review: Review, unfolded: bool = False, head: PageHead = PageHead())
         'curves': curves_of(answered),
         'compared': compared(networks, shown) if networks else None, 'bars': bars,
         'title': head.titled(review.case.name), 'head': head_sheet(head, answered.case),
-        'again': made_again(head, [file.name for _, file in files]),
+        'again': made_again(head, [(what, file.name) for what, file in files]),
         'digests': digests_sheet(review.digests, [(what, file.name, file.content) for what, file in files]),
+        'understood': review.understood,
     }
     page: str = template().render(values)
     return page

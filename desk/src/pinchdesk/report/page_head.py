@@ -76,6 +76,7 @@ def digests_sheet(own: Digests, inputs: Sequence[tuple[str, str, bytes]]) -> She
     return Sheet('Digests', ('', '', 'SHA-256'), tuple(rows))
 
 
-def made_again(head: PageHead, names: Sequence[str]) -> str:
-    """The command that makes the page of these files again."""
-    return shlex.join(['pinchdesk', 'page', *names, *head.words(), '-o', 'page.html'])
+def made_again(head: PageHead, files: Sequence[tuple[str, str]]) -> str:
+    """The command that makes the page of these files again, each as (what it is, its name)."""
+    words = [word for what, name in files for word in (['--table', name] if what == 'table' else [name])]
+    return shlex.join(['pinchdesk', 'page', *words, *head.words(), '-o', 'page.html'])

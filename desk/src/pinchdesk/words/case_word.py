@@ -7,23 +7,24 @@ from ..errors import of_file
 from ..formats.case import print_case, print_comments
 from ..formats.comments import DIFFERENCE, basis_rows
 from ..program.run import Pinch
+from ..report.understood_sheet import understood_sheet
 from ..search.budget import Telling, nobody
 from ..tables.convert import Converted, Wanted, case_of_table, checked
 from ..tables.wanted import wanted_by
-from .forms import TEXT
-from .shared import DECIMAL, SHEET, told_of
+from .forms import TEXT_OR_TABLE
+from .shared import DECIMAL, SEPARATOR, SHEET, told_of
 from .word import Answer, Files, Option, Role, TextFile, Word
 
 TABLE_FILE = Role('table', 'streams and utilities: .xlsx, or text with separators')
 DECLARED = (
     Option('difference', 'the least difference, where the table has none; in K, or with its unit',
            ('-d', '--difference'), metavar='K'),
-    SHEET, Option('separator', 'what separates the fields of a text; `tab` is a tab', ('--separator',), metavar='SIGN'),
-    DECIMAL, Option('scale', 'multiplies all CPs and heats by N (10, 100, 0.1 ..)', ('--scale',), default='1',
-                    metavar='N'),
+    SHEET, SEPARATOR, DECIMAL,
+    Option('scale', 'multiplies all CPs and heats by N (10, 100, 0.1 ..)', ('--scale',), default='1', metavar='N'),
     Option('hours', 'the operating hours a year: costs are then per year', ('--hours',), metavar='H'),
     Option('units', 'SI, or `table`: exact in the units of the table, for `targets` and `flow`', ('--units',),
-           default='SI', choices=('SI', 'table')))
+           default='SI', choices=('SI', 'table')),
+    Option('show', 'shows in place of the case how the table was understood', ('--show',), default=False, switch=True))
 # How long what is said of a case is in a table of many.
 LONGEST = 300
 
@@ -39,6 +40,7 @@ class CaseOptions:
     scale: str = '1'
     hours: str | None = None
     units: str = 'SI'
+    show: bool = False
 
     @property
     def wanted(self) -> Wanted:
@@ -66,9 +68,12 @@ def case_told(table: Converted) -> str:
 def case(files: Files, options: CaseOptions = CaseOptions(), tell: Telling = nobody) -> Answer:
     file = files.one('table')
     table = converted(Pinch(), file, options.wanted)
-    return Answer(in_form=lambda form: case_text(table), headline=case_told(table), notes=told_of(file, table.notes))
+    notes = told_of(file, table.notes)
+    if options.show:
+        return Answer((understood_sheet(table),), headline=case_told(table), notes=notes)
+    return Answer(in_form=lambda form: case_text(table), headline=case_told(table), notes=notes)
 
 
 CASE_OF_TABLE = Word('case', 'a case from a table of streams and utilities, as a spreadsheet has it',
                      'pinchdesk case -d 10 examples/table.csv -o case.csv', (TABLE_FILE,), CaseOptions, case, DECLARED,
-                     TEXT, ending='csv')
+                     TEXT_OR_TABLE, ending='csv')

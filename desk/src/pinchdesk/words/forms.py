@@ -60,3 +60,5 @@ TABLE_OR_PICTURE = Forms(table_or_picture_form, FORMS)
 PICTURE = Forms(picture_form)
 PAGE = Forms(page_form)
 TEXT = Forms(lambda name, asked: 'text')
+# A text, or the table that may be asked for in its place.
+TEXT_OR_TABLE = Forms(lambda name, asked: ending_of(name) if ending_of(name) in ('csv', 'xlsx') else 'text')

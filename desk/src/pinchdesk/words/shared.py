@@ -19,6 +19,7 @@ WORKERS = Option('workers', 'how many workers make it (1 to 16); the answer is t
 RANGE = tuple(Option(name, 'a least difference in K, of a fifth of a K at least', metavar=name.upper())
               for name in ('first', 'last', 'step'))
 SHEET = Option('sheet', 'the sheet of a workbook; otherwise the first one', ('--sheet',), metavar='NAME')
+SEPARATOR = Option('separator', 'what separates the fields of a text; `tab` is a tab', ('--separator',), metavar='SIGN')
 DECIMAL = Option('decimal', 'the decimal mark, where the table leaves it open', ('--decimal',),
                  choices=('.', ','))
 

@@ -2,7 +2,7 @@
 and no stream; whoever asks it loads the files, and writes the answer."""
 from __future__ import annotations
 
-from collections.abc import Callable, Mapping
+from collections.abc import Callable, Mapping, Sequence
 from dataclasses import dataclass, field
 from typing import Any, Generic, TypeVar
 
@@ -41,6 +41,12 @@ class Role:
         return f'{self.name}s' if self.several else self.name
 
 
+def placed(roles: Sequence[Role]) -> Sequence[Role]:
+    """The roles whose files may be told by their places: none behind one that takes all further files."""
+    ends = [at for at, role in enumerate(roles, 1) if role.several]
+    return roles[:ends[0]] if ends else roles
+
+
 @dataclass(frozen=True)
 class Files:
     """The files of a word by the names of their roles."""
@@ -67,7 +73,7 @@ class Files:
 class Option:
     """An option of a word: the field of its options that it fills, with flags or by its place. Of options that share
     the name `one_of` one excludes the others; `in_many` is the value where many cases are done side by side, unless
-    another one is said."""
+    another one is said. A `switch` has no value: it is true where its flag stands."""
 
     name: str
     help: str
@@ -78,6 +84,7 @@ class Option:
     metavar: str = ''
     one_of: str = ''
     in_many: object = None
+    switch: bool = False
 
 
 @dataclass(frozen=True)

@@ -1,0 +1,50 @@
+"""The table that a case came from: read again, and shown as it was understood, where it gives this very case."""
+from __future__ import annotations
+
+from dataclasses import dataclass, replace
+from fractions import Fraction
+
+from ..errors import Refused, of_file
+from ..formats.case import Case
+from ..formats.shown import decimal as with_decimals
+from ..report.sheet import Sheet
+from ..report.understood_sheet import understood_sheet
+from ..tables.convert import case_of_table
+from ..tables.wanted import wanted_by
+from ..text import printable
+from .word import TextFile
+
+
+@dataclass(frozen=True)
+class ReadingOptions:
+    """How the table is to be read, in the words of the command; all else the case says."""
+
+    sheet: str | None = None
+    separator: str | None = None
+    decimal: str | None = None
+
+
+def understood_of(file: TextFile, case: Case, options: ReadingOptions) -> Sheet:
+    """How the table of a case was understood; `Refused` where the table gives another case."""
+    # Its own least difference, else that of the case. Prices are not compared, so that any hours do.
+    own = f'{with_decimals(Fraction(case.contribution, 5), 9)} K'
+    faults: list[Refused] = []
+    for difference in (None, own):
+        asked = wanted_by(difference, options.sheet, options.separator, options.decimal, str(case.basis.scale), '1')
+        try:
+            with of_file(file.name):
+                table = case_of_table(file.content, file.name, asked)
+        except Refused as fault:
+            faults.append(fault)
+            continue
+        if unpriced(table.case) == unpriced(case):
+            return understood_sheet(table, f'How the table {printable(file.name)} was understood')
+    if len(faults) > 1:
+        raise faults[1]
+    raise Refused(3, '', 'another case', 'the table gives another case than this one', file.name)
+
+
+def unpriced(case: Case) -> tuple[object, ...]:
+    """What of a case is compared: all but prices and comments."""
+    return (case.contribution, case.streams, tuple(replace(utility, price=0) for utility in case.utilities),
+            case.forbids)
