@@ -16,6 +16,7 @@ from ..errors import Refused, refused_row
 from .comments import Basis as Basis
 from .comments import basis_rows, noted
 from .long_fields import long_fields
+from .segments import segment_fault
 
 ANY_HEAT = 10 ** 12
 NUMBER = re.compile(r'-?[0-9]{1,13}')
@@ -160,6 +161,8 @@ class CaseReader:
         self.utilities: list[tuple[Utility, int | None]] = []
         self.forbids: list[Forbid] = []
         self.basis = Basis()
+        # The rows of segments by their names.
+        self.segment_rows: dict[str, int] = {}
 
     def take(self, at: int, row: Sequence[str]) -> None:
         """Reads a row; `Refused` where it can be no row of a case."""
@@ -185,6 +188,8 @@ class CaseReader:
         except ValueError as fault:
             place = f'case row {at}'
             raise Refused(3, place, 'comment', f'{place} {row[0]}: {fault}') from fault
+        if row[0] == '#segment':
+            self.segment_rows[row[2]] = at
 
     def take_stream(self, at: int, row: Sequence[str]) -> None:
         supply, target, cp = (number('case', at, text) for text in row[2:5])
@@ -204,7 +209,18 @@ class CaseReader:
         streams = tuple(replace(stream, contribution=share if own is None else own) for stream, own in self.streams)
         utilities = tuple(replace(utility, contribution=share if own is None else own)
                           for utility, own in self.utilities)
-        return Case(share, streams, utilities, tuple(self.forbids), self.basis)
+        case = Case(share, streams, utilities, tuple(self.forbids), self.basis)
+        self.check_segments(case)
+        return case
+
+    def check_segments(self, case: Case) -> None:
+        """`Refused` where the streams that are to be segments of one cannot be."""
+        streams, names = {stream.name: stream for stream in case.streams}, {source.name for source in case.sources}
+        for segmented in case.basis.segments:
+            fault = segment_fault(segmented, streams, names)
+            if fault:
+                place = f'case row {self.segment_rows[fault.segment]}'
+                raise Refused(3, place, 'segment', f'{place} #segment: {fault.cause}')
 
 
 def read_case(text: str | bytes, own_units: bool = False) -> Case:

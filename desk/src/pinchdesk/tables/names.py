@@ -11,10 +11,12 @@ from collections import Counter
 from collections.abc import Iterable, Iterator, Mapping, Sequence
 from itertools import count, product
 
+from ..formats.segments import NAME
+
 LONGEST = 16
+FIT = NAME
 # How much of a short name is for what tells it from another one, with the `-` before it.
 TAIL = 9
-FIT = re.compile(r'[A-Za-z0-9][A-Za-z0-9_-]{0,15}')
 LETTERS = {'ä': 'ae', 'ö': 'oe', 'ü': 'ue', 'Ä': 'Ae', 'Ö': 'Oe', 'Ü': 'Ue', 'ß': 'ss', 'æ': 'ae', 'Æ': 'Ae', 'ø': 'o',
            'Ø': 'O', 'œ': 'oe', 'ł': 'l', 'Ł': 'L', 'đ': 'd', 'α': 'a', 'β': 'b', 'γ': 'g', 'Δ': 'D', '&': '-and-',
            '+': '-plus-'}
