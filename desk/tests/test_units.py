@@ -11,8 +11,10 @@ from hypothesis import strategies as st
 
 from pinchdesk import Cut, Pinch, completed, follow, read_case, read_network
 from pinchdesk.analysis.independent_sets import Member, is_joined, joinable_partition, partition
+from pinchdesk.analysis.joined import exchanger_count
 from pinchdesk.analysis.least_units import Units, least_units
 from pinchdesk.cli.main import main
+from pinchdesk.formats.whole_streams import whole_name
 from pinchdesk.report.unit_sheets import units_sheets
 
 # Sources less sets on all sides of the pinches, and the exchangers of the published network or of that by hand.
@@ -43,7 +45,8 @@ def test_each_set_is_a_sum_that_adds_up(name: str, pinch: Pinch) -> None:
     for counted_one in (units.whole, *units.at_pinches, *units.at_all):
         assert all(sum(piece.signed for piece in one.pieces) == 0 for one in counted_one.sets)
         names = [piece.source.name for one in counted_one.sets for piece in one.pieces]
-        assert sorted(names) == sorted(piece.source.name for piece in counted_one.region.pieces)
+        assert sorted(names) == sorted({whole_name(units.case, piece.source.name)
+                                        for piece in counted_one.region.pieces})
         assert counted_one.least == len(names) - counted_one.partition.most_sets
     for regions in (units.at_pinches, units.at_all):
         for stream in units.case.streams:
@@ -77,12 +80,13 @@ def test_each_exchanger_of_a_network_is_on_a_side_or_across(name: str, pinch: Pi
     units = counted(pinch, case)
     rows = units_sheets(units, follow(units.case, network))[0].rows
     columns = len(rows[0])
-    assert as_objects(*rows[0][columns - 2:]) == (len(network.exchangers), 0)
+    exchangers = exchanger_count(follow(units.case, network))
+    assert as_objects(*rows[0][columns - 2:]) == (exchangers, 0)
     for level in units.levels:
         at = 1 if level is units.levels[0] else 2 + len(units.levels[0])
         inside, partly = (sum(int(str(row[column])) for row in rows[at:at + len(level)])
                           for column in (columns - 2, columns - 1))
-        assert inside <= len(network.exchangers) <= inside + partly
+        assert inside <= exchangers <= inside + partly
 
 
 def test_a_forbidden_match_parts_a_set_that_balances(pinch: Pinch) -> None:

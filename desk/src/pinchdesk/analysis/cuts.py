@@ -16,12 +16,19 @@ from .follow import PinchPoint
 
 @dataclass(frozen=True)
 class Piece:
-    """The part of a source between two places, with its shifted range and its heat, above 0."""
+    """The part of a source between two places, with its shifted range and its heat, above 0; of a stream in segments
+    with the pieces of these."""
 
     source: Source
     high: int
     low: int
     heat: int
+    pieces: tuple[Piece, ...] = ()
+
+    @property
+    def parts(self) -> tuple[Piece, ...]:
+        """The pieces of the program's sources that it is."""
+        return self.pieces or (self,)
 
     @property
     def signed(self) -> int:

@@ -86,6 +86,11 @@ class Passage:
     approach: int
 
     @property
+    def parts(self) -> tuple[Passage, ...]:
+        """The exchangers of the program that it is, from its hot end on."""
+        return (self,)
+
+    @property
     def hot_end(self) -> Fraction | None:
         """The difference where the hot side enters and the cold side leaves."""
         return difference(self.hot.inlet, self.cold.outlet)

@@ -9,7 +9,8 @@ from __future__ import annotations
 from collections.abc import Iterable, Mapping, Sequence
 from dataclasses import dataclass
 
-from ..formats.case import Case, Side, Utility, completed, read_case
+from ..formats.case import Case, Side, Stream, Utility, completed, read_case
+from ..formats.whole_streams import whole_names, whole_of
 from ..program.answers import Cut, HeatFlow, Targets
 from ..program.run import CaseText, Pinch, case_bytes
 from .cuts import Crossed, Piece, CutPlace, Region, crossed, places, regions, whole_pieces
@@ -105,7 +106,7 @@ def each_counted(case: Case, pieces: Sequence[Piece], cuts: Sequence[CutPlace]) 
 
 def counted(case: Case, region: Region) -> RegionUnits:
     members = {Member(piece.source.name, piece.signed, isinstance(piece.source, Utility)): piece
-               for piece in region.pieces}
+               for piece in whole_pieces_of(case, region.pieces)}
     parted = partition(list(members))
     sets = independent(case, members, parted)
     if all(independent_set.joinable for independent_set in sets):
@@ -115,6 +116,22 @@ def counted(case: Case, region: Region) -> RegionUnits:
     if joined_sets is not None and parted.exact and len(joined_sets) == len(sets):
         return RegionUnits(region, joined_sets, parted)
     return RegionUnits(region, sets, parted, joined_sets)
+
+
+def whole_pieces_of(case: Case, pieces: Sequence[Piece]) -> list[Piece]:
+    """The pieces of a region, those of one stream of the plant as one."""
+    names = whole_names(case)
+    grouped: dict[str, list[Piece]] = {}
+    for piece in pieces:
+        grouped.setdefault(names.get(piece.source.name, piece.source.name), []).append(piece)
+    return [piece_of(name, group) if name != group[0].source.name else group[0] for name, group in grouped.items()]
+
+
+def piece_of(name: str, pieces: Sequence[Piece]) -> Piece:
+    """The pieces of the segments of a stream as one."""
+    segments = tuple(piece.source for piece in pieces if isinstance(piece.source, Stream))
+    return Piece(whole_of(name, segments), max(piece.high for piece in pieces), min(piece.low for piece in pieces),
+                 sum(piece.heat for piece in pieces), tuple(pieces))
 
 
 def independent(case: Case, pieces: Mapping[Member, Piece], parted: Partition) -> tuple[IndependentSet, ...]:
@@ -140,8 +157,13 @@ def joined(case: Case, pieces: Sequence[Piece]) -> Iterable[tuple[str, ...]]:
 
 
 def allowed(case: Case, one: Piece, other: Piece) -> bool:
-    """Whether two pieces may exchange some heat: one gives and the other takes, no row forbids it, they are no two
-    utilities, and the hot one is somewhere as warm as the cold one."""
+    """Whether two pieces may exchange some heat: of streams in segments one of these with one of those."""
+    return any(may_exchange(case, part, opposite) for part in one.parts for opposite in other.parts)
+
+
+def may_exchange(case: Case, one: Piece, other: Piece) -> bool:
+    """Whether the pieces of two sources of the program may: one gives and the other takes, no row forbids it, they are
+    no two utilities, and the hot one is somewhere as warm as the cold one."""
     hot, cold = (one, other) if one.source.side is Side.HOT else (other, one)
     if hot.source.side is cold.source.side or all(isinstance(piece.source, Utility) for piece in (hot, cold)):
         return False

@@ -5,6 +5,7 @@ from dataclasses import dataclass
 
 from ..formats.case import Case, Side, Stream, Utility, shifted
 from ..formats.shown import Shown
+from ..formats.whole_streams import parts_of
 from .follow import PinchPoint
 
 
@@ -25,8 +26,8 @@ def temperatures_at(case: Case, side: Side, pinch: int) -> Temperatures:
     """Where the streams of a side stand that a pinch touches; of a side without one, where a stream with the
     contribution of the case would stand."""
     sign = 1 if side is Side.HOT else -1
-    shares = [stream.contribution for stream in case.streams
-              if stream.side is side and stream.low <= pinch <= stream.high]
+    parts = [part for stream in case.streams if stream.side is side for part in parts_of(stream)]
+    shares = [part.contribution for part in parts if part.low <= pinch <= part.high]
     temperatures = [pinch + sign * share for share in shares or [case.contribution]]
     return Temperatures(min(temperatures), max(temperatures))
 

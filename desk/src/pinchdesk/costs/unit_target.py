@@ -6,6 +6,7 @@ from dataclasses import dataclass
 
 from ..analysis.cuts import CutPlace, Region, cascade, regions, whole_pieces
 from ..analysis.independent_sets import Member, partition
+from ..analysis.least_units import whole_pieces_of
 from ..formats.case import Case, Utility
 from ..program.answers import HeatFlow, Targets
 
@@ -24,10 +25,11 @@ def unit_target(case: Case, targets: Targets, flow: HeatFlow, by_sets: bool = Tr
     """The least units of a completed case at the uses of a heat flow; where not `by_sets`, sources less one in each
     region, which takes no time."""
     between = cut_regions(case, targets, flow)
+    wholes = [whole_pieces_of(case, region.pieces) for region in between]
     if not by_sets:
-        return UnitTarget(between, sum(len(region.pieces) - 1 for region in between), True)
+        return UnitTarget(between, sum(len(pieces) - 1 for pieces in wholes), True)
     parted = [partition([Member(piece.source.name, piece.signed, isinstance(piece.source, Utility))
-                         for piece in region.pieces]) for region in between]
+                         for piece in pieces]) for pieces in wholes]
     return UnitTarget(between, sum(sets.least_exchangers for sets in parted), all(sets.exact for sets in parted))
 
 

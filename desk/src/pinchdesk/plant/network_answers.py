@@ -7,12 +7,13 @@ from fractions import Fraction
 
 from ..analysis.findings import headline
 from ..analysis.follow import Followed, PinchPoint
+from ..analysis.joined import exchanger_count
 from ..analysis.rest import Rest, written_case
 from ..formats.case import Case, print_case
 from ..formats.shown import Number, Shown
 from ..program.verdicts import Accepted, Verdict
 from ..report.answer_sheets import audit_sheets
-from ..report.exchangers import exchangers_sheet, mixes_sheets, streams_sheet, sums_sheet
+from ..report.exchangers import exchangers_sheet, mixes_sheets, streams_sheets, sums_sheet
 from ..report.rest_sheets import rest_sheets, rounding_notes
 from ..report.sheet import Sheet
 from ..search.find import FewExchangers
@@ -78,13 +79,13 @@ def plant_audit(followed: Followed, verdict: Verdict) -> PlantAudit:
 def plant_table(followed: Followed, pinches: tuple[PinchPoint, ...], verdict: Verdict) -> PlantAudit:
     """The same with the exchangers, the streams and the sums as its tables."""
     return audited(followed, verdict, [exchangers_sheet(followed, pinches, verdict), *mixes_sheets(followed, verdict),
-                                       streams_sheet(followed, verdict), sums_sheet(followed)])
+                                       *streams_sheets(followed, verdict), sums_sheet(followed)])
 
 
 def audited(followed: Followed, verdict: Verdict, sheets: list[Sheet]) -> PlantAudit:
     shown = Shown(followed.case.basis)
     exact = balance_of(verdict, shown) if isinstance(verdict, Accepted) else None
-    return PlantAudit(sheets=tuple(sheets), text=verdict.text, exact=exact, exchangers=len(followed.passages),
+    return PlantAudit(sheets=tuple(sheets), text=verdict.text, exact=exact, exchangers=exchanger_count(followed),
                       headline=headline(followed, verdict), cost_unit=shown.cost_unit)
 
 

@@ -12,8 +12,10 @@ from fractions import Fraction
 
 from ..analysis.findings import Finding, finding_of, headline, stream_at
 from ..analysis.follow import Followed, Passage, PinchPoint, SideState, StreamEnd
+from ..analysis.joined import Joined, exchanger_count, joined
 from ..formats.case import Side, Stream, Utility
 from ..formats.shown import Shown
+from ..formats.whole_streams import WholeStream, parts_of
 from ..program.verdicts import Accepted, Place, PlaceKind, Rejected, Verdict
 from .facts import Fact, FactRow
 from .sheet import Cell, Sheet
@@ -46,6 +48,10 @@ def is_invented(side: SideState) -> bool:
 
 def conductance(passage: Passage, shown: Shown) -> Decimal | None:
     """Duty over mean difference, in kW/K: the overall coefficient times the area."""
+    if len(passage.parts) > 1:
+        sizes = [conductance(part, shown) for part in passage.parts]
+        known = [size for size in sizes if size is not None]
+        return sum(known, Decimal(0)) if len(known) == len(sizes) else None
     mean = mean_difference(passage)
     duty = shown.in_kilowatts(passage.exchanger.duty)
     return None if mean is None else Decimal(duty.numerator) / Decimal(duty.denominator) / mean
@@ -76,8 +82,7 @@ def crossing(passage: Passage, pinches: tuple[PinchPoint, ...], shown: Shown) ->
 def row_of(passage: Passage, pinches: tuple[PinchPoint, ...], verdict: Verdict, shown: Shown) -> tuple[Cell, ...]:
     least, size = passage.least_difference, conductance(passage, shown)
     invented = is_invented(passage.hot) or is_invented(passage.cold)
-    place = Place(PlaceKind.EXCHANGER, passage.exchanger.name)
-    lost = verdict.penalty(place) if isinstance(verdict, Accepted) else None
+    lost = penalty_of(passage, verdict)
     return (passage.exchanger.name, passage.hot.source.name, branch_of('hot', passage), passage.cold.source.name,
             branch_of('cold', passage), Decimal(shown.kilowatts(passage.exchanger.duty)), *temperatures(passage, shown),
             None if least is None or invented else Decimal(shown.celsius(least)),
@@ -86,13 +91,22 @@ def row_of(passage: Passage, pinches: tuple[PinchPoint, ...], verdict: Verdict, 
             crossing(passage, pinches, shown), Decimal(shown.kilowatts(lost)) if lost is not None else None)
 
 
+def penalty_of(passage: Passage, verdict: Verdict) -> Fraction | None:
+    """What heat an exchanger loses, by the audit's penalties of its parts; None where there are none."""
+    places = [Place(PlaceKind.EXCHANGER, part.exchanger.name) for part in passage.parts]
+    lost = [verdict.penalty(place) if isinstance(verdict, Accepted) else None for place in places]
+    known = [heat for heat in lost if heat is not None]
+    return sum(known, Fraction(0)) if len(known) == len(lost) else None
+
+
 def exchangers_sheet(followed: Followed, pinches: tuple[PinchPoint, ...], verdict: Verdict) -> Sheet:
-    """One row for each exchanger; of a rejected network the row of the fault is marked."""
+    """One row for each exchanger; of a rejected network the row of the fault is marked. An exchanger that goes on
+    across the kink of a stream is one, with the names of those that it is in the program."""
     shown = Shown(followed.case.basis)
-    rows = tuple(row_of(passage, pinches, verdict, shown) for passage in followed.passages)
+    passages = joined(followed).followed.passages
+    rows = tuple(row_of(passage, pinches, verdict, shown) for passage in passages)
     finding = finding_of(followed, verdict, shown) if isinstance(verdict, Rejected) else None
-    marked = frozenset(at for at, passage in enumerate(followed.passages)
-                       if finding and is_at(passage, finding, verdict))
+    marked = frozenset(at for at, passage in enumerate(passages) if finding and is_at(passage, finding, verdict))
     return with_fault(Sheet('Exchangers', HEADINGS, rows, marked), finding)
 
 
@@ -108,16 +122,18 @@ def is_at(passage: Passage, finding: Finding, verdict: Verdict) -> bool:
     """Whether a finding is about an exchanger: itself, or its utility."""
     if isinstance(verdict, Rejected) and verdict.place.kind is PlaceKind.UTILITY:
         return verdict.place.name in (passage.hot.source.name, passage.cold.source.name)
-    return finding.exchanger == passage.exchanger.name
+    return finding.exchanger in [part.exchanger.name for part in passage.parts]
 
 
 def streams_sheet(followed: Followed, verdict: Verdict) -> Sheet:
     """Where each stream ends: its target, what is reached there, and how much heat it exchanged."""
     shown = Shown(followed.case.basis)
     finding = finding_of(followed, verdict, shown) if isinstance(verdict, Rejected) else None
-    streams = followed.case.streams
-    rows = tuple(stream_row(stream, followed.ends[stream.name], shown) for stream in streams)
-    marked = frozenset(at for at, stream in enumerate(streams) if finding and finding.stream == stream.name)
+    plant = joined(followed).followed
+    streams = plant.case.streams
+    rows = tuple(stream_row(stream, plant.ends[stream.name], shown) for stream in streams)
+    marked = frozenset(at for at, stream in enumerate(streams)
+                       if finding and finding.stream in [part.name for part in parts_of(stream)])
     headings = ('stream', 'side', 'supply °C', 'target °C', 'reached °C', 'CP kW/K', 'load kW', 'exchanged kW')
     return with_fault(Sheet('Streams', headings, rows, marked), finding)
 
@@ -126,14 +142,43 @@ def stream_row(stream: Stream, ends: tuple[StreamEnd, ...], shown: Shown) -> tup
     end = ends[0].branch if len(ends) == 1 else None
     reached = end.temperature if end else None
     exchanged = None
-    if end and end.state is not None:
+    if isinstance(stream, WholeStream):
+        exchanged = Fraction(stream.heat)
+    elif end and end.state is not None:
         part = end.state if stream.side is Side.COLD else 1 - end.state
         exchanged = end.size * part if stream.latent else abs(end.state - stream.supply) * end.size
-    size = None if stream.latent else Decimal(shown.kilowatts_per_kelvin(stream.cp))
     return (stream.name, stream.side.value, Decimal(shown.celsius(stream.supply)),
             Decimal(shown.celsius(stream.target)),
-            None if reached is None else Decimal(shown.celsius(reached)), size, Decimal(shown.kilowatts(stream.heat)),
+            None if reached is None else Decimal(shown.celsius(reached)), flow_of(stream, shown),
+            Decimal(shown.kilowatts(stream.heat)),
             None if exchanged is None else Decimal(shown.kilowatts(exchanged)))
+
+
+def flow_of(stream: Stream, shown: Shown) -> Cell:
+    """The CP of a stream, of one in segments those of all of them; none of a latent one."""
+    if isinstance(stream, WholeStream):
+        return ' / '.join('latent' if segment.latent else shown.kilowatts_per_kelvin(segment.cp)
+                          for segment in stream.segments)
+    return None if stream.latent else Decimal(shown.kilowatts_per_kelvin(stream.cp))
+
+
+def streams_sheets(followed: Followed, verdict: Verdict) -> list[Sheet]:
+    """The streams of the plant, and their segments where some have several."""
+    return [streams_sheet(followed, verdict), *segments_sheets(joined(followed))]
+
+
+def segments_sheets(plant: Joined) -> list[Sheet]:
+    """The segments of each stream that has some, and where they are shown as the program has them; no sheet where
+    there are none."""
+    case = plant.followed.case
+    shown = Shown(case.basis)
+    wholes = [stream for stream in case.streams if isinstance(stream, WholeStream)]
+    rows = tuple((whole.name, segment.name, *(Decimal(shown.celsius(end)) for end in (segment.supply, segment.target)),
+                  flow_of(segment, shown), Decimal(shown.kilowatts(segment.heat)))
+                 for whole in wholes for segment in whole.segments)
+    headings = ('stream', 'in the program', 'from °C', 'to °C', 'CP kW/K', 'load kW')
+    sheets = [Sheet('Segments of streams', headings, rows)] if rows else []
+    return [*sheets, *([Sheet('Kinks', (), tuple((note,) for note in plant.notes))] if plant.notes else [])]
 
 
 def sums_sheet(followed: Followed) -> Sheet:
@@ -159,12 +204,11 @@ def utility_sum(followed: Followed, utility: Utility, shown: Shown) -> Fact:
 
 def exchanger_sums(followed: Followed, shown: Shown) -> FactRow:
     """The heat of all exchangers, and the duty over mean difference of those of which it is known."""
-    exchangers = followed.network.exchangers
-    duty = sum((exchanger.duty for exchanger in exchangers), Fraction(0))
-    sizes = [conductance(passage, shown) for passage in followed.passages]
+    duty = sum((exchanger.duty for exchanger in followed.network.exchangers), Fraction(0))
+    sizes = [conductance(passage, shown) for passage in joined(followed).followed.passages]
     known = [size for size in sizes if size is not None]
     sum_of_known = sum(known, Decimal(0)).quantize(Decimal('0.001'))
-    return (Fact(f'{len(exchangers)} exchangers', Decimal(shown.kilowatts(duty)), 'kW'),
+    return (Fact(f'{exchanger_count(followed)} exchangers', Decimal(shown.kilowatts(duty)), 'kW'),
             Fact(f'duty over mean difference of {len(known)} of them', sum_of_known, 'kW/K'))
 
 

@@ -14,16 +14,18 @@ from typing import TYPE_CHECKING, Any
 
 from ..analysis.findings import headline
 from ..analysis.follow import Followed, PinchPoint, follow, pinches_of
+from ..analysis.joined import exchanger_count
 from ..errors import Status, WordsError, about
 from ..formats.case import ANY_HEAT, Case, Side, completed, read_case
 from ..formats.network import read_network
 from ..formats.shown import Shown
+from ..formats.whole_streams import whole_streams
 from ..program.answers import Curves, Cut, HeatFlow, Targets
 from ..program.digests import Digests, digests
 from ..program.run import Pinch
 from ..program.verdicts import Accepted, Rejected, Verdict, ending
 from .answer_sheets import audit_sheets, flow_sheets, targets_sheets
-from .exchangers import exchangers_sheet, mixes_sheets, streams_sheet, sums_sheet
+from .exchangers import exchangers_sheet, flow_of, mixes_sheets, streams_sheets, sums_sheet
 from .page_head import PageHead, digests_sheet, head_sheet, made_again
 from .sheet import Cell, Sheet
 
@@ -118,7 +120,7 @@ def reviewed(answered: Answered, given: Given, verdict: Verdict) -> Reviewed:
     """A network with its tables and its picture."""
     followed = follow(answered.case, read_network(given.content))
     pinches = answered.pinches
-    more = [streams_sheet(followed, verdict), sums_sheet(followed)]
+    more = [*streams_sheets(followed, verdict), sums_sheet(followed)]
     sheets = [exchangers_sheet(followed, pinches, verdict), *mixes_sheets(followed, verdict)]
     picture, note = grid_of(given.name, followed, pinches, verdict)
     balance = audit_sheets(followed, verdict)[:1]
@@ -150,10 +152,10 @@ def case_streams(case: Case) -> Sheet:
     """The streams in engineers' units, with the names that their table had."""
     shown = Shown(case.basis)
     rows: list[tuple[Cell, ...]] = []
-    for stream in case.streams:
-        size = None if stream.latent else Decimal(shown.kilowatts_per_kelvin(stream.cp))
+    for stream in whole_streams(case):
         rows.append((stream.name, stream.side.value, Decimal(shown.celsius(stream.supply)),
-                     Decimal(shown.celsius(stream.target)), size, Decimal(shown.kilowatts(stream.heat)),
+                     Decimal(shown.celsius(stream.target)), flow_of(stream, shown),
+                     Decimal(shown.kilowatts(stream.heat)),
                      Decimal(shown.celsius(stream.contribution)), 'latent' if stream.latent else ''))
     headings = ('stream', 'side', 'supply °C', 'target °C', 'CP kW/K', 'load kW', 'contribution K', '')
     return with_names(Sheet('Streams', headings, tuple(rows)), case)
@@ -203,7 +205,7 @@ def compared(networks: Sequence[Reviewed], shown: Shown) -> Sheet:
     """The networks side by side, each in a column."""
     columns: list[list[Cell]] = []
     for network in networks:
-        verdict, count = network.verdict, Decimal(len(network.followed.passages))
+        verdict, count = network.verdict, Decimal(exchanger_count(network.followed))
         word = 'accepted' if network.good else 'rejected' if isinstance(verdict, Rejected) else 'too fine'
         cells: list[Cell] = [word, count]
         if isinstance(verdict, Accepted):

@@ -9,6 +9,7 @@ from fractions import Fraction
 from ..analysis.cuts import Piece, CutPlace, Region
 from ..analysis.follow import Followed, Passage, SideState, heat_above
 from ..analysis.independent_sets import MOST_SOURCES, MOST_SUBSETS
+from ..analysis.joined import exchanger_count, joined
 from ..analysis.least_units import IndependentSet, RegionUnits, Units
 from ..formats.case import Side, Utility, shifted
 from ..formats.shown import Shown
@@ -81,8 +82,9 @@ def exchangers_in(passages: Sequence[Passage], region: Region) -> tuple[int, int
     """How many exchangers work in a region alone, and how many partly."""
     whole = partly = 0
     for passage in passages:
-        duty = passage.exchanger.duty
-        heats = [heat_in(side, duty, region) for side in (passage.hot, passage.cold)]
+        duty, parts = passage.exchanger.duty, passage.parts
+        heats = [sum((heat_in(side, part.exchanger.duty, region) for part, side in sides), Fraction(0))
+                 for sides in ([(part, part.hot) for part in parts], [(part, part.cold) for part in parts])]
         if heats == [duty, duty]:
             whole += 1
         elif any(heats):
@@ -97,7 +99,7 @@ def all_counted(units: Units) -> Sequence[RegionUnits]:
 def found_in(followed: Followed | None, region: Region) -> FactRow:
     if followed is None:
         return ()
-    whole, partly = exchangers_in(followed.passages, region)
+    whole, partly = exchangers_in(joined(followed).followed.passages, region)
     return Fact('in the network', Decimal(whole)), Fact('partly', Decimal(partly))
 
 
@@ -168,7 +170,7 @@ def units_notes(units: Units, followed: Followed | None = None) -> list[str]:
         told.append(f'{shown.kilowatts(cross.heat)} kW cross the pinch at {shown.celsius(cross.temperature)} °C at the '
                     'uses of least cost: there is no cut at it')
     if followed is not None:
-        told.append(f'the network has {len(followed.passages)} exchangers; `partly` are those that work in other '
+        told.append(f'the network has {exchanger_count(followed)} exchangers; `partly` are those that work in other '
                     'regions too')
     return told
 

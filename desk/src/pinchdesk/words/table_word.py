@@ -5,7 +5,7 @@ from ..analysis.audited import asked_pinches, audited
 from ..analysis.findings import headline
 from ..errors import about
 from ..program.run import Pinch
-from ..report.exchangers import (exchangers_sheet, mixes_sheets, streams_sheet, sums_facts, sums_sheet, verdict_sheet)
+from ..report.exchangers import (exchangers_sheet, mixes_sheets, streams_sheets, sums_facts, sums_sheet, verdict_sheet)
 from ..search.budget import Telling, nobody
 from .shared import CASE, NETWORK, ended
 from .word import Answer, Files, NoOptions, Word
@@ -18,7 +18,7 @@ def table(files: Files, _: NoOptions = NoOptions(), tell: Telling = nobody) -> A
         followed, verdict = audited(pinch, case.content, network.content)
         pinches = asked_pinches(pinch, case.content)
     sheets = (verdict_sheet(followed, verdict), exchangers_sheet(followed, pinches, verdict),
-              *mixes_sheets(followed, verdict), streams_sheet(followed, verdict), sums_sheet(followed))
+              *mixes_sheets(followed, verdict), *streams_sheets(followed, verdict), sums_sheet(followed))
     return ended(Answer(sheets, facts=(sums_facts(followed),), headline=headline(followed, verdict)), [verdict])
 
 

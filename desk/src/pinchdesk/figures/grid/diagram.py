@@ -7,6 +7,7 @@ from matplotlib.figure import Figure
 
 from ...analysis.findings import Finding, finding_of
 from ...analysis.follow import Followed, Passage, PinchPoint, PinchSide
+from ...analysis.joined import joined
 from ...errors import WordsError
 from ...formats.case import Side, Utility
 from ...formats.shown import Shown
@@ -29,12 +30,13 @@ LEGEND = ((ABOVE, 'above the pinch'), (BETWEEN, 'between pinches'), (BELOW, 'bel
 def grid_figure(followed: Followed, pinches: tuple[PinchPoint, ...], verdict: Verdict, most: int = MOST) -> Figure:
     """The diagram of a network that was followed, with what the audit said of it. `WordsError` where it has more
     exchangers than can be read on a sheet of A3."""
-    count = len(followed.passages)
+    plant = joined(followed)
+    count = len(plant.followed.passages)
     if count > most:
         raise WordsError(f'the network has {count} exchangers, and a grid diagram can be read up to {most}: '
                          '`pinchdesk table` lists them')
-    plan = plan_of(followed, pinches)
-    finding = finding_of(followed, verdict, plan.shown) if isinstance(verdict, Rejected) else None
+    plan = plan_of(plant.followed, pinches, plant.kinks, plant.notes)
+    finding = plant.finding(finding_of(followed, verdict, plan.shown)) if isinstance(verdict, Rejected) else None
     heights, labels, slants, deep = lane_heights(plan)
     numbers = margins(plan)
     title = headline(followed, verdict, finding, plan)

@@ -4,9 +4,15 @@ from __future__ import annotations
 from dataclasses import dataclass
 from fractions import Fraction
 
+from ...analysis.joined import enumerated
 from ...formats.case import Side, Stream, Utility
 from ...formats.shown import Shown
+from ...formats.whole_streams import parts_of
 from .layout import GridLayout, percent
+
+KINK = '◇'
+# Of more segments a row has the first and the last CP.
+MOST_FLOWS = 3
 
 
 @dataclass(frozen=True)
@@ -30,7 +36,8 @@ def end_of(plan: GridLayout, row: Stream | Utility) -> DrawnEnd:
         return DrawnEnd(*ends, '', shown.kilowatts(sum(duties, Fraction(0))))
     reached, missed = reached_by(plan, row)
     supply = shown.celsius(row.supply)
-    flow = 'latent' if row.latent else shown.kilowatts_per_kelvin(row.cp)
+    flows = ['latent' if part.latent else shown.kilowatts_per_kelvin(part.cp) for part in parts_of(row)]
+    flow = ' / '.join(flows if len(flows) <= MOST_FLOWS else [flows[0], '..', flows[-1]])
     ends = (supply, reached) if row.side is Side.HOT else (reached, supply)
     return DrawnEnd(ends[0], ends[1], flow, shown.kilowatts(row.heat), missed)
 
@@ -70,4 +77,14 @@ def reading(row: Stream | Utility, side: str) -> bool:
 def end_texts(plan: GridLayout) -> str:
     told = 'temperatures in °C, duties in kW; at a split the part of the stream that each branch has'
     invented = any(isinstance(row, Utility) and row.invented for row in plan.rows)
-    return told + ('; HOT and COLD stand for a heater and a cooler of any level' if invented else '')
+    told += '; HOT and COLD stand for a heater and a cooler of any level' if invented else ''
+    return '; '.join([told, *kink_texts(plan), *plan.notes])
+
+
+def kink_texts(plan: GridLayout) -> list[str]:
+    """Where the CP of each stream changes."""
+    kinks: dict[str, list[str]] = {}
+    for kink in plan.kinks:
+        kinks.setdefault(kink.stream.name, []).append(plan.shown.celsius(kink.temperature))
+    places = '; '.join(f'{name} at {enumerated(dict.fromkeys(ends))} °C' for name, ends in kinks.items())
+    return [f'{KINK} is where the CP of a stream changes: {places}'] if places else []

@@ -6,6 +6,7 @@ from dataclasses import dataclass
 from fractions import Fraction
 
 from ...analysis.follow import Followed, PinchPoint
+from ...analysis.joined import Kink
 from ...analysis.pinch_places import temperatures_at
 from ...formats.case import Side, Stream, Utility
 from ...formats.network import Split
@@ -48,6 +49,8 @@ class GridLayout:
     rows: list[Stream | Utility]
     labels: dict[str, tuple[str, ...]]
     type: Type
+    kinks: tuple[Kink, ...] = ()
+    notes: tuple[str, ...] = ()
     left: float = 0.0
     right: float = 0.0
 
@@ -125,8 +128,9 @@ def percent(part: Fraction, places: int = 2) -> str:
     return decimal(part * 100, places) + ' %'
 
 
-def plan_of(followed: Followed, pinches: tuple[PinchPoint, ...]) -> GridLayout:
-    """The plan of a network."""
+def plan_of(followed: Followed, pinches: tuple[PinchPoint, ...], kinks: tuple[Kink, ...] = (),
+            notes: tuple[str, ...] = ()) -> GridLayout:
+    """The plan of a network, with the kinks of its streams and what is said of these."""
     rows, hot = rows_of(followed)
     tracks = Tracks({row.name: at if at < hot else at + 2 for at, row in enumerate(rows)}, hot)
     course = course_of(followed, pinches)
@@ -134,7 +138,7 @@ def plan_of(followed: Followed, pinches: tuple[PinchPoint, ...]) -> GridLayout:
     lanes = {stream.name: lanes_of(followed, course, columns, stream) for stream in followed.case.streams}
     labels = labels_of(followed, pinches)
     type_ = type_of(columns.count, labels, numbers_of(followed))
-    return GridLayout(followed, pinches, course, columns, lanes, rows, labels, type_)
+    return GridLayout(followed, pinches, course, columns, lanes, rows, labels, type_, kinks, notes)
 
 
 def reach(plan: GridLayout, stream: Stream) -> tuple[float, float]:

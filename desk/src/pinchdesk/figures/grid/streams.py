@@ -4,6 +4,7 @@ from __future__ import annotations
 from collections.abc import Mapping
 
 from ...analysis.follow import Branch
+from ...analysis.joined import Kink
 from ...formats.case import Side, Stream, Utility
 from ...formats.network import End
 from ..paper import Look
@@ -14,15 +15,49 @@ from .lanes import drawn_branches, node_at, share_of
 from .layout import percent, reach
 
 STREAM = 1.8
+# How far the marks of kinks are from the exchanger in which they are, in inches, and from each other.
+FIRST, NEXT = 0.09, 0.07
 
 
 def put_streams(sheet: Canvas) -> None:
-    """All rows of the diagram."""
+    """All rows of the diagram, and the kinks of streams."""
     for row in sheet.plan.rows:
         if isinstance(row, Utility):
             put_utility(sheet, row)
         else:
             put_stream(sheet, row)
+    put_kinks(sheet)
+
+
+def put_kinks(sheet: Canvas) -> None:
+    """A mark where the CP of a stream changes: on its line, or beside the exchanger in which it is."""
+    plan = sheet.plan
+    beside: dict[tuple[str, str], int] = {}
+    for kink in plan.kinks:
+        name, hot = kink.stream.name, kink.stream.side is Side.HOT
+        if kink.exchanger:
+            at = beside[name, kink.exchanger] = beside.get((name, kink.exchanger), 0) + 1
+            key = ('hot' if hot else 'cold', kink.exchanger)
+            # Where the stream comes from, since an arrow may stand where it goes to.
+            x = plan.x(plan.columns.of[key]) + (FIRST + (at - 1) * NEXT) * (-1 if hot else 1)
+            lane = passed_lane(sheet, kink)
+        else:
+            made, used = (plan.x(plan.columns.of[node.key]) if node else None
+                          for node in node_at(plan.course, kink.branch))
+            ends = reach(plan, kink.stream)
+            first, last = ends if hot else (ends[1], ends[0])
+            x = ((first if made is None else made) + (last if used is None else used)) / 2
+            lane = plan.lanes[name].get(kink.branch, 0)
+        colour = HOT if hot else COLD
+        sheet.paper.points([(x, sheet.heights[name][lane])], 'D', markersize=plan.type.size * 0.45,
+                           markerfacecolor='white', markeredgecolor=colour, zorder=6)
+
+
+def passed_lane(sheet: Canvas, kink: Kink) -> int:
+    """The lane in which a stream passes the exchanger of a kink."""
+    passage = sheet.plan.followed.passage(kink.exchanger)
+    side = passage.hot if kink.stream.side is Side.HOT else passage.cold
+    return sheet.plan.lanes[kink.stream.name].get(side.before.name, 0) if side.before else 0
 
 
 def put_utility(sheet: Canvas, row: Utility) -> None:
