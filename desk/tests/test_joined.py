@@ -9,17 +9,27 @@ from conftest import EXAMPLES, few_of
 from cutting import can_be_cut, cut_network, cut_stream
 from hypothesis import given
 from hypothesis import strategies as some
+from looking import cut_off, overlapping, texts_of
+from matplotlib.lines import Line2D
 from segmented_cases import FEED, FEED_NETWORK
 
-from pinchdesk import Pinch, Side, completed, follow, read_case, read_network
+from pinchdesk import Pinch, Refused, Side, Stream, completed, find_network, follow, read_case, read_network
+from pinchdesk.analysis.change_table import read_changes
 from pinchdesk.analysis.follow import Followed, pinches_of
 from pinchdesk.analysis.joined import Kink, exchanger_count, joined, network_count
 from pinchdesk.analysis.least_units import Units, least_units
+from pinchdesk.analysis.rest import remaining, written_case
+from pinchdesk.analysis.what_if import what_if
+from pinchdesk.figures import grid_figure
 from pinchdesk.formats.case import print_case
+from pinchdesk.formats.segments import SegmentedStream
 from pinchdesk.formats.whole_streams import WholeStream
 from pinchdesk.program.verdicts import Accepted
 from pinchdesk.report.exchangers import exchangers_sheet, segments_sheets, streams_sheet
+from pinchdesk.report.rest_sheets import rest_facts
 from pinchdesk.report.unit_sheets import units_table
+from pinchdesk.report.what_if_sheets import plus_minus_table
+from pinchdesk.search.budget import SearchWay
 
 
 def followed_of(case: str, network: str) -> Followed:
@@ -169,3 +179,79 @@ def test_the_least_number_of_exchangers_is_that_of_the_uncut_case(name: str, pin
     if can_be_cut(followed, stream.name):
         beside = follow(cut.case, cut_network(followed, stream.name, [place]))
         assert units_table(cut, beside) == units_table(whole, followed)
+
+
+def test_the_grid_has_one_line_with_its_kinks(pinch: Pinch) -> None:
+    figure = grid_figure(followed_of(FEED, FEED_NETWORK), (), pinch.audit(FEED, FEED_NETWORK))
+    assert overlapping(figure) == [] and cut_off(figure) == []
+    texts = [text for text, _, _ in texts_of(figure)]
+    assert 'FEED' in texts and not any('FEED-' in text for text in texts) and '2 / latent / 1' in texts
+    assert 'E1+E2+E3\n180' in texts
+    assert any('◇ is where the CP of a stream changes: FEED at 80 °C' in text for text in texts)
+    marks = [line for line in figure.findobj(Line2D) if line.get_marker() == 'D']
+    assert len(marks) == 2
+
+
+def test_what_is_left_counts_exchangers_of_the_plant_and_keeps_the_segments_that_are_left(pinch: Pinch) -> None:
+    begun = '\n'.join(line for line in FEED_NETWORK.splitlines() if line.split()[-1] not in ('d', 'h', 'l')
+                      and ' E1 ' not in line and ' E5 ' not in line and ' E6 ' not in line)
+    begun = begun.replace('pass e E2 f', 'pass H E2 f').replace('end c\n', '').replace('FEED-2 60000', 'FEED-2 50000')
+    rest = remaining(FEED, begun, pinch)
+    facts = {fact.name: fact.value for fact in rest_facts(rest)}
+    assert facts['exchangers so far'] == 2
+    case = written_case(rest)
+    assert case is not None
+    # A part of the boiling and the superheating are left, and are one stream still.
+    assert case.basis.segments == (SegmentedStream('FEED', ('FEED-2', 'FEED-3')),)
+    assert read_case(print_case(case)) == case
+    assert case.source('FEED-2') == Stream('FEED-2', Side.COLD, 800, 800, 0, 10_000, 50)
+
+
+CHANGES = 'scenario;source;field;value\n'
+
+
+@pytest.mark.parametrize('row, before, after', [
+    ('FEED;supply;+10', 'FEED-1', (400, 800, 200, 0)), ('FEED;target;-5', 'FEED-3', (800, 1150, 100, 0)),
+    ('FEED;CP;+10 %', 'FEED-1', (300, 800, 220, 0)), ('FEED;CP;+10 %', 'FEED-2', (800, 800, 0, 66_000)),
+    ('FEED;load;-50 %', 'FEED-3', (800, 1200, 50, 0)), ('FEED-3;CP;2', 'FEED-3', (800, 1200, 200, 0))])
+def test_a_scenario_changes_the_stream(row: str, before: str, after: tuple[int, ...], pinch: Pinch) -> None:
+    table = read_changes((CHANGES + 'more;' + row).encode(), 't.csv', read_case(FEED).basis)
+    outcome = what_if(FEED, table.variants, pinch).outcomes[0]
+    found = outcome.case.source(before)
+    assert isinstance(found, Stream) and (found.supply, found.target, found.cp, found.load) == after
+    assert not outcome.fault and outcome.targets
+
+
+@pytest.mark.parametrize('row, cause', [
+    ('FEED;CP;3', 'FEED has a CP in each of its segments, FEED-1 to FEED-3: say a percentage, or change one of these'),
+    ('FEED;price;3', 'FEED has no price: it has supply, target, CP, load, contribution'),
+    ('FEED;level;90', 'FEED has no level')])
+def test_what_a_stream_of_segments_has_not_once_is_refused(row: str, cause: str, pinch: Pinch) -> None:
+    table = read_changes((CHANGES + 'more;' + row).encode(), 't.csv', read_case(FEED).basis)
+    with pytest.raises(Refused) as refused:
+        what_if(FEED, table.variants, pinch)
+    assert cause in refused.value.text
+
+
+def test_segments_that_no_longer_meet_are_a_fault_of_the_scenario(pinch: Pinch) -> None:
+    table = read_changes((CHANGES + 'apart;FEED-1;target;+5').encode(), 't.csv', read_case(FEED).basis)
+    outcome = what_if(FEED, table.variants, pinch).outcomes[0]
+    assert outcome.fault.startswith('FEED-1 ends at 850, and FEED-2 begins at 800') and outcome.targets is None
+
+
+def test_a_little_more_of_a_stream_is_of_all_its_segments(pinch: Pinch) -> None:
+    """As much as of the uncut stream."""
+    followed = uncut('four-stream')
+    whole = what_if(followed.case, (), pinch).plus_minus
+    cut = what_if(cut_stream(followed.case, 'C1', [600, 1000]), (), pinch).plus_minus
+    assert [(risen.stream.name, risen.size, risen.supply, risen.target) for risen in cut] == \
+        [(risen.stream.name, risen.size, risen.supply, risen.target) for risen in whole]
+    table = plus_minus_table(what_if(FEED, (), pinch))
+    assert [str(fact.value) for fact in table.rows[0]][:2] == ['FEED', 'cold'] and len(table.rows) == 3
+
+
+def test_a_search_counts_the_exchangers_of_the_plant(pinch: Pinch) -> None:
+    found = find_network(FEED, pinch=pinch, way=SearchWay(steps=1, workers=1), start=FEED_NETWORK)
+    assert found.exchangers == network_count(completed(read_case(FEED)), found.network) <= 4
+    assert f'{len(found.network.exchangers)} in the program, which has segments as streams' in found.text
+    assert 'in the program, each segment a stream of its own, by the solver' in found.bounds

@@ -56,6 +56,11 @@ class Change:
     written: str
 
 
+def refusal(change: Change, cause: str) -> Refused:
+    """The refusal of a change, by its place."""
+    return Refused(3, change.place, 'change', f'{change.place}: {cause}')
+
+
 @dataclass(frozen=True)
 class CaseScenario:
     """A scenario with its changes, in the order of their rows."""

@@ -147,7 +147,7 @@ class Joiner:
         return Branch(self.named(branch.name), whole, part, state, branch.statement)
 
     def side(self, side: SideState) -> SideState:
-        source = self.whole_of.get(side.source.name, side.source)
+        source = self.whole_of.get(side.source.name) or side.source
         before, behind = (branch and self.branch(branch) for branch in (side.before, side.behind))
         return SideState(source, before, behind)
 

@@ -14,6 +14,7 @@ from math import ceil, floor, lcm
 
 from ..formats.case import ANY_HEAT, Case, Forbid, Side, Source, Stream, Utility, shifted
 from ..formats.network import End, Mix, Network, Pass, Split
+from ..formats.segments import SegmentedStream, kept_segments, segment_fault
 from ..tables.names import apart, fitted
 from .follow import Branch, Followed
 
@@ -198,10 +199,18 @@ def rest_case(case: Case, lefts: Sequence[Left], used: Mapping[str, Fraction], s
                     for hot in names.get(forbid.hot, []) for cold in names.get(forbid.cold, []))
     utilities = tuple(rest_utility(utility, used[utility.name], scale, rounding)
                       for utility in case.utilities if not utility.invented)
-    kept = {stream.name for stream in streams} | {utility.name for utility in utilities}
-    basis = replace(case.basis, scale=case.basis.scale * scale.factor,
+    segments = rest_segments(case, streams)
+    kept = {source.name for source in (*streams, *utilities)} | {segmented.name for segmented in segments}
+    basis = replace(case.basis, scale=case.basis.scale * scale.factor, segments=segments,
                     names=tuple(renamed for renamed in case.basis.names if renamed[1] in kept))
     return Case(case.contribution if scale.degrees == 1 else 0, streams, utilities, forbids, basis)
+
+
+def rest_segments(case: Case, streams: Sequence[Stream]) -> tuple[SegmentedStream, ...]:
+    """The streams of which several segments are left that still follow one another."""
+    named = {stream.name: stream for stream in streams}
+    return tuple(segmented for segmented in kept_segments(case.basis.segments, named)
+                 if segment_fault(segmented, named, named) is None)
 
 
 def is_exact(lefts: Iterable[Left], case: Case, used: Mapping[str, Fraction], scale: Scale) -> bool:

@@ -16,11 +16,13 @@ from ..formats.amounts import rounded
 from ..formats.case import ANY_HEAT, Case, Source, Stream, Utility, case_rows, completed, read_case
 from ..formats.comments import Basis, basis_rows
 from ..formats.limits import outside_of_row
+from ..formats.whole_streams import WholeStream, whole_streams
 from ..program.answers import Cut, HeatFlow, Targets
 from ..program.causes import CAUSES
 from ..program.run import CaseText, Pinch, case_bytes
 from .change_columns import Field
-from .change_table import SOURCES, Change, CaseScenario, Way
+from .change_table import SOURCES, Change, CaseScenario, Way, refusal
+from .segment_changes import fault_in_segments, on_segments, with_streams
 
 LATENT, SENSIBLE = ('level', 'load', 'contribution'), ('supply', 'target', 'CP', 'load', 'contribution')
 OF_UTILITY = ('level', 'supply', 'least', 'most', 'price', 'contribution')
@@ -130,6 +132,8 @@ def unchanged(case: Case) -> ScenarioOutcome:
 
 def answered(pinch: Pinch, outcome: ScenarioOutcome) -> ScenarioOutcome:
     """An outcome with the answers that it has not, or with the cause for which the program refuses it."""
+    if outcome.fault:
+        return outcome
     try:
         targets = outcome.targets or pinch.targets(outcome.case)
         return replace(outcome, targets=targets, flow=pinch.flow(outcome.case))
@@ -151,23 +155,20 @@ def changed(case: Case, scenario: CaseScenario) -> ScenarioOutcome:
     """The case with the changes of a scenario; `Refused` where a change names what is not there."""
     changed_case, steps = case, []
     seen: set[tuple[str, Field]] = set()
-    for change in scenario.changes:
+    changes = [part for change in scenario.changes for part in on_segments(case, change, in_case(case, change.source))]
+    for change in changes:
         source = found(case, change)
         key = (source.name if source else '', canonical(source, change.field))
         if key in seen:
             raise refusal(change, f'scenario {scenario.name} changes this twice')
         seen.add(key)
     # A load of a sensible stream is over the span that its temperatures have in the end.
-    for change in sorted(scenario.changes, key=lambda scenario_change: scenario_change.field is Field.LOAD):
+    for change in sorted(changes, key=lambda scenario_change: scenario_change.field is Field.LOAD):
         changed_case, step = applied(case, changed_case, change)
         steps.append(step)
-    order = {id(scenario_change): at for at, scenario_change in enumerate(scenario.changes)}
+    order = {id(scenario_change): at for at, scenario_change in enumerate(changes)}
     steps.sort(key=lambda made_step: order[id(made_step.change)])
-    return ScenarioOutcome(scenario, tuple(steps), completed(changed_case))
-
-
-def refusal(change: Change, cause: str) -> Refused:
-    return Refused(3, change.place, 'change', f'{change.place}: {cause}')
+    return ScenarioOutcome(scenario, tuple(steps), completed(changed_case), fault=fault_in_segments(changed_case))
 
 
 def found(case: Case, change: Change) -> Source | None:
@@ -259,11 +260,24 @@ def of_utility(base: Utility, now: Utility, change: Change, case: Case) -> tuple
 
 def plus_minus(case: Case, base: Targets, pinch: Pinch, workers: int = 0) -> tuple[PlusMinus, ...]:
     """What a little more of each stream of a case would do to its hot target."""
-    cases = [replace(case, streams=tuple(made if case_stream is stream else case_stream
-                                         for case_stream in case.streams))
-             for stream in case.streams for made in little_more(stream, case)]
-    rises = side_by_side(lambda changed_case: rise(pinch, changed_case, base), cases, workers)
-    return tuple(PlusMinus(stream, *rises[3 * at:3 * at + 3]) for at, stream in enumerate(case.streams))
+    streams = whole_streams(case)
+    cases = [made for stream in streams for made in cases_with_more(stream, case)]
+    rises = side_by_side(lambda made: rise(pinch, made, base) if made else None, cases, workers)
+    return tuple(PlusMinus(stream, *rises[3 * at:3 * at + 3]) for at, stream in enumerate(streams))
+
+
+def cases_with_more(stream: Stream, case: Case) -> tuple[Case | None, Case | None, Case | None]:
+    """The case with a larger size of a stream, with a warmer supply, with a warmer target. A stream in segments has a
+    larger CP in each of them; None where it has none, or a phase change at its end."""
+    if not isinstance(stream, WholeStream):
+        larger, supplied, led = little_more(stream, case)
+        return (with_streams(case, {stream.name: larger}), with_streams(case, {stream.name: supplied}),
+                with_streams(case, {stream.name: led}))
+    more = {segment.name: little_more(segment, case) for segment in stream.segments if not segment.latent}
+    first, last = stream.segments[0].name, stream.segments[-1].name
+    return (with_streams(case, {name: made[0] for name, made in more.items()}) if more else None,
+            with_streams(case, {first: more[first][1]}) if first in more else None,
+            with_streams(case, {last: more[last][2]}) if last in more else None)
 
 
 def little(basis: Basis) -> tuple[int, int]:

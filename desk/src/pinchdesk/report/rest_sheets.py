@@ -9,6 +9,7 @@ from fractions import Fraction
 
 from ..analysis.findings import exact, finding_of
 from ..analysis.follow import PinchPoint
+from ..analysis.joined import exchanger_count
 from ..analysis.open_branches import Left, rounded
 from ..analysis.rest import Posed, Rest
 from ..formats.case import Side, Stream, shifted
@@ -40,7 +41,7 @@ def rest_facts(rest: Rest) -> FactRow:
 
     def heat(low: Fraction, high: Fraction) -> Cell:
         return between(low, high, lambda watts: shown.kilowatts(watts, 6))
-    return (Fact('exchangers so far', Decimal(len(rest.followed.passages))),
+    return (Fact('exchangers so far', Decimal(exchanger_count(rest.followed))),
             Fact('hot utility that they use', heat(used, used), 'kW'),
             Fact('hot target of the rest', heat(least, most), 'kW'),
             Fact('hot target of the whole', heat(Fraction(rest.whole.hot), Fraction(rest.whole.hot)), 'kW'),

@@ -4,7 +4,8 @@ from __future__ import annotations
 from decimal import Decimal
 from typing import TYPE_CHECKING
 
-from ..formats.network import Exchanger, print_network
+from ..analysis.joined import network_count
+from ..formats.network import Exchanger, Network, print_network
 from ..formats.shown import Number, Shown
 from .facts import Fact, FactRow, FactTable
 from .sheet import Sheet
@@ -23,6 +24,7 @@ def tradeoff_tables(traded: TradeOff) -> list[FactTable]:
     """The networks from the floor up, and the heat that was moved from one to the next, where some was."""
     shown = Shown(traded.case.basis)
     floor = (*cost_facts('floor', traded.floor, traded, shown), Fact('excess', None, 'kW'), Fact('splits', None),
+             *([Fact('in the plant', None)] if traded.case.basis.segments else []),
              Fact('gone', 'no network costs less'))
     networks = (floor, *([begun_row(traded, shown)] if traded.left_begun else []),
                 *(network_row(row, traded, shown) for row in traded.rows))
@@ -43,13 +45,22 @@ def begun_row(traded: TradeOff, shown: Shown) -> FactRow:
     """The network from which the search went out, where a row is better."""
     begun = traded.begun
     return (*cost_facts(f'from {begun.count}', begun.cost, traded, shown),
-            Fact('excess', Decimal(shown.kilowatts(begun.verdict.excess)), 'kW'), Fact('splits', Decimal(begun.splits)))
+            Fact('excess', Decimal(shown.kilowatts(begun.verdict.excess)), 'kW'), Fact('splits', Decimal(begun.splits)),
+            *joined_facts(begun.network, traded))
 
 
 def network_row(row: TradeOffRow, traded: TradeOff, shown: Shown) -> FactRow:
     return (*cost_facts(Decimal(row.exchangers), row.cost, traded, shown),
             Fact('excess', Decimal(shown.kilowatts(row.excess)), 'kW'), Fact('splits', Decimal(row.judged.splits)),
-            Fact('gone', listed(row.gone, shown)), Fact('new', listed(row.come, shown)))
+            *joined_facts(row.network, traded), Fact('gone', listed(row.gone, shown)),
+            Fact('new', listed(row.come, shown)))
+
+
+def joined_facts(network: Network, traded: TradeOff) -> FactRow:
+    """How many exchangers of the plant a network has, where its streams have segments."""
+    if not traded.case.basis.segments:
+        return ()
+    return (Fact('in the plant', Decimal(network_count(traded.case, network))),)
 
 
 def listed(exchangers: tuple[Exchanger, ...], shown: Shown) -> str:
@@ -62,8 +73,10 @@ def proved(traded: TradeOff) -> str:
     """What of the networks is proved, and what is not."""
     last = traded.rows[-1].exchangers
     ended = 'the search was stopped; ' if traded.stopped else ''
+    segments = ' Each segment of a stream is counted as a stream, but in the column `in the plant`.' \
+        if traded.case.basis.segments else ''
     return (f'Each network was accepted by the audit, and none costs less than the floor; {ended}no cheaper networks '
-            f'were found, and none of fewer than {last} exchangers, which does not prove that there are none.')
+            f'were found, and none of fewer than {last} exchangers, which does not prove that there are none.{segments}')
 
 
 def network_texts(traded: TradeOff) -> dict[str, str]:

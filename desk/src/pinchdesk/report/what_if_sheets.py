@@ -10,6 +10,7 @@ from ..analysis.change_columns import Field
 from ..analysis.what_if import ScenarioOutcome, PlusMinus, Step, WhatIf, little
 from ..formats.case import ANY_HEAT
 from ..formats.shown import Shown, decimal
+from ..formats.whole_streams import parts_of
 from ..program.answers import Cut
 from .facts import Fact, FactRow, FactTable
 from .sheet import Cell, Sheet
@@ -134,10 +135,11 @@ def plus_minus_row(risen: PlusMinus, latent: bool, shown: Shown) -> FactRow:
     def fact(name: str, value: int | None, is_there: bool) -> Fact:
         return Fact(f'{name}:', ('refused' if value is None else kilowatts(value, shown)) if is_there else None, 'kW')
     stream, (cp, load) = risen.stream, little(shown.basis)
-    sensible = not stream.latent
+    first, last = (not parts_of(stream)[at].latent for at in (0, -1))
+    sensible = any(not part.latent for part in parts_of(stream))
     row = [Fact('stream', stream.name), Fact('side', stream.side.value),
            fact(f'CP +{shown.kilowatts_per_kelvin(cp, 6)} kW/K', risen.size, sensible),
            fact(f'load +{shown.kilowatts(load, 6)} kW', risen.size, stream.latent),
-           fact('supply +1 K', risen.supply, sensible), fact('target +1 K', risen.target, sensible),
+           fact('supply +1 K', risen.supply, first), fact('target +1 K', risen.target, last),
            fact('level +1 K', risen.supply, stream.latent)]
     return tuple(row if latent else [*row[:3], *row[4:6]])

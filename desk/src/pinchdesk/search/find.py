@@ -9,6 +9,7 @@ from fractions import Fraction
 
 from ..analysis.findings import headline
 from ..analysis.follow import follow
+from ..analysis.joined import network_count
 from ..errors import INFEASIBLE, DeskError, Status
 from ..formats.case import Basis, Case, completed, read_case
 from ..formats.network import Network, print_network, read_network
@@ -36,18 +37,16 @@ class NoNetwork(DeskError):
 class FewExchangers:
     """A network that `pinch audit` accepted, with what it said. `bound` is what the solver says that no network at
     this cost has fewer exchangers than; `staged` the same for networks of so many stages, in each of the windows, with
-    isothermal mixing, None where that was not settled; `ended` is why the search ended. `basis` is that of the case."""
+    isothermal mixing, None where that was not settled; `ended` is why the search ended. `basis` is that of the case;
+    `exchangers` are those of the plant, of which one that goes on across the kink of a stream is one."""
 
     network: Network
     verdict: Accepted
     bound: int
     staged: tuple[int, tuple[int, ...]] | None
     ended: str
+    exchangers: int
     basis: Basis = Basis()
-
-    @property
-    def exchangers(self) -> int:
-        return len(self.network.exchangers)
 
     @property
     def text(self) -> str:
@@ -56,18 +55,26 @@ class FewExchangers:
 
     def comments(self) -> list[str]:
         shown, verdict = Shown(self.basis), self.verdict
-        return [f'{self.exchangers} exchangers', self.bounds, f'cost {shown.with_unit(verdict.cost)}',
+        return [self.counted, self.bounds, f'cost {shown.with_unit(verdict.cost)}',
                 f'floor {shown.with_unit(verdict.floor)}', f'excess {shown.kilowatts(verdict.excess)} kW',
                 *shown.scale_remarks()]
 
     @property
+    def counted(self) -> str:
+        """How many exchangers there are, in words."""
+        parts = len(self.network.exchangers)
+        beside = f', {parts} in the program, which has segments as streams' if self.basis.segments else ''
+        return f'{self.exchangers} exchangers{beside}'
+
+    @property
     def bounds(self) -> str:
-        """What the solver says of fewer exchangers, in words."""
+        """What the solver says of fewer exchangers, in words; it has each segment of a stream as a stream."""
         staged = ''
         if self.staged is not None:
             stages = '+'.join(map(str, self.staged[1]))
             staged = f'; at least {self.staged[0]} in {stages} stages with isothermal mixing'
-        return f'bound: at least {self.bound} by the solver{staged} ({self.ended})'
+        parts = ' in the program, each segment a stream of its own,' if self.basis.segments else ''
+        return f'bound: at least {self.bound}{parts} by the solver{staged} ({self.ended})'
 
 
 def find_network(case: CaseText, most_cost: Fraction | int | None = None, above: Fraction | int | None = None,
@@ -97,7 +104,7 @@ def find_network(case: CaseText, most_cost: Fraction | int | None = None, above:
                 tell(str(state))
         except KeyboardInterrupt:
             ended = INTERRUPTED
-    return found_in(state, state.ended or ended, asked.basis)
+    return found_in(state, state.ended or ended, asked)
 
 
 def flow_of(pinch: Pinch, case: CaseText) -> HeatFlow:
@@ -115,15 +122,16 @@ def task_of(pinch: Pinch, case: Case, flow: HeatFlow, limit: Fraction, best: Acc
     return NetworkTask(pinch.path, case, flow.cost, uses, limit, best, begun, for_search(seconds), way)
 
 
-def found_in(state: SearchState, ended: str, basis: Basis) -> FewExchangers:
-    """What a search found until it ended; `NoNetwork` where that is nothing."""
+def found_in(state: SearchState, ended: str, case: Case) -> FewExchangers:
+    """What a search in a completed case found until it ended; `NoNetwork` where that is nothing."""
     best = state.best
     if best is None and ended == INTERRUPTED:
         raise NoNetwork('interrupted before there was a network', Status.STOPPED)
     if best is None:
         raise NoNetwork('no network was found in time, and `pinch design` has none', Status.FAILED)
     staged = state.staged if state.staged is not None and state.staged[0] <= best.count else None
-    return FewExchangers(best.network, best.verdict, min(state.bound, best.count), staged, ended, basis)
+    return FewExchangers(best.network, best.verdict, min(state.bound, best.count), staged, ended,
+                         network_count(case, best.network), case.basis)
 
 
 def limit_of(floor: int, most_cost: Fraction | int | None, above: Fraction | int | None, shown: Shown) -> Fraction:
