@@ -34,7 +34,9 @@ def written(value: Fraction, mark: str) -> str:
 
 
 examples = some.sampled_from(CASES).map(lambda name: read_case(example(f'{name}.csv')))
-drawn = some.builds(Case, shares, some.lists(streams(), min_size=1, max_size=4).map(tuple),
+# Rows of one name are one stream, and `test_segmented_tables` has them.
+drawn = some.builds(Case, shares, some.lists(streams(), min_size=1, max_size=4,
+                                             unique_by=lambda stream: stream.name).map(tuple),
                     some.lists(utilities(), max_size=2).map(tuple))
 
 

@@ -205,7 +205,7 @@ class Plant:
 
 def read(source: str | os.PathLike[str] | bytes, name: str = '', *, difference: Number | None = None,
          sheet: str | None = None, separator: str | None = None, decimal: str | None = None, scale: Number = 1,
-         hours: Number | None = None) -> Plant:
+         hours: Number | None = None, tolerance: Number = 0) -> Plant:
     """A plant from the file of its table (.xlsx, or text with separators), or from a case file; of bytes `name` is what
     the file is called. The options are those of the word `case`. `Refused` where something is not understood, or is
     ambiguous."""
@@ -214,10 +214,10 @@ def read(source: str | os.PathLike[str] | bytes, name: str = '', *, difference: 
     path = name if isinstance(source, bytes) else os.fspath(source)
     content = source if isinstance(source, bytes) else read_bytes(path)
     asked = wanted_by(None if difference is None else as_text(difference), sheet, separator, decimal, as_text(scale),
-                      None if hours is None else as_text(hours))
+                      None if hours is None else as_text(hours), as_text(tolerance))
     if is_case(content):
         options = [option for option in (difference, sheet, separator, decimal, hours) if option is not None]
-        if options or asked.scale != 1:
+        if options or asked.scale != 1 or asked.tolerance:
             raise Refused(3, '', 'a case already', 'this is a case already, in tenths of °C, 10 W/K and W, and options '
                           'are of tables. If it is a table in °C, give it headings', path)
         plant = Plant(path, content.decode('utf-8', 'replace'), ('read as a case file, in tenths of °C, 10 W/K and W',))

@@ -195,7 +195,8 @@ def is_block(draft: Draft, group: range) -> bool:
     sections = [section_of(name) for name in names]
     utilities = any(heading in found for heading in (*OF_UTILITIES, Heading.KIND)) or any(
         section and section.utilities for section in sections)
-    return bool(draft.pairs(group)) or Heading.SUPPLY in found and (Heading.TARGET in found or utilities)
+    ends = Heading.SUPPLY in found and (Heading.TARGET in found or utilities)
+    return bool(draft.pairs(group)) or draft.is_curve(group) or ends
 
 
 def is_named(band: Band, group: range) -> bool:

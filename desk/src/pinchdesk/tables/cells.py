@@ -2,6 +2,7 @@
 from __future__ import annotations
 
 from collections.abc import Iterable, Mapping, Sequence
+from contextlib import suppress
 from dataclasses import dataclass, field
 from decimal import Decimal
 from fractions import Fraction
@@ -110,6 +111,14 @@ class CellReader:
             if column in layout.titles or column in layout.columns.values():
                 return layout.units.get(column, ''), layout.titles.get(column, '')
         return self.units.get(column, ''), self.titles.get(column, '')
+
+    def unit_beside(self, row: TableRow, column: int) -> str:
+        """The unit of a cell, its own or that of its column; empty where there is none, of which nothing is told."""
+        cell = row.cell(column)
+        own = cell.unit
+        with suppress(NoNumber):
+            own = own or (numeral_of(cell.text).unit if cell.number is None else '')
+        return own or self.headed(row.number, column)[0]
 
     def quiet(self, row: TableRow, column: int | None) -> Fraction | None:
         """The number of a cell, in whatever unit; None where it is none, and nothing is told."""

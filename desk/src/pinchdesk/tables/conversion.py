@@ -15,7 +15,8 @@ from .spreadsheet import Table
 class Wanted:
     """How a table is to be read: the least difference, the sheet, the separator, the decimal mark, what all heats are
     taken times, and the hours of a year for prices; None is what the table says. With `own_units` the case has the
-    units of the table, and nothing is rounded that is whole in these."""
+    units of the table, and nothing is rounded that is whole in these. `tolerance` is how far from a heating curve its
+    segments may be, in K."""
 
     difference: str | None = None
     sheet: str | None = None
@@ -24,6 +25,7 @@ class Wanted:
     scale: Fraction = Fraction(1)
     hours: Fraction | None = None
     own_units: bool = False
+    tolerance: Fraction = Fraction(0)
 
 
 @dataclass(frozen=True)

@@ -18,10 +18,12 @@ from .conversion import Converted as Converted
 from .conversion import Wanted as Wanted
 from .doubts import as_case, doubts_of
 from .headings import known
+from .heating_curve import with_curves
 from .making import Maker
 from .names import fit_names
 from .roundings import told as how_far_off
 from .rows import Body, Line, body_of
+from .segmented import with_segments
 from .sheets import chosen_sheets
 from .sources import Entries
 from .spreadsheet import Cell, Table, is_workbook, read_table
@@ -50,10 +52,11 @@ def case_of_table(content: bytes, name: str, wanted: Wanted) -> Converted:
 
 
 def is_case(content: bytes) -> bool:
+    """Whether a file is a case; it is one too where only a comment of the desk is wrong."""
     try:
         read_case(content, own_units=True)
-    except Refused:
-        return False
+    except Refused as fault:
+        return fault.cause in ('comment', 'segment')
     return True
 
 
@@ -91,19 +94,23 @@ def converted(table: Table, wanted: Wanted) -> Converted:
     doubts_of(blocks, body.lines, told, wanted.decimal is not None)
     told.settle()
     mark = decimal_mark(table, numbers_of(body.lines), wanted.decimal)
+    blocks, body = with_curves(blocks, body, mark, wanted.tolerance, told)
     layouts = {row.number: [block.layout for block in blocks.blocks if row.number in block.numbers]
                for row in table.rows}
     reader = CellReader(told, mark, {}, {}, layouts=layouts)
     if not blocks.headed:
         check_order(body.lines, mark, told)
+    body, segmented = with_segments(body, reader, told)
     check_count(body.lines, table)
-    names = fit_names(line.name() for line in body.lines if line.kind not in ('contribution', 'forbid') and line.name())
+    names = fit_names([*(line.name() for line in body.lines if line.kind not in ('contribution', 'forbid')
+                         and line.name()), *(stream.name for stream in segmented)])
+    made = {segment for stream in segmented for segment in stream.segments}
     for old, new in names.items():
-        if old != new:
+        if old != new and old not in made:
             told.notes.append(f'the name `{old}` becomes {new}')
     told.notes += other_sheets.told(table)
     entries = Entries(reader, told, names, wanted.scale, wanted.own_units)
-    return Maker(told, reader, entries, blocks, wanted).made(body, names)
+    return Maker(told, reader, entries, blocks, wanted, segmented).made(body, names)
 
 
 def with_layouts(body: Body, blocks: Blocks) -> Body:

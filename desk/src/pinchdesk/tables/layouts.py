@@ -26,6 +26,9 @@ TEXTS = (Heading.NAME, Heading.NUMBER, Heading.KIND)
 # What says how much heat a stream has.
 SIZES = (Heading.CP, Heading.LOAD, Heading.MASS)
 OF_UTILITIES = (Heading.PRICE, Heading.LEAST, Heading.MOST)
+# What heads the heat of a heating curve, and what no table of such curves has.
+ENTHALPY = frozenset('h enthalpy enthalpie enthalpiestrom entalpia enthalpyflow heatcontent cumulativeenthalpy'.split())
+NO_CURVE = (Heading.TARGET, Heading.CP, Heading.MASS, Heading.SPECIFIC, Heading.LATENT, *OF_UTILITIES)
 
 
 @dataclass(frozen=True)
@@ -33,7 +36,7 @@ class Layout:
     """The columns of a block with the units that the table gives them, the numbers of the rows of its head, and the
     words there that are neither headings nor units of a number; `named` is False where the numbers of the streams
     stand in for names, `twins` has columns that say the same in another unit, `section` what the heading of the names
-    says of the streams."""
+    says of the streams; `curve` where its rows are points of heating curves."""
 
     columns: Mapping[Heading, int] = field(default_factory=dict)
     units: Mapping[int, str] = field(default_factory=dict)
@@ -43,6 +46,7 @@ class Layout:
     named: bool = True
     twins: Mapping[int, Heading] = field(default_factory=dict)
     section: Section | None = None
+    curve: bool = False
 
     @property
     def headed(self) -> bool:
@@ -131,7 +135,7 @@ class Draft:
                   if column in self.titles and column not in measured and column in columns.values()]
         section = section_of(self.titles.get(columns[Heading.NAME], ''))
         return Layout(columns, self.units, self.titles, tuple(self.heads), (*beside, *self.beside), named, twins,
-                      section)
+                      section, self.is_curve(range(max(self.titles, default=0) + 1)))
 
     def within(self, group: range) -> Draft:
         """The head of the columns of one block."""
@@ -141,6 +145,14 @@ class Draft:
         part.titles = {column: title for column, title in self.titles.items() if column in group}
         part.beside = [words for words in self.beside if words.column in group]
         return part
+
+    def is_curve(self, group: range) -> bool:
+        """Whether columns have the points of heating curves: a temperature and an enthalpy, and no other number."""
+        headings = {heading: column for column, heading in self.headings.items() if column in group}
+        if not {Heading.SUPPLY, Heading.LOAD} <= headings.keys() or any(heading in headings for heading in NO_CURVE):
+            return False
+        warm, heat = (named_with_unit(self.titles[headings[heading]])[0] for heading in (Heading.SUPPLY, Heading.LOAD))
+        return warm in WARM and heat in ENTHALPY
 
     def pairs(self, group: range) -> dict[int, Heading]:
         """Headings that their partner explains: `Te` and `Ts`, `Ti` and `Tf`."""
@@ -214,7 +226,8 @@ class Draft:
         utilities = any(heading in columns for heading in OF_UTILITIES)
         unknown = [(column, title) for column, title in self.titles.items()
                    if column not in columns.values() and column not in self.headings and not is_note_column(title)]
-        if unknown and (missing or sized and Heading.TARGET not in columns or not sized and not utilities):
+        open_end = Heading.TARGET not in columns and not self.is_curve(range(max(self.titles, default=0) + 1))
+        if unknown and (missing or sized and open_end or not sized and not utilities):
             words = ', '.join(heading.name.lower() for heading in list(Heading)[:10])
             raise unknown_headings(self.table, self.row, unknown, f'{words} are, and others are passed over where '
                                    'these are enough')

@@ -1,6 +1,7 @@
 """Puts the lines of a table together to a case."""
 from __future__ import annotations
 
+from collections.abc import Sequence
 from dataclasses import replace
 from fractions import Fraction
 
@@ -18,6 +19,7 @@ from .least_difference import half, is_bare, said_difference
 from .own_units import ExactNumbers, in_own_units
 from .prices import PriceFault, PriceUnit, Priced, priced
 from .rows import Body, Line
+from .segmented import SegmentRows, fit_segments
 from .sources import Entries
 from .units import Kind
 from .utility_prices import PriceReader
@@ -27,8 +29,10 @@ from .vocabulary import Heading
 class Maker:
     """Puts the lines of a table together to a case."""
 
-    def __init__(self, told: Told, reader: CellReader, entries: Entries, blocks: Blocks, wanted: Wanted) -> None:
+    def __init__(self, told: Told, reader: CellReader, entries: Entries, blocks: Blocks, wanted: Wanted,
+                 segmented: Sequence[SegmentRows] = ()) -> None:
         self.told, self.reader, self.entries, self.blocks, self.wanted = told, reader, entries, blocks, wanted
+        self.segmented = segmented
         self.prices = PriceReader(told, reader)
         self.contributions: list[tuple[int, int, Fraction]] = []
         self.streams: list[tuple[int, Stream, int | None]] = []
@@ -46,8 +50,10 @@ class Maker:
         if not self.streams:
             raise Refused(3, '', 'no stream', 'the table has no stream: is its separator another one (--separator)?')
         utilities, basis = self.with_prices(share)
-        changed = tuple((old, new) for old, new in names.items() if old != new)
-        basis = replace(basis, scale=self.wanted.scale, names=changed, cost_rows=tuple(self.coefficients))
+        own = {segment for stream in self.segmented for segment in stream.segments}
+        changed = tuple((old, new) for old, new in names.items() if old != new and old not in own)
+        basis = replace(basis, scale=self.wanted.scale, names=changed, cost_rows=tuple(self.coefficients),
+                        segments=fit_segments(self.segmented, names))
         streams = tuple(replace(stream, contribution=share if own is None else own) for _, stream, own in self.streams)
         self.told.settle()
         case = Case(share, streams, tuple(utilities), tuple(forbid for _, forbid in self.forbids), basis)
@@ -94,7 +100,9 @@ class Maker:
                                  ([row for row, _ in self.forbids], MOST_FORBIDS, 'forbidden matches')):
             if len(rows) > most:
                 end = {1: 'st', 2: 'nd', 3: 'rd'}.get((most + 1) % 10 if most + 1 != 13 else 0, 'th')
-                self.told.fault(rows[most], None, f'a case has at most {most} {what}, and this is the {most + 1}{end}')
+                parts = ', of which each segment of a stream is one' if self.segmented and 'streams' in what else ''
+                self.told.fault(rows[most], None, f'a case has at most {most} {what}{parts}, and this is the '
+                                f'{most + 1}{end}')
 
     def take(self, line: Line) -> None:
         if line.kind == 'contribution':
@@ -143,14 +151,16 @@ class Maker:
 
     def take_forbid(self, line: Line) -> None:
         """A pair that may not exchange heat: the hot name in the column of names, the cold one in the next one that is
-        filled."""
+        filled; of a stream in segments it is so of each."""
         at = line.at(Heading.NAME)
         behind = [cell.text for column, cell in line.row.filled() if at is not None and column > at]
         if not line.name() or len(behind) != 1:
             self.told.fault(line.row.number, at, 'a forbidden match has two names, the hot one and the cold one')
             return
-        hot, cold = (self.entries.names.get(name, name) for name in (line.name(), behind[0]))
-        self.forbids.append((line.row.number, Forbid(hot, cold)))
+        parts = {stream.name: stream.segments for stream in self.segmented}
+        hot, cold = ([self.entries.names.get(part, part) for part in parts.get(name, (name,))]
+                     for name in (line.name(), behind[0]))
+        self.forbids += [(line.row.number, Forbid(giver, taker)) for giver in hot for taker in cold]
 
     def contribution(self, body: Body) -> tuple[int, Fraction, int]:
         """The contribution of the case, rounded and exact, and its row: of the table, or half of the least difference

@@ -18,12 +18,13 @@ from .vocabulary import Heading
 
 @dataclass(frozen=True)
 class SheetSummary:
-    """What a sheet has: streams, and of which sides, or utilities alone."""
+    """What a sheet has: streams, and of which sides, heating curves alone, or utilities alone."""
 
     table: Table
     streams: bool
     utilities: bool
     sides: frozenset[Side]
+    curves: bool = False
 
 
 def chosen_sheets(content: bytes) -> Table:
@@ -34,7 +35,8 @@ def chosen_sheets(content: bytes) -> Table:
         raise Refused(3, '', 'empty', 'the table is empty')
     found = [summary_of(table) for table in tables]
     streams = [summary for summary in found if summary.streams]
-    if not streams:
+    curves = [summary for summary in found if summary.curves]
+    if not streams and not curves:
         return with_others([tables[0]], tables)
     if len(streams) > 1 and not are_parts(streams):
         whole = streams[0].table is tables[0] and len(streams[0].sides) == 2
@@ -44,7 +46,7 @@ def chosen_sheets(content: bytes) -> Table:
             raise Refused(3, f'sheet {names[0]}', 'sheets', cause)
         streams = streams[:1]
     utilities = [summary for summary in found if summary.utilities]
-    return with_others([summary.table for summary in (*streams, *utilities)], tables)
+    return with_others([summary.table for summary in (*streams, *curves, *utilities)], tables)
 
 
 def with_others(chosen: Sequence[Table], tables: Sequence[Table]) -> Table:
@@ -63,9 +65,11 @@ def are_parts(streams: Sequence[SheetSummary]) -> bool:
 def summary_of(table: Table) -> SheetSummary:
     bands = [band for band in bands_of(table, list(table.rows))
              if any(is_block(band.draft, group) for group in groups_of(band))]
-    streams = [band for band in bands if has_sizes(band)]
+    curves = [band for band in bands if any(band.draft.is_curve(group) for group in groups_of(band))]
+    streams = [band for band in bands if has_sizes(band) and not any(band is curve for curve in curves)]
     sides = frozenset(side for band in streams for row in band.rows for side in sides_of(band, row))
-    return SheetSummary(table, bool(streams), bool(bands) and not streams, sides)
+    return SheetSummary(table, bool(streams), bool(bands) and not streams and not curves, sides,
+                        bool(curves) and not streams)
 
 
 def has_sizes(band: Band) -> bool:

@@ -194,7 +194,7 @@ class Entries:
         """The CP of a sensible stream in 10 W/K: that of its row, or its duty over its span."""
         column, load = line.at(Heading.CP), line.at(Heading.LOAD)
         duty = self.reader.measured(line.row, load, Kind.HEAT) if self.given(line, Heading.LOAD) else None
-        if duty and side:
+        if duty and side and not line.layout.curve:
             self.duties.append((line, side, duty))
         if self.given(line, Heading.CP):
             cp = self.reader.measured(line.row, column, Kind.FLOW)

@@ -16,6 +16,9 @@ MEANT = {Heading.SUPPLY: 'supply temperature', Heading.TARGET: 'target temperatu
          Heading.SPECIFIC: 'specific heat', Heading.LATENT: 'latent heat'}
 
 
+CURVE = {Heading.SUPPLY: 'temperature of a heating curve', Heading.LOAD: 'enthalpy of a heating curve'}
+
+
 @dataclass(frozen=True)
 class Understood:
     """A column or a row of a table: where it stands, what stands there, how it is taken, and in which unit."""
@@ -49,6 +52,12 @@ def columns_of(layout: Layout, converted: Converted) -> Iterator[Understood]:
             yield Understood(place, title, meaning, layout.units.get(column, ''))
             continue
         heading = meanings[column]
+        if layout.curve and heading in CURVE:
+            yield Understood(place, title, CURVE[heading], layout.units.get(column, '') or usual(heading))
+            continue
+        if layout.curve and heading is Heading.TARGET:
+            # The table has no such column: it is that of the pieces of a curve.
+            continue
         yield Understood(place, title, meaning_of(heading), layout.units.get(column, '') or usual(heading))
 
 

@@ -23,7 +23,7 @@ def number(text: str, what: str) -> Fraction:
 
 
 def wanted_by(difference: str | None, sheet: str | None, separator: str | None, decimal: str | None, scale: str = '1',
-              hours: str | None = None) -> Wanted:
+              hours: str | None = None, tolerance: str = '0') -> Wanted:
     """How the words ask the table to be read; `WordsError` where one of them is none."""
     times = number(scale, 'scale')
     if times not in SCALES:
@@ -34,4 +34,15 @@ def wanted_by(difference: str | None, sheet: str | None, separator: str | None, 
     if decimal is not None and decimal not in MARKS:
         raise WordsError(f'{shortened(decimal)} is not a decimal mark: it needs a point or a comma')
     yearly = number(hours, 'number of hours') if hours is not None else None
-    return Wanted(difference, sheet, sign, decimal, times, yearly)
+    return Wanted(difference, sheet, sign, decimal, times, yearly, tolerance=tolerance_of(tolerance))
+
+
+def tolerance_of(text: str) -> Fraction:
+    """How far segments may be from a heating curve, in K; `WordsError` where that is no number from 0 to 100."""
+    try:
+        tolerance = exact(text.replace(',', '.'))
+    except ValueError:
+        tolerance = Fraction(-1)
+    if not 0 <= tolerance <= 100:
+        raise WordsError(f'--tolerance {shortened(text)}: it has to be a number of K, from 0 to 100')
+    return tolerance

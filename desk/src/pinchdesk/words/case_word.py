@@ -21,6 +21,8 @@ DECLARED = (
            ('-d', '--difference'), metavar='K'),
     SHEET, SEPARATOR, DECIMAL,
     Option('scale', 'multiplies all CPs and heats by N (10, 100, 0.1 ..)', ('--scale',), default='1', metavar='N'),
+    Option('tolerance', 'how far the segments of a stream may be from its heating curve, in K, on the safe side (0 '
+           'unless given)', ('--tolerance',), default='0', metavar='K'),
     Option('hours', 'the operating hours a year: costs are then per year', ('--hours',), metavar='H'),
     Option('units', 'SI, or `table`: exact in the units of the table, for `targets` and `flow`', ('--units',),
            default='SI', choices=('SI', 'table')),
@@ -40,11 +42,13 @@ class CaseOptions:
     scale: str = '1'
     hours: str | None = None
     units: str = 'SI'
+    tolerance: str = '0'
     show: bool = False
 
     @property
     def wanted(self) -> Wanted:
-        wanted = wanted_by(self.difference, self.sheet, self.separator, self.decimal, self.scale, self.hours)
+        wanted = wanted_by(self.difference, self.sheet, self.separator, self.decimal, self.scale, self.hours,
+                           self.tolerance)
         return replace(wanted, own_units=self.units == 'table')
 
 
