@@ -74,6 +74,17 @@ def law_rows(fixed: str, factor: str, exponent: str, *annual: str, flow: str = '
 
 SMALL = costed_case(10, 'H 150 50 2 0.5, C 40 160 1.5 0.4', 'S 200 200 100 2', 'W 20 30 10 1',
                     *law_rows('10000', '400', '0.8', 'recovery', '0.1', '5'))
+# A network of the small case.
+NETWORK = '''exchanger E H C 150000
+exchanger S1 S C 30000
+exchanger W1 H W 50000
+pass H E a
+pass a W1 b
+end b
+pass C E c
+pass c S1 d
+end d
+'''
 AROMATICS = costed_case(
     26, 'H1 327 40 100 .5, H2 220 160 160 .4, H3 220 60 60 .14, H4 160 45 400 .3, C1 100 300 100 .35, '
         'C2 35 164 70 .7, C3 85 138 350 .5, C4 60 170 60 .14, C5 140 300 200 .6',

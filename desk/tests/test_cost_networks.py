@@ -5,26 +5,20 @@ from fractions import Fraction
 
 import pytest
 from conftest import example
-from costed import AROMATICS, SMALL, near
+from costed import AROMATICS, NETWORK, SMALL, near
 
 from pinchdesk import Pinch, Refused
 from pinchdesk.costs.network_areas import NetworkAreas, NoAreas, network_areas
+from pinchdesk.costs.network_costs import NetworkCosts, network_costs
 from pinchdesk.formats.cost_rows import Service
-
-NETWORK = '''exchanger E H C 150000
-exchanger S1 S C 30000
-exchanger W1 H W 50000
-pass H E a
-pass a W1 b
-end b
-pass C E c
-pass c S1 d
-end d
-'''
 
 
 def areas(case: str, pinch: Pinch) -> NetworkAreas:
     return network_areas(case, NETWORK, pinch)
+
+
+def costs(case: str, pinch: Pinch) -> NetworkCosts:
+    return network_costs(case, NETWORK, pinch)
 
 
 def test_the_exchangers_of_the_small_case_are_as_by_hand(pinch: Pinch) -> None:
@@ -34,16 +28,17 @@ def test_the_exchangers_of_the_small_case_are_as_by_hand(pinch: Pinch) -> None:
             in zip(found.exchangers, ('33.825', '1.825', '4.055'))] == [True] * 3
     assert [exchanger.coefficient for exchanger in found.exchangers] == [Fraction(2000, 9), Fraction(1000, 3),
                                                                          Fraction(1000, 3)]
-    assert near(found.area, '39.704') and near(found.cost.capital, '38563')
-    assert found.efficiency and 1 in found.efficiency
-    assert found.cost.energy == 3500 and near(found.cost.whole, '13673')
+    assert near(found.area, '39.704') and found.efficiency and 1 in found.efficiency
+    cost = costs(SMALL, pinch).cost
+    assert near(cost.capital, '38563') and cost.energy == 3500 and near(cost.whole, '13673')
 
 
 def test_the_costliest_gain_most_with_a_kelvin(pinch: Pinch) -> None:
-    found = areas(SMALL, pinch)
-    assert [exchanger.name for exchanger in found.costliest] == ['E', 'W1', 'S1']
-    gains = [exchanger.gain.middle for exchanger in found.costliest if exchanger.gain]
-    assert gains == sorted(gains, reverse=True) and near(found.costliest[0].gain or found.area, '76.1')
+    costliest = costs(SMALL, pinch).costliest
+    assert [priced.exchanger.name for priced in costliest] == ['E', 'W1', 'S1']
+    gains = [priced.gain for priced in costliest if priced.gain]
+    assert [gain.middle for gain in gains] == sorted((gain.middle for gain in gains), reverse=True)
+    assert near(gains[0], '76.1')
 
 
 def test_1_2_shells_of_a_network(pinch: Pinch) -> None:
@@ -54,17 +49,16 @@ def test_1_2_shells_of_a_network(pinch: Pinch) -> None:
 
 def test_the_network_of_the_aromatics_plant(pinch: Pinch) -> None:
     """14 exchangers by hand, 17,672 m² by a second program."""
-    found = network_areas(AROMATICS, example('aromatics-network.txt'), pinch)
-    assert len(found.exchangers) == 14 and len(found.costliest) == 5
-    assert near(found.area, '17672')
+    found = network_costs(AROMATICS, example('aromatics-network.txt'), pinch)
+    assert len(found.prices) == 14 and len(found.costliest) == 5
+    assert near(found.areas.area, '17672')
 
 
 def test_coefficients_of_pairs_and_laws_of_kinds_and_materials_come_first(pinch: Pinch) -> None:
     case = SMALL + ('#overall,S,1,kW/m2K,,,\n#law,heater,,0,1000,0.6,m2\n#material,H,SS,,,,\n#material,W,CU,,,,\n'
                     '#law,,SS,0,2,1,ft2\n#law,,CU+SS,5,0,1,m2\n')
-    found = areas(case, pinch)
-    exchanger, heater, cooler = found.exchangers
-    assert heater.coefficient == 1000
+    exchanger, heater, cooler = costs(case, pinch).prices
+    assert heater.exchanger.coefficient == 1000
     assert near(exchanger.price, '728.17')
     assert cooler.price.low == cooler.price.high == 5
 
@@ -77,8 +71,10 @@ def test_two_coefficients_of_a_pair_are_refused(pinch: Pinch) -> None:
 
 
 def test_a_material_without_a_law_is_refused(pinch: Pinch) -> None:
+    case = SMALL + '#material,H,SS,,,,\n'
     with pytest.raises(Refused, match='cost law of an exchanger of SS is missing'):
-        areas(SMALL + '#material,H,SS,,,,\n', pinch)
+        costs(case, pinch)
+    assert near(areas(case, pinch).area, '39.704')
 
 
 def test_an_approach_that_real_ends_do_not_leave_is_reported(pinch: Pinch) -> None:
@@ -98,8 +94,19 @@ def test_a_network_that_is_not_accepted_has_no_areas(pinch: Pinch) -> None:
         network_areas(SMALL, NETWORK.replace('50000', '40000'), pinch)
 
 
-def test_without_films_there_is_no_target_beside(pinch: Pinch) -> None:
-    rows = [row for row in SMALL.split('\n') if not row.startswith('#film')]
-    found = areas('\n'.join([*rows[:-1], '#overall,,0.5,kW/m2K,,,', '']), pinch)
-    assert found.target is None and found.efficiency is None
+def test_one_coefficient_for_all_pairs_makes_a_target_that_is_a_bound(pinch: Pinch) -> None:
+    found = areas(without_films() + '#overall,,0.5,kW/m2K,,,\n', pinch)
+    assert found.target and found.target.bound and found.efficiency and 1 in found.efficiency
     assert near(found.exchangers[0].area, '15.033')
+
+
+def test_only_pairs_that_meet_need_a_coefficient(pinch: Pinch) -> None:
+    """Steam and water do not meet, in this network and in the target."""
+    found = areas(without_films() + '#overall,H,0.5,kW/m2K,,,\n#overall,S,1,kW/m2K,C,,\n', pinch)
+    assert found.target and not found.target.bound
+    with pytest.raises(Refused, match='film coefficient of S is missing'):
+        areas(without_films() + '#overall,H,0.5,kW/m2K,,,\n', pinch)
+
+
+def without_films() -> str:
+    return ''.join(f'{row}\n' for row in SMALL.split('\n') if row and not row.startswith('#film'))

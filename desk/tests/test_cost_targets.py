@@ -11,6 +11,7 @@ from hypothesis import strategies as st
 
 from pinchdesk import Pinch, Refused, Side, Stream, print_case, read_case
 from pinchdesk.analysis.least_units import Units, least_units
+from pinchdesk.costs.area_floor import area_floor
 from pinchdesk.costs.area_target import AreaTarget, area_target, interval_area, target_of
 from pinchdesk.costs.balanced import Carrier, HeatInterval, carriers, intervals_of
 from pinchdesk.costs.cost_data import EndTemperatures
@@ -320,5 +321,40 @@ def test_units_are_those_of_the_word(name: str, pinch: Pinch) -> None:
 def test_the_remarks_say_what_a_target_leaves_out(pinch: Pinch) -> None:
     found = targets(SMALL + '#law,heater,,1,1,1,m2\n#overall,S,0.9,kW/m2K,,,\n', pinch)
     assert [remark.split(':')[0] for remark in found.remarks] == [
-        'the cost laws of heater are those of single exchangers',
-        'overall coefficients of pairs are those of single exchangers']
+        'the cost laws of heater are those of single exchangers']
+
+
+# Coefficients of pairs.
+
+def by_pairs(case: str) -> str:
+    """The case with an overall coefficient for each pair, as its films make it."""
+    data = data_of(case)
+    sources = data.case.sources
+    rows = [f'#overall,{hot.name},{data.coefficient(hot, cold)},W/m2K,{cold.name},,' for hot in sources
+            for cold in sources if (hot.side, cold.side) == (Side.HOT, Side.COLD)]
+    return ''.join(f'{row}\n' for row in (*case.split('\n'), *rows) if row and not row.startswith('#film'))
+
+
+@settings(max_examples=15)
+@given(plants())
+def test_coefficients_of_pairs_that_films_make_give_the_area_of_the_films(pinch: Pinch, case: str) -> None:
+    found = area_of(by_pairs(case), pinch)
+    assert meet(found.area, area_of(case, pinch).area)
+
+
+def test_parts_of_an_interval_meet_in_proportion_to_their_heats(pinch: Pinch) -> None:
+    """100 kW at 30 K on both ends, half of it at 1, half at 0.5 kW/m²K: 50/30 + 50/15 = 5 m²."""
+    case = costed_case(10, 'H1 100 50 1, H2 100 50 1, C 20 70 2', 'S 200 200 100', 'W 5 5 10',
+                       *law_rows('10000', '400', '0.8', 'factor', '0.2'), '#overall,H1,1,kW/m2K,,,',
+                       '#overall,H2,0.5,kW/m2K,,,')
+    found = targets(case, pinch)
+    assert Fraction(5) in found.area.area and not found.area.bound
+    assert found.remarks[0].startswith('pairs that could meet have several coefficients')
+
+
+def test_one_coefficient_for_all_is_a_bound_and_the_floor(pinch: Pinch) -> None:
+    case = ''.join(f'{row}\n' for row in SMALL.split('\n') if row and not row.startswith('#film'))
+    found = targets(case + '#overall,,250,W/m2K,,,\n', pinch)
+    assert found.area.bound and not found.remarks
+    floor = area_floor(found.data, uses_of(case, pinch))
+    assert floor.slice is None and floor.area == found.area.area.low

@@ -8,13 +8,14 @@ import pytest
 from conftest import example
 from costed import SMALL
 
-from pinchdesk import Cut, Pinch, Refused
+from pinchdesk import Cut, Pinch, Refused, WordsError
 from pinchdesk.costs.network_areas import NoAreas
 from pinchdesk.errors import Status
 from pinchdesk.report.facts import Fact
 from pinchdesk.words.cost_word import CostOptions, cost
 from pinchdesk.words.draw_word import area, driving, over_difference
 from pinchdesk.words.shared import SweepOptions
+from pinchdesk.words.supertarget_word import SupertargetOptions
 from pinchdesk.words.supertarget_word import over_difference as supertarget
 from pinchdesk.words.word import Answer, Files, TextFile
 
@@ -87,3 +88,27 @@ def drawn_text(answer: Answer) -> str:
     content = answer.content('svg')
     assert isinstance(content, bytes)
     return content.decode()
+
+
+def test_a_film_for_all_that_have_none_is_reported() -> None:
+    case = ''.join(f'{row}\n' for row in SMALL.split('\n') if row and not row.startswith(('#film,H', '#film,W')))
+    given = cost(files_of(case=case.encode()), CostOptions(film='500'))
+    assert given.notes == ('case.txt: the film coefficient 500 W/m2K is taken for H, W, of which the case gives none',)
+    facts = {fact.name: fact.value for fact in given.facts[0]}
+    whole = case.replace('hot,H', '#film,H,0.5,kW/m2K,,,\n#film,W,0.5,kW/m2K,,,\nhot,H')
+    assert facts == {fact.name: fact.value for fact in cost(files_of(case=whole.encode())).facts[0]}
+    assert not cost(files_of(case=whole.encode()), CostOptions(film='0.3 kW/m2K')).notes
+
+
+@pytest.mark.parametrize(('film', 'told'), [('x', 'a coefficient is needed'), ('1,250', '1250 or 1.25'),
+                                            ('0', 'above 0'), ('5 kW', 'a coefficient is needed')])
+def test_a_film_that_is_none_is_refused(film: str, told: str) -> None:
+    with pytest.raises(WordsError, match=told):
+        cost(files_of(case=SMALL.encode()), CostOptions(film=film))
+
+
+def test_a_supertarget_takes_a_film_too() -> None:
+    case = SMALL.replace('#film,H,0.5,kW/m2K,,,\n', '').encode()
+    answer = supertarget(files_of(case=case), SupertargetOptions('4', '10', '2', film='0.5 kW/m2K'))
+    assert answer.notes[0].startswith('case.txt: the film coefficient 0.5 kW/m2K is taken for H')
+    assert answer.sheets[0] == supertarget(files_of(case=SMALL.encode()), SupertargetOptions('4', '10', '2')).sheets[0]

@@ -7,7 +7,8 @@ a linear program. A solver gives prices of the slices, in floats; they are round
 pair of slices is above its cost, in whole numbers, so what they prove is exact, whatever the solver did. Only the pairs
 that may count are given to it, and more where the prices say so.
 
-Where all films are equal the vertical plan is the least, since 1/x is convex: formula and floor are one."""
+Where all films are equal, or all pairs have one coefficient, the vertical plan is the least, since 1/x is convex:
+formula and floor are one."""
 from __future__ import annotations
 
 from collections.abc import Mapping
@@ -18,8 +19,8 @@ from time import monotonic
 from typing import TYPE_CHECKING, Any
 
 from ..formats.case import Side, Source
-from .area_target import check_differences, target_of
-from .balanced import Carrier, carriers, intervals_of
+from .area_target import area_target
+from .balanced import Carrier, carriers
 from .cost_data import CostData
 
 if TYPE_CHECKING:
@@ -41,7 +42,7 @@ MOST_PRICE, FIRST_SECONDS = 1 << 20, 600
 @dataclass(frozen=True)
 class AreaFloor:
     """No network with these uses has less area than this, in m². `slice` is the widest of the slices in K; None where
-    all films are equal, so that no slices are needed."""
+    the formula is the floor, so that no slices are needed."""
 
     area: Fraction
     slice: Fraction | None
@@ -73,11 +74,9 @@ def area_floor(data: CostData, uses: Mapping[str, int | Fraction], seconds: floa
                widest: Fraction | None = None) -> AreaFloor:
     """The floor at these uses, with slices that are halved until the time is up, or until the widest is at most so many
     K. `Refused` where a coefficient is missing, or where the balanced curves touch."""
-    members = carriers(data, uses, bool(data.overalls))
-    for interval in intervals_of(members):
-        check_differences(interval)
-    if len({member.resistance for member in members}) < 2 and not data.overalls:
-        return AreaFloor(target_of(members).area.low, None, 0)
+    target, members = area_target(data, uses), carriers(data, uses, bool(data.overalls))
+    if target.bound:
+        return AreaFloor(target.area.low, None, 0)
     end, width, best = monotonic() + seconds, Fraction(FIRST_SLICE), AreaFloor(Fraction(0), None, 0)
     pairs: list[tuple[Slice, Slice]] = []
     while True:
@@ -183,7 +182,7 @@ def least_difference(data: CostData, hot: Source, cold: Source) -> int:
     if any((pair.hot, pair.cold) == (hot.name, cold.name) for pair in data.case.forbids):
         return NEVER
     ranged = hot.name in data.ranges or cold.name in data.ranges
-    return 1 if ranged else max(1, (hot.contribution + cold.contribution) * STEPS // 10)
+    return 1 if ranged else max(1, floor(data.kelvins(hot.contribution + cold.contribution) * STEPS))
 
 
 def improved(plan: Plan, end: float) -> list[tuple[int, int]]:

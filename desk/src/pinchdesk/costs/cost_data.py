@@ -10,6 +10,7 @@ from typing import TypeVar, cast
 
 from ..errors import Refused
 from ..formats.case import Case, Side, Source, Stream, Utility
+from ..formats.case_units import TEMPERATURES
 from ..formats.cost_rows import (Annual, AnnualForm, Build, Capital, CostLaw, CostRow, Film, Material, Measured,
                                  Overall, UtilityRange, Service, printed_cost_row)
 from ..tables.money import two_moneys
@@ -18,6 +19,9 @@ from .cost_units import NoUnit, area_factor, coefficient_factor, fouling_resista
 
 Row = TypeVar('Row', bound=CostRow)
 Result = TypeVar('Result')
+USUAL = {'C': '°C', 'F': '°F'}
+# The cause of a refusal of what a case does not say.
+MISSING = 'missing'
 
 
 def refused(what: str, cause: str) -> Refused:
@@ -26,7 +30,7 @@ def refused(what: str, cause: str) -> Refused:
 
 
 def missing(what: str, enter: str) -> Refused:
-    return Refused(3, f'case {what}', 'missing', f'case {what} is missing: enter a row `{enter}`')
+    return Refused(3, f'case {what}', MISSING, f'case {what} is missing: enter a row `{enter}`')
 
 
 @dataclass(frozen=True)
@@ -68,6 +72,17 @@ class CostData:
         return {row.utility: self.resolved(f'#range of {row.utility}', self.range_of, row)
                 for row in self.rows(UtilityRange)}
 
+    def check(self) -> None:
+        """`Refused` where something is missing that the annual cost of every network needs."""
+        if frozenset() not in self.overalls:
+            named = frozenset(name for names in self.overalls for name in names)
+            for source in self.case.sources:
+                if source.name not in named and not (isinstance(source, Utility) and source.invented):
+                    self.resistance(source)
+        if not self.rows(CostLaw):
+            self.law(Service.EXCHANGER)
+        _ = self.build(Service.EXCHANGER), self.annual_factor, self.year_of_cost
+
     def rows(self, kind: type[Row]) -> list[Row]:
         """The rows of a kind; `Refused` where one names a source that is not in the case."""
         found = [cast(Row, row) for row in self.case.basis.cost_rows if type(row) is kind]
@@ -88,8 +103,7 @@ class CostData:
         utility = self.case.source(row.utility)
         if not isinstance(utility, Utility):
             raise refused(f'#range of {row.utility}', 'it is not a utility')
-        unit = unit_of(row.unit, Kind.TEMPERATURE)
-        ends = EndTemperatures(unit.exact(row.supply), unit.exact(row.target))
+        ends = EndTemperatures(*(tenths_in(number, row.unit) for number in (row.supply, row.target)))
         if (ends.inlet > ends.outlet) != (utility.side is Side.HOT):
             way = 'cools down' if utility.side is Side.HOT else 'warms up'
             raise refused(f'#range of {row.utility}', f'a {utility.side.value} utility {way}: supply {row.supply}, '
@@ -100,12 +114,12 @@ class CostData:
         """Where a source enters and leaves; `Refused` of a utility that the program added, since it is none of a
         plant."""
         if isinstance(source, Stream):
-            return EndTemperatures(Fraction(source.supply), Fraction(source.target))
+            return EndTemperatures(self.tenths(source.supply), self.tenths(source.target))
         if source.invented:
             row = 'heater' if source.side is Side.HOT else 'cooler'
             raise refused(source.name, f'the program added this utility, and it has no temperature of a plant: enter '
                           f'a row `{row},NAME,LEVEL,LEAST,MOST,PRICE,`')
-        return self.ranges.get(source.name) or EndTemperatures(Fraction(source.level), Fraction(source.level))
+        return self.ranges.get(source.name) or EndTemperatures(self.tenths(source.level), self.tenths(source.level))
 
     def resistance(self, source: Source) -> Fraction:
         """The resistance of a source's film, in m² K/W."""
@@ -190,8 +204,31 @@ class CostData:
         return hours / basis.cost_divisor / basis.scale
 
     def watts(self, heat: int | Fraction) -> Fraction:
-        """A heat of the case as the plant has it."""
-        return Fraction(heat) / self.case.basis.scale
+        """A heat of the case as the plant has it, in W."""
+        units = self.case.basis.units
+        return (units.in_watts(heat) if units else Fraction(heat)) / self.case.basis.scale
+
+    def tenths(self, temperature: int | Fraction) -> Fraction:
+        """A temperature of the case in tenths of °C."""
+        units = self.case.basis.units
+        if units is None:
+            return Fraction(temperature)
+        degrees, at_zero = TEMPERATURES[units.temperature]
+        return (units.shown_temperature(temperature) - at_zero) / degrees * 10
+
+    def kelvins(self, difference: int | Fraction) -> Fraction:
+        """A difference of temperatures of the case in K."""
+        return (self.tenths(difference) - self.tenths(0)) / 10
+
+
+def tenths_in(number: Fraction, unit: str) -> Fraction:
+    """A temperature in tenths of °C; `UnknownUnit` where its unit is none."""
+    usual = TEMPERATURES.get(USUAL.get(unit, unit))
+    if usual is None:
+        # All units that there are take a second to load.
+        return unit_of(unit, Kind.TEMPERATURE).exact(number)
+    degrees, at_zero = usual
+    return (number - at_zero) / degrees * 10
 
 
 def said_of(service: Service) -> str:

@@ -70,7 +70,7 @@ def priced_target(data: CostData, flow: HeatFlow, area: AreaTarget, found: UnitT
     parts = priced_parts(build, units, max(shells.shells if shells else units, at_most(build, built)))
     capital = price_of(data, law, built, parts)
     return CostTarget(data, flow, area, units, shells, parts, annual_cost(data, capital, flow.cost),
-                      tuple(left_out(data, law, build, found)))
+                      tuple(left_out(data, area, law, found)))
 
 
 def shell_target(data: CostData, build: Build, area: AreaTarget, regions: Sequence[Region],
@@ -104,13 +104,15 @@ def carrier_of(data: CostData, piece: Piece) -> Carrier:
     if isinstance(source, Utility):
         ends = data.ends(source)
     else:
-        high, low = (Fraction(actual(source, end)) for end in (piece.high, piece.low))
+        high, low = (data.tenths(actual(source, end)) for end in (piece.high, piece.low))
         ends = EndTemperatures(high, low) if source.side is Side.HOT else EndTemperatures(low, high)
-    return Carrier(source, ends, data.watts(piece.heat), data.resistance(source))
+    # Shells are counted by heats and temperatures alone.
+    return Carrier(source, ends, data.watts(piece.heat), Fraction(0))
 
 
-def left_out(data: CostData, law: CostLaw, build: Build, units: UnitTarget) -> Iterator[str]:
+def left_out(data: CostData, area: AreaTarget, law: CostLaw, units: UnitTarget) -> Iterator[str]:
     """What the case says and a target cannot use, since it has no exchangers yet."""
+    build = data.build(Service.EXCHANGER)
     if not units.exact:
         yield 'there are too many sources for the most independent sets to be known: the units are a least number'
     others = [row for row in data.rows(CostLaw) if row is not law]
@@ -120,5 +122,6 @@ def left_out(data: CostData, law: CostLaw, build: Build, units: UnitTarget) -> I
         yield f'the cost laws of {told} are those of single exchangers: the target has the one law for all of its area'
     if [row for row in data.rows(Build) if row is not build]:
         yield 'the target has all exchangers built as those between streams'
-    if data.overalls:
-        yield 'overall coefficients of pairs are those of single exchangers: the target has the film coefficients'
+    if area.in_proportion:
+        yield 'pairs that could meet have several coefficients: the target takes the hot and the cold parts of an ' \
+              'interval to meet in proportion to their heats'

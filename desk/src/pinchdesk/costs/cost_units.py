@@ -1,21 +1,33 @@
-"""Units of film coefficients, of fouling and of areas, in fractions of W/(m² K) and m²."""
+"""Units of film coefficients, of fouling and of areas, in fractions of W/(m² K) and m².
+
+`tables/units` has all units that `pint` knows, which takes it a second to load; these few are as it has them."""
 from __future__ import annotations
 
 import re
 from fractions import Fraction
 from functools import lru_cache
 
-from ..tables.units import registry
-
 LONGEST = 40
 SIGNS = {'²': '2', '⁻¹': '-1', '⁻²': '-2', '·': ' ', '⋅': ' ', '*': ' ', '×': ' ', '−': '-', '^': '', 'º': '°'}
 TOKEN = re.compile(r'(?P<name>[A-Za-z°µ]+)(?P<power>-?[12])?')
 SHAPE = re.compile(r'[A-Za-z°µ0-9/() .-]+')
-# As they are written, and as pint has them.
-NAMES = {'K': 'kelvin', '°K': 'kelvin', 'C': 'kelvin', '°C': 'kelvin', 'degC': 'kelvin', 'F': 'delta_degF',
-         '°F': 'delta_degF', 'degF': 'delta_degF', 'R': 'delta_degF', 'h': 'hour', 'hr': 'hour', 'hrs': 'hour',
-         's': 'second', 'BTU': 'Btu', 'kw': 'kW', 'KW': 'kW', 'sqft': 'ft2', 'sqm': 'm2'}
-KNOWN = frozenset('W kW MW J kJ MJ cal kcal Btu Btu hour second minute m cm ft inch kelvin delta_degF'.split())
+# Powers of joule, second, metre and kelvin.
+Dimensions = tuple[int, int, int, int]
+HEAT, POWER, TIME, LENGTH, DIFFERENCE = (1, 0, 0, 0), (1, -1, 0, 0), (0, 1, 0, 0), (0, 0, 1, 0), (0, 0, 0, 1)
+COEFFICIENT, RESISTANCE, AREA = (1, -1, -2, -1), (-1, 1, 2, 1), (0, 0, 2, 0)
+# What would do where a unit is none.
+EXAMPLES = {COEFFICIENT: 'kW/m2K', RESISTANCE: 'm2K/kW', AREA: 'm2'}
+CALORIE, BTU, FOOT = Fraction('4.184'), Fraction('1055.056'), Fraction('0.3048')
+KNOWN: dict[str, tuple[Fraction, Dimensions]] = {
+    'W': (Fraction(1), POWER), 'kW': (Fraction(1000), POWER), 'MW': (Fraction(10 ** 6), POWER),
+    'J': (Fraction(1), HEAT), 'kJ': (Fraction(1000), HEAT), 'MJ': (Fraction(10 ** 6), HEAT), 'cal': (CALORIE, HEAT),
+    'kcal': (1000 * CALORIE, HEAT), 'Btu': (BTU, HEAT), 's': (Fraction(1), TIME), 'second': (Fraction(1), TIME),
+    'minute': (Fraction(60), TIME), 'h': (Fraction(3600), TIME), 'm': (Fraction(1), LENGTH),
+    'cm': (Fraction(1, 100), LENGTH), 'ft': (FOOT, LENGTH), 'inch': (FOOT / 12, LENGTH),
+    'K': (Fraction(1), DIFFERENCE), '°F': (Fraction(5, 9), DIFFERENCE)}
+# As they are written too.
+NAMES = {'°K': 'K', 'C': 'K', '°C': 'K', 'degC': 'K', 'kelvin': 'K', 'F': '°F', 'degF': '°F', 'R': '°F', 'hr': 'h',
+         'hrs': 'h', 'hour': 'h', 'BTU': 'Btu', 'kw': 'kW', 'KW': 'kW'}
 
 
 class NoUnit(ValueError):
@@ -25,14 +37,14 @@ class NoUnit(ValueError):
 @lru_cache(maxsize=None)
 def coefficient_factor(text: str) -> Fraction:
     """How many W/(m² K) a unit of film coefficients is; `NoUnit` where it is none."""
-    return factor_of(text, 'watt / meter ** 2 / kelvin')
+    return factor_of(text, COEFFICIENT)
 
 
 @lru_cache(maxsize=None)
 def fouling_resistance(value: Fraction, text: str) -> Fraction:
     """A fouling in m² K/W, from a resistance or from a coefficient; `NoUnit` where its unit is none of either."""
     try:
-        return value * factor_of(text, 'meter ** 2 * kelvin / watt')
+        return value * factor_of(text, RESISTANCE)
     except NoUnit:
         return 1 / (value * coefficient_factor(text))
 
@@ -40,11 +52,11 @@ def fouling_resistance(value: Fraction, text: str) -> Fraction:
 @lru_cache(maxsize=None)
 def area_factor(text: str) -> Fraction:
     """How many m² a unit of areas is; `NoUnit` where it is none."""
-    return factor_of(text, 'meter ** 2')
+    return factor_of(text, AREA)
 
 
-def factor_of(text: str, wanted: str) -> Fraction:
-    """How many of the wanted unit a text names."""
+def factor_of(text: str, wanted: Dimensions) -> Fraction:
+    """How many of the unit of the SI of what is wanted a text names."""
     written = text.strip()
     for sign, plain in SIGNS.items():
         written = written.replace(sign, plain)
@@ -54,19 +66,13 @@ def factor_of(text: str, wanted: str) -> Fraction:
         raise NoUnit(f'`{text[:LONGEST]}` is not a known unit')
     # What stands after a stroke is below it, all of it: kW/m2K is kW/(m2 K).
     powers = [*tokens(text, above, 1), *(token for part in below for token in tokens(text, part, -1))]
-    product = ' * '.join(f'{name} ** {power}' for name, power in powers)
-    known = registry()
-    try:
-        amount = known.Quantity(Fraction(1), known.parse_units(product)).to(wanted)
-    except Exception as fault:
-        # pint has no error of its own for each text that it cannot read.
-        raise NoUnit(f'`{text}` is not a unit of this kind, as {shown(wanted)}') from fault
-    return Fraction(amount.magnitude)
-
-
-def shown(wanted: str) -> str:
-    """A unit that would do."""
-    return {'meter ** 2': 'm2', 'watt / meter ** 2 / kelvin': 'kW/m2K'}.get(wanted, 'm2K/kW')
+    factor, dimensions = Fraction(1), [0, 0, 0, 0]
+    for name, power in powers:
+        factor *= KNOWN[name][0] ** power
+        dimensions = [sum_of + power * own for sum_of, own in zip(dimensions, KNOWN[name][1])]
+    if tuple(dimensions) != wanted:
+        raise NoUnit(f'`{text}` is not a unit of this kind, as {EXAMPLES[wanted]}')
+    return factor
 
 
 def tokens(text: str, part: str, sign: int) -> list[tuple[str, int]]:

@@ -1,32 +1,30 @@
-"""Areas and costs of the exchangers of a network, beside the targets at its own uses of the utilities.
+"""Areas of the exchangers of a network, beside the target at its own uses of the utilities (what they cost is in
+`network_costs`).
 
 Only an accepted network has them. A utility that the case has at one level, and a comment with its real ends, is taken
 with these: where an exchanger then comes closer than its approach, that is said beside the verdict."""
 from __future__ import annotations
 
 from collections.abc import Iterator, Sequence
-from dataclasses import dataclass, replace
+from dataclasses import dataclass
 from fractions import Fraction
 from functools import cached_property
 
 from ..analysis.findings import headline
 from ..analysis.follow import Followed, Passage, SideState, follow
-from ..errors import DeskError
+from ..errors import DeskError, Refused
 from ..formats.case import Case, Utility, completed, read_case
 from ..formats.cost_rows import Flow, Service
 from ..formats.network import Network, read_network
 from ..formats.shown import decimal
 from ..program.run import CaseText, NetworkText, Pinch
 from ..program.verdicts import Accepted, Rejected, TooFine, ending
-from .annual import AnnualCost, annual_cost, at_most, price_of, priced_parts
+from .annual import at_most
 from .area_target import AreaTarget, area_target
 from .cost_data import CostData, EndTemperatures, refused
 from .enclosure import Enclosure, total
 from .log_mean import log_mean
 from .shells import Duty, correction, shells_of, whole_shells
-
-# Of so many of the costliest exchangers it is said what a kelvin would gain.
-COSTLIEST = 5
 
 
 class NoAreas(DeskError):
@@ -54,8 +52,7 @@ class ApproachFault:
 @dataclass(frozen=True)
 class ExchangerArea:
     """An exchanger with its area in m². `duty` is in W of the plant, `coefficient` in W/(m² K), `mean` in K; `factor`
-    is Ft, 1 where the flow is counter-current or a side is flat. `gain` is by how much its cost of a year would fall
-    with 1 K more at both of its ends."""
+    is Ft, 1 where the flow is counter-current or a side is flat."""
 
     name: str
     service: Service
@@ -66,19 +63,16 @@ class ExchangerArea:
     factor: Enclosure
     shells: int
     area: Enclosure
-    price: Enclosure
-    gain: Enclosure | None = None
 
 
 @dataclass(frozen=True)
 class NetworkAreas:
-    """The exchangers of an accepted network, in their order, with the sums; `target` is the formula's area at the uses
-    of this network, None where the case has no films for it."""
+    """The exchangers of an accepted network, in their order, with their sum; `target` is the formula's area at the uses
+    of this network, None where the case has no coefficients for it."""
 
     data: CostData
     verdict: Accepted
     exchangers: tuple[ExchangerArea, ...]
-    cost: AnnualCost
     target: AreaTarget | None
     faults: tuple[ApproachFault, ...]
 
@@ -95,12 +89,6 @@ class NetworkAreas:
         """The target's area over that of the network, at the same uses."""
         return self.target.area / self.area if self.target else None
 
-    @property
-    def costliest(self) -> tuple[ExchangerArea, ...]:
-        """The exchangers of which it is said what a kelvin would gain, the costliest first."""
-        gaining = [exchanger for exchanger in self.exchangers if exchanger.gain]
-        return tuple(sorted(gaining, key=lambda exchanger: -exchanger.price.middle))
-
 
 def network_areas(case: CaseText, network: NetworkText, pinch: Pinch | None = None) -> NetworkAreas:
     """The areas of a network; `NoAreas` where it is not accepted, `Refused` where something is missing that they
@@ -113,8 +101,7 @@ def network_areas(case: CaseText, network: NetworkText, pinch: Pinch | None = No
 def asked_duties(pinch: Pinch, case: Case, network: NetworkText) -> dict[str, Duty]:
     """The ends of the exchangers of an accepted network by their names; `NoAreas` where it is not accepted."""
     followed, _ = accepted_network(pinch, case, network)
-    data = CostData(case)
-    return {passage.exchanger.name: duty_of(data, passage) for passage in followed.passages}
+    return duties_of(CostData(case), followed.passages)
 
 
 def accepted_network(pinch: Pinch, case: Case, network: NetworkText) -> tuple[Followed, Accepted]:
@@ -128,14 +115,13 @@ def accepted_network(pinch: Pinch, case: Case, network: NetworkText) -> tuple[Fo
 
 def areas_of(data: CostData, passages: Sequence[Passage], verdict: Accepted) -> NetworkAreas:
     """The areas of the exchangers of an accepted network."""
-    faults = tuple(fault for passage in passages for fault in approach_faults(data, passage))
-    exchangers = [exchanger_area(data, passage, duty_of(data, passage)) for passage in passages]
-    costliest = sorted(range(len(exchangers)), key=lambda at: -exchangers[at].price.middle)[:COSTLIEST]
-    for at in costliest:
-        exchangers[at] = with_gain(data, passages[at], exchangers[at])
-    capital = total(exchanger.price for exchanger in exchangers)
-    return NetworkAreas(data, verdict, tuple(exchangers), annual_cost(data, capital, verdict.cost),
-                        target_beside(data, passages), faults)
+    exchangers = tuple(exchanger_area(data, passage, duty_of(data, passage)) for passage in passages)
+    return NetworkAreas(data, verdict, exchangers, target_beside(data, passages), faults_of(data, passages))
+
+
+def duties_of(data: CostData, passages: Sequence[Passage]) -> dict[str, Duty]:
+    """The ends of exchangers by their names."""
+    return {passage.exchanger.name: duty_of(data, passage) for passage in passages}
 
 
 def duty_of(data: CostData, passage: Passage) -> Duty:
@@ -147,7 +133,7 @@ def side_ends(data: CostData, side: SideState) -> EndTemperatures:
     if isinstance(side.source, Utility):
         return data.ends(side.source)
     assert side.inlet is not None and side.outlet is not None
-    return EndTemperatures(side.inlet, side.outlet)
+    return EndTemperatures(data.tenths(side.inlet), data.tenths(side.outlet))
 
 
 def differences(duty: Duty) -> tuple[tuple[str, Fraction], tuple[str, Fraction]]:
@@ -155,9 +141,13 @@ def differences(duty: Duty) -> tuple[tuple[str, Fraction], tuple[str, Fraction]]
     return (('hot', (duty.hot.inlet - duty.cold.outlet) / 10), ('cold', (duty.hot.outlet - duty.cold.inlet) / 10))
 
 
+def faults_of(data: CostData, passages: Sequence[Passage]) -> tuple[ApproachFault, ...]:
+    return tuple(fault for passage in passages for fault in approach_faults(data, passage))
+
+
 def approach_faults(data: CostData, passage: Passage) -> Iterator[ApproachFault]:
     """Where the real ends of a utility come closer than the approach."""
-    wanted = Fraction(passage.approach, 10)
+    wanted = data.kelvins(passage.approach)
     if any(side.source.name in data.ranges for side in (passage.hot, passage.cold)):
         for end, found in differences(duty_of(data, passage)):
             if found < wanted:
@@ -165,15 +155,15 @@ def approach_faults(data: CostData, passage: Passage) -> Iterator[ApproachFault]
 
 
 def exchanger_area(data: CostData, passage: Passage, duty: Duty, warmer: int = 0) -> ExchangerArea:
-    """An exchanger with its area and its price. `warmer` is by how many K both differences are taken larger."""
-    name, hot, cold = passage.exchanger.name, passage.hot.source, passage.cold.source
+    """An exchanger with its area. `warmer` is by how many K both differences are taken larger."""
+    name = passage.exchanger.name
     for end, found in differences(duty):
         if found <= 0:
             raise refused(f'exchanger {name}', f'at its {end} end the difference is {decimal(found, 2)} K: no area is '
                           'large enough')
     service, heat = service_of(passage), data.watts(passage.exchanger.duty)
     wide = Duty(EndTemperatures(duty.hot.inlet + 10 * warmer, duty.hot.outlet + 10 * warmer), duty.cold)
-    build, coefficient = data.build(service), data.coefficient(hot, cold)
+    build, coefficient = data.build(service), data.coefficient(passage.hot.source, passage.cold.source)
     shells, factor = 1, total([1])
     if build.flow is Flow.ONE_TWO:
         assert build.part is not None
@@ -185,15 +175,7 @@ def exchanger_area(data: CostData, passage: Passage, duty: Duty, warmer: int = 0
         factor = found_factor
     mean = log_mean(*(difference for _, difference in differences(wide)))
     area = heat / (coefficient * factor * mean)
-    shells = max(shells, at_most(build, area))
-    price = price_of(data, data.law(service, data.materials(hot, cold)), area, priced_parts(build, 1, shells))
-    return ExchangerArea(name, service, duty, heat, coefficient, mean, factor, shells, area, price)
-
-
-def with_gain(data: CostData, passage: Passage, exchanger: ExchangerArea) -> ExchangerArea:
-    """The exchanger with what it would gain a year with 1 K more at both of its ends."""
-    wider = exchanger_area(data, passage, exchanger.ends, 1)
-    return replace(exchanger, gain=(exchanger.price - wider.price) * data.annual_factor)
+    return ExchangerArea(name, service, duty, heat, coefficient, mean, factor, max(shells, at_most(build, area)), area)
 
 
 def service_of(passage: Passage) -> Service:
@@ -214,8 +196,9 @@ def uses_in(passages: Sequence[Passage]) -> dict[str, Fraction]:
 
 
 def target_beside(data: CostData, passages: Sequence[Passage]) -> AreaTarget | None:
-    """The formula's area at the uses of these exchangers; None where some film is not given, or where exchangers have
-    coefficients that are not made of films."""
-    uses = uses_in(passages)
-    named = {source.name for source in data.case.streams} | set(uses)
-    return area_target(data, uses) if named <= set(data.films) and not data.overalls else None
+    """The formula's area at the uses of these exchangers; None where a coefficient that it needs is not given, or where
+    the real ends of a utility make the curves touch."""
+    try:
+        return area_target(data, uses_in(passages))
+    except Refused:
+        return None

@@ -15,7 +15,7 @@ from ..program.answers import Cut, HeatFlow, Targets
 from ..program.run import CaseText, Pinch
 from .annual import AnnualCost, annual_cost, at_most, price_of, priced_parts
 from .area_target import area_target
-from .cost_data import CostData
+from .cost_data import CostData, refused
 from .cost_target import one_two_area, priced_target
 from .enclosure import Enclosure
 from .unit_target import unit_target
@@ -83,6 +83,8 @@ def supertarget(case: CaseText, first: int, last: int, step: int, pinch: Pinch |
     are shifted alike. `WordsError` where there is no such range, `Refused` where something is missing."""
     whole = completed(case if isinstance(case, Case) else read_case(case))
     asked = pinch or Pinch()
+    if whole.basis.units:
+        raise refused('#units', 'a supertarget needs a case in tenths of °C and W: make it without `--units table`')
     if not 0 <= first <= last <= MOST_CONTRIBUTION or step < 1:
         raise WordsError('a supertarget goes from a least difference of at least 0 K to one of at most 200 K, in steps '
                          'of at least 0.2 K')

@@ -56,7 +56,7 @@ class Measured:
     unit: str
 
     def __str__(self) -> str:
-        return f'{self.value} {self.unit}'
+        return f'{written(self.value)} {self.unit}'
 
 
 @dataclass(frozen=True)

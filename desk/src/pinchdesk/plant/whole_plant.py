@@ -42,6 +42,7 @@ from .tradeoff_answer import PlantTradeoff, PlantUnits, PlantWhatIf, plant_trade
 
 if TYPE_CHECKING:
     from ..figures import ShownFigure
+    from .cost_answers import PlantAreas, PlantCosts, PlantSupertarget
 
 Noted = TypeVar('Noted', bound=PlantAnswer)
 
@@ -162,6 +163,29 @@ class Plant:
         file = file_of(network, 'network')
         with about(case=self.name, network=file.path):
             return self.noted(plant_rest(remaining(self.text, file.content, self.pinch)))
+
+    def areas(self, network: FileGiven) -> PlantAreas:
+        """The exchangers of an accepted network with their areas, and what they cost where the case has cost laws."""
+        # What is of areas is slow to load.
+        from .cost_answers import asked_areas
+        file = file_of(network, 'network')
+        with about(case=self.name, network=file.path):
+            return asked_areas(self.pinch, self.completed, file.content)
+
+    def costs(self, floor: Number | None = None) -> PlantCosts:
+        """The targets of area, units, shells, capital and annual cost; with the area that no network with the same
+        utilities is under, as far as so many seconds go."""
+        from .cost_answers import asked_costs
+        with about(case=self.name):
+            return asked_costs(self.pinch, self.completed, floor)
+
+    def supertarget(self, first: Number, last: Number, step: Number, workers: int = USUAL_WORKERS) -> PlantSupertarget:
+        """Energy, area, capital and annual cost at each least difference from the first to the last one, in K."""
+        from ..costs.supertarget import supertarget
+        from .cost_answers import plant_supertarget
+        asked = asked_range(as_text(first), as_text(last), as_text(step), workers)
+        with about(case=self.name):
+            return plant_supertarget(supertarget(self.completed, *asked, self.pinch, workers))
 
     def prices(self, study: FileGiven, workers: int = USUAL_WORKERS) -> PlantPrices:
         """The least cost at other prices, in the unit of the case's prices."""

@@ -1,21 +1,24 @@
-"""Areas, capital and annual cost as tables: targets, the exchangers of a network, and cost over the least difference.
-An enclosure is shown with the digits on which both of its ends agree."""
+"""Targets of area, capital and annual cost as tables, and cost over the least difference. An enclosure is shown with
+the digits on which both of its ends agree."""
 from __future__ import annotations
 
+from collections.abc import Sequence
 from decimal import Decimal
 from fractions import Fraction
 from math import floor
 
 from ..costs.annual import AnnualCost
 from ..costs.area_floor import AreaFloor
+from ..costs.area_target import AreaTarget
+from ..costs.cost_data import CostData
 from ..costs.cost_target import CostTarget
 from ..costs.enclosure import Enclosure
-from ..costs.network_areas import ExchangerArea, NetworkAreas
+from ..costs.network_costs import NetworkCosts
 from ..costs.supertarget import LeastCost, Supertarget, SupertargetPoint
 from ..formats.shown import Shown, decimal
 from ..text import printable
 from .facts import Fact, FactRow, FactTable
-from .sheet import Cell
+from .sheet import Sheet
 
 NO_BOUND = 'films differ, so the area by the formula is no bound: a network that crosses the curves may have less'
 BOUND = 'all films are equal: no network with the same utilities has less area than the formula'
@@ -29,8 +32,13 @@ def money(amount: Enclosure | Fraction) -> Decimal:
     return Decimal(amount.shown(2) if isinstance(amount, Enclosure) else decimal(amount, 2))
 
 
-def currency_of(found: CostTarget | NetworkAreas | Supertarget) -> str:
-    return printable(found.data.capital.currency)
+def currency_of(data: CostData) -> str:
+    return printable(data.capital.currency)
+
+
+def notes_sheets(notes: Sequence[str]) -> list[Sheet]:
+    """Notes, a line each; no sheet where there are none."""
+    return [Sheet('Notes', (), tuple((note,) for note in notes))] if notes else []
 
 
 def cost_facts(cost: AnnualCost, currency: str) -> FactRow:
@@ -41,14 +49,29 @@ def cost_facts(cost: AnnualCost, currency: str) -> FactRow:
             Fact('annual cost', money(cost.whole), f'{currency}/a'))
 
 
+def annual_facts(costs: NetworkCosts) -> FactRow:
+    """The area and the annual cost of a network."""
+    return (Fact('area', metres(costs.areas.area), 'm²'),
+            Fact('annual cost', money(costs.cost.whole), f'{currency_of(costs.data)}/a'))
+
+
 def target_facts(target: CostTarget, least: AreaFloor | None = None) -> FactRow:
     """The targets of a case, with the floor of the area where it was asked for."""
     shells = target.shells
-    return (Fact('area by the formula', metres(target.area.area), 'm²'),
+    return (*area_target_facts(target.area),
             *(floor_facts(least) if least else ()), Fact('units', Decimal(target.units)),
             *((Fact('1-2 shells', Decimal(shells.shells)), Fact('area in 1-2 shells', metres(shells.area), 'm²'))
               if shells else ()),
-            *cost_facts(target.cost, currency_of(target)))
+            *cost_facts(target.cost, currency_of(target.data)))
+
+
+def area_target_facts(target: AreaTarget) -> FactRow:
+    """The area by the formula alone, of a case that has no cost law."""
+    return (Fact('area by the formula', metres(target.area), 'm²'),)
+
+
+def area_target_notes(target: AreaTarget) -> list[str]:
+    return [BOUND if target.bound else NO_BOUND]
 
 
 def floor_facts(least: AreaFloor) -> FactRow:
@@ -61,39 +84,7 @@ def floor_facts(least: AreaFloor) -> FactRow:
 
 def target_notes(target: CostTarget) -> list[str]:
     """What the targets leave out."""
-    return [BOUND if target.area.bound else NO_BOUND, *target.remarks]
-
-
-def exchanger_facts(exchanger: ExchangerArea, currency: str) -> FactRow:
-    gain: Cell = '' if exchanger.gain is None else money(exchanger.gain)
-    return (Fact('exchanger', exchanger.name), Fact('kind', exchanger.service.value),
-            Fact('duty', Decimal(decimal(exchanger.duty / 1000, 3)), 'kW'),
-            Fact('U', Decimal(decimal(exchanger.coefficient / 1000, 6)), 'kW/m²K'),
-            Fact('mean difference', Decimal(exchanger.mean.shown(3)), 'K'),
-            Fact('Ft', Decimal(exchanger.factor.shown(4))), Fact('shells', Decimal(exchanger.shells)),
-            Fact('area', metres(exchanger.area), 'm²'), Fact('price', money(exchanger.price), currency),
-            Fact('1 K more would save', gain, f'{currency}/a'))
-
-
-def exchangers_table(areas: NetworkAreas) -> FactTable:
-    """The exchangers of a network in their order; the costliest say what 1 K more at both ends would save."""
-    currency = currency_of(areas)
-    return FactTable('Exchangers', tuple(exchanger_facts(exchanger, currency) for exchanger in areas.exchangers))
-
-
-def network_facts(areas: NetworkAreas) -> FactRow:
-    """The sums of a network, beside the target at its own use of the utilities."""
-    beside: FactRow = ()
-    if areas.target and areas.efficiency:
-        beside = (Fact('area by the formula with the same utilities', metres(areas.target.area), 'm²'),
-                  Fact('area efficiency', Decimal((areas.efficiency * 100).shown(1)), '%'))
-    return (Fact('area', metres(areas.area), 'm²'), *beside, Fact('exchangers', Decimal(len(areas.exchangers))),
-            Fact('shells', Decimal(areas.shells)), *cost_facts(areas.cost, currency_of(areas)))
-
-
-def network_notes(areas: NetworkAreas) -> list[str]:
-    """Where the real ends of a utility leave no approach, and what the target beside is."""
-    return [*map(str, areas.faults), *([BOUND if areas.target.bound else NO_BOUND] if areas.target else [])]
+    return [*area_target_notes(target.area), *target.remarks]
 
 
 def point_facts(point: SupertargetPoint, shown: Shown, currency: str, remark: str = '') -> FactRow:
@@ -106,7 +97,7 @@ def point_facts(point: SupertargetPoint, shown: Shown, currency: str, remark: st
 
 def supertarget_table(found: Supertarget) -> FactTable:
     """The targets at each difference, with the least where the desk found it between two of them."""
-    shown, currency = Shown(found.data.case.basis), currency_of(found)
+    shown, currency = Shown(found.data.case.basis), currency_of(found.data)
     least = found.least.point
     between = (least,) if least.found else ()
     points = sorted((*found.points, *between), key=lambda point: point.difference)
@@ -136,7 +127,7 @@ def sign(number: Fraction) -> int:
 
 def least_table(found: Supertarget) -> FactTable:
     """The least with energy as it is, cheaper and dearer."""
-    currency = currency_of(found)
+    currency = currency_of(found.data)
     return FactTable('Where the cost is least', tuple(least_facts(least, currency)
                                                       for least in (found.least, found.cheaper, found.dearer)))
 

@@ -7,9 +7,10 @@ from __future__ import annotations
 import base64
 from collections.abc import Sequence
 from concurrent.futures import ThreadPoolExecutor
-from dataclasses import dataclass, replace
+from dataclasses import dataclass, field, replace
 from decimal import Decimal
 from fractions import Fraction
+from functools import cached_property
 from typing import TYPE_CHECKING, Any
 
 from ..analysis.findings import headline
@@ -31,6 +32,8 @@ from .sheet import Cell, Sheet
 
 if TYPE_CHECKING:
     from matplotlib.figure import Figure
+
+    from ..costs.areas_beside import TargetBeside
 
 
 @dataclass(frozen=True)
@@ -56,6 +59,14 @@ class Answered:
     targets: Targets
     curves: Curves
     flow: HeatFlow | Cut
+
+    @cached_property
+    def areas(self) -> TargetBeside | None:
+        """The targets of area and cost; None where the case says nothing of them."""
+        if not self.case.basis.cost_rows:
+            return None
+        from ..costs.areas_beside import target_beside_flow
+        return target_beside_flow(self.case, self.targets, self.flow)
 
     @property
     def pinches(self) -> tuple[PinchPoint, ...]:
@@ -83,6 +94,8 @@ class Reviewed:
     more: list[Sheet]
     picture: Picture | None
     note: str
+    areas: list[Sheet] = field(default_factory=list)
+    driving: list[Picture] = field(default_factory=list)
 
     @property
     def good(self) -> bool:
@@ -124,7 +137,27 @@ def reviewed(answered: Answered, given: Given, verdict: Verdict) -> Reviewed:
     sheets = [exchangers_sheet(followed, pinches, verdict), *mixes_sheets(followed, verdict)]
     picture, note = grid_of(given.name, followed, pinches, verdict)
     balance = audit_sheets(followed, verdict)[:1]
-    return Reviewed(given, followed, verdict, [*balance, *sheets], more, picture, note)
+    return with_areas(answered, Reviewed(given, followed, verdict, [*balance, *sheets], more, picture, note))
+
+
+def with_areas(answered: Answered, network: Reviewed) -> Reviewed:
+    """A network with its areas and costs, where the case says something of them."""
+    if answered.areas is None:
+        return network
+    from .page_areas import beside_network, network_area_figures, network_areas_sheets
+    beside = beside_network(answered.areas, network.followed, network.verdict)
+    figures = network_area_figures(network.given.name, network.followed, beside)
+    return replace(network, areas=network_areas_sheets(beside),
+                   driving=[Picture(name, *imaged(figure)) for name, figure in figures])
+
+
+def areas_of_case(answered: Answered) -> tuple[list[Sheet], list[Picture]]:
+    """The targets of area and cost with their picture; nothing where the case says nothing of them."""
+    if answered.areas is None:
+        return [], []
+    from .page_areas import case_area_figures, case_areas
+    pictures = [Picture(name, *imaged(figure)) for name, figure in case_area_figures(answered.areas)]
+    return case_areas(answered.areas), pictures
 
 
 def curves_of(answered: Answered) -> list[Picture]:
@@ -251,11 +284,12 @@ def page_of(review: Review, unfolded: bool = False, head: PageHead = PageHead())
     shown = Shown(answered.case.basis)
     files = [('case', review.case), *(('network', network.given) for network in networks)]
     files += [('table', review.table)] if review.table else []
+    areas, area_pictures = areas_of_case(answered)
     values = {
         'case': review.case, 'answered': answered, 'networks': networks, 'shown': shown, 'unfolded': unfolded,
         'targets': targets_sheets(answered.case, answered.targets), 'tables': case_sheets(answered),
         'flow': flow_sheets(answered.case, answered.flow), 'cut': isinstance(answered.flow, Cut),
-        'curves': curves_of(answered),
+        'curves': curves_of(answered), 'areas': areas, 'area_pictures': area_pictures,
         'compared': compared(networks, shown) if networks else None, 'bars': bars,
         'title': head.titled(review.case.name), 'head': head_sheet(head, answered.case),
         'again': made_again(head, [(what, file.name) for what, file in files]),

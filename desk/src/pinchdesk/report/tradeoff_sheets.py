@@ -1,6 +1,7 @@
 """Exchangers against cost as tables, and the networks as texts."""
 from __future__ import annotations
 
+from collections.abc import Sequence
 from decimal import Decimal
 from typing import TYPE_CHECKING
 
@@ -11,28 +12,43 @@ from .facts import Fact, FactRow, FactTable
 from .sheet import Sheet
 
 if TYPE_CHECKING:
+    from ..search.accepted import AcceptedNetwork
     from ..search.reduce.tradeoff import TradeOffRow, TradeOff
 
 
-def tradeoff_sheets(traded: TradeOff) -> list[Sheet]:
+def tradeoff_sheets(traded: TradeOff, marked: AcceptedNetwork | None = None) -> list[Sheet]:
     """The networks from the floor up, what changed from one to the next, and what of it is proved."""
-    return [*(table.sheet() for table in tradeoff_tables(traded)),
+    return [*(table.sheet() for table in tradeoff_tables(traded, marked)),
             Sheet('What is proved', (), ((proved(traded),),))]
 
 
-def tradeoff_tables(traded: TradeOff) -> list[FactTable]:
-    """The networks from the floor up, and the heat that was moved from one to the next, where some was."""
-    shown = Shown(traded.case.basis)
+def tradeoff_tables(traded: TradeOff, marked: AcceptedNetwork | None = None) -> list[FactTable]:
+    """The networks from the floor up, and the heat that was moved from one to the next, where some was. The row of one
+    of the networks may be marked."""
+    shown, begun = Shown(traded.case.basis), [traded.begun] if traded.left_begun else []
+    shown_networks = [None, *begun, *(row.judged for row in traded.rows)]
+    areas = areas_of_rows(traded, shown_networks)
     floor = (*cost_facts('floor', traded.floor, traded, shown), Fact('excess', None, 'kW'), Fact('splits', None),
-             *([Fact('in the plant', None)] if traded.case.basis.segments else []),
+             *([Fact('in the plant', None)] if traded.case.basis.segments else []), *areas[0],
              Fact('gone', 'no network costs less'))
-    networks = (floor, *([begun_row(traded, shown)] if traded.left_begun else []),
-                *(network_row(row, traded, shown) for row in traded.rows))
+    networks = (floor, *((*begun_row(traded, shown), *areas[1]) for _ in begun),
+                *(network_row(row, traded, shown, areas[at]) for at, row in enumerate(traded.rows, 1 + len(begun))))
+    rows_marked = frozenset(at for at, found in enumerate(shown_networks)
+                            if marked and found and found.network == marked.network)
     moved = tuple((Fact('exchangers', Decimal(row.exchangers)), Fact('', Decimal(shown.kilowatts(shift.heat)), 'kW'),
                    Fact('along', 'loop' if shift.loop else 'path'), Fact('way', shift.told))
                   for row in traded.rows for shift in row.shifts)
     changes = [FactTable('Heat moved from one network to the next', moved)] if moved else []
-    return [FactTable('Exchangers against cost', networks), *changes]
+    return [FactTable('Exchangers against cost', networks, rows_marked), *changes]
+
+
+def areas_of_rows(traded: TradeOff, networks: Sequence[AcceptedNetwork | None]) -> Sequence[FactRow]:
+    """The area and the annual cost of each row; nothing where the case says nothing of them."""
+    if not traded.case.basis.cost_rows:
+        return [()] * len(networks)
+    # It is slow to load, and few cases have areas.
+    from .row_areas import facts_of_rows
+    return facts_of_rows(traded.case, networks)
 
 
 def cost_facts(exchangers: str | Decimal, cost: Number, traded: TradeOff, shown: Shown) -> FactRow:
@@ -49,10 +65,10 @@ def begun_row(traded: TradeOff, shown: Shown) -> FactRow:
             *joined_facts(begun.network, traded))
 
 
-def network_row(row: TradeOffRow, traded: TradeOff, shown: Shown) -> FactRow:
+def network_row(row: TradeOffRow, traded: TradeOff, shown: Shown, areas: FactRow) -> FactRow:
     return (*cost_facts(Decimal(row.exchangers), row.cost, traded, shown),
             Fact('excess', Decimal(shown.kilowatts(row.excess)), 'kW'), Fact('splits', Decimal(row.judged.splits)),
-            *joined_facts(row.network, traded), Fact('gone', listed(row.gone, shown)),
+            *joined_facts(row.network, traded), *areas, Fact('gone', listed(row.gone, shown)),
             Fact('new', listed(row.come, shown)))
 
 

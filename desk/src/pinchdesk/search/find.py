@@ -38,7 +38,8 @@ class FewExchangers:
     """A network that `pinch audit` accepted, with what it said. `bound` is what the solver says that no network at
     this cost has fewer exchangers than; `staged` the same for networks of so many stages, in each of the windows, with
     isothermal mixing, None where that was not settled; `ended` is why the search ended. `basis` is that of the case;
-    `exchangers` are those of the plant, of which one that goes on across the kink of a stream is one."""
+    `exchangers` are those of the plant, of which one that goes on across the kink of a stream is one; `annual` is what
+    is said of the cost of a year where the network was chosen by it."""
 
     network: Network
     verdict: Accepted
@@ -47,6 +48,7 @@ class FewExchangers:
     ended: str
     exchangers: int
     basis: Basis = Basis()
+    annual: str = ''
 
     @property
     def text(self) -> str:
@@ -57,7 +59,7 @@ class FewExchangers:
         shown, verdict = Shown(self.basis), self.verdict
         return [self.counted, self.bounds, f'cost {shown.with_unit(verdict.cost)}',
                 f'floor {shown.with_unit(verdict.floor)}', f'excess {shown.kilowatts(verdict.excess)} kW',
-                *shown.scale_remarks()]
+                *([self.annual] if self.annual else []), *shown.scale_remarks()]
 
     @property
     def counted(self) -> str:
@@ -77,23 +79,28 @@ class FewExchangers:
         return f'bound: at least {self.bound}{parts} by the solver{staged} ({self.ended})'
 
 
+def unseen(found: AcceptedNetwork) -> None:
+    del found
+
+
 def find_network(case: CaseText, most_cost: Fraction | int | None = None, above: Fraction | int | None = None,
                  seconds: Fraction | float = SECONDS, start: NetworkText | None = None,
                  tell: Callable[[str], None] = nobody, pinch: Pinch | None = None,
-                 begun: float | None = None, way: SearchWay = SearchWay()) -> FewExchangers:
+                 begun: float | None = None, way: SearchWay = SearchWay(),
+                 seen: Callable[[AcceptedNetwork], None] = unseen) -> FewExchangers:
     """A network with as few exchangers as were found in the time, at the least cost; or at most at this cost (price
     times W), or so many percent above the least. `start` is a network to be bettered. `NoNetwork` where there is none.
 
     The time counts from the call, or from `begun` by `time.monotonic`. When it is over, or at an interruption from the
     keyboard, the best so far is given: at least that of `pinch design`. `way` says in which way is searched, and may
-    have a number of steps in place of a time."""
+    have a number of steps in place of a time. Each network that may be given is `seen`."""
     pinch, begun = pinch or Pinch(), time.monotonic() if begun is None else begun
     with SearchProcess() as process, ThreadPoolExecutor(1) as beside:
         designing = beside.submit(designed, pinch, case)
         flow = flow_of(pinch, case)
         asked = completed(case if isinstance(case, Case) else read_case(case))
         limit = limit_of(flow.cost, most_cost, above, Shown(asked.basis))
-        first = best_of(limit, bettered(pinch, asked, start), designing.result())
+        first = best_of(limit, seen, bettered(pinch, asked, start), designing.result())
         lasts = float(seconds) if way.steps is None else FOREVER
         task = task_of(pinch, asked, flow, limit, first, begun, lasts, way)
         state, ended = SearchState(task.best, each_stream_has_one(asked)), TIME_OVER
@@ -101,6 +108,8 @@ def find_network(case: CaseText, most_cost: Fraction | int | None = None, above:
             for message in process.told(task, begun + lasts + GRACE):
                 assert isinstance(message, SearchState)
                 state = message
+                if state.best:
+                    seen(state.best)
                 tell(str(state))
         except KeyboardInterrupt:
             ended = INTERRUPTED
@@ -163,7 +172,10 @@ def bettered(pinch: Pinch, case: Case, start: NetworkText | None) -> AcceptedNet
     return AcceptedNetwork(network, verdict)
 
 
-def best_of(limit: Fraction, *found: AcceptedNetwork | None) -> AcceptedNetwork | None:
-    """The best of some networks that costs no more than it may."""
+def best_of(limit: Fraction, seen: Callable[[AcceptedNetwork], None],
+            *found: AcceptedNetwork | None) -> AcceptedNetwork | None:
+    """The best of some networks that costs no more than it may; each of these is seen."""
     within = [network for network in found if network and network.cost <= limit]
+    for network in within:
+        seen(network)
     return min(within, key=lambda network: network.rank) if within else None

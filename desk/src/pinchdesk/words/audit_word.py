@@ -8,17 +8,19 @@ from ..program.run import Pinch
 from ..program.verdicts import Accepted
 from ..report.answer_sheets import audit_sheets, audit_told, balance_facts
 from ..search.budget import Telling, nobody
-from .shared import CASE, NETWORK, ended
+from .shared import CASE, NETWORK, areas_beside, ended, with_areas
 from .word import Answer, Files, NoOptions, Word
 
 
 def audit(files: Files, _: NoOptions = NoOptions(), tell: Telling = nobody) -> Answer:
     case, network = files.one('case'), files.one('network')
     with about(case=case.name, network=network.name):
-        followed, verdict = audited(Pinch(), case.content, network.content)
+        pinch = Pinch()
+        followed, verdict = audited(pinch, case.content, network.content)
+        beside = areas_beside(pinch, followed, verdict)
     facts = balance_facts(verdict, Shown(followed.case.basis)) if isinstance(verdict, Accepted) else ()
-    return ended(Answer(tuple(audit_sheets(followed, verdict)), facts=(facts,),
-                        headline=audit_told(followed, verdict)), [verdict])
+    answer = Answer(tuple(audit_sheets(followed, verdict)), facts=(facts,), headline=audit_told(followed, verdict))
+    return ended(with_areas(answer, beside), [verdict])
 
 
 AUDIT = Word('audit', 'whether a network is valid, what it costs, and where it loses heat',

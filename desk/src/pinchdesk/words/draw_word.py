@@ -15,9 +15,9 @@ from ..program.run import Pinch
 from ..search.budget import Telling, nobody
 from .forms import PICTURE
 from .prices_word import STUDY, answered_study
-from .shared import (CASE, NETWORK, RANGE, SITE, USUAL_WORKERS, WORKERS, SweepOptions, completed_case, ended,
+from .shared import (CASE, FILM, NETWORK, RANGE, SITE, USUAL_WORKERS, WORKERS, SweepOptions, completed_case, ended,
                      rounding_told, told_of)
-from .supertarget_word import found_over_difference
+from .supertarget_word import SupertargetOptions, found_over_difference
 from .word import Answer, Files, NoOptions, Option, Role, Word, WordGroup, feasibility
 
 if TYPE_CHECKING:
@@ -107,7 +107,8 @@ def driving(files: Files, _: NoOptions = NoOptions(), tell: Telling = nobody) ->
 
 def over_difference(files: Files, options: SweepOptions, tell: Telling = nobody) -> Answer:
     from ..figures.cost_curves import supertarget_figure
-    return picture(supertarget_figure(found_over_difference(files, options)))
+    found, told = found_over_difference(files, options)
+    return replace(picture(supertarget_figure(found)), notes=told)
 
 
 def sweep(files: Files, options: SweepOptions, tell: Telling = nobody) -> Answer:
@@ -156,6 +157,7 @@ PARTS = (
          'examples/reactors-cost.csv examples/reactors-cost-network.txt -o driving.svg', (CASE, BESIDE_CURVES),
          NoOptions, driving),
     part('supertarget', 'energy, capital and annual cost over the least difference',
-         'examples/reactors-cost.csv 4 20 4 -o costs.svg', (CASE,), SweepOptions, over_difference, (*RANGE, WORKERS)))
+         'examples/reactors-cost.csv 4 20 4 -o costs.svg', (CASE,), SupertargetOptions, over_difference,
+         (*RANGE, WORKERS, FILM)))
 DRAW = WordGroup('draw', 'a picture: curves, a grid, a site, a sweep or prices, as .svg, .png or .pdf',
                  'pinchdesk draw curves examples/four-stream.csv -o curves.svg', PARTS)

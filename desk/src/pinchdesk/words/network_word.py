@@ -1,8 +1,9 @@
 """The word `network`."""
 from __future__ import annotations
 
-from dataclasses import dataclass
+from dataclasses import dataclass, replace
 from decimal import Decimal
+from typing import TYPE_CHECKING
 
 from ..errors import WordsError, about
 from ..formats.amounts import seconds_of, whole
@@ -11,11 +12,14 @@ from ..formats.shown import Shown
 from ..program.run import Pinch
 from ..report.facts import Fact, FactRow
 from ..search.budget import SearchWay, Telling, nobody
-from ..search.find import FewExchangers, find_network
+from ..search.find import FewExchangers, find_network, unseen
 from ..tables.cost_words import cost_of, percent_of
 from .forms import TEXT
-from .shared import CASE
+from .shared import CASE, annual_chooser
 from .word import Answer, Files, Option, Role, Word
+
+if TYPE_CHECKING:
+    from ..search.annual_choice import AnnualChooser
 
 START = Role('start', 'a network to improve on', needed=False, flag='--start', metavar='NETWORK')
 DECLARED = (
@@ -24,6 +28,8 @@ DECLARED = (
     Option('above', 'how far above the least cost it may be', ('--above',), metavar='PERCENT', one_of='cost'),
     Option('seconds', 'how long it takes at most, but for a moment (60 unless given)', ('--seconds',), default='60',
            metavar='S'),
+    Option('annual', 'of the networks that are found the one of least annual cost, in place of the fewest exchangers; '
+           'the case needs coefficients and cost laws', ('--annual',), default=False, switch=True),
     Option('no_better', 'it ends where nothing better was found for so long', ('--until-no-better',), metavar='S'),
     Option('steps', 'how many steps it takes, in place of seconds: then the network is the same each time',
            ('--steps',), whole, metavar='N'),
@@ -46,6 +52,7 @@ class NetworkOptions:
     steps: int | None = None
     seed: int = 1
     workers: int | None = None
+    annual: bool = False
 
     @property
     def way(self) -> SearchWay:
@@ -64,10 +71,22 @@ def network(files: Files, options: NetworkOptions = NetworkOptions(), tell: Tell
     with about(case=case.name, network=start.name if start else 'network'):
         pinch = Pinch()
         pinch.targets(case.content)
+        chooser = annual_chooser(read_case(case.content)) if options.annual else None
         most = None if options.cost is None else cost_of(options.cost, Shown(read_case(case.content).basis))
         found = find_network(case.content, most, above, seconds, start.content if start else None, tell, pinch,
-                             options.begun, options.way)
-    return Answer(in_form=lambda form: found.text, facts=(network_facts(found),), headline=found.bounds)
+                             options.begun, options.way, chooser.see if chooser else unseen)
+        facts = network_facts(found)
+        if chooser:
+            found, facts = chosen(found, chooser)
+    return Answer(in_form=lambda form: found.text, facts=(facts,), headline=found.bounds)
+
+
+def chosen(found: FewExchangers, chooser: AnnualChooser) -> tuple[FewExchangers, FactRow]:
+    """The network of least annual cost in place of the one that was found last."""
+    from ..report.cost_sheets import annual_facts
+    choice = chooser.choice()
+    best = replace(found, network=choice.found.network, verdict=choice.found.verdict, annual=choice.told)
+    return best, (*network_facts(best), *annual_facts(choice.costs))
 
 
 def network_facts(found: FewExchangers) -> FactRow:

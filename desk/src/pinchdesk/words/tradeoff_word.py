@@ -15,17 +15,20 @@ from ..report.sheet import Sheet, rendered
 from ..report.tradeoff_sheets import network_texts, proved, tradeoff_sheets, tradeoff_tables
 from ..search.budget import Telling, nobody
 from .forms import PICTURES, TABLE_OR_PICTURE
-from .shared import CASE, NETWORK
+from .shared import CASE, NETWORK, annual_chooser
 from .word import Answer, Files, FurtherFiles, FurtherOutput, Option, Role, Word
 
 if TYPE_CHECKING:
     from ..search.accepted import Judged
+    from ..search.annual_choice import AnnualChoice, AnnualChooser
     from ..search.reduce.tradeoff import TradeOff
 
 BEGUN = Role(NETWORK.name, 'a network text to begin with; otherwise one is searched for', needed=False)
 NETWORKS = FurtherOutput('networks', '--networks', 'where the networks are written, one file for each row', folder=True)
 SECONDS = Option('seconds', 'how long it takes at most, but for a moment; it ends earlier where nothing more is '
                  'gained, and Control-C ends it with what was found', ('--seconds',), default='30', metavar='S')
+ANNUAL = Option('annual', 'marks the network of least annual cost; the case needs coefficients and cost laws',
+                ('--annual',), default=False, switch=True)
 STOPPED = 'the search was stopped: these are the networks that were found so far'
 
 
@@ -35,6 +38,7 @@ class TradeoffOptions:
 
     seconds: str = '30'
     begun: float | None = None
+    annual: bool = False
 
 
 def tradeoff(files: Files, options: TradeoffOptions = TradeoffOptions(), tell: Telling = nobody) -> Answer:
@@ -45,12 +49,23 @@ def tradeoff(files: Files, options: TradeoffOptions = TradeoffOptions(), tell: T
         pinch = Pinch()
         pinch.targets(case.content)
         read = read_case(case.content)
+        chooser = annual_chooser(read) if options.annual else None
         traded = searched(read, network.content if network else None, pinch, seconds, told_on(read, tell),
                           options.begun)
-    sheets = tuple(tradeoff_sheets(traded))
-    return Answer(sheets, in_form(traded, sheets), rows_of_tables(tradeoff_tables(traded)), proved(traded),
-                  notes=(STOPPED,) if traded.stopped else (),
+        choice = chosen_of(traded, chooser) if chooser else None
+    marked = choice.found if choice else None
+    sheets = tuple(tradeoff_sheets(traded, marked))
+    told = (f'{choice.found.count} exchangers: {choice.told}',) if choice else ()
+    return Answer(sheets, in_form(traded, sheets), rows_of_tables(tradeoff_tables(traded, marked)),
+                  '; '.join((*told, proved(traded))), notes=(*told, *((STOPPED,) if traded.stopped else ())),
                   further={NETWORKS.name: FurtherFiles(network_texts(traded))})
+
+
+def chosen_of(traded: TradeOff, chooser: AnnualChooser) -> AnnualChoice:
+    """The network of least annual cost among those of a trade-off."""
+    for found in ([traded.begun] if traded.left_begun else []) + [row.judged for row in traded.rows]:
+        chooser.see(found)
+    return chooser.choice()
 
 
 def told_on(case: Case, tell: Telling) -> Callable[[Judged], None]:
@@ -71,4 +86,4 @@ def in_form(traded: TradeOff, sheets: tuple[Sheet, ...]) -> Callable[[str], str 
 
 TRADEOFF = Word('tradeoff', 'exchangers against cost: networks of fewer and fewer exchangers, as a table or a picture',
                 'pinchdesk tradeoff examples/tc3.csv examples/tc3-network.txt --seconds 1 -o tc3.svg', (CASE, BEGUN),
-                TradeoffOptions, tradeoff, (SECONDS,), TABLE_OR_PICTURE, (NETWORKS,))
+                TradeoffOptions, tradeoff, (SECONDS, ANNUAL), TABLE_OR_PICTURE, (NETWORKS,))

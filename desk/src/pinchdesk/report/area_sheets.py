@@ -1,0 +1,129 @@
+"""Areas and costs of the exchangers of a network as tables, and beside the targets of its case."""
+from __future__ import annotations
+
+from collections.abc import Callable
+from decimal import Decimal
+
+from ..costs.annual import AnnualCost
+from ..costs.areas_beside import AreasBeside
+from ..costs.enclosure import Enclosure
+from ..costs.network_areas import ExchangerArea, NetworkAreas
+from ..costs.network_costs import ExchangerPrice, NetworkCosts
+from ..formats.shown import decimal
+from .cost_sheets import area_target_notes, cost_facts, currency_of, metres, money, notes_sheets
+from .facts import Fact, FactRow, FactTable
+from .sheet import Cell, Sheet
+
+
+def area_facts(exchanger: ExchangerArea) -> FactRow:
+    """An exchanger with its area and what that is made of."""
+    return (Fact('exchanger', exchanger.name), Fact('kind', exchanger.service.value),
+            Fact('duty', Decimal(decimal(exchanger.duty / 1000, 3)), 'kW'),
+            Fact('U', Decimal(decimal(exchanger.coefficient / 1000, 6)), 'kW/m²K'),
+            Fact('mean difference', Decimal(exchanger.mean.shown(3)), 'K'),
+            Fact('Ft', Decimal(exchanger.factor.shown(4))), Fact('shells', Decimal(exchanger.shells)),
+            Fact('area', metres(exchanger.area), 'm²'))
+
+
+def price_facts(priced: ExchangerPrice, currency: str) -> FactRow:
+    gain: Cell = '' if priced.gain is None else money(priced.gain)
+    return Fact('price', money(priced.price), currency), Fact('1 K more would save', gain, f'{currency}/a')
+
+
+def exchangers_table(areas: NetworkAreas, costs: NetworkCosts | None, title: str = 'Exchangers') -> FactTable:
+    """The exchangers of a network in their order; the costliest say what 1 K more at both ends would save."""
+    if costs is None:
+        return FactTable(title, tuple(area_facts(exchanger) for exchanger in areas.exchangers))
+    currency = currency_of(costs.data)
+    return FactTable(title, tuple((*area_facts(priced.exchanger), *price_facts(priced, currency))
+                                  for priced in costs.prices))
+
+
+def network_facts(areas: NetworkAreas, costs: NetworkCosts | None) -> FactRow:
+    """The sums of a network, beside the target at its own use of the utilities."""
+    beside: FactRow = ()
+    if areas.target and areas.efficiency:
+        beside = (Fact('area by the formula with the same utilities', metres(areas.target.area), 'm²'),
+                  Fact('area efficiency', Decimal((areas.efficiency * 100).shown(1)), '%'))
+    return (Fact('area', metres(areas.area), 'm²'), *beside, Fact('exchangers', Decimal(len(areas.exchangers))),
+            Fact('shells', Decimal(areas.shells)),
+            *(cost_facts(costs.cost, currency_of(costs.data)) if costs else ()))
+
+
+def network_notes(areas: NetworkAreas) -> list[str]:
+    """Where the real ends of a utility leave no approach, and what the target beside is."""
+    return [*map(str, areas.faults), *(area_target_notes(areas.target) if areas.target else [])]
+
+
+def costliest_sheets(costs: NetworkCosts | None) -> list[Sheet]:
+    """What 1 K more at both ends of the costliest exchangers would save; no sheet without prices."""
+    if costs is None:
+        return []
+    currency = currency_of(costs.data)
+    rows = tuple((Fact('exchanger', priced.exchanger.name), Fact('area', metres(priced.exchanger.area), 'm²'),
+                  *price_facts(priced, currency)) for priced in costs.costliest)
+    return [FactTable('The costliest exchangers', rows).sheet()]
+
+
+def beside_sheet(beside: AreasBeside, areas: NetworkAreas) -> Sheet:
+    """The sums of a network beside the formula with the same utilities, and the targets of the case."""
+    target, same = beside.target, areas.target
+    paid = target.cost.built_area if target.cost else target.area.area if target.area else None
+    efficiency = None if areas.efficiency is None else Decimal((areas.efficiency * 100).shown(1))
+    rows: list[tuple[Cell, ...]] = [
+        ('area', metres(areas.area), metres(same.area) if same else None, None if paid is None else metres(paid),
+         'm²'),
+        ('area efficiency', efficiency, None, None, '%'),
+        ('exchangers', Decimal(len(areas.exchangers)), None, Decimal(target.cost.units) if target.cost else None, '')]
+    costs, wanted = beside.costs, target.cost
+    shells = wanted.shells.shells if wanted and wanted.shells else None
+    if shells or areas.shells > len(areas.exchangers):
+        rows.append(('shells', Decimal(areas.shells), None, None if shells is None else Decimal(shells), ''))
+    for name, part in MONEY if costs else ():
+        currency = currency_of(areas.data)
+        unit = currency if name == 'capital' else f'{currency}/a'
+        rows.append((name, money(part(costs.cost)) if costs else None, None,
+                     money(part(wanted.cost)) if wanted else None, unit))
+    return Sheet('Areas and costs', ('', 'network', 'formula with the same utilities', 'target', ''),
+                 tuple(row for row in rows if any(isinstance(cell, Decimal) for cell in row)))
+
+
+MONEY: tuple[tuple[str, Callable[[AnnualCost], Enclosure]], ...] = (
+    ('capital', lambda cost: cost.capital), ('capital a year', lambda cost: cost.capital_a_year),
+    ('energy a year', lambda cost: cost.whole - cost.capital_a_year), ('annual cost', lambda cost: cost.whole))
+
+
+def beside_notes(beside: AreasBeside) -> list[str]:
+    """What stands beside a verdict that has no number: an approach that is not there, and what is not known for want
+    of data."""
+    notes = [str(fault) for fault in beside.faults]
+    if beside.areas is None:
+        return [*notes, f'areas are not shown: {beside.lacking}']
+    if beside.costs is None:
+        notes.append(f'costs are not shown: {beside.lacking}')
+    if beside.target.lacking:
+        what = 'costs' if beside.target.area else 'areas'
+        notes.append(f'targets of {what} are not shown: {beside.target.lacking}')
+    if beside.areas.target:
+        notes += area_target_notes(beside.areas.target)
+    return [*notes, *(beside.target.cost.remarks if beside.target.cost else ())]
+
+
+def table_areas(beside: AreasBeside) -> list[Sheet]:
+    """What a table of exchangers has of areas: all exchangers, the sums beside the targets, and notes."""
+    if beside.areas is None:
+        return notes_sheets(beside_notes(beside))
+    return [exchangers_table(beside.areas, beside.costs, 'Areas').sheet(), beside_sheet(beside, beside.areas),
+            *notes_sheets(beside_notes(beside))]
+
+
+def audit_areas(beside: AreasBeside) -> list[Sheet]:
+    """What an audit has of areas: the sums beside the targets, the costliest exchangers, and notes."""
+    if beside.areas is None:
+        return notes_sheets(beside_notes(beside))
+    return [beside_sheet(beside, beside.areas), *costliest_sheets(beside.costs), *notes_sheets(beside_notes(beside))]
+
+
+def facts_beside(beside: AreasBeside) -> FactRow:
+    """The sums of the areas and costs of a network; nothing where the case does not say enough for them."""
+    return network_facts(beside.areas, beside.costs) if beside.areas else ()
