@@ -38,9 +38,11 @@ def test_the_calls_of_costs_in_the_readme_are_there() -> None:
     pytest.importorskip('mpmath')
     blocks = re.findall(r'```python\n(.*?)```', (DESK / 'README.md').read_text(), re.S)
     block, = (block for block in blocks if 'pinchdesk.costs' in block)
-    names: dict[str, Any] = {'case': example('reactors-cost.csv'), 'network': example('reactors-cost-network.txt')}
+    names: dict[str, Any] = {'case': example('reactors-cost.csv').decode(),
+                             'network': example('reactors-cost-network.txt').decode()}
     exec(compile(block.replace('seconds=10', 'seconds=1').replace('100, 5)', '100, 30)'), 'README', 'exec'), names)
-    assert names['target'].area.area.told and names['areas'].cost
+    assert names['plant'].costs().area_m2.told == names['target'].area.area.told == '7409.97512665'
+    assert names['built'].cost.whole.told
 
 
 def test_answers_are_data_frames(pinch: Pinch) -> None:
