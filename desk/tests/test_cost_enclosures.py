@@ -9,8 +9,9 @@ import pytest
 from hypothesis import given
 from hypothesis import strategies as st
 
+from pinchdesk.costs.cost_units import KNOWN, NoUnit, coefficient_factor
 from pinchdesk.costs.enclosure import Enclosure, agreed, between, enclosed, power, square_root, total
-from pinchdesk.costs.log_mean import log_mean, log_mean_between
+from pinchdesk.costs.log_mean import ONE, log_mean, log_mean_between, logarithm_ends
 
 FIFTY: Any = mpmath.mp.clone()
 FIFTY.dps = 60
@@ -101,3 +102,37 @@ def test_exact_numbers_are_added_exactly() -> None:
     assert (Fraction(3, 5) * enclosed(5)).low <= 3 <= (Fraction(3, 5) * enclosed(5)).high
     assert Fraction(3) in 5 - enclosed(2)
     assert Fraction(5, 2) in 5 / enclosed(2)
+
+
+@given(st.integers(1, 10 ** 30), st.integers(0, 10 ** 30))
+def test_a_logarithm_lies_between_its_ends(below: int, more: int) -> None:
+    low, high = logarithm_ends(below + more, below)
+    assert holds(between(Fraction(low, ONE), Fraction(high, ONE)), FIFTY.log(digits(Fraction(below + more, below))))
+    assert high - low < 10 ** 5
+
+
+# Units of coefficients, which are as pint has them.
+
+WRITTEN = {'W': 'watt', 'h': 'hour', 's': 'second', 'm': 'meter', 'K': 'kelvin', '°F': 'delta_degF', 'inch': 'inch'}
+
+
+def test_units_are_those_that_pint_has() -> None:
+    from pinchdesk.tables.units import registry
+    base = {(1, 0, 0, 0): 'joule', (1, -1, 0, 0): 'watt', (0, 1, 0, 0): 'second', (0, 0, 1, 0): 'meter',
+            (0, 0, 0, 1): 'kelvin'}
+    for name, (factor, dimensions) in KNOWN.items():
+        amount = registry().Quantity(Fraction(1), WRITTEN.get(name, name)).to(base[dimensions])
+        assert Fraction(amount.magnitude) == factor, name
+
+
+@pytest.mark.parametrize(('text', 'factor'), [
+    ('kW/m2K', 1000), ('W/(m2 K)', 1), ('W m-2 K-1', 1), ('kJ/h·m²·°C', Fraction(5, 18)), ('kW/cm2K', 10 ** 7),
+    ('Btu/(h ft2 °F)', Fraction(1648525, 290322)), ('kcal/(h m2 C)', Fraction(523, 450))])
+def test_coefficients_are_read_as_people_write_them(text: str, factor: Fraction) -> None:
+    assert coefficient_factor(text) == factor
+
+
+@pytest.mark.parametrize('text', ['kW/K', 'x', '', 'kW/m2', '1/m2K', 'kW/m3K', 'kW/m2K' * 10, 'm2K/kW', 'kW/mK'])
+def test_what_is_no_coefficient_is_none(text: str) -> None:
+    with pytest.raises(NoUnit):
+        coefficient_factor(text)

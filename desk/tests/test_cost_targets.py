@@ -16,6 +16,7 @@ from pinchdesk.costs.area_target import AreaTarget, area_target, interval_area, 
 from pinchdesk.costs.balanced import Carrier, HeatInterval, carriers, intervals_of
 from pinchdesk.costs.cost_data import EndTemperatures
 from pinchdesk.costs.enclosure import Enclosure, total
+from pinchdesk.costs.quick_area import quick_area
 from pinchdesk.costs.shells import Duty, correction, correction_at, shells_of, whole_shells
 from pinchdesk.costs.unit_target import unit_target
 from pinchdesk.program.answers import HeatFlow
@@ -279,6 +280,28 @@ def between(interval: HeatInterval, side: EndTemperatures, *places: Fraction) ->
 
 
 @tried(4, 15)
+@given(plants())
+def test_the_area_in_whole_numbers_is_the_same(pinch: Pinch, case: str) -> None:
+    check_quick_area(case, pinch)
+
+
+@pytest.mark.parametrize('case', [SMALL, AROMATICS])
+def test_the_area_in_whole_numbers_is_that_of_plants_with_ranges(pinch: Pinch, case: str) -> None:
+    check_quick_area(case, pinch)
+
+
+def check_quick_area(case: str, pinch: Pinch) -> None:
+    members = carriers(data_of(case), uses_of(case, pinch))
+    found = quick_area(members)
+    assert found and meet(found, target_of(members).area) and found.high - found.low < found.low / 10 ** 20
+
+
+def test_curves_that_touch_have_no_area_in_whole_numbers(pinch: Pinch) -> None:
+    touching = SMALL.replace('contribution,,50', 'contribution,,0')
+    assert quick_area(carriers(data_of(touching), uses_of(touching, pinch))) is None
+
+
+@settings(max_examples=15)
 @given(plants())
 def test_mirroring_hot_and_cold_changes_nothing(pinch: Pinch, case: str) -> None:
     members = carriers(data_of(case), uses_of(case, pinch))

@@ -114,7 +114,8 @@ def left_out(data: CostData, area: AreaTarget, law: CostLaw, units: UnitTarget) 
     """What the case says and a target cannot use, since it has no exchangers yet."""
     build = data.build(Service.EXCHANGER)
     if not units.exact:
-        yield 'there are too many sources for the most independent sets to be known: the units are a least number'
+        yield 'there are too many sources for the most independent sets to be known: units are sources less the sets ' \
+              'that were found, or less one, on each side of the pinch'
     others = [row for row in data.rows(CostLaw) if row is not law]
     if others:
         told = ', '.join(' '.join(word for word in (row.service.value if row.service else 'all', row.material) if word)

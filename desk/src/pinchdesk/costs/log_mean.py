@@ -2,6 +2,7 @@
 from __future__ import annotations
 
 from fractions import Fraction
+from functools import lru_cache
 
 from .enclosure import PRECISION, Enclosure, Number, between, enclosed, logarithm
 
@@ -32,16 +33,44 @@ def over_log_mean(number: Number, first: Number, second: Number) -> Enclosure:
 
 
 def series(square: Fraction) -> Enclosure:
-    """artanh(p) / p by the square of p: the sum of square^k / (2k + 1), and what is left of it."""
+    """artanh(p) / p by the square of p."""
+    low, high = series_ends(square.numerator, square.denominator)
+    return between(Fraction(low, ONE), Fraction(high, ONE))
+
+
+def series_ends(above: int, below: int) -> tuple[int, int]:
+    """Both ends, in whole parts, of artanh(p) / p by the square of p, which is `above` over `below` and at most a
+    ninth: the sum of square^k / (2k + 1), and what is left of it."""
     low = high = low_power = high_power = ONE
-    low_step = square.numerator * ONE // square.denominator
+    low_step = above * ONE // below
     odd = 1
     while high_power > SMALLEST:
         odd += 2
         low_power, high_power = low_power * low_step // ONE, high_power * (low_step + 1) // ONE + 1
         low, high = low + low_power // odd, high + high_power // odd + 1
     # All that is left is less than the last power, since each is less than half of the one before.
-    return between(Fraction(low, ONE), Fraction(high + high_power, ONE))
+    return low, high + high_power
+
+
+def logarithm_ends(above: int, below: int) -> tuple[int, int]:
+    """Both ends, in whole parts, of the logarithm of a number of at least 1, which is `above` over `below`: as many
+    times that of 2 as it goes in, and a series of the rest."""
+    twos = above.bit_length() - below.bit_length()
+    below <<= twos
+    gap, both = above - below, above + below
+    low, high = series_ends(gap * gap, both * both)
+    rest = (2 * gap * low // both, -(-2 * gap * high // both))
+    if gap < 0:
+        rest = (2 * gap * high // both, -(-2 * gap * low // both))
+    two = two_ends()
+    return twos * two[0] + rest[0], twos * two[1] + rest[1]
+
+
+@lru_cache(maxsize=1)
+def two_ends() -> tuple[int, int]:
+    """Both ends of the logarithm of 2, twice the artanh of a third."""
+    low, high = series_ends(1, 9)
+    return 2 * low // 3, -(-2 * high // 3)
 
 
 def log_mean_between(first: Enclosure, second: Enclosure) -> Enclosure:

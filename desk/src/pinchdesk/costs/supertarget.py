@@ -15,10 +15,12 @@ from ..program.answers import Cut, HeatFlow, Targets
 from ..program.run import CaseText, Pinch
 from .annual import AnnualCost, annual_cost, at_most, price_of, priced_parts
 from .area_target import area_target
+from .balanced import carriers
 from .cost_data import CostData, refused
-from .cost_target import one_two_area, priced_target
+from .cost_target import one_two_area, shell_target
 from .enclosure import Enclosure
-from .unit_target import unit_target
+from .quick_area import quick_area
+from .unit_target import UnitTarget, unit_target
 
 # With more sources the independent sets would take longer than all the rest: units are then sources less one.
 MOST_IN_SETS = 16
@@ -125,19 +127,49 @@ def point_at(data: CostData, contribution: int, answer: tuple[Case, Targets, Hea
     if answer is None:
         return 'there is no heat flow'
     case, targets, flow = answer
-    uses = {use.name: use.heat for use in flow.uses}
+    uses = {use.name: Fraction(use.heat) for use in flow.uses}
     try:
-        area = area_target(data, uses)
+        built = built_area(data, uses, unit_target(case, targets, flow, by_sets))
     except Refused as fault:
         if fault.place == 'case balanced curves':
             return fault.text
         raise
-    target = priced_target(data, flow, area, unit_target(case, targets, flow, by_sets))
-    exact = {name: Fraction(heat) for name, heat in uses.items()}
-    return SupertargetPoint(Fraction(contribution, 5), exact, side_use(data, uses, Side.HOT),
-                            side_use(data, uses, Side.COLD), target.built_area, target.units,
-                            target.shells.shells if target.shells else None, target.parts, Fraction(flow.cost),
-                            target.cost)
+    return point_of(data, Fraction(contribution, 5), uses, built, Fraction(flow.cost))
+
+
+@dataclass(frozen=True)
+class BuiltArea:
+    """The area that is paid for, in m², with the units and the shells over which it is spread."""
+
+    area: Enclosure
+    units: int
+    shells: int | None
+
+
+def built_area(data: CostData, uses: Mapping[str, Fraction], units: UnitTarget) -> BuiltArea:
+    """The area at these uses; `Refused` where the curves touch."""
+    build = data.build(Service.EXCHANGER)
+    if build.flow is Flow.COUNTER:
+        return BuiltArea(counter_current_area(data, uses), units.units, None)
+    shells = shell_target(data, build, area_target(data, uses), units.regions, units.units)
+    return BuiltArea(shells.area, units.units, shells.shells)
+
+
+def counter_current_area(data: CostData, uses: Mapping[str, Fraction]) -> Enclosure:
+    """The formula's area alone; `Refused` where the curves touch."""
+    quick = None if data.overalls else quick_area(carriers(data, uses))
+    return quick or area_target(data, uses).area
+
+
+def point_of(data: CostData, difference: Fraction, uses: Mapping[str, Fraction], built: BuiltArea,
+             program_cost: Fraction, found: bool = False) -> SupertargetPoint:
+    """The point of an area, with its price."""
+    build = data.build(Service.EXCHANGER)
+    parts = priced_parts(build, built.units, max(built.shells or built.units, at_most(build, built.area)))
+    cost = annual_cost(data, price_of(data, data.law(Service.EXCHANGER), built.area, parts), program_cost)
+    hot, cold = (side_use(data, uses, side) for side in (Side.HOT, Side.COLD))
+    return SupertargetPoint(difference, uses, hot, cold, built.area, built.units, built.shells, parts, program_cost,
+                            cost, found)
 
 
 def side_use(data: CostData, uses: Mapping[str, int | Fraction], side: Side) -> Fraction:
@@ -186,12 +218,10 @@ def proportional(data: CostData, low: SupertargetPoint, high: SupertargetPoint, 
         return first + part * (second - first)
     uses = {name: mixed(low.uses.get(name, Fraction(0)), high.uses.get(name, Fraction(0)))
             for name in {**low.uses, **high.uses}}
-    area, build = area_target(data, uses), data.build(Service.EXCHANGER)
-    built = one_two_area(area, build.part) if build.flow is Flow.ONE_TWO and build.part else area.area
-    units = max(low.units, high.units)
+    build = data.build(Service.EXCHANGER)
+    area = one_two_area(area_target(data, uses), build.part) if build.part and build.flow is Flow.ONE_TWO else \
+        counter_current_area(data, uses)
     shells = max(low.shells, high.shells) if low.shells and high.shells else None
-    parts = priced_parts(build, units, max(shells or units, at_most(build, built)))
-    program_cost = mixed(low.program_cost, high.program_cost)
-    cost = annual_cost(data, price_of(data, data.law(Service.EXCHANGER), built, parts), program_cost)
-    return SupertargetPoint(mixed(low.difference, high.difference), uses, mixed(low.hot, high.hot),
-                            mixed(low.cold, high.cold), built, units, shells, parts, program_cost, cost, True)
+    built = BuiltArea(area, max(low.units, high.units), shells)
+    return point_of(data, mixed(low.difference, high.difference), uses, built,
+                    mixed(low.program_cost, high.program_cost), True)

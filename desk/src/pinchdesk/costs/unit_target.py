@@ -2,19 +2,23 @@
 (`analysis/least_units` has them in all ways to cut, with what can be joined)."""
 from __future__ import annotations
 
+from collections.abc import Sequence
 from dataclasses import dataclass
 
-from ..analysis.cuts import CutPlace, Region, cascade, regions, whole_pieces
+from ..analysis.cuts import CutPlace, Piece, Region, cascade, regions, whole_pieces
 from ..analysis.independent_sets import Member, partition
 from ..analysis.least_units import whole_pieces_of
 from ..formats.case import Case, Utility
 from ..program.answers import HeatFlow, Targets
 
+# In a larger region the most sets would take longer than all the rest.
+MOST_IN_REGION = 30
+
 
 @dataclass(frozen=True)
 class UnitTarget:
     """The regions between the pinches with the least units of all of them together. The number is `exact` where the
-    most sets are known; else no number below it fits the rule."""
+    most sets are known; else it is sources less the sets that are."""
 
     regions: tuple[Region, ...]
     units: int
@@ -28,9 +32,16 @@ def unit_target(case: Case, targets: Targets, flow: HeatFlow, by_sets: bool = Tr
     wholes = [whole_pieces_of(case, region.pieces) for region in between]
     if not by_sets:
         return UnitTarget(between, sum(len(pieces) - 1 for pieces in wholes), True)
-    parted = [partition([Member(piece.source.name, piece.signed, isinstance(piece.source, Utility))
-                         for piece in pieces]) for pieces in wholes]
-    return UnitTarget(between, sum(sets.least_exchangers for sets in parted), all(sets.exact for sets in parted))
+    counted = [units_in(pieces) for pieces in wholes]
+    return UnitTarget(between, sum(units for units, _ in counted), all(exact for _, exact in counted))
+
+
+def units_in(pieces: Sequence[Piece]) -> tuple[int, bool]:
+    """The units of a region, and whether the most sets are known."""
+    if len(pieces) > MOST_IN_REGION:
+        return len(pieces) - 1, False
+    sets = partition([Member(piece.source.name, piece.signed, isinstance(piece.source, Utility)) for piece in pieces])
+    return sets.found_exchangers, sets.exact
 
 
 def cut_regions(case: Case, targets: Targets, flow: HeatFlow) -> tuple[Region, ...]:

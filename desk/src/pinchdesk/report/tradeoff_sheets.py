@@ -92,7 +92,8 @@ def proved(traded: TradeOff) -> str:
     segments = ' Each segment of a stream is counted as a stream, but in the column `in the plant`.' \
         if traded.case.basis.segments else ''
     return (f'Each network was accepted by the audit, and none costs less than the floor; {ended}no cheaper networks '
-            f'were found, and none of fewer than {last} exchangers, which does not prove that there are none.{segments}')
+            f'were found, and none of fewer than {last} exchangers, which does not prove that there are none.'
+            f'{segments}')
 
 
 def network_texts(traded: TradeOff) -> dict[str, str]:
