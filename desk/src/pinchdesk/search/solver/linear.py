@@ -19,6 +19,8 @@ from .elimination import Elimination, Inconsistent
 from .quiet_output import silent
 
 TIGHT = 1e-6
+# Floats that are nearer than ten to this power do not tell what is tight from what is nearly so.
+NEAREST = -12
 # What a free variable takes is the simplest fraction up to this denominator, so that texts stay short.
 SIMPLE = 1000
 INFEASIBLE = 2
@@ -183,8 +185,8 @@ def solved_at(program: Program, vertex: Sequence[float], grains: Mapping[int, Fr
                 equations.add(row.terms, row.low)
     except Inconsistent:
         return None
-    for terms, value in (*tight_bounds(program, vertex), *tight_rows(program, vertex)):
-        equations.add_if_free(terms, value)
+    for tight in sorted((*tight_bounds(program, vertex), *tight_rows(program, vertex)), key=lambda tight: tight.order):
+        equations.add_if_free(tight.terms, tight.value)
     for at, grain in (grains or {}).items():
         equations.add_if_free(((at, Fraction(1)),), round(Fraction(vertex[at]) / grain) * grain)
     for at, near in enumerate(vertex):
@@ -192,21 +194,36 @@ def solved_at(program: Program, vertex: Sequence[float], grains: Mapping[int, Fr
     return equations.point()
 
 
-def tight_bounds(program: Program, vertex: Sequence[float]) -> Iterable[tuple[Terms, Fraction]]:
+@dataclass(frozen=True)
+class Tight:
+    """What is tight at a point, as far as floats say, and how far it is from that, as a part of its largest term."""
+
+    terms: Terms
+    value: Fraction
+    slack: float
+
+    @property
+    def order(self) -> int:
+        """What is nearest comes first: in a chain of approaches rows are nearly the same, and what is nearly tight
+        would take the place of what is."""
+        return NEAREST if self.slack <= 10.0 ** NEAREST else math.ceil(math.log10(self.slack))
+
+
+def tight_bounds(program: Program, vertex: Sequence[float]) -> Iterable[Tight]:
     for at, value in enumerate(vertex):
         for bound in (program.lows[at], program.highs[at]):
             if bound is not None and abs(value - float(bound)) <= TIGHT * max(1.0, abs(value)):
-                yield ((at, Fraction(1)),), bound
+                yield Tight(((at, Fraction(1)),), bound, abs(value - float(bound)) / max(1.0, abs(value)))
                 break
 
 
-def tight_rows(program: Program, vertex: Sequence[float]) -> Iterable[tuple[Terms, Fraction]]:
+def tight_rows(program: Program, vertex: Sequence[float]) -> Iterable[Tight]:
     for row in program.rows:
         total = sum(float(factor) * vertex[at] for at, factor in row.terms)
         size = max([1.0, *(abs(float(factor) * vertex[at]) for at, factor in row.terms)])
         for bound in (row.low, row.high):
             if bound is not None and row.low != row.high and abs(total - float(bound)) <= TIGHT * size:
-                yield row.terms, bound
+                yield Tight(row.terms, bound, abs(total - float(bound)) / size)
                 break
 
 
