@@ -65,6 +65,17 @@ def draw_stream(rows: Rows, number: int, ends: list[int]) -> None:
         rows.stream(name, hot, (high, low) if hot else (low, high), draw.choice((1, 20, draw.randrange(1, 1000))), '')
 
 
+def random_plant(draw: random.Random) -> bytes:
+    """A plant of 20 to 40 streams, half of them hot, at a least difference of 10 °C, in tenths of °C and 10 W/K."""
+    rows = Rows(draw, 50)
+    for number in range(draw.randrange(20, 41)):
+        hot = number % 2 == 0
+        supply, span = draw.randrange(1000, 3501) if hot else draw.randrange(300, 2201), draw.randrange(200, 1801)
+        rows.rows.append('%s,%s%d,%d,%d,%d,,' % ('hot' if hot else 'cold', 'H' if hot else 'C', number, supply,
+                                                 supply - span if hot else supply + span, draw.randrange(500, 10001)))
+    return text(*rows.rows)
+
+
 def random_priced_case(draw: random.Random) -> bytes:
     """A case of many utilities that can take each other's place, none of them for all the heat: the least cost over the
     price of one turns often. Their prices lie far apart, near each other, or both."""
