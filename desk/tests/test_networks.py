@@ -32,7 +32,7 @@ def test_as_few_as_published_at_the_least_cost(pinch: Pinch, name: str) -> None:
     assert isinstance(verdict, Accepted) and verdict.cost == verdict.floor == found.verdict.cost
     assert found.text.startswith(f'# {found.exchangers} exchangers\n# bound: at least ')
     cost, excess, unit = Shown().cost(verdict.cost), Shown().kilowatts(verdict.excess), 'price times W'
-    assert f'\n# cost {cost} {unit}\n# floor {verdict.floor} {unit}\n# excess {excess} kW\nexchanger ' in found.text
+    assert f'\n# cost {cost} {unit}\n# floor {verdict.floor} {unit}\n# excess {excess} kW\n' in found.text
 
 
 def test_windows_end_where_no_heat_crosses(pinch: Pinch) -> None:
@@ -114,7 +114,7 @@ def test_a_network_is_told_in_the_units_of_its_case(table: str, scale: str, cost
     assert pinchdesk('case', '-d', '10', '--scale', scale, str(plant), '-o', str(case)).status == 0
     assert pinchdesk('network', str(case), '--seconds', '1', '-o', str(out)).status == 0
     head = f'\n# cost {cost} {unit}\n# floor {cost} {unit}\n# excess 0 kW\n'
-    times = f'# duties and sizes are {Fraction(scale)} times the plant\'s, as in the case\nexchanger '
+    times = f'# duties and sizes are {Fraction(scale)} times the plant\'s, as in the case\n'
     assert head + times in out.read_text()
     folder = tmp_path / 'ways'
     done = pinchdesk('tradeoff', str(case), str(out), '--seconds', '0.1', '--form', 'csv', '--networks', str(folder))

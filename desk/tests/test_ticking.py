@@ -13,17 +13,20 @@ from pinchdesk.formats.case import Case, Side
 from pinchdesk.search.accepted import Judge, Judged
 from pinchdesk.search.reduce.least_cost import cheapest
 from pinchdesk.search.reduce.structure import Parting, Through
+from pinchdesk.search.reduce.widen import pairs_of
 from pinchdesk.search.staged.windows import Window, WindowPiece, whole, windows
 from pinchdesk.search.ticking.completing import completion
 from pinchdesk.search.ticking.window_courses import BESIDE, CORNER_TOP, STRETCH, WHOLE, Chain, Tick, window_network
 from pinchdesk.search.ticking.crew import JobCrew
 from pinchdesk.search.ticking.descent import Descent
 from pinchdesk.search.ticking.float_duties import FloatDuties, least_point
+from pinchdesk.search.ticking.growing import Growing, grown
 from pinchdesk.search.ticking.heat_left import HeatLeft
+from pinchdesk.search.ticking.jobs import StartJob
 from pinchdesk.search.ticking.joining import joined_windows
 from pinchdesk.search.ticking.plant_search import JobRow, Pace, PlantSearch
 from pinchdesk.search.ticking.ruin import run_chain
-from pinchdesk.search.ticking.thinning import thinned
+from pinchdesk.search.ticking.thinning import Aim, Mixing, thinned
 
 # What is found in a few jobs; the least costs all.
 FEW = {'four-stream': 5, 'tc3': 7, 'two-reactors': 7, 'own-contributions': 7, 'column': 7, 'preheater': 3,
@@ -88,6 +91,44 @@ def test_the_cascade_is_kept_and_nowhere_below_nothing(pinch: Pinch, name: str) 
             ended += not left.hots and not left.colds
         # Some descents come to where nothing fits any more, and are begun anew.
         assert ended
+
+
+def test_a_descent_that_takes_parts_leaves_nothing_over(pinch: Pinch) -> None:
+    _, (window, *_) = windows_of(pinch, '10sp1')
+    for seed in range(6):
+        left = HeatLeft(window)
+        descent = Descent(left, Random(seed))
+        while (left.hots or left.colds) and descent.step():
+            pass
+        assert not left.hots and not left.colds
+
+
+def test_without_splits_exchangers_stand_one_behind_the_other(pinch: Pinch) -> None:
+    _, (window, *_) = windows_of(pinch, 'tc3')
+    end = run_chain(window, 1, 20, Chain(), None, may_split=False)
+    assert end.networks
+    for network in end.networks:
+        assert all(isinstance(step, Through) for course in network.courses.values() for step in course)
+
+
+def test_what_is_grown_has_no_more_exchangers(pinch: Pinch) -> None:
+    case, parts = windows_of(pinch, '10sp1')
+    flow = pinch.flow(case)
+    assert not isinstance(flow, Cut)
+    structure = joined_windows(case, [run_chain(window, 1, 20, Chain(), None).networks[-1] for window in parts])
+    growing = Growing(case, pairs_of(case), Fraction(flow.cost))
+    first, *later = grown(growing, structure, 1, 10, Aim())
+    assert all(thin.count <= first.count and thin.count == len(thin.structure.pairs) for thin in later)
+    exact = cheapest(case, later[-1].structure if later else first.structure)
+    assert exact is not None and exact.cost == flow.cost
+
+
+def test_a_large_case_has_a_network_after_its_first_job(pinch: Pinch) -> None:
+    case, parts = windows_of(pinch, 'bn15')
+    flow = pinch.flow(case)
+    assert not isinstance(flow, Cut)
+    end = StartJob(Mixing(case, (), Fraction(flow.cost), False), parts, 1, 5, Aim()).run()
+    assert end.found and Judge(pinch, case).of(end.exact[0]) is not None
 
 
 def test_a_chain_goes_on_from_where_it_was(pinch: Pinch) -> None:

@@ -122,7 +122,8 @@ class PlantNetwork(PlantAnswer, Written):
 
 def plant_network(found: FewExchangers, sheets: list[Sheet]) -> PlantNetwork:
     shown = Shown(found.basis)
-    return PlantNetwork(sheets=tuple(sheets), notes=(found.bounds, *shown.scale_remarks()), text=found.text,
+    notes = (found.told, *shown.scale_remarks(), *found.remarks())
+    return PlantNetwork(sheets=tuple(sheets), notes=notes, text=found.text,
                         exact=balance_of(found.verdict, shown), exchangers=found.exchangers, bounds=found.bounds,
                         cost_unit=shown.cost_unit)
 

@@ -1,18 +1,20 @@
 """Networks that `pinch audit` has accepted, with their structures: nothing else leaves a search."""
 from __future__ import annotations
 
-from dataclasses import dataclass
+from collections.abc import Iterator
+from dataclasses import dataclass, field
 from fractions import Fraction
 
 from ..analysis.findings import headline
 from ..analysis.follow import follow
 from ..errors import DeskError, Refused
 from ..formats.case import Case, completed, read_case
-from ..formats.network import Network, Split, read_network
+from ..formats.network import Exchanger, Mix, Network, Split, read_network
 from ..program.run import CaseText, NetworkText, Pinch
 from ..program.verdicts import Accepted, Rejected, TooFine, ending
 from .reduce.network_structure import Costed, Duties, duties_of, network_of, structure_of
 from .reduce.structure import Structure, splits
+from .wishes import NO_WISHES, CutCase, Wishes, splits_of
 
 
 class NotAccepted(DeskError):
@@ -25,10 +27,12 @@ class NotAccepted(DeskError):
 
 @dataclass(frozen=True)
 class AcceptedNetwork:
-    """A network with the verdict of `pinch audit` that accepted it."""
+    """A network with the verdict of `pinch audit` that accepted it; `uneven` is how many of its mixes join branches of
+    two temperatures."""
 
     network: Network
     verdict: Accepted
+    uneven: int = field(default=0, kw_only=True)
 
     @property
     def count(self) -> int:
@@ -40,12 +44,14 @@ class AcceptedNetwork:
 
     @property
     def splits(self) -> int:
-        return sum(isinstance(statement, Split) for statement in self.network.statements)
+        return splits_of(self.network)
 
     @property
-    def rank(self) -> tuple[int, Fraction, int]:
-        """What is less is better: exchangers, then the cost, then statements."""
-        return (self.count, self.cost, len(self.network.statements))
+    def rank(self) -> tuple[int, int, int, Fraction, int]:
+        """What is less is better: exchangers, splits, splits that are not mixed at one temperature, the cost, and then
+        the digits of its fractions."""
+        digits = sum(len(str(number)) for number in numbers_of(self.network))
+        return (self.count, self.splits, self.uneven, self.cost, digits)
 
 
 @dataclass(frozen=True)
@@ -60,6 +66,27 @@ class Judged(AcceptedNetwork):
         return splits(self.structure)
 
 
+def numbers_of(network: Network) -> Iterator[Fraction]:
+    """The duties and sizes of a network."""
+    for statement in network.statements:
+        if isinstance(statement, Exchanger):
+            yield statement.duty
+        elif isinstance(statement, Split):
+            yield statement.size
+
+
+def uneven_mixes(case: Case, network: Network) -> int:
+    """How many mixes join branches of two temperatures, or of two states of a latent stream."""
+    branches = follow(case, network).branches
+    return sum(branches[statement.first].state != branches[statement.second].state
+               for statement in network.statements if isinstance(statement, Mix))
+
+
+def accepted_network(case: Case, network: Network, verdict: Accepted) -> AcceptedNetwork:
+    """A network of a completed case that was accepted."""
+    return AcceptedNetwork(network, verdict, uneven=uneven_mixes(case, network))
+
+
 def case_of(case: CaseText) -> Case:
     """A case that may be a text, completed."""
     return completed(case if isinstance(case, Case) else read_case(case))
@@ -72,10 +99,18 @@ def held_network(network: NetworkText) -> Network:
 
 @dataclass
 class Judge:
-    """Asks `pinch audit` of a completed case."""
+    """Asks `pinch audit` of a completed case. What is searched has to be as it is wished; the cuts of the case, at
+    shifted temperatures, are for the wish that no exchanger works through one."""
 
     pinch: Pinch
     case: Case
+    wishes: Wishes = NO_WISHES
+    cuts: tuple[int, ...] = ()
+
+    @property
+    def whole(self) -> Case:
+        """The case that is audited."""
+        return self.case
 
     def accepted(self, text: NetworkText) -> AcceptedNetwork:
         """A network that somebody has, which the program reads first; `NotAccepted` where it is not accepted."""
@@ -84,24 +119,47 @@ class Judge:
         if not isinstance(verdict, Accepted):
             told = headline(follow(self.case, network), verdict)
             raise NotAccepted(told, verdict)
-        return AcceptedNetwork(network, verdict)
+        return accepted_network(self.case, network, verdict)
 
     def given(self, text: NetworkText) -> Judged:
         """The same with its structure; `Refused` where it has none."""
         found = self.accepted(text)
         structure, duties = structure_of(self.case, found.network), duties_of(found.network)
-        return Judged(found.network, found.verdict, structure, duties)
+        return Judged(found.network, found.verdict, structure, duties, uneven=found.uneven)
 
     def of(self, costed: Costed | None) -> Judged | None:
-        """What was found, where it is accepted at the cost that was worked out; None where it is not, or its fractions
-        are too fine to be written."""
+        """What was found, where it is accepted at the cost that was worked out and as it is wished; None where it is
+        not, or its fractions are too fine to be written."""
         if costed is None:
             return None
-        network = network_of(self.case, costed.structure, costed.duties)
+        network = network_of(self.whole, self.structure_of(costed.structure), costed.duties)
         try:
-            verdict = self.pinch.audit(self.case, network)
+            verdict = self.pinch.audit(self.whole, network)
         except Refused:
             return None
-        if not isinstance(verdict, Accepted) or verdict.cost != costed.cost:
+        if not isinstance(verdict, Accepted) or verdict.cost != costed.cost or not self.is_wished(network):
             return None
-        return Judged(network, verdict, costed.structure, costed.duties)
+        return Judged(network, verdict, costed.structure, costed.duties, uneven=uneven_mixes(self.whole, network))
+
+    def structure_of(self, structure: Structure) -> Structure:
+        """What was searched as a structure of the case that is audited."""
+        return structure
+
+    def is_wished(self, network: Network) -> bool:
+        """Whether an accepted network of the case is as it is wished."""
+        return self.wishes.are_met(self.whole, self.cuts, network)
+
+
+@dataclass
+class CutJudge(Judge):
+    """The same of networks that are searched in a case cut into its windows: that is then its `case`."""
+
+    cut: CutCase = field(kw_only=True)
+    audited: Case = field(kw_only=True)
+
+    @property
+    def whole(self) -> Case:
+        return self.audited
+
+    def structure_of(self, structure: Structure) -> Structure:
+        return self.cut.joined(structure)

@@ -6,23 +6,25 @@ import time
 from collections.abc import Callable
 from contextlib import suppress
 from dataclasses import replace
+from math import inf
 from threading import Lock, Thread
 
 from ..errors import Refused
-from ..program.run import Pinch
-from .accepted import AcceptedNetwork, Judge, Judged
+from .accepted import AcceptedNetwork, Judged
 from .budget import FOREVER, Effort, TimeOver
+from .finishing import finished
 from .reduce.network_structure import structure_of
-from .reduce.simplify import without_splits
 from .reduce.structure import Structure
 from .search_state import ALL_STEPS, NO_BETTER, TIME_OVER, TO_THE_END, SearchState, each_stream_has_one
-from .staged.ask import Solver
+from .staged.ask import Solver, least_of
 from .staged.pair_sets import PairSets
 from .staged.staged_search import Search
+from .staged.window_bound import window_bound_program
 from .staged.windows import whole, windows
 from .tasks import NetworkTask
 from .ticking.crew import JobCrew, processors
 from .ticking.plant_search import JobRow, Pace, PlantSearch
+from .wishes import NO_WISHES
 
 # In windows of so many sources the staged model is done in a moment, and does well at all.
 TINY, SMALL = 8, 13
@@ -37,7 +39,7 @@ class AllStarts:
 
     def __init__(self, task: NetworkTask, tell: Callable[[SearchState], None]) -> None:
         self.task, self.tell = task, tell
-        self.judge = Judge(Pinch(task.program), task.case)
+        self.judge = task.judge()
         self.state = SearchState(task.best, each_stream_has_one(task.case))
         self.largest = max((len(window.pieces) for window in windows(task.case, task.uses)), default=0)
         self.bettered = time.monotonic()
@@ -47,12 +49,12 @@ class AllStarts:
         """The best that is found; None where there is none."""
         is_tiny = self.largest <= TINY
         if self.task.way.steps is None:
-            if is_tiny:
+            if is_tiny and self.task.wishes == NO_WISHES:
                 self.stage(STAGED)
             else:
-                Thread(target=self.stage if self.largest <= SMALL else self.ask_bound, daemon=True).start()
+                Thread(target=self.beside, daemon=True).start()
         ended = TO_THE_END if self.enough() else self.tick(is_tiny)
-        self.unsplit()
+        self.finish()
         with self.lock:
             self.state = replace(self.state, ended=ended)
             self.tell(self.state)
@@ -69,7 +71,8 @@ class AllStarts:
             best = self.state.best
             if state.best is not None and (best is None or state.best.rank < best.rank):
                 best, self.bettered = state.best, time.monotonic()
-            self.state = SearchState(best, max(state.bound, self.state.bound), state.staged or self.state.staged)
+            self.state = SearchState(best, max(state.bound, self.state.bound), state.staged or self.state.staged,
+                                     of_uses=max(state.of_uses, self.state.of_uses))
             self.tell(self.state)
 
     def take(self, found: AcceptedNetwork) -> None:
@@ -81,20 +84,35 @@ class AllStarts:
         effort = Effort(task.seconds * part, task.begun)
         Search(self.judge.pinch, task.case, task.floor, task.most_cost, effort, task.best, self.hear).run(task.uses)
 
-    def ask_bound(self) -> None:
-        """What the solver says that no network has fewer exchangers than."""
-        solver = Solver(Effort(self.task.seconds, self.task.begun))
+    def beside(self) -> None:
+        """What is asked of the solver while windows are ticked off."""
+        if self.largest <= SMALL and self.task.wishes == NO_WISHES:
+            self.ask_bound(False)
+            self.stage()
+        else:
+            self.ask_bound(True)
+
+    def ask_bound(self, of_cost: bool) -> None:
+        """What the solver says that no network has fewer exchangers than: at the cost, and, where that is the least,
+        with its uses of the utilities."""
+        task, solver = self.task, Solver(Effort(self.task.seconds, self.task.begun))
         with suppress(TimeOver):
-            sets = PairSets(solver, whole(self.task.case, None), self.task.most_cost)
-            sets.first(self.task.seconds * BOUND)
-            self.hear(SearchState(None, sets.least))
+            if of_cost:
+                sets = PairSets(solver, whole(task.case, None), task.most_cost)
+                sets.first(task.seconds * BOUND)
+                self.hear(SearchState(None, sets.least))
+            if task.most_cost == task.floor:
+                program = window_bound_program(windows(task.case, task.uses))
+                self.hear(SearchState(None, of_uses=least_of(solver, program, task.seconds * BOUND)))
         solver.apart.end()
 
     def tick(self, is_tiny: bool) -> str:
         """Windows ticked off, for the rest of the time or for so many steps; why that ended."""
         task = self.task
-        search = PlantSearch(self.judge, task.uses, task.most_cost, self.take, self.begin(), task.way.seed,
-                             SHORT_JOBS if is_tiny else Pace())
+        pace = SHORT_JOBS if is_tiny else Pace()
+        if task.way.steps is not None:
+            pace = replace(pace, seconds=inf)
+        search = PlantSearch(self.judge, task.uses, task.most_cost, self.take, self.begin(), task.way.seed, pace)
         row, crew = JobRow(search), JobCrew(1 if is_tiny else task.way.workers or processors())
         self.bettered = time.monotonic()
         until = task.begun + (task.seconds * (1 - LAST) if task.way.steps is None else FOREVER)
@@ -118,17 +136,23 @@ class AllStarts:
         return why() or TIME_OVER
 
     def begin(self) -> Structure | None:
-        """The structure of the best network so far, where it has one."""
+        """The structure of the best network so far, where it has one, with what has to stay."""
+        best, wishes = self.state.best, self.task.wishes
+        if best is None or not wishes.may_cross:
+            return None
         with suppress(Refused):
-            if self.state.best is not None:
-                return structure_of(self.task.case, self.state.best.network)
+            kept = {exchanger.name: exchanger.duty for exchanger in wishes.kept}
+            return replace(structure_of(self.task.case, best.network), kept=kept)
         return None
 
-    def unsplit(self) -> None:
-        """Takes out the splits that can go."""
+    def finish(self) -> None:
+        """Takes out what costs nothing, as splits that can go."""
         best = self.state.best
-        if best is not None:
-            with suppress(Refused):
-                judged = best if isinstance(best, Judged) else self.judge.given(best.network)
-                end = self.task.begun + self.task.seconds
-                without_splits(self.judge, judged, self.task.most_cost, end, self.take)
+        if best is None or not isinstance(best, Judged) and not self.task.wishes.may_cross:
+            return
+        with suppress(Refused):
+            judged = best if isinstance(best, Judged) else self.judge.given(best.network)
+            kept = {exchanger.name: exchanger.duty for exchanger in self.task.wishes.kept}
+            judged = replace(judged, structure=replace(judged.structure, kept=kept))
+            finished(self.judge, judged, self.task.most_cost, self.task.begun + self.task.seconds, self.take,
+                     self.task.way.steps is not None)

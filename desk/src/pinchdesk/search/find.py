@@ -4,23 +4,26 @@ from __future__ import annotations
 import time
 from collections.abc import Callable
 from concurrent.futures import ThreadPoolExecutor
-from dataclasses import dataclass
+from dataclasses import dataclass, replace
 from fractions import Fraction
+from importlib.metadata import version
 
 from ..analysis.findings import headline
 from ..analysis.follow import follow
 from ..analysis.joined import network_count
-from ..errors import INFEASIBLE, DeskError, Status
+from ..errors import INFEASIBLE, DeskError, Status, WordsError
 from ..formats.case import Basis, Case, completed, read_case
 from ..formats.network import Network, print_network, read_network
 from ..formats.shown import Shown, decimal_up
 from ..program.answers import Cut, Design, HeatFlow
 from ..program.run import CaseText, NetworkText, Pinch
 from ..program.verdicts import Accepted, ending
-from .accepted import AcceptedNetwork
+from .accepted import AcceptedNetwork, accepted_network, case_of
 from .budget import FOREVER, GRACE, SearchWay, for_search, nobody
 from .search_state import INTERRUPTED, TIME_OVER, SearchState, each_stream_has_one
+from .staged.windows import windows
 from .tasks import NetworkTask, SearchProcess
+from .wishes import NO_WISHES, Wishes
 
 SECONDS = 60.0
 
@@ -37,9 +40,12 @@ class NoNetwork(DeskError):
 class FewExchangers:
     """A network that `pinch audit` accepted, with what it said. `bound` is what the solver says that no network at
     this cost has fewer exchangers than; `staged` the same for networks of so many stages, in each of the windows, with
-    isothermal mixing, None where that was not settled; `ended` is why the search ended. `basis` is that of the case;
-    `exchangers` are those of the plant, of which one that goes on across the kink of a stream is one; `annual` is what
-    is said of the cost of a year where the network was chosen by it."""
+    isothermal mixing, None where that was not settled; `ended` is why the search ended. `rule` is what the books' rule
+    counts, one less than the sources in each window: no bound. `tight` are the exchangers that work at the least
+    approach from end to end, and `libraries` those by which the same search finds the same again, where it does.
+    `of_uses` is the same as `bound` for networks with the uses of the utilities that the heat flow of least cost has.
+    `basis` is that of the case; `exchangers` are those of the plant, of which one that goes on across the kink of a
+    stream is one; `annual` is what is said of the cost of a year where the network was chosen by it."""
 
     network: Network
     verdict: Accepted
@@ -48,6 +54,10 @@ class FewExchangers:
     ended: str
     exchangers: int
     basis: Basis = Basis()
+    rule: int = 0
+    tight: tuple[str, ...] = ()
+    libraries: str = ''
+    of_uses: int = 0
     annual: str = ''
 
     @property
@@ -57,9 +67,10 @@ class FewExchangers:
 
     def comments(self) -> list[str]:
         shown, verdict = Shown(self.basis), self.verdict
-        return [self.counted, self.bounds, f'cost {shown.with_unit(verdict.cost)}',
+        return [self.counted, self.bounds, f'rule of the books, which is no bound: {self.rule}',
+                f'search: {self.ended}', f'cost {shown.with_unit(verdict.cost)}',
                 f'floor {shown.with_unit(verdict.floor)}', f'excess {shown.kilowatts(verdict.excess)} kW',
-                *([self.annual] if self.annual else []), *shown.scale_remarks()]
+                *([self.annual] if self.annual else []), *shown.scale_remarks(), *self.remarks()]
 
     @property
     def counted(self) -> str:
@@ -68,15 +79,33 @@ class FewExchangers:
         beside = f', {parts} in the program, which has segments as streams' if self.basis.segments else ''
         return f'{self.exchangers} exchangers{beside}'
 
+    def remarks(self) -> list[str]:
+        """What is said beside the network: which exchangers are large by their approach, and what a search by steps
+        used."""
+        told = []
+        if self.tight:
+            names, works = ', '.join(self.tight), 'works' if len(self.tight) == 1 else 'work'
+            told.append(f'{names} {works} at the least approach from end to end, which needs a large area')
+        if self.libraries:
+            told.append(f'the same again with the same seed and steps by {self.libraries}')
+        return told
+
     @property
     def bounds(self) -> str:
-        """What the solver says of fewer exchangers, in words; it has each segment of a stream as a stream."""
-        staged = ''
+        """What no network has fewer exchangers than, and which networks, in words; each segment is a stream of its own."""
+        parts = ' in the program, each segment a stream of its own,' if self.basis.segments else ''
+        told = [f'bound: at least {self.bound}{parts} in any network at this cost']
+        if self.of_uses > self.bound:
+            told.append(f'{self.of_uses} in any with these uses of the utilities')
         if self.staged is not None:
             stages = '+'.join(map(str, self.staged[1]))
-            staged = f'; at least {self.staged[0]} in {stages} stages with isothermal mixing'
-        parts = ' in the program, each segment a stream of its own,' if self.basis.segments else ''
-        return f'bound: at least {self.bound}{parts} by the solver{staged} ({self.ended})'
+            told.append(f'{self.staged[0]} in {stages} stages with isothermal mixing')
+        return ', '.join([*told, 'by the solver\'s floats'])
+
+    @property
+    def told(self) -> str:
+        """The bounds, and why the search ended."""
+        return f'{self.bounds} ({self.ended})'
 
 
 def unseen(found: AcceptedNetwork) -> None:
@@ -86,23 +115,25 @@ def unseen(found: AcceptedNetwork) -> None:
 def find_network(case: CaseText, most_cost: Fraction | int | None = None, above: Fraction | int | None = None,
                  seconds: Fraction | float = SECONDS, start: NetworkText | None = None,
                  tell: Callable[[str], None] = nobody, pinch: Pinch | None = None,
-                 begun: float | None = None, way: SearchWay = SearchWay(),
+                 begun: float | None = None, way: SearchWay = SearchWay(), wishes: Wishes = NO_WISHES,
                  seen: Callable[[AcceptedNetwork], None] = unseen) -> FewExchangers:
     """A network with as few exchangers as were found in the time, at the least cost; or at most at this cost (price
     times W), or so many percent above the least. `start` is a network to be bettered. `NoNetwork` where there is none.
 
     The time counts from the call, or from `begun` by `time.monotonic`. When it is over, or at an interruption from the
-    keyboard, the best so far is given: at least that of `pinch design`. `way` says in which way is searched, and may
-    have a number of steps in place of a time. Each network that may be given is `seen`."""
+    keyboard, the best so far is given: at least that of `pinch design` where it is as wished. `way` says in which way
+    is searched, and may have a number of steps in place of a time; `wishes` what the network has to be beside. Each
+    network that may be given is `seen`."""
     pinch, begun = pinch or Pinch(), time.monotonic() if begun is None else begun
     with SearchProcess() as process, ThreadPoolExecutor(1) as beside:
         designing = beside.submit(designed, pinch, case)
         flow = flow_of(pinch, case)
         asked = completed(case if isinstance(case, Case) else read_case(case))
         limit = limit_of(flow.cost, most_cost, above, Shown(asked.basis))
-        first = best_of(limit, seen, bettered(pinch, asked, start), designing.result())
+        begins = bettered(pinch, asked, start)
         lasts = float(seconds) if way.steps is None else FOREVER
-        task = task_of(pinch, asked, flow, limit, first, begun, lasts, way)
+        task = task_of(pinch, asked, flow, limit, None, begun, lasts, way, staying(wishes, begins, limit))
+        task = replace(task, best=best_of(task, seen, begins, designing.result()))
         state, ended = SearchState(task.best, each_stream_has_one(asked)), TIME_OVER
         try:
             for message in process.told(task, begun + lasts + GRACE):
@@ -113,7 +144,7 @@ def find_network(case: CaseText, most_cost: Fraction | int | None = None, above:
                 tell(str(state))
         except KeyboardInterrupt:
             ended = INTERRUPTED
-    return found_in(state, state.ended or ended, asked)
+    return found_in(task, state, state.ended or ended)
 
 
 def flow_of(pinch: Pinch, case: CaseText) -> HeatFlow:
@@ -125,22 +156,58 @@ def flow_of(pinch: Pinch, case: CaseText) -> HeatFlow:
 
 
 def task_of(pinch: Pinch, case: Case, flow: HeatFlow, limit: Fraction, best: AcceptedNetwork | None, begun: float,
-            seconds: float, way: SearchWay = SearchWay()) -> NetworkTask:
+            seconds: float, way: SearchWay = SearchWay(), wishes: Wishes = NO_WISHES) -> NetworkTask:
     """The search in a completed case with a heat flow of least cost."""
     uses = {use.name: use.heat for use in flow.uses}
-    return NetworkTask(pinch.path, case, flow.cost, uses, limit, best, begun, for_search(seconds), way)
+    return NetworkTask(pinch.path, case, flow.cost, uses, limit, best, begun, for_search(seconds), way, wishes)
 
 
-def found_in(state: SearchState, ended: str, case: Case) -> FewExchangers:
-    """What a search in a completed case found until it ended; `NoNetwork` where that is nothing."""
+def staying(wishes: Wishes, begins: AcceptedNetwork | None, limit: Fraction) -> Wishes:
+    """The wishes with the exchangers that stay. `WordsError` where the network to begin with has not all of them, or
+    where what stays cannot be searched; `NoNetwork` where that network costs more than it may."""
+    if not wishes.keep:
+        return wishes
+    if begins is None:
+        raise WordsError(f'--keep {",".join(wishes.keep)}: they are exchangers of a network, which --start names')
+    if not wishes.may_cross:
+        raise WordsError('--keep and --forbid-crossing cannot be asked together')
+    by_name = {exchanger.name: exchanger for exchanger in begins.network.exchangers}
+    for name in wishes.keep:
+        if name not in by_name:
+            raise WordsError(f'--keep {name}: the network to begin with has no exchanger of this name')
+    if begins.cost > limit:
+        raise NoNetwork('the network whose exchangers stay costs more than the network may cost', Status.FAILED)
+    return replace(wishes, kept=tuple(by_name[name] for name in wishes.keep))
+
+
+def found_in(task: NetworkTask, state: SearchState, ended: str) -> FewExchangers:
+    """What a search found until it ended; `NoNetwork` where that is nothing."""
     best = state.best
     if best is None and ended == INTERRUPTED:
         raise NoNetwork('interrupted before there was a network', Status.STOPPED)
+    if best is None and task.wishes != NO_WISHES:
+        raise NoNetwork(f'no network with {task.wishes.told} was found: allow more, or give it more time',
+                        Status.FAILED)
     if best is None:
         raise NoNetwork('no network was found in time, and `pinch design` has none', Status.FAILED)
     staged = state.staged if state.staged is not None and state.staged[0] <= best.count else None
+    rule = sum(len(window.pieces) - 1 for window in windows(task.case, task.uses))
+    libraries = '' if task.way.steps is None else f'numpy {version("numpy")} and scipy {version("scipy")}'
     return FewExchangers(best.network, best.verdict, min(state.bound, best.count), staged, ended,
-                         network_count(case, best.network), case.basis)
+                         network_count(task.case, best.network), task.case.basis, rule,
+                         tight_of(task.case, best.network), libraries, min(state.of_uses, best.count))
+
+
+def in_place_of(found: FewExchangers, case: Case, chosen: AcceptedNetwork, annual: str) -> FewExchangers:
+    """Another network of the same search in a completed case, chosen by its annual cost."""
+    return replace(found, network=chosen.network, verdict=chosen.verdict, annual=annual,
+                   exchangers=network_count(case, chosen.network), tight=tight_of(case, chosen.network))
+
+
+def tight_of(case: Case, network: Network) -> tuple[str, ...]:
+    """The exchangers that work at the least approach from end to end."""
+    return tuple(passage.exchanger.name for passage in follow(case, network).passages
+                 if passage.hot_end == passage.cold_end == passage.approach)
 
 
 def limit_of(floor: int, most_cost: Fraction | int | None, above: Fraction | int | None, shown: Shown) -> Fraction:
@@ -159,7 +226,9 @@ def designed(pinch: Pinch, case: CaseText) -> AcceptedNetwork | None:
     """The network of `pinch design`; None where there is none."""
     design = pinch.design(case)
     verdict = pinch.audit(case, design.text) if isinstance(design, Design) else None
-    return AcceptedNetwork(read_network(design.text), verdict) if isinstance(verdict, Accepted) else None
+    if not isinstance(verdict, Accepted):
+        return None
+    return accepted_network(case_of(case), read_network(design.text), verdict)
 
 
 def bettered(pinch: Pinch, case: Case, start: NetworkText | None) -> AcceptedNetwork | None:
@@ -169,13 +238,14 @@ def bettered(pinch: Pinch, case: Case, start: NetworkText | None) -> AcceptedNet
     network, verdict = start if isinstance(start, Network) else read_network(start), pinch.audit(case, start)
     if not isinstance(verdict, Accepted):
         raise NoNetwork(f'the network to begin with is {headline(follow(case, network), verdict)}', *ending([verdict]))
-    return AcceptedNetwork(network, verdict)
+    return accepted_network(case, network, verdict)
 
 
-def best_of(limit: Fraction, seen: Callable[[AcceptedNetwork], None],
+def best_of(task: NetworkTask, seen: Callable[[AcceptedNetwork], None],
             *found: AcceptedNetwork | None) -> AcceptedNetwork | None:
-    """The best of some networks that costs no more than it may; each of these is seen."""
-    within = [network for network in found if network and network.cost <= limit]
+    """The best of some networks that costs no more than it may and is as it is wished."""
+    within = [network for network in found if network and network.cost <= task.most_cost
+              and task.wishes.are_met(task.case, task.cuts, network.network)]
     for network in within:
         seen(network)
     return min(within, key=lambda network: network.rank) if within else None

@@ -14,12 +14,14 @@ ALL_STEPS, NO_BETTER = 'all steps done', 'nothing better was found'
 class SearchState:
     """The best network so far. `bound` is what the solver says that no network at this cost has fewer exchangers than;
     `staged` the same for networks of the staged model, with the stages of each window, None where that was not settled;
-    `ended` is why the search ended, None where it goes on."""
+    `ended` is why the search ended, None where it goes on; `of_uses` the same as `bound` for networks with the uses of
+    the utilities that the heat flow of least cost has, 0 where that is not known."""
 
     best: AcceptedNetwork | None
     bound: int = 0
     staged: tuple[int, tuple[int, ...]] | None = None
     ended: str | None = None
+    of_uses: int = 0
 
     def __str__(self) -> str:
         best = 'none yet' if self.best is None else str(self.best.count)

@@ -11,10 +11,12 @@ from ..errors import ProgramError
 from ..formats.case import Case
 from ..formats.network import Network
 from ..program.run import Pinch
-from .accepted import AcceptedNetwork, Judge, Judged
+from .accepted import AcceptedNetwork, CutJudge, Judge, Judged
 from .budget import SearchWay
 from .child import Child, Gone, Parent, Silent
 from .search_state import SearchState
+from .staged.windows import cuts_between, windows
+from .wishes import NO_WISHES, Wishes, cut_case
 
 Tell = Callable[[object], None]
 
@@ -33,6 +35,20 @@ class NetworkTask:
     begun: float
     seconds: float
     way: SearchWay = SearchWay()
+    wishes: Wishes = NO_WISHES
+
+    @property
+    def cuts(self) -> tuple[int, ...]:
+        """The shifted temperatures at which no heat crosses."""
+        return tuple(sorted({place for place, _ in cuts_between(self.case, self.uses)}, reverse=True))
+
+    def judge(self) -> Judge:
+        """Who judges what is searched; where nothing may work through a cut, in the case that is cut there."""
+        pinch = Pinch(self.program)
+        if self.wishes.may_cross:
+            return Judge(pinch, self.case, self.wishes, self.cuts)
+        cut = cut_case(self.case, windows(self.case, self.uses))
+        return CutJudge(pinch, cut.case, self.wishes, self.cuts, cut=cut, audited=self.case)
 
     def run(self, tell: Tell) -> AcceptedNetwork | None:
         from .all_starts import AllStarts

@@ -1,18 +1,19 @@
 """The word `network`."""
 from __future__ import annotations
 
-from dataclasses import dataclass, replace
+from dataclasses import dataclass
 from decimal import Decimal
 from typing import TYPE_CHECKING
 
 from ..errors import WordsError, about
 from ..formats.amounts import seconds_of, whole
-from ..formats.case import read_case
+from ..formats.case import Case, completed, read_case
 from ..formats.shown import Shown
 from ..program.run import Pinch
 from ..report.facts import Fact, FactRow
 from ..search.budget import SearchWay, Telling, nobody
-from ..search.find import FewExchangers, find_network, unseen
+from ..search.find import FewExchangers, find_network, in_place_of, unseen
+from ..search.wishes import Wishes
 from ..tables.cost_words import cost_of, percent_of
 from .forms import TEXT
 from .shared import CASE, annual_chooser
@@ -35,14 +36,20 @@ DECLARED = (
            ('--steps',), whole, metavar='N'),
     Option('seed', 'a number with which another search begins (1 unless given)', ('--seed',), whole, 1, metavar='N'),
     Option('workers', 'by how many workers it is searched, 1 to 8 (as many as there are processors)', ('--workers',),
-           whole, metavar='N', in_many=1))
-MOST_STEPS, MOST_WORKERS = 10 ** 6, 8
+           whole, metavar='N', in_many=1),
+    Option('most_splits', 'how many splits it has at most', ('--most-splits',), whole, metavar='N', one_of='splits'),
+    Option('no_splits', 'it has no split', ('--no-splits',), default=False, one_of='splits', switch=True),
+    Option('forbid_crossing', 'no exchanger works through a place where no heat crosses', ('--forbid-crossing',),
+           default=False, switch=True),
+    Option('keep', 'exchangers of the network of --start that stay, each with its streams and its duty', ('--keep',),
+           metavar='E1,E2'))
+MOST_STEPS, MOST_WORKERS, ANY_SPLITS = 10 ** 6, 8, 10 ** 4
 
 
 @dataclass(frozen=True)
 class NetworkOptions:
     """What a network may cost, at most or above the least cost; how long it may be searched, from a time by
-    `time.monotonic` on, else from the call; and in which way."""
+    `time.monotonic` on, else from the call; in which way; and what it has to be beside."""
 
     cost: str | None = None
     above: str | None = None
@@ -53,6 +60,20 @@ class NetworkOptions:
     seed: int = 1
     workers: int | None = None
     annual: bool = False
+    most_splits: int | None = None
+    no_splits: bool = False
+    forbid_crossing: bool = False
+    keep: str | None = None
+
+    @property
+    def wishes(self) -> Wishes:
+        """What the network has to be; `WordsError` where a number or a name is none."""
+        if self.most_splits is not None and not 0 <= self.most_splits <= ANY_SPLITS:
+            raise WordsError(f'--most-splits {self.most_splits}: a whole number from 0 to {ANY_SPLITS} is needed')
+        names = () if self.keep is None else tuple(name.strip() for name in self.keep.split(','))
+        if not all(names):
+            raise WordsError(f'--keep {self.keep}: the names of exchangers are needed, with commas between them')
+        return Wishes(0 if self.no_splits else self.most_splits, not self.forbid_crossing, names)
 
     @property
     def way(self) -> SearchWay:
@@ -68,24 +89,26 @@ def network(files: Files, options: NetworkOptions = NetworkOptions(), tell: Tell
     case, start = files.one('case'), files.get('start')
     seconds = seconds_of(options.seconds)
     above = None if options.above is None else percent_of(options.above)
+    wishes = options.wishes
     with about(case=case.name, network=start.name if start else 'network'):
         pinch = Pinch()
         pinch.targets(case.content)
         chooser = annual_chooser(read_case(case.content)) if options.annual else None
         most = None if options.cost is None else cost_of(options.cost, Shown(read_case(case.content).basis))
         found = find_network(case.content, most, above, seconds, start.content if start else None, tell, pinch,
-                             options.begun, options.way, chooser.see if chooser else unseen)
+                             options.begun, options.way, wishes, chooser.see if chooser else unseen)
         facts = network_facts(found)
         if chooser:
-            found, facts = chosen(found, chooser)
-    return Answer(in_form=lambda form: found.text, facts=(facts,), headline=found.bounds)
+            found, facts = chosen(found, completed(read_case(case.content)), chooser)
+    return Answer(in_form=lambda form: found.text, facts=(facts,), headline=found.told,
+                  notes=tuple(found.remarks()))
 
 
-def chosen(found: FewExchangers, chooser: AnnualChooser) -> tuple[FewExchangers, FactRow]:
+def chosen(found: FewExchangers, case: Case, chooser: AnnualChooser) -> tuple[FewExchangers, FactRow]:
     """The network of least annual cost in place of the one that was found last."""
     from ..report.cost_sheets import annual_facts
     choice = chooser.choice()
-    best = replace(found, network=choice.found.network, verdict=choice.found.verdict, annual=choice.told)
+    best = in_place_of(found, case, choice.found, choice.told)
     return best, (*network_facts(best), *annual_facts(choice.costs))
 
 

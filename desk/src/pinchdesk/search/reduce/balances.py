@@ -139,12 +139,14 @@ class DutyModel:
         return whole
 
     def balance_rows(self) -> Iterator[LinearRow]:
-        """Each stream exchanges its heat, and each utility within its range."""
+        """Each stream exchanges its heat, and each utility within its range; an exchanger that stays has its duty."""
         for source in self.case.sources:
             if isinstance(source, Stream):
                 yield self.sum_of(source).row(Fraction(source.heat), Fraction(source.heat))
             else:
                 yield self.sum_of(source).row(Fraction(source.least), Fraction(source.most))
+        for name, duty in self.structure.kept.items():
+            yield self.duty(name).row(duty, duty)
         yield from self.lane_rows
 
     def approach_rows(self, optional: bool) -> Iterator[LinearRow]:

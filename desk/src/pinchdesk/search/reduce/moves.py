@@ -132,7 +132,7 @@ def with_ends(case: Case, structure: Structure) -> Structure:
             pairs[name] = pair
             course = courses[stream.name]
             courses[stream.name] = (*course[:place], Through(name), *course[place:])
-    return Structure(pairs, courses)
+    return replace(structure, pairs=pairs, courses=courses)
 
 
 def may_meet(stream: Stream, utility: Utility) -> bool:

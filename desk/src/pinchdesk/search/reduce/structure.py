@@ -6,7 +6,7 @@ structure where its splits are closed inside one another, as they are in all but
 from __future__ import annotations
 
 from collections.abc import Iterator, Mapping
-from dataclasses import dataclass, replace
+from dataclasses import dataclass, field, replace
 from fractions import Fraction
 
 from ...errors import Refused
@@ -43,10 +43,12 @@ Course = tuple[Through | Parting, ...]
 
 @dataclass(frozen=True)
 class Structure:
-    """The hot and the cold source of each exchanger, by its name, and the course of each stream, by its name."""
+    """The hot and the cold source of each exchanger, by its name, and the course of each stream, by its name. `kept`
+    are the duties of exchangers that stay, in W."""
 
     pairs: Mapping[str, tuple[str, str]]
     courses: Mapping[str, Course]
+    kept: Mapping[str, Fraction] = field(default_factory=dict)
 
     def with_course(self, stream: str, course: Course) -> Structure:
         return replace(self, courses={**self.courses, stream: course})
@@ -116,7 +118,8 @@ def without(course: Course, gone: frozenset[str]) -> Course:
 def reduced(structure: Structure, gone: frozenset[str]) -> Structure:
     """A structure without some exchangers."""
     pairs = {name: pair for name, pair in structure.pairs.items() if name not in gone}
-    return Structure(pairs, {name: without(course, gone) for name, course in structure.courses.items()})
+    courses = {name: without(course, gone) for name, course in structure.courses.items()}
+    return replace(structure, pairs=pairs, courses=courses)
 
 
 def with_levels(course: Course) -> Course:

@@ -5,14 +5,15 @@ What is put in changes nothing with the duty 0, so the choice is never worse tha
 neighbourhood search, after Shaw 1998); but for a lane with a share of its own, which leaves less for the others."""
 from __future__ import annotations
 
-from collections.abc import Sequence
+from collections.abc import Iterable, Sequence
+from dataclasses import replace
 from fractions import Fraction
 from random import Random
 
 from ...formats.case import Case, Side, Source, Stream
 from .balances import beginning
 from .moves import letter_of, next_name, put_around, put_in, taken_names, with_ends
-from .structure import Structure
+from .structure import Structure, partings
 
 Pair = tuple[str, str]
 
@@ -49,7 +50,7 @@ def split_off(case: Case, structure: Structure, pairs: Sequence[Pair], chance: R
             courses[source_name] = chance.choice(list(put_around(courses[source_name], name, share)))
         elif source_name in courses:
             courses[source_name] = chance.choice(list(put_in(courses[source_name], name)))
-    return Structure({**structure.pairs, name: pair}, courses)
+    return replace(structure, pairs={**structure.pairs, name: pair}, courses=courses)
 
 
 def share_of(stream: Source, partner: Source, chance: Random) -> Fraction:
@@ -65,11 +66,21 @@ def widened(case: Case, structure: Structure, pairs: Sequence[Pair], count: int,
     ends of its streams; of every two one has a lane more."""
     if chance.random() < 0.5:
         structure = split_off(case, structure, pairs, chance)
+    return with_ends(case, with_more(case, structure, chance.choices(pairs, k=count), chance))
+
+
+def with_more(case: Case, structure: Structure, pairs: Iterable[Pair], chance: Random, may_split: bool = True,
+              ) -> Structure:
+    """A structure with one more exchanger for each of these pairs, at places that chance picks, with no split more
+    where none may come."""
     wider_pairs, courses, taken = dict(structure.pairs), dict(structure.courses), taken_names(case, structure)
-    for pair in chance.choices(pairs, k=count):
+    for pair in pairs:
         name = next_name(taken, letter_of(case, pair))
         wider_pairs[name] = pair
         for source_name in pair:
             if source_name in courses:
-                courses[source_name] = chance.choice(list(put_in(courses[source_name], name)))
-    return with_ends(case, Structure(wider_pairs, courses))
+                ways = list(put_in(courses[source_name], name))
+                if not may_split:
+                    ways = [way for way in ways if partings(way) == partings(courses[source_name])]
+                courses[source_name] = chance.choice(ways)
+    return replace(structure, pairs=wider_pairs, courses=courses)

@@ -7,12 +7,14 @@ from fractions import Fraction
 
 from ..budget import Effort, rounded_up
 from ..solver.interior_point import roomy
-from ..solver.linear import OutOfTime, exact
+from ..solver.linear import OutOfTime, Program, exact
 from ..solver.process import Apart
 from .model import StagedModel
 from .slots import Asked, Slot
 from .stages import model_of
 
+# How near the best a point has to be whose bound is asked for.
+GAP = 1e-6
 # A denominator above this makes sizes of branches that are too fine for `pinch audit`.
 LONG = 10 ** 9
 
@@ -71,6 +73,15 @@ class Solver:
         point = point_at(model, solved.values)
         answer = None if point is None else SolverAnswer(model, point)
         return SolverOutcome(answer, rounded_up(solved.bound), solved.optimal and answer is not None)
+
+
+def least_of(solver: Solver, program: Program, seconds: float) -> int:
+    """What the solver says that no point of a program has fewer exchangers than, after so long."""
+    try:
+        solved = solver.apart.solve(program, solver.effort.slice(seconds), GAP)
+    except OutOfTime as fault:
+        return rounded_up(fault.bound)
+    return 0 if solved is None else rounded_up(solved.bound)
 
 
 def point_at(model: StagedModel, values: Sequence[float]) -> tuple[Fraction, ...] | None:

@@ -100,6 +100,16 @@ class Transshipment:
 def transshipment(window: Window, most_cost: Fraction | None = None) -> tuple[Program, dict[Pair, int]]:
     """The program of a window and the variables of its pairs; with a cost that is not to be passed where the heat of
     the utilities is open."""
+    pair_model = pair_model_of(window)
+    if most_cost is not None:
+        pair_model.add_cost(most_cost)
+    model, aim = pair_model.model, tuple((at, ONE) for at in pair_model.used.values())
+    return (Program(tuple(model.lows), tuple(model.highs), frozenset(model.wholes), tuple(model.rows), aim),
+            pair_model.used)
+
+
+def pair_model_of(window: Window) -> Transshipment:
+    """The model of a window, without a cost."""
     pair_model = Transshipment(window, StagedModel(Asked((window,), (0,)), unit_of((window,))), bands_of(window))
     for hot in window.hots:
         for cold in window.colds:
@@ -114,8 +124,4 @@ def transshipment(window: Window, most_cost: Fraction | None = None) -> tuple[Pr
             pair_model.add_cold(piece)
         if piece.least:
             pair_model.model.row([(at, ONE) for pair, at in pair_model.used.items() if piece.name in pair], ONE, None)
-    if most_cost is not None:
-        pair_model.add_cost(most_cost)
-    model, aim = pair_model.model, tuple((at, ONE) for at in pair_model.used.values())
-    return (Program(tuple(model.lows), tuple(model.highs), frozenset(model.wholes), tuple(model.rows), aim),
-            pair_model.used)
+    return pair_model

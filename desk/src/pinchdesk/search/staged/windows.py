@@ -81,10 +81,15 @@ def whole(case: Case, uses: Mapping[str, int] | None) -> Window:
 
 def windows(case: Case, uses: Mapping[str, int]) -> tuple[Window, ...]:
     """The windows of a completed case with these uses, from the hottest down."""
-    window = whole(case, uses)
-    cuts = [cut for cut in cuts_of(window) if cascade(window, cut) == 0]
+    window, cuts = whole(case, uses), cuts_between(case, uses)
     cut_windows = [between(window, above, below) for above, below in zip([None, *cuts], [*cuts, None])]
     return tuple(cut_window for cut_window in cut_windows if cut_window.pieces)
+
+
+def cuts_between(case: Case, uses: Mapping[str, int]) -> tuple[Cut, ...]:
+    """The places where no heat crosses with these uses, from the hottest down, the outer ends among them."""
+    window = whole(case, uses)
+    return tuple(cut for cut in cuts_of(window) if cascade(window, cut) == 0)
 
 
 def cuts_of(window: Window) -> Iterator[Cut]:

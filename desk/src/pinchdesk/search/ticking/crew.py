@@ -7,7 +7,7 @@ import time
 from collections.abc import Callable, Sequence
 
 from ..child import Child, Parent
-from .jobs import ChainJob, CombineJob, DropJob, ThinJob
+from .jobs import ChainJob, CombineJob, DropJob, GrowJob, StartJob, ThinJob
 from .plant_search import LAG, JobRow
 
 # So often it is asked at least whether it stops, in seconds.
@@ -61,5 +61,5 @@ def serve() -> None:
     """What a process does: jobs, until nobody asks."""
     parent = Parent()
     for job in parent.asked():
-        assert isinstance(job, ChainJob | CombineJob | ThinJob | DropJob)
+        assert isinstance(job, ChainJob | CombineJob | ThinJob | StartJob | GrowJob | DropJob)
         parent.tell(job.run())

@@ -7,7 +7,7 @@ from math import inf
 from random import Random
 
 from .completing import completion
-from .window_courses import BESIDE, BOTTOM, TOP, Tick
+from .window_courses import Tick
 from .heat_left import Fit, HeatLeft
 
 # The largest part of a duty that fits is found by so many halvings; a smaller part of it than this is none.
@@ -174,8 +174,8 @@ class Descent:
                 if not self.left.may_meet(hot, cold):
                     continue
                 weight = 0.5 + self.random.random()
-                for hot_place in (TOP,) if self.left.levels[hot] else (TOP, BOTTOM, BESIDE):
-                    for cold_place in (TOP,) if self.left.levels[cold] else (TOP, BOTTOM, BESIDE):
+                for hot_place in self.left.places_of(hot):
+                    for cold_place in self.left.places_of(cold):
                         fit = self.part(hot, cold, hot_place, cold_place, largest / weight)
                         if fit and fit.tick.duty * weight > largest:
                             best, largest = fit, fit.tick.duty * weight

@@ -125,6 +125,9 @@ class FloatDuties:
         for stream in self.case.streams:
             equal.append(sums[stream.name])
             equals.append(stream.heat / self.unit)
+        for name, duty in self.structure.kept.items():
+            equal.append(numpy.eye(1, self.count, self.at[name])[0])
+            equals.append(float(duty) / self.unit)
         for utility in self.case.utilities:
             below.append(sums[utility.name])
             limits.append(utility.most / self.unit)

@@ -15,6 +15,8 @@ from .window_courses import BESIDE, BOTTOM, CORNER_BOTTOM, CORNER_TOP, CUT, TOP,
 # Two temperatures that are nearer are one, in tenths of °C; the range of a level; a heat that is none, as a part of
 # all.
 NEAR, LEVEL_RANGE, FINE = 1e-6, 1e-2, 1e-9
+# Of what is none so much counts where a duty is fitted to the cascade.
+STRICT = 1e-3
 # So much of all heat may be left over at the end.
 LEFT_OVER = 1e-6
 # The cascade is 0 where it is less than so many times what is none.
@@ -50,9 +52,11 @@ def range_of(piece: WindowPiece) -> tuple[float, float]:
 
 
 class HeatLeft:
-    """The rectangles that are left, by slots, the cascade, and the exchangers so far."""
+    """The rectangles that are left, by slots, the cascade, and the exchangers so far. Where streams may not be split
+    (`may_split`) an exchanger stands at an end of what is left."""
 
-    def __init__(self, window: Window) -> None:
+    def __init__(self, window: Window, may_split: bool = True) -> None:
+        self.may_split = may_split
         ranges = [range_of(piece) for piece in window.pieces]
         self.highs, self.lows = [high for high, _ in ranges], [low for _, low in ranges]
         self.loads = [float(piece.most) for piece in window.pieces]
@@ -115,20 +119,22 @@ class HeatLeft:
     def may_meet(self, hot: int, cold: int) -> bool:
         return not self.forbidden or (self.origins[hot], self.origins[cold]) not in self.forbidden
 
-    def fits(self, warm: Rectangle, cool: Rectangle) -> bool:
+    def fits(self, warm: Rectangle, cool: Rectangle, strictly: bool = False) -> bool:
         """Whether an exchanger between two rectangles has warm ends that are warm enough, and leaves a cascade that is
-        nowhere below 0."""
+        nowhere below 0; `strictly` where what it takes was fitted to the cascade, so that it is not below 0 by what
+        counts as none, and nothing that is left is out of reach by that."""
         high, low, size = warm
         top, bottom, other = cool
+        none = self.none * STRICT if strictly else self.none
         if high < top - NEAR or low < bottom - NEAR:
             return False
         # What is taken is most at one of these two.
         for place in (low, top):
             if bottom < place < high:
                 taken = size * (high - max(place, low)) - other * max(0.0, top - place)
-                if taken > self.heat_at(place) + self.none:
+                if taken > self.heat_at(place) + none:
                     return False
-        places, heats, none = self.places, self.heats, self.none
+        places, heats = self.places, self.heats
         for at in range(bisect_right(places, bottom), bisect_left(places, high)):
             place = places[at]
             taken = size * (high - (place if place > low else low))
@@ -155,10 +161,10 @@ class HeatLeft:
         return Rectangle(low + duty / partner_size, low, partner_size)
 
     def fit(self, tick: Tick) -> Fit | None:
-        """An exchanger as it fits; None where it does not."""
+        """An exchanger whose duty is fitted to the cascade; None where it does not fit."""
         warm = self.part(tick.hot, tick.hot_place, tick.duty, self.size(tick.cold))
         cool = self.part(tick.cold, tick.cold_place, tick.duty, self.size(tick.hot))
-        return Fit(tick, warm, cool) if self.fits(warm, cool) else None
+        return Fit(tick, warm, cool) if self.fits(warm, cool, True) else None
 
     def finished(self, hot: int, cold: int) -> int:
         """Which source the whole smaller heat finishes: 1 the hot one, -1 the cold one, 0 both."""
@@ -190,12 +196,17 @@ class HeatLeft:
         if self.highs[hot] < self.lows[cold] - NEAR or not self.may_meet(hot, cold):
             return []
         which = self.finished(hot, cold)
-        is_level = self.levels[hot if which < 0 else cold]
-        return self.finishing(hot, cold, (BESIDE,) if is_level else (TOP, BOTTOM, BESIDE), which)
+        return self.finishing(hot, cold, self.places_of(hot if which < 0 else cold), which)
+
+    def places_of(self, slot: int) -> tuple[int, ...]:
+        """The places that a part of a source can have."""
+        if self.levels[slot]:
+            return (BESIDE,)
+        return (TOP, BOTTOM, BESIDE) if self.may_split else (TOP, BOTTOM)
 
     def corner_fits(self, hot: int, cold: int) -> list[Fit]:
         """The exchangers that finish the smaller of two sources in a corner of the larger one, and fit."""
-        if self.highs[hot] < self.lows[cold] - NEAR or self.levels[hot] or self.levels[cold]:
+        if self.highs[hot] < self.lows[cold] - NEAR or self.levels[hot] or self.levels[cold] or not self.may_split:
             return []
         which = self.finished(hot, cold)
         if which == 0 or not self.may_meet(hot, cold):

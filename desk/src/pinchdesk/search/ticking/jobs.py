@@ -2,7 +2,7 @@
 from __future__ import annotations
 
 from collections.abc import Iterator, Sequence
-from dataclasses import dataclass
+from dataclasses import dataclass, replace
 from fractions import Fraction
 from random import Random
 
@@ -14,13 +14,16 @@ from ..reduce.structure import Structure
 from ..staged.windows import Window
 from .window_courses import Chain, ChainEnd
 from .dropping import dropped
+from .growing import Growing, grown
 from .ruin import run_chain
 from .short_fractions import with_room
-from .thinning import Mixing, Rank, Thinned, combined, thinned
+from .thinning import MOST, Aim, Mixing, Thinned, combined, thinned
 
 
 # A duty with a smaller denominator is short enough for a text whose fractions `pinch audit` follows.
 SHORT = 2 ** 24
+# How often the first network of a large case is thinned out without a gain.
+START_ROUNDS = 2
 
 
 @dataclass(frozen=True)
@@ -43,9 +46,10 @@ class ChainJob:
     steps: int
     begin: Chain
     least: int | None
+    may_split: bool = True
 
     def run(self) -> ChainEnd:
-        return run_chain(self.window, self.seed, self.steps, self.begin, self.least)
+        return run_chain(self.window, self.seed, self.steps, self.begin, self.least, self.may_split)
 
 
 @dataclass(frozen=True)
@@ -55,11 +59,11 @@ class CombineJob:
     mixing: Mixing
     seed: int
     tries: int
-    least: Rank
+    aim: Aim
 
     def run(self) -> WholeEnd:
-        found = combined(self.mixing, self.seed, self.tries, self.least[0])
-        return whole_end(self.mixing.case, found, self.mixing.most_cost, self.least)
+        found = combined(self.mixing, self.seed, self.tries, self.aim)
+        return whole_end(self.mixing.case, found, self.mixing.most_cost, self.aim)
 
 
 @dataclass(frozen=True)
@@ -71,13 +75,50 @@ class ThinJob:
     most_cost: Fraction
     seed: int
     times: int
-    least: Rank
+    aim: Aim
 
     def run(self) -> WholeEnd:
         random = Random(self.seed)
         found = (thinned(self.case, self.structure, self.most_cost, random) for _ in range(self.times))
-        return whole_end(self.case, sorted((thin for thin in found if thin), key=lambda thin: thin.rank),
-                         self.most_cost, self.least)
+        return whole_end(self.case, [thin for thin in found if thin], self.most_cost, self.aim)
+
+
+@dataclass(frozen=True)
+class StartJob:
+    """A first network of a large case, in the first seconds: a few descents in each window, and the best of them
+    combined."""
+
+    mixing: Mixing
+    parts: tuple[Window, ...]
+    seed: int
+    steps: int
+    aim: Aim
+    may_split: bool = True
+
+    def run(self) -> WholeEnd:
+        ends = [run_chain(part, self.seed, self.steps, Chain(), None, self.may_split) for part in self.parts]
+        if not all(end.networks for end in ends):
+            return WholeEnd((), ())
+        first = tuple(min(end.networks, key=lambda network: (network.count, len(network.pairs))) for end in ends)
+        mixing, random = self.mixing, Random(self.seed)
+        thin = thinned(mixing.case, mixing.structure(first), mixing.most_cost, random, START_ROUNDS)
+        found = [] if thin is None else [replace(thin, combination=first)]
+        return whole_end(mixing.case, found, mixing.most_cost, self.aim)
+
+
+@dataclass(frozen=True)
+class GrowJob:
+    """A structure of the whole case changed so many times at a few places."""
+
+    growing: Growing
+    structure: Structure
+    seed: int
+    tries: int
+    aim: Aim
+
+    def run(self) -> WholeEnd:
+        found = grown(self.growing, self.structure, self.seed, self.tries, self.aim)
+        return whole_end(self.growing.case, found, self.growing.most_cost, self.aim)
 
 
 @dataclass(frozen=True)
@@ -89,24 +130,25 @@ class DropJob:
     most_cost: Fraction
     nodes: int
     seconds: float
-    least: Rank
+    aim: Aim
 
     def run(self) -> WholeEnd:
-        most = min(self.least[0], len(self.structure.pairs)) - 1
+        most = min(self.aim.exchangers, len(self.structure.pairs)) - 1
         found = dropped(self.case, self.structure, self.most_cost, most, self.nodes, self.seconds)
-        return whole_end(self.case, [found] if found else [], self.most_cost, self.least)
+        return whole_end(self.case, [found] if found else [], self.most_cost, self.aim)
 
 
-def whole_end(case: Case, found: Sequence[Thinned], most_cost: Fraction, least: Rank) -> WholeEnd:
-    """What a job of the whole case gives: what it found, fewest exchangers first, and the best of it that is below the
-    least and does in fractions too."""
+def whole_end(case: Case, thins: Sequence[Thinned], most_cost: Fraction, aim: Aim) -> WholeEnd:
+    """What a job of the whole case gives: what it found, the best first, and the best of it that is better than the
+    best so far and does in fractions too."""
+    found = tuple(sorted(thins, key=lambda thin: aim.rank(thin.structure)))[:MOST]
     for thin in found:
-        if thin.rank >= least:
+        if aim.rank(thin.structure) >= aim.least:
             break
         exact = tuple(exact_kinds(case, thin.structure, most_cost))
         if exact:
-            return WholeEnd(tuple(found), exact)
-    return WholeEnd(tuple(found), ())
+            return WholeEnd(found, exact)
+    return WholeEnd(found, ())
 
 
 def exact_kinds(case: Case, structure: Structure, most_cost: Fraction) -> Iterator[Costed]:
@@ -126,4 +168,4 @@ def cheapest_at(case: Case, structure: Structure, most_cost: Fraction) -> Costed
     return costed if costed is not None and costed.cost <= most_cost else None
 
 
-Job = ChainJob | CombineJob | ThinJob | DropJob
+Job = ChainJob | CombineJob | ThinJob | StartJob | GrowJob | DropJob

@@ -5,15 +5,17 @@ so that a number of jobs finds the same networks by one process or by many."""
 from __future__ import annotations
 
 from collections.abc import Callable, Mapping, Sequence
-from dataclasses import dataclass, field
+from dataclasses import dataclass, field, replace
 from fractions import Fraction
 
 from ..accepted import Judge, Judged
-from ..reduce.structure import Structure, splits
+from ..reduce.structure import Structure
+from ..reduce.widen import pairs_of
 from ..staged.windows import Window, windows
 from .window_courses import Chain, ChainEnd, WindowNetwork, shape_of
-from .jobs import ChainJob, CombineJob, DropJob, Job, ThinJob, WholeEnd
-from .thinning import MANY, Combination, Mixing, Rank, Thinned
+from .growing import Growing
+from .jobs import ChainJob, CombineJob, DropJob, GrowJob, Job, StartJob, ThinJob, WholeEnd
+from .thinning import Aim, Combination, Mixing, Thinned
 
 # A job is asked when so many before it are still at work: as many processes are busy.
 LAG = 8
@@ -25,17 +27,24 @@ SLOWER, FEWEST_STEPS = 1.5, 5
 FULL_TURN = 3
 # Networks of a window that are kept; structures that wait to be made less.
 KEPT, CANDIDATES = 150, 20
+# In a window of more sources than this the search begins with a few descents in each; a network to begin with that has
+# so many times as many exchangers as there are sources is left aside.
+LARGE, LONG_START = 20, 6.0
+# Networks of the whole that are changed at a few places: so many of the latest best ones.
+GROUNDS = 6
 # A seed is a number below this.
 SEEDS = 2 ** 31 - 1
 
 
 @dataclass(frozen=True)
 class Pace:
-    """How much one job does: descents in a window of ten sources, combinations, how often the first network is thinned
-    out; and the limits of a program that drops exchangers: nodes, and seconds, which should never count."""
+    """How much one job does: descents in a window of ten sources, combinations, changes at a few places, how often the
+    first network is thinned out; and the limits of a program that drops exchangers: nodes, and seconds, which there are
+    only where the search has a time."""
 
     steps: int = 600
     tries: int = 60
+    growths: int = 40
     thinnings: int = 3
     nodes: int = 200
     seconds: float = 60.0
@@ -79,6 +88,16 @@ def chains_of(parts: Sequence[Window]) -> list[int]:
     return [max(1, round((LAG - 2) * square / sum(squares))) for square in squares]
 
 
+def cycle_of(pools: Sequence[WindowPool]) -> list[tuple[int, int] | None]:
+    """A chain of a window, or None for a job of the whole case, one after the other."""
+    cycle: list[tuple[int, int] | None] = []
+    for at, pool in enumerate(pools):
+        for number in range(len(pool.chains)):
+            cycle.append((at, number))
+            cycle += [None] * (len(cycle) % (CHAINS_TO_ONE + 1) == CHAINS_TO_ONE)
+    return cycle + [None] * (None not in cycle)
+
+
 class PlantSearch:
     """A search in a completed case, with the heats of its utilities at the least cost. Networks cost at most
     `most_cost`, and have fewer exchangers than the `begin` one, or as many and fewer splits; `tell` gets those that
@@ -88,43 +107,54 @@ class PlantSearch:
                  begin: Structure | None = None, seed: int = 1, pace: Pace = Pace()) -> None:
         self.judge, self.most_cost, self.tell = judge, most_cost, tell
         self.begin, self.seed, self.pace = begin, seed, pace
-        self.least: Rank = (MANY, 0) if begin is None else (len(begin.pairs), splits(begin))
+        self.aim = Aim(most_splits=judge.wishes.most_splits)
+        if begin is not None:
+            self.aim = replace(self.aim, least=self.aim.rank(begin))
         self.pays = most_cost > sum(utility.price * uses[utility.name] for utility in judge.case.utilities)
-        parts = windows(judge.case, uses)
-        self.pools = [WindowPool(window, [Chain()] * count) for window, count in zip(parts, chains_of(parts))]
+        self.parts = windows(judge.case, uses)
+        self.is_large = max(len(part.pieces) for part in self.parts) > LARGE
+        if begin is not None and not judge.wishes.kept and len(begin.pairs) > LONG_START * len(judge.case.sources):
+            self.begin = None
+        self.growing = Growing(judge.case, pairs_of(judge.case), most_cost, judge.wishes.most_splits)
+        self.pools = [WindowPool(part, [Chain()] * count) for part, count in zip(self.parts, chains_of(self.parts))]
         # Structures whose exchangers may go together, the latest last, and those that were looked at.
         self.candidates: list[Structure] = []
         self.known: set[str] = set()
         # The combination of the best network so far, for every other job that combines.
         self.favourite: Combination = ()
+        # The latest of the networks of the fewest exchangers, in floats.
+        self.grounds: list[Structure] = []
         # How many jobs were taken, and when the last of them found something better.
         self.taken, self.bettered = 0, 0
-        # A chain of a window, or None for a job of the whole case, one after the other.
-        self.cycle: list[tuple[int, int] | None] = []
-        for at, pool in enumerate(self.pools):
-            for number in range(len(pool.chains)):
-                self.cycle.append((at, number))
-                self.cycle += [None] * (len(self.cycle) % (CHAINS_TO_ONE + 1) == CHAINS_TO_ONE)
-        self.cycle += [None] * (None not in self.cycle)
+        # What stays may stand in several windows, so that these are not searched by themselves then.
+        self.cycle = [None] if judge.wishes.kept else cycle_of(self.pools)
 
     def job(self, number: int) -> Job:
         """The job of this number."""
+        if number == 0 and self.is_large and not self.judge.wishes.kept:
+            mixing = Mixing(self.judge.case, (), self.most_cost, self.pays)
+            return StartJob(mixing, self.parts, self.seed_of(0), FEWEST_STEPS, self.aim, self.aim.most_splits != 0)
         place = self.cycle[number % len(self.cycle)]
-        if place is not None:
-            return self.chain_job(number, *place)
-        case, cost = self.judge.case, self.most_cost
-        order = self.order_of(number)
-        if self.begin is not None and order == 0:
-            return ThinJob(case, self.begin, cost, self.seed_of(number), self.pace.thinnings, self.least)
+        return self.whole_job(number) if place is None else self.chain_job(number, *place)
+
+    def whole_job(self, number: int) -> Job:
+        """A job of the whole case: what the search begins with, then networks that are changed at a few places, whose
+        exchangers go together, and that are combined, in turn."""
+        case, cost, seed, aim = self.judge.case, self.most_cost, self.seed_of(number), self.aim
+        order, keeps = self.order_of(number), bool(self.judge.wishes.kept)
+        if self.begin is not None and (order == 0 or keeps and not self.grounds):
+            return ThinJob(case, self.begin, cost, seed, self.pace.thinnings, aim)
+        if self.candidates and order % 3 == 2:
+            return DropJob(case, self.candidates.pop(), cost, self.pace.nodes, self.pace.seconds, aim)
+        if self.grounds and (order % 3 == 1 or keeps):
+            ground = self.grounds[order // 3 % len(self.grounds)]
+            return GrowJob(self.growing, ground, seed, self.pace.growths, aim)
         empty = [at for at, pool in enumerate(self.pools) if not pool.networks]
         if empty:
             return self.chain_job(number, empty[0], 0)
-        if self.candidates and order % 3 == 2:
-            return DropJob(case, self.candidates.pop(), cost, self.pace.nodes, self.pace.seconds, self.least)
         pools = [tuple(pool.networks.values()) for pool in self.pools]
-        begin = self.favourite if order % 2 else ()
-        mixing = Mixing(case, pools, cost, self.pays, begin)
-        return CombineJob(mixing, self.seed_of(number), self.pace.tries, self.least)
+        mixing = Mixing(case, pools, cost, self.pays, self.favourite if order % 2 else ())
+        return CombineJob(mixing, seed, self.pace.tries, aim)
 
     def order_of(self, number: int) -> int:
         """Which of the jobs of the whole case a job is, from 0."""
@@ -132,9 +162,11 @@ class PlantSearch:
         return turns * self.cycle.count(None) + self.cycle[:at].count(None)
 
     def chain_job(self, number: int, at: int, chain: int) -> ChainJob:
-        pool = self.pools[at]
+        pool, most_splits = self.pools[at], self.aim.most_splits
+        may_split = most_splits is None or most_splits > 0 and number % 2 == 0
         return ChainJob(pool.window, at, chain, self.seed_of(number),
-                        self.pace.steps_of(pool.window, number // len(self.cycle)), pool.chains[chain], pool.least)
+                        self.pace.steps_of(pool.window, number // len(self.cycle)), pool.chains[chain], pool.least,
+                        may_split)
 
     def seed_of(self, number: int) -> int:
         """The seed of a job."""
@@ -150,19 +182,27 @@ class PlantSearch:
         assert isinstance(end, WholeEnd)
         for thin in end.found:
             self.note(thin)
-        if end.found and end.found[0].combination and end.found[0].count <= self.least[0]:
+        if end.found and end.found[0].combination and end.found[0].count <= self.aim.exchangers:
             self.favourite = end.found[0].combination
         for costed in end.exact:
-            if (len(costed.duties), splits(costed.structure)) < self.least:
+            rank = self.aim.rank(costed.structure)
+            if rank < self.aim.least:
                 judged = self.judge.of(costed)
                 if judged is not None:
-                    self.least, self.bettered = (judged.count, judged.splits), self.taken
+                    self.aim, self.bettered = replace(self.aim, least=rank), self.taken
                     self.tell(judged)
 
     def note(self, thin: Thinned) -> None:
         """Keeps a structure that is near the best, which may be made less later."""
         shape = shape_of(thin.structure.pairs, thin.structure.courses)
-        if thin.count <= self.least[0] + 1 and shape not in self.known:
+        if shape in self.known:
+            return
+        rank = self.aim.rank(thin.structure)[:2]
+        best = self.aim.rank(self.grounds[-1])[:2] if self.grounds else rank
+        if rank <= best:
+            self.known.add(shape)
+            self.grounds = [*(self.grounds[1 - GROUNDS:] if rank == best else ()), thin.structure]
+        if thin.count <= self.aim.exchangers + 1:
             self.known.add(shape)
             self.candidates = [*self.candidates[-CANDIDATES:], thin.structure]
 

@@ -90,10 +90,12 @@ def straight_part(window: Window) -> float:
     return min(0.95, max(0.05, (len(window.pieces) - FEW_SOURCES) / FEW_SOURCES))
 
 
-def run_chain(window: Window, seed: int, steps: int, begin: Chain, least: int | None) -> ChainEnd:
+def run_chain(window: Window, seed: int, steps: int, begin: Chain, least: int | None, may_split: bool = True,
+              ) -> ChainEnd:
     """So many descents more of a chain, with the different networks on the way that have at most one exchanger more
     than the least, or than the least of the chain."""
-    random, first, straight = Random(seed), HeatLeft(window), straight_part(window)
+    random, first = Random(seed), HeatLeft(window, may_split)
+    straight = straight_part(window) if may_split else 0.0
     now, best = begin, begin.count if begin.ticks else most_of(window)
     found: dict[tuple[Tick, ...], None] = {}
     for _ in range(steps):

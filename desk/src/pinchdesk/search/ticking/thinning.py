@@ -28,8 +28,27 @@ NEAR_BEST, MOST, WORSE, MANY = 2, 6, 0.1, 10 ** 6
 LONG = 1
 
 
-# A number of exchangers and one of splits.
-Rank = tuple[int, int]
+# How many splits are too many, a number of exchangers, and one of splits.
+Rank = tuple[int, int, int]
+
+
+@dataclass(frozen=True)
+class Aim:
+    """What is searched: fewer exchangers than the best so far, or as many and fewer splits. Where there may be at most
+    so many splits, no more of them come first."""
+
+    least: Rank = (0, MANY, 0)
+    most_splits: int | None = None
+
+    @property
+    def exchangers(self) -> int:
+        return self.least[1]
+
+    def rank(self, structure: Structure) -> Rank:
+        """What is less is better."""
+        number = splits(structure)
+        excess = 0 if self.most_splits is None else max(0, number - self.most_splits)
+        return (excess, len(structure.pairs), number)
 
 
 @dataclass(frozen=True)
@@ -44,11 +63,6 @@ class Thinned:
     @property
     def count(self) -> int:
         return len(self.duties)
-
-    @property
-    def rank(self) -> Rank:
-        """What is less is better: exchangers, then splits."""
-        return (self.count, splits(self.structure))
 
 
 def thinned_once(case: Case, structure: Structure, most_cost: Fraction, weights: Floats | None) -> Thinned | None:
@@ -111,10 +125,9 @@ class Mixing:
         return (*combination[:at], random.choice(self.pools[at]), *combination[at + 1:])
 
 
-def combined(mixing: Mixing, seed: int, tries: int, least: int) -> list[Thinned]:
-    """The best of so many combinations, fewest exchangers first: each differs from the one before in one window.
-    `least` is what the best so far has."""
-    random, count = Random(seed), MANY
+def combined(mixing: Mixing, seed: int, tries: int, aim: Aim) -> list[Thinned]:
+    """The best of so many combinations, the best first: each differs from the one before in one window."""
+    random, count, least = Random(seed), MANY, aim.exchangers
     found: list[Thinned] = []
     now = mixing.first(random)
     for turn in range(tries):
@@ -132,5 +145,5 @@ def combined(mixing: Mixing, seed: int, tries: int, least: int) -> list[Thinned]
             found.append(replace(less, combination=tried))
         if less.count <= count + (random.random() < WORSE):
             now, count = tried, less.count
-    found.sort(key=lambda thin: thin.rank)
+    found.sort(key=lambda thin: aim.rank(thin.structure))
     return found[:MOST]
