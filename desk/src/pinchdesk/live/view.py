@@ -1,0 +1,436 @@
+"""The contract of the live desk: all that the page shows, and all that it asks. The page computes no engineering.
+
+Each dataclass here becomes a JSON object with its fields as keys (`asdict`). Numbers that are read are finished texts in
+the case's own units without their unit (`Units` has that); numbers that only place something in a picture are floats or
+whole numbers.
+
+What the page asks, below `/TOKEN/`:
+
+- `GET .` the page, `GET page/NAME` its files, `GET view` a `View`.
+- `POST gesture {"version": n, "gesture": {"kind": ..}}` answers `{"view": View}`, or with the status 200 too
+  `{"refused": Refusal, "view": View}` where the gesture cannot be done: then nothing has changed. Another version than
+  the present one is answered by 409 with `{"view": View}`.
+- `POST offers {"version": n, "piece": id}` answers `{"offers": [Offer, ..]}`, the best first; a drop on a partner takes
+  the first offer with this `partner`, and the page sends its `gesture` as it is. The same for 409.
+- `POST ways {"version": n}` answers `{"ways": [Way, ..]}`, those that mend first.
+- `POST slider {"version": n, "difference": text}` answers a `Slider`, or `{"refused": Refusal}`; nothing is written.
+- WebSocket `changes`: a JSON number, the version, whenever it has changed (and once at the beginning).
+
+All POSTs want `Content-Type: application/json`. Whatever is wrong with the address is 404.
+
+Gestures (`exchanger`, `piece`, `stream`, `utility` are the `name`s or `id`s of the view; a heat is a text as typed, in the
+heat unit of the case; `?` may be left out):
+
+- `place {piece, partner, duty?, hot_split?, cold_split?}`: `partner` is another piece or a utility.
+- `take {exchanger}`: it becomes open. `grow {exchanger}`: as large as it can be. `duty {exchanger, heat}`.
+- `utility {piece, utility?}`: the piece is served by that utility, or by the cheapest that reaches; `finish {}`: all are.
+- `change {exchanger, utility}`: a heater or a cooler takes another utility.
+- `split {piece, share?}`: a lane of this share in percent (50 unless said) beside the piece; `shares {joint, shares}`:
+  the shares of all lanes of a joint in percent, as texts; `join {joint}`: the lanes of a joint, without exchangers but
+  for one lane, are one again.
+- `move {exchanger, piece}`: the end of the exchanger on the side of the piece is moved to there.
+- `rename {exchanger, name}`.
+- `shift {way, heat}` along a way, `break {way}`: so far that its smallest exchanger goes.
+- `difference {difference}`: the least approach, as the slider has it.
+- `cell {row, field, text}`: a field of a stream, utility or forbidden match; `row` is its `row`.
+- `add {what, ..fields}` with `what` `stream` (`name, side, supply, target, flow` or `load, contribution?`), `utility`
+  (`name, side, level, price, least?, most?, contribution?`) or `forbid` (`hot, cold`); `remove {row}`.
+- `texts {case?, network?}`: the texts themselves, as typed.
+- `undo {}`, `redo {}`, `step {at}`: back or forth to a step."""
+from __future__ import annotations
+
+from collections.abc import Mapping
+from dataclasses import dataclass
+
+
+@dataclass(frozen=True)
+class Units:
+    """The units of the case as they are written."""
+
+    temperature: str
+    difference: str
+    heat: str
+    flow: str
+    price: str
+    cost: str
+
+
+@dataclass(frozen=True)
+class FileNames:
+    """The names of both files as they are shown, and whether they are saved: `saved`, or why not."""
+
+    case: str
+    network: str
+    saved: str
+
+
+@dataclass(frozen=True)
+class Place:
+    """Where something is marked. `kind` is `exchanger`, `piece`, `stream`, `utility` or `cell`; of a cell `name` is the
+    `row` of the stream or utility, and `field` the name of the field."""
+
+    kind: str
+    name: str
+    field: str = ''
+
+
+@dataclass(frozen=True)
+class Refusal:
+    """A gesture that is not done: why, and where."""
+
+    text: str
+    places: tuple[Place, ...] = ()
+
+
+@dataclass(frozen=True)
+class Verdict:
+    """`kind` is `nothing-placed`, `unfinished`, `accepted`, `rejected` or `faulty` (a text that is none)."""
+
+    kind: str
+    title: str
+    text: str
+    places: tuple[Place, ...] = ()
+
+
+@dataclass(frozen=True)
+class Score:
+    """Targets, what can still be reached and what stands, as texts, empty where that is not known; `bar` has the target,
+    the reachable and what stands as parts of 1. `units` reads `4 + 3 = 7; the rule: 7`."""
+
+    target_hot: str
+    target_cold: str
+    reach_hot: str
+    reach_cold: str
+    stands_hot: str
+    stands_cold: str
+    above: str
+    bar: tuple[float, float, float]
+    placed: int
+    left: int
+    rule: int
+    units: str
+    cost: str
+    floor: str
+    notes: tuple[str, ...] = ()
+
+
+@dataclass(frozen=True)
+class StreamRow:
+    """A stream; of a latent one `target` and `flow` are empty. `contribution` is empty where it has the case's. `row` names
+    it in gestures."""
+
+    row: str
+    name: str
+    side: str
+    supply: str
+    target: str
+    flow: str
+    load: str
+    heat: str
+    contribution: str
+
+
+@dataclass(frozen=True)
+class UtilityRow:
+    """A utility; `most` is empty where it is not bounded. An `invented` one stands in, is in no file and has no cell that
+    can be edited. `uses` is what its exchangers give or take so far, open pieces left out."""
+
+    row: str
+    name: str
+    side: str
+    level: str
+    least: str
+    most: str
+    price: str
+    contribution: str
+    uses: str
+    invented: bool
+
+
+@dataclass(frozen=True)
+class ForbidRow:
+    """Two sources that may not exchange heat."""
+
+    row: str
+    hot: str
+    cold: str
+
+
+@dataclass(frozen=True)
+class Curves:
+    """Composite curves over heat (x) and temperature (y), and the grand one, as points in the units that are shown.
+    `hot_from` to `hot_to` is where the heater's arrow stands at the top of the composite curves, and likewise for cold.
+    `pinches` are pairs of the shifted temperature and the heat at which both curves come close, with the actual
+    temperatures of both curves there."""
+
+    hot: tuple[tuple[float, float], ...]
+    cold: tuple[tuple[float, float], ...]
+    grand: tuple[tuple[float, float], ...]
+    pinches: tuple[PinchMark, ...]
+    hot_utility: str
+    cold_utility: str
+    hot_from: float
+    hot_to: float
+    cold_from: float
+    cold_to: float
+    heat_axis: str
+    temperature_axis: str
+    shifted_axis: str
+
+
+@dataclass(frozen=True)
+class PinchMark:
+    """A pinch on the curves: where, and in words."""
+
+    heat: float
+    hot: float
+    cold: float
+    shifted: float
+    text: str
+
+
+@dataclass(frozen=True)
+class Row:
+    """A row of the grid: a stream or a utility. `y` is the line of its first lane, counted from the top in lanes, and
+    `lanes` how many it has. A hot row runs from `begin` (left) to `end` (right), a cold one from right to left; both in
+    columns. `kind` is `stream` or `utility`; `side` `hot` or `cold`. `detail` is what stands below the name (`CP 2`).
+    `first` and `last` are the texts at the left and at the right end."""
+
+    name: str
+    kind: str
+    side: str
+    y: int
+    lanes: int
+    begin: float
+    end: float
+    first: str
+    last: str
+    detail: str
+    text: str
+
+
+@dataclass(frozen=True)
+class Line:
+    """A level line of a stream: one branch in its lane. `label` stands above it at `label_x`: a temperature, or behind a
+    split the share (`kind` is `temperature` or `share`). `arrow` where the stream ends there."""
+
+    stream: str
+    branch: str
+    y: int
+    begin: float
+    end: float
+    arrow: bool
+    label: str
+    label_x: float
+    kind: str
+
+
+@dataclass(frozen=True)
+class Joint:
+    """The upright line of a split or a mix, from lane to lane. `id` names both ends of the same parting in gestures; `shares`
+    are those of its lanes in percent, from the first lane down."""
+
+    id: str
+    stream: str
+    x: float
+    first: int
+    last: int
+    shares: tuple[str, ...]
+
+
+@dataclass(frozen=True)
+class Exchanger:
+    """An exchanger of the grid: its two ends, which are in one column as a rule. `kind` is `match`, `heater` or `cooler`;
+    `where` is `above`, `below`, `across` (a pinch) or empty (no pinch). `fault` is why it is rejected, else empty.
+    `text` is its whole name for a screen reader."""
+
+    name: str
+    kind: str
+    hot: str
+    cold: str
+    duty: str
+    hot_x: float
+    hot_y: int
+    cold_x: float
+    cold_y: int
+    where: str
+    crossing: str
+    fault: str
+    text: str
+
+
+@dataclass(frozen=True)
+class Piece:
+    """An open piece of a stream, cut at each pinch. `fault` says that no utility of the case reaches its end, else it is
+    empty; `duty` is what it has to give or to take, `first` and `last` are its temperatures from the stream's supply
+    side on."""
+
+    id: str
+    stream: str
+    side: str
+    duty: str
+    first: str
+    last: str
+    x: float
+    y: int
+    where: str
+    fault: str
+    text: str
+
+
+@dataclass(frozen=True)
+class PinchLine:
+    """A pinch on the grid: its line, the columns of what works across it, and what stands above it."""
+
+    x: float
+    begin: float
+    end: float
+    text: str
+
+
+@dataclass(frozen=True)
+class Grid:
+    """The grid in columns (x, from the left, the hot end) and lanes (y, from the top). `band` is the line between hot and
+    cold rows where nothing stands but labels. Rows with utilities that are not used are here too."""
+
+    columns: int
+    lanes: int
+    band: int
+    rows: tuple[Row, ...]
+    lines: tuple[Line, ...]
+    joints: tuple[Joint, ...]
+    exchangers: tuple[Exchanger, ...]
+    pieces: tuple[Piece, ...]
+    pinches: tuple[PinchLine, ...]
+
+
+@dataclass(frozen=True)
+class ExchangerRow:
+    """An exchanger as a line of the table. `difference` is the least one of both ends, `wanted` what it has to keep."""
+
+    name: str
+    hot: str
+    cold: str
+    duty: str
+    hot_in: str
+    hot_out: str
+    cold_in: str
+    cold_out: str
+    difference: str
+    wanted: str
+    where: str
+    loss: str
+    area: str
+    fault: str
+
+
+@dataclass(frozen=True)
+class Step:
+    """A step that was made: in words, and whether it is the present one."""
+
+    text: str
+    present: bool
+
+
+@dataclass(frozen=True)
+class Texts:
+    """Both texts, as they are saved."""
+
+    case: str
+    network: str
+
+
+@dataclass(frozen=True)
+class Difference:
+    """The least approach of the case: twice its contribution. `own` says what moves with it where sources have their own,
+    else it is empty. The slider goes from `least` to `most` (floats in the unit of differences) by `step`."""
+
+    text: str
+    value: float
+    least: float
+    most: float
+    step: float
+    own: str
+
+
+@dataclass(frozen=True)
+class View:
+    """All that the page shows. `read_only` is empty, or why nothing can be placed: then texts and cells alone are edited.
+    `grid` is None where the network is none."""
+
+    version: int
+    files: FileNames
+    units: Units
+    difference: Difference
+    verdict: Verdict
+    score: Score
+    streams: tuple[StreamRow, ...]
+    utilities: tuple[UtilityRow, ...]
+    forbids: tuple[ForbidRow, ...]
+    curves: Curves | None
+    curves_left: Curves | None
+    grid: Grid | None
+    exchangers: tuple[ExchangerRow, ...]
+    steps: tuple[Step, ...]
+    can_undo: bool
+    can_redo: bool
+    texts: Texts
+    read_only: str = ''
+
+
+@dataclass(frozen=True)
+class Offer:
+    """What an open piece may be matched with: `partner` is the id of a piece or the name of a utility (`kind` `piece` or
+    `utility`). `words` reads `135 kW, finishes S4`, `cost` reads `costs nothing (S2 split)`; `free` where it costs
+    nothing; `whole` where it finishes a piece. `gesture` is what is sent to do it."""
+
+    partner: str
+    kind: str
+    stream: str
+    duty: str
+    words: str
+    cost: str
+    free: bool
+    whole: bool
+    gesture: Mapping[str, object]
+
+
+@dataclass(frozen=True)
+class Leg:
+    """An exchanger of a way, and whether its duty rises."""
+
+    exchanger: str
+    gains: bool
+
+
+@dataclass(frozen=True)
+class Way:
+    """A loop or a path (`kind`). `text` is the way in words. Heat from `least` to `most` can be moved, both empty where none
+    can; `ends` says what stops it at the upper end. `mends` names the exchangers that are right then. `breaks` reads
+    `E4 goes (20 kW)`, else it is empty. `first` is the heat that is proposed."""
+
+    id: str
+    kind: str
+    text: str
+    legs: tuple[Leg, ...]
+    least: str
+    most: str
+    ends: str
+    mends: tuple[str, ...]
+    breaks: str
+    first: str
+
+
+@dataclass(frozen=True)
+class Slider:
+    """Targets and curves at another least approach, while the slider moves. `network` says what the network would then be;
+    `area` and `cost` are targets, empty where the case gives no films and costs."""
+
+    difference: Difference
+    target_hot: str
+    target_cold: str
+    pinches: str
+    curves: Curves
+    area: str = ''
+    cost: str = ''
+    network: str = ''
