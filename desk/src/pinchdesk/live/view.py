@@ -1,8 +1,8 @@
 """The contract of the live desk: all that the page shows, and all that it asks. The page computes no engineering.
 
-Each dataclass here becomes a JSON object with its fields as keys (`asdict`). Numbers that are read are finished texts in
-the case's own units without their unit (`Units` has that); numbers that only place something in a picture are floats or
-whole numbers.
+Each dataclass here becomes a JSON object with its fields as keys (`asdict`). Numbers that are read are finished texts
+in the case's own units without their unit (`Units` has that); numbers that only place something in a picture are floats
+or whole numbers.
 
 What the page asks, below `/TOKEN/`:
 
@@ -18,12 +18,13 @@ What the page asks, below `/TOKEN/`:
 
 All POSTs want `Content-Type: application/json`. Whatever is wrong with the address is 404.
 
-Gestures (`exchanger`, `piece`, `stream`, `utility` are the `name`s or `id`s of the view; a heat is a text as typed, in the
-heat unit of the case; `?` may be left out):
+Gestures (`exchanger`, `piece`, `stream`, `utility` are the `name`s or `id`s of the view; a heat is a text as typed, in
+the heat unit of the case; `?` may be left out):
 
 - `place {piece, partner, duty?, hot_split?, cold_split?}`: `partner` is another piece or a utility.
 - `take {exchanger}`: it becomes open. `grow {exchanger}`: as large as it can be. `duty {exchanger, heat}`.
-- `utility {piece, utility?}`: the piece is served by that utility, or by the cheapest that reaches; `finish {}`: all are.
+- `utility {piece, utility?}`: the piece is served by that utility, or by the cheapest that reaches; `finish {}`: all
+  are.
 - `change {exchanger, utility}`: a heater or a cooler takes another utility.
 - `split {piece, share?}`: a lane of this share in percent (50 unless said) beside the piece; `shares {joint, shares}`:
   the shares of all lanes of a joint in percent, as texts; `join {joint}`: the lanes of a joint, without exchangers but
@@ -44,7 +45,7 @@ from dataclasses import dataclass
 
 
 @dataclass(frozen=True)
-class Units:
+class UnitNames:
     """The units of the case as they are written."""
 
     temperature: str
@@ -65,7 +66,7 @@ class FileNames:
 
 
 @dataclass(frozen=True)
-class Place:
+class Mark:
     """Where something is marked. `kind` is `exchanger`, `piece`, `stream`, `utility` or `cell`; of a cell `name` is the
     `row` of the stream or utility, and `field` the name of the field."""
 
@@ -79,23 +80,23 @@ class Refusal:
     """A gesture that is not done: why, and where."""
 
     text: str
-    places: tuple[Place, ...] = ()
+    places: tuple[Mark, ...] = ()
 
 
 @dataclass(frozen=True)
-class Verdict:
+class Judgement:
     """`kind` is `nothing-placed`, `unfinished`, `accepted`, `rejected` or `faulty` (a text that is none)."""
 
     kind: str
     title: str
     text: str
-    places: tuple[Place, ...] = ()
+    places: tuple[Mark, ...] = ()
 
 
 @dataclass(frozen=True)
-class Score:
-    """Targets, what can still be reached and what stands, as texts, empty where that is not known; `bar` has the target,
-    the reachable and what stands as parts of 1. `units` reads `4 + 3 = 7; the rule: 7`."""
+class ScoreView:
+    """Targets, what can still be reached and what stands, as texts, empty where that is not known; `bar` has the
+    target, the reachable and what stands as parts of 1. `units` reads `4 + 3 = 7; the rule: 7`."""
 
     target_hot: str
     target_cold: str
@@ -116,8 +117,8 @@ class Score:
 
 @dataclass(frozen=True)
 class StreamRow:
-    """A stream; of a latent one `target` and `flow` are empty. `contribution` is empty where it has the case's. `row` names
-    it in gestures."""
+    """A stream; of a latent one `target` and `flow` are empty. `contribution` is empty where it has the case's. `row`
+    names it in gestures."""
 
     row: str
     name: str
@@ -132,8 +133,8 @@ class StreamRow:
 
 @dataclass(frozen=True)
 class UtilityRow:
-    """A utility; `most` is empty where it is not bounded. An `invented` one stands in, is in no file and has no cell that
-    can be edited. `uses` is what its exchangers give or take so far, open pieces left out."""
+    """A utility; `most` is empty where it is not bounded. An `invented` one stands in, is in no file and has no cell
+    that can be edited. `uses` is what its exchangers give or take so far, open pieces left out."""
 
     row: str
     name: str
@@ -157,7 +158,7 @@ class ForbidRow:
 
 
 @dataclass(frozen=True)
-class Curves:
+class CurvePicture:
     """Composite curves over heat (x) and temperature (y), and the grand one, as points in the units that are shown.
     `hot_from` to `hot_to` is where the heater's arrow stands at the top of the composite curves, and likewise for cold.
     `pinches` are pairs of the shifted temperature and the heat at which both curves come close, with the actual
@@ -190,7 +191,7 @@ class PinchMark:
 
 
 @dataclass(frozen=True)
-class Row:
+class GridRow:
     """A row of the grid: a stream or a utility. `y` is the line of its first lane, counted from the top in lanes, and
     `lanes` how many it has. A hot row runs from `begin` (left) to `end` (right), a cold one from right to left; both in
     columns. `kind` is `stream` or `utility`; `side` `hot` or `cold`. `detail` is what stands below the name (`CP 2`).
@@ -210,9 +211,9 @@ class Row:
 
 
 @dataclass(frozen=True)
-class Line:
-    """A level line of a stream: one branch in its lane. `label` stands above it at `label_x`: a temperature, or behind a
-    split the share (`kind` is `temperature` or `share`). `arrow` where the stream ends there."""
+class BranchLine:
+    """A level line of a stream: one branch in its lane. `label` stands above it at `label_x`: a temperature, or behind
+    a split the share (`kind` is `temperature` or `share`). `arrow` where the stream ends there."""
 
     stream: str
     branch: str
@@ -226,9 +227,9 @@ class Line:
 
 
 @dataclass(frozen=True)
-class Joint:
-    """The upright line of a split or a mix, from lane to lane. `id` names both ends of the same parting in gestures; `shares`
-    are those of its lanes in percent, from the first lane down."""
+class JointLine:
+    """The upright line of a split or a mix, from lane to lane. `id` names both ends of the same parting in gestures;
+    `shares` are those of its lanes in percent, from the first lane down."""
 
     id: str
     stream: str
@@ -239,10 +240,10 @@ class Joint:
 
 
 @dataclass(frozen=True)
-class Exchanger:
-    """An exchanger of the grid: its two ends, which are in one column as a rule. `kind` is `match`, `heater` or `cooler`;
-    `where` is `above`, `below`, `across` (a pinch) or empty (no pinch). `fault` is why it is rejected, else empty.
-    `text` is its whole name for a screen reader."""
+class ExchangerBar:
+    """An exchanger of the grid: its two ends, which are in one column as a rule. `kind` is `match`, `heater` or
+    `cooler`; `where` is `above`, `below`, `across` (a pinch) or empty (no pinch). `fault` is why it is rejected, else
+    empty. `text` is its whole name for a screen reader."""
 
     name: str
     kind: str
@@ -260,9 +261,9 @@ class Exchanger:
 
 
 @dataclass(frozen=True)
-class Piece:
-    """An open piece of a stream, cut at each pinch. `fault` says that no utility of the case reaches its end, else it is
-    empty; `duty` is what it has to give or to take, `first` and `last` are its temperatures from the stream's supply
+class OpenPill:
+    """An open piece of a stream, cut at each pinch. `fault` says that no utility of the case reaches its end, else it
+    is empty; `duty` is what it has to give or to take, `first` and `last` are its temperatures from the stream's supply
     side on."""
 
     id: str
@@ -289,18 +290,18 @@ class PinchLine:
 
 
 @dataclass(frozen=True)
-class Grid:
-    """The grid in columns (x, from the left, the hot end) and lanes (y, from the top). `band` is the line between hot and
-    cold rows where nothing stands but labels. Rows with utilities that are not used are here too."""
+class GridPicture:
+    """The grid in columns (x, from the left, the hot end) and lanes (y, from the top). `band` is the line between hot
+    and cold rows where nothing stands but labels. Rows with utilities that are not used are here too."""
 
     columns: int
     lanes: int
     band: int
-    rows: tuple[Row, ...]
-    lines: tuple[Line, ...]
-    joints: tuple[Joint, ...]
-    exchangers: tuple[Exchanger, ...]
-    pieces: tuple[Piece, ...]
+    rows: tuple[GridRow, ...]
+    lines: tuple[BranchLine, ...]
+    joints: tuple[JointLine, ...]
+    exchangers: tuple[ExchangerBar, ...]
+    pieces: tuple[OpenPill, ...]
     pinches: tuple[PinchLine, ...]
 
 
@@ -325,7 +326,7 @@ class ExchangerRow:
 
 
 @dataclass(frozen=True)
-class Step:
+class StepMade:
     """A step that was made: in words, and whether it is the present one."""
 
     text: str
@@ -342,8 +343,8 @@ class Texts:
 
 @dataclass(frozen=True)
 class Difference:
-    """The least approach of the case: twice its contribution. `own` says what moves with it where sources have their own,
-    else it is empty. The slider goes from `least` to `most` (floats in the unit of differences) by `step`."""
+    """The least approach of the case: twice its contribution. `own` says what moves with it where sources have their
+    own, else it is empty. The slider goes from `least` to `most` (floats in the unit of differences) by `step`."""
 
     text: str
     value: float
@@ -355,23 +356,23 @@ class Difference:
 
 @dataclass(frozen=True)
 class View:
-    """All that the page shows. `read_only` is empty, or why nothing can be placed: then texts and cells alone are edited.
-    `grid` is None where the network is none."""
+    """All that the page shows. `read_only` is empty, or why nothing can be placed: then texts and cells alone are
+    edited. `grid` is None where the network is none."""
 
     version: int
     files: FileNames
-    units: Units
+    units: UnitNames
     difference: Difference
-    verdict: Verdict
-    score: Score
+    verdict: Judgement
+    score: ScoreView
     streams: tuple[StreamRow, ...]
     utilities: tuple[UtilityRow, ...]
     forbids: tuple[ForbidRow, ...]
-    curves: Curves | None
-    curves_left: Curves | None
-    grid: Grid | None
+    curves: CurvePicture | None
+    curves_left: CurvePicture | None
+    grid: GridPicture | None
     exchangers: tuple[ExchangerRow, ...]
-    steps: tuple[Step, ...]
+    steps: tuple[StepMade, ...]
     can_undo: bool
     can_redo: bool
     texts: Texts
@@ -380,8 +381,8 @@ class View:
 
 @dataclass(frozen=True)
 class Offer:
-    """What an open piece may be matched with: `partner` is the id of a piece or the name of a utility (`kind` `piece` or
-    `utility`). `words` reads `135 kW, finishes S4`, `cost` reads `costs nothing (S2 split)`; `free` where it costs
+    """What an open piece may be matched with: `partner` is the id of a piece or the name of a utility (`kind` `piece`
+    or `utility`). `words` reads `135 kW, finishes S4`, `cost` reads `costs nothing (S2 split)`; `free` where it costs
     nothing; `whole` where it finishes a piece. `gesture` is what is sent to do it."""
 
     partner: str
@@ -396,7 +397,7 @@ class Offer:
 
 
 @dataclass(frozen=True)
-class Leg:
+class WayLeg:
     """An exchanger of a way, and whether its duty rises."""
 
     exchanger: str
@@ -404,15 +405,15 @@ class Leg:
 
 
 @dataclass(frozen=True)
-class Way:
-    """A loop or a path (`kind`). `text` is the way in words. Heat from `least` to `most` can be moved, both empty where none
-    can; `ends` says what stops it at the upper end. `mends` names the exchangers that are right then. `breaks` reads
-    `E4 goes (20 kW)`, else it is empty. `first` is the heat that is proposed."""
+class WayOffer:
+    """A loop or a path (`kind`). `text` is the way in words. Heat from `least` to `most` can be moved, both empty where
+    none can; `ends` says what stops it at the upper end. `mends` names the exchangers that are right then. `breaks`
+    reads `E4 goes (20 kW)`, else it is empty. `first` is the heat that is proposed."""
 
     id: str
     kind: str
     text: str
-    legs: tuple[Leg, ...]
+    legs: tuple[WayLeg, ...]
     least: str
     most: str
     ends: str
@@ -423,14 +424,14 @@ class Way:
 
 @dataclass(frozen=True)
 class Slider:
-    """Targets and curves at another least approach, while the slider moves. `network` says what the network would then be;
-    `area` and `cost` are targets, empty where the case gives no films and costs."""
+    """Targets and curves at another least approach, while the slider moves. `network` says what the network would then
+    be; `area` and `cost` are targets, empty where the case gives no films and costs."""
 
     difference: Difference
     target_hot: str
     target_cold: str
     pinches: str
-    curves: Curves
+    curves: CurvePicture
     area: str = ''
     cost: str = ''
     network: str = ''
