@@ -31,10 +31,12 @@ class Rounding(enum.Enum):
 
 @dataclass(frozen=True)
 class Left:
-    """An open branch, with the name that its stream has in the rest. Its state is known."""
+    """An open branch, with the name that its stream has in the rest. Its state is known. It is led to the target of its
+    stream, or where `until` says to another state."""
 
     name: str
     branch: Branch
+    until: Fraction | None = None
 
     @property
     def stream(self) -> Stream:
@@ -46,11 +48,16 @@ class Left:
         return self.branch.state
 
     @property
+    def end(self) -> Fraction:
+        """The state to which it is led."""
+        if self.until is not None:
+            return self.until
+        return Fraction(self.stream.side is Side.COLD) if self.stream.latent else Fraction(self.stream.target)
+
+    @property
     def share(self) -> Fraction:
         """Of a latent stream the part of its load that is left, from 1 down to 0; of another one 1."""
-        if not self.stream.latent:
-            return Fraction(1)
-        return self.state if self.stream.side is Side.HOT else 1 - self.state
+        return self.step if self.stream.latent else Fraction(1)
 
     @property
     def size(self) -> Fraction:
@@ -59,11 +66,8 @@ class Left:
 
     @property
     def step(self) -> Fraction:
-        """How far it is to the target, above 0 in the direction of the stream; of a latent stream the part of its
-        load."""
-        if self.stream.latent:
-            return self.share
-        way = self.state - self.stream.target
+        """How far it is to its end, above 0 in the direction of the stream; of a latent stream the part of its load."""
+        way = self.state - self.end
         return way if self.stream.side is Side.HOT else -way
 
     @property
@@ -145,7 +149,7 @@ def scale_of(lefts: Iterable[Left], case: Case, used: Mapping[str, Fraction]) ->
 def degrees_of(lefts: Sequence[Left], sources: Iterable[Source], most: int) -> tuple[int, int]:
     """What temperatures are taken times, so that they are whole, or as large as the limits allow, and the offset that
     keeps them within these."""
-    wanted = lcm(*(left.state.denominator for left in lefts))
+    wanted = lcm(*(state.denominator for left in lefts for state in (left.state, left.end)))
     if wanted == 1:
         return 1, 0
     ends = [end for source in sources for end in
@@ -161,16 +165,17 @@ def rounded(value: Fraction, up: bool) -> int:
 
 def rest_stream(left: Left, scale: Scale, rounding: Rounding) -> Stream | None:
     """What is left of a branch as a stream; None where nothing is, or nothing that a case can hold. It is harder where
-    a hot stream is smaller and a cold one larger, and where both begin at a lower temperature."""
+    a hot stream is smaller and a cold one larger, where both begin at a lower temperature, and end at a higher one."""
     stream, harder = left.stream, rounding is Rounding.HARDER
     up = (stream.side is Side.HOT) is not harder
     share = stream.contribution if scale.degrees == 1 else 0
-    target = rounded(scale.place(stream, Fraction(stream.target)), False)
     if stream.latent:
+        target = rounded(scale.place(stream, Fraction(stream.target)), False)
         load = rounded(left.size * scale.factor, up)
         return Stream(left.name, stream.side, target, target, 0, load, share) if load else None
     size, supply = rounded(left.size * scale.sizes, up), rounded(scale.place(stream, left.state), not harder)
-    if size == 0 or supply == target:
+    target = rounded(scale.place(stream, left.end), harder)
+    if size == 0 or supply == target or (supply < target) is (stream.side is Side.HOT):
         return None
     return Stream(left.name, stream.side, supply, target, size, 0, share)
 
@@ -216,7 +221,8 @@ def rest_segments(case: Case, streams: Sequence[Stream]) -> tuple[SegmentedStrea
 def is_exact(lefts: Iterable[Left], case: Case, used: Mapping[str, Fraction], scale: Scale) -> bool:
     """Whether nothing is rounded at this scale."""
     numbers = [number for left in lefts for number in ([left.size * scale.factor] if left.stream.latent else
-                                                       [left.size * scale.sizes, left.state * scale.degrees])]
+                                                       [left.size * scale.sizes, left.state * scale.degrees,
+                                                        left.end * scale.degrees])]
     ranged = [used[utility.name] * scale.factor for utility in case.utilities
               if (utility.least, utility.most) != (0, ANY_HEAT)]
     return all(scaled.denominator == 1 for scaled in (*numbers, *ranged))

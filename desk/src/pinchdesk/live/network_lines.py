@@ -39,8 +39,8 @@ def read_plan(case: Case, text: str) -> tuple[Plan, Layout]:
     followed = follow(case, finished(case, network))
     check_held(followed)
     structure = structure_of(case, followed.network)
-    firsts = lane_orders(followed.network, case)
-    courses = {name: in_order(course, firsts) for name, course in structure.courses.items()}
+    orders = lane_orders(followed.network, case)
+    courses = {name: in_order(course, orders[name]) for name, course in structure.courses.items()}
     duties = {exchanger.name: exchanger.duty for exchanger in followed.network.exchangers}
     plan = Plan(case, Structure(structure.pairs, courses), duties)
     for stream in case.streams:
@@ -113,32 +113,31 @@ def new_name(stream: Stream, taken: set[str]) -> str:
         number += 1
 
 
-def lane_orders(network: Network, case: Case) -> dict[tuple[str, str], tuple[int, ...]]:
-    """Where each exchanger stands among the lanes of its stream, by both: first parts of splits stand first."""
-    orders: dict[str, tuple[int, ...]] = {stream.name: () for stream in case.streams}
+Order = tuple[int, ...]
+
+
+def lane_orders(network: Network, case: Case) -> dict[str, dict[str, Order]]:
+    """Where each exchanger stands among the lanes of each stream: the first parts of splits stand first."""
+    orders: dict[str, Order] = {stream.name: () for stream in case.streams}
     streams = {stream.name: stream.name for stream in case.streams}
-    found: dict[tuple[str, str], tuple[int, ...]] = {}
+    found: dict[str, dict[str, Order]] = {stream.name: {} for stream in case.streams}
     for statement in network.statements:
         match statement:
             case Split(branch, first, _, second):
                 orders[first], orders[second] = (*orders[branch], 0), (*orders[branch], 1)
                 streams[first] = streams[second] = streams[branch]
             case Pass(branch, exchanger, to):
-                found[streams[branch], exchanger] = orders[branch]
+                found[streams[branch]][exchanger] = orders[branch]
                 orders[to], streams[to] = orders[branch], streams[branch]
             case Mix(first, second, to):
                 orders[to], streams[to] = min(orders[first], orders[second])[:-1], streams[first]
-    return {(stream, exchanger): order for (stream, exchanger), order in found.items()}
+    return found
 
 
-def in_order(course: Course, orders: Mapping[tuple[str, str], tuple[int, ...]], ) -> Course:
+def in_order(course: Course, orders: Mapping[str, Order]) -> Course:
     """A course with the lanes of each parting in the order of the text; those without an exchanger come last."""
-    by_exchanger: dict[str, list[tuple[int, ...]]] = {}
-    for (_, exchanger), order in orders.items():
-        by_exchanger.setdefault(exchanger, []).append(order)
-
-    def order_of(lane: Lane) -> tuple[int, ...]:
-        return min((order for name in throughs(lane.course) for order in by_exchanger[name]), default=(2,))
+    def order_of(lane: Lane) -> Order:
+        return min((orders[name] for name in throughs(lane.course)), default=(2,))
 
     return tuple(step if isinstance(step, Through) else
                  Parting(tuple(sorted((replace(lane, course=in_order(lane.course, orders)) for lane in step.lanes),

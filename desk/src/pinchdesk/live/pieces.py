@@ -272,8 +272,9 @@ def without_idle_partings(plan: Plan, course: Course, names: frozenset[str], dut
             inside = [name for lane in lanes for name in throughs(lane.course)]
             flat = all(isinstance(inner, Through) for lane in lanes for inner in lane.course)
             if flat and names.intersection(inside) and all(map(plan.is_open, inside)):
-                duties[inside[0]] = sum((duties[name] for name in inside), Fraction(0))
-                steps.append(Through(inside[0]))
+                kept = next(name for name in inside if name in names)
+                duties[kept] = sum((duties[name] for name in inside), Fraction(0))
+                steps.append(Through(kept))
                 continue
             step = Parting(lanes)
         steps.append(step)

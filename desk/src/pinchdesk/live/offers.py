@@ -1,0 +1,108 @@
+"""What an open piece may be matched with: for each partner the ways to place an exchanger, its largest duty, and what
+it costs, by `pinch targets` of what would be left."""
+from __future__ import annotations
+
+from collections.abc import Iterator, Sequence
+from concurrent.futures import ThreadPoolExecutor
+from dataclasses import dataclass
+from fractions import Fraction
+
+from ..formats.case import Side
+from ..formats.shown import Shown
+from ..program.run import Pinch
+from .gestures import open_piece
+from .judgement import Reachable, reachable
+from .pieces import Plan, utilities_for
+from .seats import Seat, Seated, seated, seatings
+from .view import Offer
+
+ASKED_AT_ONCE = 4
+# Of each partner at most so many ways are priced: those with the largest duties.
+MOST_WAYS = 6
+
+
+@dataclass(frozen=True)
+class Priced:
+    """A way to place an exchanger with what can be reached then; None where that is not known."""
+
+    chosen: Seated
+    partner: str
+    after: Reachable | None
+
+
+def partners(plan: Plan, piece: str) -> list[str]:
+    """The pieces of the other side and the utilities that may serve a piece."""
+    stream = plan.piece(open_piece(plan, piece)).stream
+    pieces = [name for name in plan.open if plan.piece(name).stream.side is not stream.side]
+    return [*pieces, *(utility.name for utility in utilities_for(plan.case, stream))]
+
+
+def ways_to_place(plan: Plan, piece: str) -> Iterator[tuple[str, Seated]]:
+    """All ways to serve a piece of a plan that is cut."""
+    hot = plan.piece(piece).stream.side is Side.HOT
+    for partner in partners(plan, piece):
+        pair = (piece, partner) if hot else (partner, piece)
+        found = sorted(seatings(plan, *pair), key=lambda chosen: -chosen.duty)
+        yield from ((partner, chosen) for chosen in found[:MOST_WAYS])
+
+
+def offers_of(pinch: Pinch, plan: Plan, piece: str, before: Reachable | None) -> tuple[Offer, ...]:
+    """All offers for a piece of a plan that is cut, the best first: what costs least, then what has the larger duty,
+    then what wants no split."""
+    ways = list(ways_to_place(plan, piece))
+    with ThreadPoolExecutor(ASKED_AT_ONCE) as pool:
+        after = list(pool.map(lambda way: reachable(pinch, seated(plan, way[1])), ways))
+    priced = [Priced(chosen, partner, found) for (partner, chosen), found in zip(ways, after)]
+    priced.sort(key=lambda offer: rank(plan, offer, before))
+    return tuple(told(plan, piece, offer, before) for offer in priced)
+
+
+def cost_of(offer: Priced, before: Reachable | None) -> Fraction | None:
+    """What it costs at most, in W of hot utility; None where that is not known."""
+    if before is None or offer.after is None:
+        return None
+    return max(Fraction(0), offer.after.most - before.least)
+
+
+def rank(plan: Plan, offer: Priced, before: Reachable | None) -> tuple[object, ...]:
+    cost = cost_of(offer, before)
+    lanes = (offer.chosen.hot_seat, offer.chosen.cold_seat).count(Seat.LANE)
+    return (offer.partner in plan.utilities, cost is None, cost or Fraction(0), -offer.chosen.duty, lanes)
+
+
+def told(plan: Plan, piece: str, offer: Priced, before: Reachable | None) -> Offer:
+    """An offer in words."""
+    shown, chosen = Shown(plan.case.basis), offer.chosen
+    duty = f'{shown.heat(chosen.duty)} {shown.heat_unit}'
+    ended = [plan.piece(name).stream.name for name in (chosen.hot, chosen.cold) if ends_piece(plan, name, chosen)]
+    cost = cost_of(offer, before)
+    exact = before is not None and before.exact and offer.after is not None and offer.after.exact
+    price = 'cost not known' if cost is None else 'costs nothing' if not cost else \
+        f'costs {"" if exact else "at most "}{shown.heat(cost)} {shown.heat_unit}'
+    sides = ((chosen.hot, chosen.hot_seat), (chosen.cold, chosen.cold_seat))
+    seats = ', '.join(where(plan, name, seat) for name, seat in sides
+                      if seat is not Seat.LEVEL and not ends_piece(plan, name, chosen))
+    partner = offer.partner
+    return Offer(partner, 'utility' if partner in plan.utilities else 'piece',
+                 partner if partner in plan.utilities else plan.piece(partner).stream.name, shown.heat(chosen.duty),
+                 duty + (f', finishes {" and ".join(ended)}' if ended else ''), price + (f' ({seats})' if seats else
+                 ''), cost == 0, bool(ended), {'kind': 'place', 'piece': piece, 'partner': partner,
+                                          'hot_seat': chosen.hot_seat.value, 'cold_seat': chosen.cold_seat.value})
+
+
+def ends_piece(plan: Plan, name: str, chosen: Seated) -> bool:
+    return name not in plan.utilities and plan.piece(name).heat == chosen.duty
+
+
+def where(plan: Plan, name: str, seat: Seat) -> str:
+    """Where on its stream an exchanger would stand that leaves some of a piece."""
+    stream = plan.piece(name).stream
+    if seat is Seat.LANE:
+        return f'{stream.name} split'
+    cold = (stream.side is Side.HOT) is (seat is Seat.END)
+    return f'{stream.name} at its {"cold" if cold else "hot"} end'
+
+
+def best_seats(offers: Sequence[Offer], partner: str) -> Offer | None:
+    """The offer that a drop on a partner takes."""
+    return next((offer for offer in offers if offer.partner == partner), None)
