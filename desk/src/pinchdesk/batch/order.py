@@ -159,7 +159,8 @@ def load(word: str) -> None:
     if word == 'case':
         registry()
     if word in ('draw', 'page'):
-        importlib.import_module('pinchdesk.figures')
+        for module in ('grid.diagram', 'curves'):
+            importlib.import_module(f'pinchdesk.figures.{module}')
 
 
 def done_all(order: Order, rows: Sequence[Listed], tell: Telling = nobody) -> Results:

@@ -15,9 +15,9 @@ from ..errors import OutputError
 FileKey = tuple[int, int, str]
 
 
-def write_whole(path: str, content: str | bytes, inputs: Iterable[str] = ()) -> None:
-    """Writes a file, or leaves what was there. `OutputError` where the place is an input, a folder, no plain file, or
-    cannot be written. A link is followed."""
+def write_whole(path: str, content: str | bytes, inputs: Iterable[str] = (), lasting: bool = False) -> None:
+    """Writes a file, or leaves what was there; where it is to be `lasting` it is on the disk then. `OutputError` where
+    the place is an input, a folder, no plain file, or cannot be written. A link is followed."""
     check_place(path, inputs)
     place = Path(os.path.realpath(path))
     try:
@@ -27,13 +27,27 @@ def write_whole(path: str, content: str | bytes, inputs: Iterable[str] = ()) -> 
     try:
         with os.fdopen(handle, 'wb') as opened:
             opened.write(content.encode() if isinstance(content, str) else content)
+            if lasting:
+                opened.flush()
+                os.fsync(opened.fileno())
         os.chmod(name, mode_of(place))
         os.replace(name, place)
+        if lasting:
+            sync_folder(place.parent)
     except OSError as fault:
         raise OutputError(f'{path}: cannot be written: {reason(fault)}') from fault
     finally:
         with suppress(OSError):
             os.unlink(name)
+
+
+def sync_folder(folder: Path) -> None:
+    """The names in a folder are on the disk then."""
+    handle = os.open(folder, os.O_RDONLY | os.O_DIRECTORY)
+    try:
+        os.fsync(handle)
+    finally:
+        os.close(handle)
 
 
 def check_place(path: str, inputs: Iterable[str]) -> None:

@@ -99,9 +99,8 @@ class Stand:
         return self.verdict if isinstance(self.verdict, Accepted) else None
 
 
-def judged_stand(pinch: Pinch, plan: Plan, case_text: str, text: str) -> Stand:
-    """How a plan stands whose text this is."""
-    verdict = pinch.audit(case_text, text)
+def judged_stand(pinch: Pinch, plan: Plan, verdict: Verdict) -> Stand:
+    """How a plan stands whose text has this verdict."""
     if not plan.open or isinstance(verdict, Accepted):
         return Stand(verdict, verdict)
     case, network = with_stand_ins(plan)

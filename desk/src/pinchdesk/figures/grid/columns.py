@@ -14,10 +14,11 @@ Span = tuple[int, int]
 @dataclass
 class Tracks:
     """Rows of the diagram from the top: hot utilities and streams, a band for the exchangers' labels, a band for
-    slanted bars, cold streams and utilities."""
+    slanted bars, cold streams and utilities. What stands `alone` has no bar to a utility."""
 
     rows: dict[str, int]
     labels: int
+    alone: frozenset[str] = frozenset()
 
     @property
     def slants(self) -> int:
@@ -87,7 +88,7 @@ class Placer:
         """The tracks through which the bar of a block goes."""
         first, rows = nodes[0], self.tracks.rows
         row = rows[first.stream.name]
-        if first.exchanger is None:
+        if first.exchanger is None or first.exchanger in self.tracks.alone:
             return (row, row)
         exchanger = self.exchangers[first.exchanger]
         both = sorted((rows[exchanger.hot], rows[exchanger.cold]))

@@ -1,10 +1,10 @@
 """The lanes of a stream in a grid diagram: its branches run side by side where it is split; nothing is drawn here."""
 from __future__ import annotations
 
-from collections.abc import Iterable, Mapping
+from collections.abc import Iterable, Mapping, Sequence
 from fractions import Fraction
 
-from ...analysis.follow import Followed
+from ...analysis.follow import Followed, PinchPoint
 from ...formats.case import Side, Stream
 from .columns import Columns
 from .courses import Course, Key, Node
@@ -61,3 +61,21 @@ def count_of(lanes: Mapping[str, int]) -> int:
 def node_at(course: Course, branch: str) -> tuple[Node | None, Node | None]:
     """Where a branch begins and where it ends; None at the ends of the stream."""
     return course.made.get(branch), course.used.get(branch)
+
+
+def stream_columns(course: Course, columns: Columns, pinches: Sequence[PinchPoint], stream: Stream,
+                   ) -> tuple[float, float]:
+    """From which to which column a stream is drawn: one that begins or ends at a pinch, or before it, is drawn as far
+    as that."""
+    left, right = -0.75, columns.count - 0.25
+    high, low = stream.high, stream.low
+    for at, pinch in enumerate(pinches):
+        above = pinch.takes_level if stream.latent and low == pinch.temperature else None
+        if high < pinch.temperature or high == pinch.temperature and above is not True:
+            left = columns.lines[at]
+    for at, pinch in reversed(list(enumerate(pinches))):
+        above = pinch.takes_level if stream.latent and low == pinch.temperature else None
+        if low > pinch.temperature or low == pinch.temperature and above is not False:
+            right = columns.lines[at]
+    nodes = [columns.of[key] for key, node in course.nodes.items() if node.stream.name == stream.name]
+    return min([left, *(node - 0.75 for node in nodes)]), max([right, *(node + 0.75 for node in nodes)])

@@ -14,7 +14,7 @@ from ...formats.shown import Shown, decimal
 from ..text_widths import shape, width
 from .columns import Columns, Tracks, columns_of
 from .courses import Course, course_of
-from .lanes import count_of, lanes_of, share_of
+from .lanes import count_of, lanes_of, share_of, stream_columns
 
 # An A3 sheet is 16.5 inches wide; names and columns of numbers take the rest.
 ROOM, SIZES = 13.4, (8.5, 7.5, 6.5, 5.5, 5.0)
@@ -142,23 +142,9 @@ def plan_of(followed: Followed, pinches: tuple[PinchPoint, ...], kinks: tuple[Ki
 
 
 def reach(plan: GridLayout, stream: Stream) -> tuple[float, float]:
-    """From where to where a stream is drawn: one that begins or ends at a pinch, or before it, is drawn as far as
-    that."""
-    left, right = plan.edges
-    high, low = stream.high, stream.low
-    for at, pinch in enumerate(plan.pinches):
-        above = pinch.takes_level if stream.latent and low == pinch.temperature else None
-        if high < pinch.temperature or high == pinch.temperature and above is not True:
-            left = plan.pinch_x(at)
-    for at, pinch in reversed(list(enumerate(plan.pinches))):
-        above = pinch.takes_level if stream.latent and low == pinch.temperature else None
-        if low > pinch.temperature or low == pinch.temperature and above is not False:
-            right = plan.pinch_x(at)
-    positions = [plan.x(plan.columns.of[key]) for key, node in plan.course.nodes.items()
-                 if node.stream.name == stream.name]
-    margin = plan.type.pitch * 0.75
-    return (min([left, *(position - margin for position in positions)]),
-            max([right, *(position + margin for position in positions)]))
+    """From where to where a stream is drawn."""
+    left, right = stream_columns(plan.course, plan.columns, plan.pinches, stream)
+    return plan.x(left), plan.x(right)
 
 
 def lane_heights(plan: GridLayout) -> tuple[dict[str, list[float]], float, float, float]:

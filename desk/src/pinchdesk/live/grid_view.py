@@ -1,0 +1,233 @@
+"""The grid of a plan as the page shows it: the layout of the grid diagram in columns and lanes, with open pieces in
+their places."""
+from __future__ import annotations
+
+from collections.abc import Mapping, Sequence
+from dataclasses import dataclass
+
+from ..analysis.follow import Followed, PinchPoint, PinchSide, follow
+from ..analysis.pinch_places import temperatures_at
+from ..figures.grid.columns import Columns, Tracks, columns_of
+from ..figures.grid.courses import Course, Node, course_of
+from ..figures.grid.lanes import count_of, drawn_branches, lanes_of, node_at, share_of, stream_columns
+from ..formats.case import Side, Stream, Utility
+from ..formats.network import End, Network
+from ..formats.shown import Shown, decimal
+from .gestures import joint_names
+from .network_lines import Layout, LineWriter
+from .pieces import Plan, reaches, side_at, utilities_for
+from .view import BranchLine, ExchangerBar, GridPicture, GridRow, JointLine, OpenPill, PinchLine
+
+
+@dataclass(frozen=True)
+class Lines:
+    """Where everything stands: columns, the lanes of each stream, and the first line of each row, from the top."""
+
+    plan: Plan
+    followed: Followed
+    pinches: tuple[PinchPoint, ...]
+    course: Course
+    columns: Columns
+    lanes: Mapping[str, Mapping[str, int]]
+    rows: Sequence[Stream | Utility]
+    tops: Mapping[str, int]
+    band: int
+    count: int
+    faults: Mapping[str, str]
+
+    @property
+    def shown(self) -> Shown:
+        return Shown(self.plan.case.basis)
+
+    def line(self, stream: str, branch: str) -> int:
+        return self.tops[stream] + self.lanes[stream].get(branch, 0)
+
+    def column(self, node: Node) -> float:
+        return float(self.columns.of[node.key])
+
+
+def laid_out(plan: Plan, layout: Layout, pinches: tuple[PinchPoint, ...], faults: Mapping[str, str]) -> Lines:
+    """The layout of a plan that is cut at its pinches."""
+    followed = follow(plan.case, Network(tuple(LineWriter(plan, layout).written())))
+    hot, cold = (sources_of(plan, side) for side in Side)
+    rows = [*hot, *cold]
+    tracks = Tracks({row.name: at if at < len(hot) else at + 2 for at, row in enumerate(rows)}, len(hot),
+                    frozenset(plan.open))
+    course = course_of(followed, pinches)
+    columns = columns_of(followed, course, tracks, len(pinches))
+    lanes = {stream.name: lanes_of(followed, course, columns, stream) for stream in plan.case.streams}
+    tops: dict[str, int] = {}
+    line = 0
+    for at, row in enumerate(rows):
+        line += at == len(hot)
+        tops[row.name] = line
+        line += count_of(lanes[row.name]) if isinstance(row, Stream) else 1
+    band = tops[cold[0].name] - 1 if cold else line
+    return Lines(plan, followed, pinches, course, columns, lanes, rows, tops, band, line, faults)
+
+
+def sources_of(plan: Plan, side: Side) -> list[Stream | Utility]:
+    """The rows of a side from the top: utilities stand outside."""
+    streams: list[Stream | Utility] = [stream for stream in plan.case.streams if stream.side is side]
+    utilities: list[Stream | Utility] = [utility for utility in plan.case.utilities if utility.side is side]
+    return [*utilities, *streams] if side is Side.HOT else [*streams, *utilities]
+
+
+def grid_picture(lines: Lines) -> GridPicture:
+    rows = tuple(row_of(lines, row) for row in lines.rows)
+    drawn = tuple(line for stream in lines.plan.case.streams for line in lines_of(lines, stream))
+    exchangers = tuple(bar_of(lines, name) for name in lines.plan.placed)
+    pieces = tuple(pill_of(lines, name) for name in lines.plan.open)
+    return GridPicture(lines.columns.count, lines.count, lines.band, rows, drawn, joints_of(lines), exchangers, pieces,
+                       pinch_lines(lines))
+
+
+def row_of(lines: Lines, source: Stream | Utility) -> GridRow:
+    """A stream with its ends, or a utility with what it gives or takes."""
+    shown, side, top = lines.shown, source.side.value, lines.tops[source.name]
+    if isinstance(source, Utility):
+        used = lines.plan.used(True)[source.name]
+        heat = f'{shown.heat(used)} {shown.heat_unit}' if used else ''
+        level = '' if source.invented else f'{shown.temperature(source.level)} {shown.temperature_unit}'
+        kind = 'hot' if source.side is Side.HOT else 'cold'
+        text = ', '.join(part for part in (f'{kind} utility {source.name}', level, heat or 'not used') if part)
+        return GridRow(source.name, 'utility', side, top, 1, -0.75, lines.columns.count - 0.25, '', heat, level, text)
+    begin, end = stream_columns(lines.course, lines.columns, lines.pinches, source)
+    supply, target = shown.temperature(source.supply), shown.temperature(source.target)
+    hot = source.side is Side.HOT
+    detail = f'{shown.heat(source.load)} {shown.heat_unit}' if source.latent else f'CP {shown.flow(source.cp)}'
+    unit = shown.temperature_unit
+    text = f'{side} stream {source.name}, {supply} to {target} {unit}, {detail}, ' \
+           f'{shown.heat(source.heat)} {shown.heat_unit}'
+    return GridRow(source.name, 'stream', side, top, count_of(dict(lines.lanes[source.name])), begin, end,
+                   supply if hot else target, target if hot else supply, detail, text)
+
+
+def lines_of(lines: Lines, stream: Stream) -> list[BranchLine]:
+    """The branches of a stream from node to node; its own name stands for where it begins."""
+    begin, end = stream_columns(lines.course, lines.columns, lines.pinches, stream)
+    first, last = (begin, end) if stream.side is Side.HOT else (end, begin)
+    ended = {statement.branch for statement in lines.followed.network.statements if isinstance(statement, End)}
+    made: list[BranchLine] = []
+    for name in drawn_branches(lines.course, lines.lanes[stream.name]):
+        start, stop = node_at(lines.course, name)
+        x = first if start is None else lines.column(start)
+        until = last if stop is None else lines.column(stop)
+        label, kind = label_of(lines, name, start, name in ended)
+        left, right = min(x, until), max(x, until)
+        made.append(BranchLine(stream.name, name, lines.line(stream.name, name), left, right, name in ended, label,
+                               x + (0.5 if stream.side is Side.HOT else -0.5), kind))
+    return made
+
+
+def label_of(lines: Lines, name: str, start: Node | None, ended: bool) -> tuple[str, str]:
+    """Behind an exchanger or a mix the temperature, behind a split the share of the stream."""
+    if start is None:
+        return '', ''
+    if start.key[0] == 'split':
+        return decimal(share_of(lines.followed, name) * 100, 2) + ' %', 'share'
+    branch = lines.followed.branches[name]
+    if ended or branch.stream.latent or branch.temperature is None:
+        return '', ''
+    return lines.shown.temperature(branch.temperature), 'temperature'
+
+
+def joints_of(lines: Lines) -> tuple[JointLine, ...]:
+    """The upright lines of splits and mixes; both of one parting have its name."""
+    made: list[JointLine] = []
+    names = {stream.name: [joint for joint, (name, _) in joint_names(lines.plan).items() if name == stream.name]
+             for stream in lines.plan.case.streams}
+    partings = {joint: parting for joint, (_, parting) in joint_names(lines.plan).items()}
+    for node in lines.course.nodes.values():
+        if node.exchanger:
+            continue
+        stream = node.stream.name
+        lanes = lines.lanes[stream]
+        heights = [lines.line(stream, name) for name in drawn_branches(lines.course, lanes)
+                   if node in node_at(lines.course, name)]
+        joint = joint_at(lines, node, names[stream], partings)
+        shares = tuple(decimal(lane.share * 100, 2) for lane in partings[joint].lanes) if joint else ()
+        if heights:
+            made.append(JointLine(joint, stream, lines.column(node), min(heights), max(heights), shares))
+    return tuple(made)
+
+
+def joint_at(lines: Lines, node: Node, joints: Sequence[str], partings: Mapping[str, object]) -> str:
+    """The name of the parting that begins or ends at a node: splits in their order have the partings in theirs."""
+    same = [other for other in lines.course.nodes.values()
+            if other.key[0] == node.key[0] and other.stream.name == node.stream.name]
+    at = same.index(node)
+    return joints[at] if at < len(joints) and len(same) == len(joints) and partings else ''
+
+
+def bar_of(lines: Lines, name: str) -> ExchangerBar:
+    """An exchanger with both of its ends; at a utility it stands on the row of that."""
+    plan, shown = lines.plan, lines.shown
+    hot, cold = plan.pairs[name]
+    (hot_x, hot_y), (cold_x, cold_y) = (end_at(lines, name, side) for side in Side)
+    kind = 'heater' if hot in plan.utilities else 'cooler' if cold in plan.utilities else 'match'
+    where, carried = place_of(lines, name)
+    duty = shown.heat(plan.duties[name])
+    fault = lines.faults.get(name, '')
+    text = ', '.join(part for part in (
+        f'{"exchanger" if kind == "match" else kind} {name}', f'{hot} to {cold}', f'{duty} {shown.heat_unit}',
+        words_for(where), f'carries {carried} {shown.heat_unit} across' if carried else '', fault) if part)
+    return ExchangerBar(name, kind, hot, cold, duty, hot_x, hot_y, cold_x, cold_y, where, carried, fault, text)
+
+
+def words_for(where: str) -> str:
+    return {'above': 'above the pinch', 'below': 'below the pinch', 'across': 'across the pinch'}.get(where, '')
+
+
+def place_of(lines: Lines, name: str) -> tuple[str, str]:
+    """The side of the pinches, and the most that is carried down across one."""
+    passage = lines.followed.passage(name)
+    sides = {passage.side_of(pinch) for pinch in lines.pinches} - {None}
+    heats = [heat for heat in (passage.crossing(pinch) for pinch in lines.pinches) if heat]
+    carried = lines.shown.heat(max(heats, key=abs)) if heats else ''
+    if PinchSide.ACROSS in sides:
+        return PinchSide.ACROSS.value, carried
+    where = PinchSide.ABOVE if PinchSide.ABOVE in sides else PinchSide.BELOW
+    return (where.value, carried) if sides else ('', carried)
+
+
+def end_at(lines: Lines, name: str, side: Side) -> tuple[float, int]:
+    """The column and the line of one end of an exchanger."""
+    of, other = lines.columns.of, 'cold' if side is Side.HOT else 'hot'
+    source = lines.plan.pairs[name][side is Side.COLD]
+    passage = lines.followed.passage(name)
+    state = passage.hot if side is Side.HOT else passage.cold
+    if state.before is None:
+        return float(of[other, name]), lines.tops[source]
+    return float(of[side.value, name]), lines.line(source, state.before.name)
+
+
+def pill_of(lines: Lines, name: str) -> OpenPill:
+    """An open piece of a stream."""
+    plan, shown = lines.plan, lines.shown
+    reach = plan.piece(name)
+    stream = reach.stream
+    x, y = end_at(lines, name, stream.side)
+    side = side_at(plan, name, lines.pinches)
+    duty = shown.heat(plan.duties[name])
+    first, last = shown.temperature(reach.inlet), shown.temperature(reach.outlet)
+    fault = '' if any(reaches(utility, stream, reach.outlet) for utility in utilities_for(plan.case, stream)) \
+        else f'No utility of the case reaches {last} {shown.temperature_unit} on {stream.name}.'
+    where = side.value if side else ''
+    unit = shown.temperature_unit
+    parts = (f'open piece of {stream.name}', f'{first} to {last} {unit}', f'{duty} {shown.heat_unit}', words_for(where),
+             fault)
+    text = ', '.join(part for part in parts if part)
+    return OpenPill(name, stream.name, stream.side.value, duty, first, last, x, y, where, fault, text)
+
+
+def pinch_lines(lines: Lines) -> tuple[PinchLine, ...]:
+    shown, case = lines.shown, lines.plan.case
+    made: list[PinchLine] = []
+    for at, pinch in enumerate(lines.pinches):
+        hot, cold = (temperatures_at(case, side, pinch.temperature).told(shown) for side in Side)
+        first, last = lines.columns.pinches[at]
+        unit = shown.temperature_unit
+        made.append(PinchLine(float(lines.columns.lines[at]), first - 0.45, last + 0.45,
+                              f'pinch: hot {hot} {unit}, cold {cold} {unit}'))
+    return tuple(made)
