@@ -93,6 +93,6 @@ def with_less(plan: Plan, course: Course, heat: Fraction, first: bool, duties: d
         if not duties[step.exchanger]:
             gone.add(at)
     if heat:
-        raise NotDone(f'The exchangers of {stream.name} have more heat than it would have: take one away first, or make '
-                      'one smaller.', ('stream', stream.name))
+        raise NotDone(f'The exchangers of {stream.name} have more heat than it would have: take one away first, or '
+                      'make one smaller.', ('stream', stream.name))
     return tuple(step for at, step in enumerate(steps) if at not in gone)

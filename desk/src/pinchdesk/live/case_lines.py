@@ -6,7 +6,7 @@ import csv
 import io
 import re
 from collections.abc import Callable, Sequence
-from dataclasses import dataclass
+from dataclasses import dataclass, replace
 from fractions import Fraction
 
 from ..formats.amounts import exact
@@ -28,10 +28,11 @@ NAMED = {'hot': (1,), 'cold': (1,), 'heater': (1,), 'cooler': (1,), 'forbid': (1
 
 @dataclass(frozen=True)
 class CaseLines:
-    """The lines of a case text, with the fields of each that is a row."""
+    """The lines of a case text, with the fields of each that is a row, and how lines end."""
 
     lines: tuple[str, ...]
     rows: tuple[tuple[str, ...], ...]
+    ending: str = '\n'
 
     def found(self, row: str) -> int:
         """The line of a row that the page named; `NotDone` where there is none."""
@@ -41,17 +42,18 @@ class CaseLines:
         raise NotDone(f'There is no {row} in the case.')
 
     def text(self) -> str:
-        return ''.join(f'{line}\n' for line in self.lines)
+        return ''.join(line + self.ending for line in self.lines)
 
     def with_row(self, at: int, fields: Sequence[str] | None) -> CaseLines:
         """With other fields in a line, or without it."""
         line = [] if fields is None else [written(fields)]
         made = [] if fields is None else [tuple(fields)]
-        return CaseLines((*self.lines[:at], *line, *self.lines[at + 1:]), (*self.rows[:at], *made, *self.rows[at + 1:]))
+        return replace(self, lines=(*self.lines[:at], *line, *self.lines[at + 1:]),
+                       rows=(*self.rows[:at], *made, *self.rows[at + 1:]))
 
     def inserted(self, at: int, fields: Sequence[str]) -> CaseLines:
-        return CaseLines((*self.lines[:at], written(fields), *self.lines[at:]),
-                         (*self.rows[:at], tuple(fields), *self.rows[at:]))
+        return replace(self, lines=(*self.lines[:at], written(fields), *self.lines[at:]),
+                       rows=(*self.rows[:at], tuple(fields), *self.rows[at:]))
 
     def behind(self, kinds: Sequence[str]) -> int:
         """The line behind the last row of these kinds, else behind the contribution."""
@@ -80,7 +82,7 @@ def case_lines(text: str) -> CaseLines:
     lines = [line.removesuffix('\r') for line in lines]
     if any(line.count('"') % 2 for line in lines):
         raise NotDone('A field of the case goes over several lines: edit its text.')
-    return CaseLines(tuple(lines), tuple(tuple(fields_of(line)) for line in lines))
+    return CaseLines(tuple(lines), tuple(tuple(fields_of(line)) for line in lines), '\r\n' if '\r\n' in text else '\n')
 
 
 def fields_of(line: str) -> list[str]:

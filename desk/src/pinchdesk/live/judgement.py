@@ -41,7 +41,8 @@ class Whole:
     pinches: tuple[PinchPoint, ...]
 
 
-def asked_whole(pinch: Pinch, case: Case, text: str) -> Whole:
+def asked_whole(pinch: Pinch, case: Case, text: str | bytes) -> Whole:
+    """What `pinch` says of a case whose text this is."""
     targets, curves = pinch.targets(text), pinch.curves(text)
     return Whole(case, targets, curves, pinches_of(targets, curves))
 

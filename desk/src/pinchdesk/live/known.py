@@ -12,7 +12,7 @@ from ..formats.case import Case, completed, read_case
 from ..program.answers import HeatFlow
 from ..program.causes import lines_of
 from ..program.run import Pinch
-from ..program.verdicts import Verdict
+from ..program.verdicts import PlaceKind, Rejected, Verdict
 from .judgement import Reachable, Stand, Whole, asked_whole, judged_stand, left_case, reachable
 from .network_lines import Layout, begun_plan, read_plan, write_plan
 from .network_view import Standing
@@ -27,6 +27,24 @@ class Snapshot:
 
     case: str
     network: str
+
+    @property
+    def case_bytes(self) -> bytes:
+        return as_content(self.case)
+
+    @property
+    def network_bytes(self) -> bytes:
+        return as_content(self.network)
+
+
+def as_content(text: str) -> bytes:
+    """A text as the bytes that it was read from, be they UTF-8 or not: those that are not can stand in comments
+    alone."""
+    return text.encode('utf-8', 'surrogateescape')
+
+
+def as_text(content: bytes) -> str:
+    return content.decode('utf-8', 'surrogateescape')
 
 
 @dataclass(frozen=True)
@@ -92,21 +110,23 @@ class Knowing:
     def whole(self, case: Case, text: str) -> Whole:
         """What `pinch` says of a case."""
         if text not in self.wholes:
-            self.wholes[text] = asked_whole(self.pinch, case, text)
+            self.wholes[text] = asked_whole(self.pinch, case, as_content(text))
             while len(self.wholes) > MOST_KEPT:
                 self.wholes.popitem(last=False)
         return self.wholes[text]
 
     def with_network(self, snapshot: Snapshot, case: Case, whole: Whole) -> Known:
         try:
-            verdict = self.pinch.audit(snapshot.case, snapshot.network)
+            verdict = self.pinch.audit(snapshot.case_bytes, snapshot.network_bytes)
         except DeskError as fault:
             return Known(snapshot, case, whole, network_fault=told(fault))
         try:
             plan, layout = read_plan(case, snapshot.network)
         except Refused as fault:
-            return Known(snapshot, case, whole, read_only=f'The network can be changed by its text alone: {fault.text}.',
-                         verdict=verdict)
+            why = f'The network can be changed by its text alone: {fault.text}.'
+            return Known(snapshot, case, whole, read_only=why, verdict=verdict)
+        if isinstance(verdict, Rejected) and verdict.place.kind is PlaceKind.STREAM:
+            verdict = self.pinch.audit(snapshot.case_bytes, as_content(write_plan(plan, layout)))
         return Known(snapshot, case, whole, verdict=verdict, plan=plan, layout=layout,
                      standing=self.standing(whole, plan, snapshot, verdict))
 
@@ -121,7 +141,7 @@ class Knowing:
     def rule(self, text: str, case: Case) -> int:
         """The rule's number of exchangers between the pinches of a case; 0 where it has no heat flow."""
         if text not in self.rules:
-            self.rules[text] = rule_of(self.pinch, case, text)
+            self.rules[text] = rule_of(self.pinch, case, as_content(text))
             while len(self.rules) > MOST_KEPT:
                 self.rules.popitem(last=False)
         return self.rules[text]
@@ -137,7 +157,7 @@ class Knowing:
             return len(plan.open)
 
 
-def rule_of(pinch: Pinch, case: Case, text: Case | str) -> int:
+def rule_of(pinch: Pinch, case: Case, text: Case | bytes) -> int:
     flow = pinch.flow(text)
     if not isinstance(flow, HeatFlow):
         return 0

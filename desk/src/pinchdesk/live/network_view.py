@@ -38,7 +38,7 @@ def judgement_of(standing: Standing) -> Judgement:
         return Judgement('nothing-placed', 'Nothing placed',
                          f'The targets are {hot} {unit} of hot and {cold} {unit} of cold utility.')
     if isinstance(stand.placed, Rejected):
-        return Judgement('rejected', 'Rejected', sentence(stand.placed, plan, shown), marks_of(stand.placed))
+        return Judgement('rejected', 'Rejected', sentence_of(stand.placed, shown), marks_of(stand.placed))
     if isinstance(stand.placed, TooFine):
         return Judgement('faulty', 'Too fine', 'A number has more digits than can be judged: choose rounder duties or '
                          'shares.')
@@ -66,14 +66,13 @@ def reach_told(standing: Standing, shown: Shown) -> str:
            f'{most}{shown.heat(above)} above the target.'
 
 
-def sentence(rejected: Rejected, plan: Plan, shown: Shown) -> str:
+def sentence_of(rejected: Rejected, shown: Shown) -> str:
     """Why a network is rejected, in the units of the case."""
     place = rejected.place
     found, wanted = (told_number(rejected.reason, number, shown) for number in (rejected.found, rejected.wanted))
     words = REASONS.get(rejected.reason, rejected.reason).format(found=found, wanted=wanted)
     if place.kind is PlaceKind.EXCHANGER:
-        joined = words if rejected.reason == 'Forbidden' else f'is {words}'
-        return f'{place.name} {joined}' if rejected.reason != 'Forbidden' else f'{place.name}: {words}'
+        return f'{place.name}: {words}' if rejected.reason == 'Forbidden' else f'{place.name} is {words}'
     return f'{place}: {words}'
 
 
@@ -96,7 +95,7 @@ def faults_of(stand: Stand, plan: Plan) -> dict[str, str]:
     """What is wrong at exchangers, by their names."""
     verdict, shown = stand.placed, Shown(plan.case.basis)
     if isinstance(verdict, Rejected) and verdict.place.kind is PlaceKind.EXCHANGER:
-        return {verdict.place.name: sentence(verdict, plan, shown)}
+        return {verdict.place.name: sentence_of(verdict, shown)}
     return {}
 
 

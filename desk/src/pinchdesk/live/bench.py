@@ -1,0 +1,191 @@
+"""The state of the live desk: two texts and the steps that led to them. Nothing else is kept; each gesture writes both
+files before it counts."""
+from __future__ import annotations
+
+import threading
+from collections.abc import Mapping
+from dataclasses import dataclass
+
+from ..errors import DeskError, OutputError
+from ..program.run import Pinch
+from ..program.verdicts import TooFine
+from .asked import Fields, Made, made_by
+from .case_lines import with_difference
+from .gestures import NotDone
+from .known import Knowing, Known, Snapshot, as_text, begun, completed_live, told
+from .offers import offers_of
+from .own_files import ChangedOutside, OwnFile
+from .seen import seen, slid
+from .view import Mark, Offer, Refusal, Slider, View, WayOffer
+from .ways import told_ways, ways_of
+
+MOST_STEPS = 500
+EMPTY_CASE = 'contribution,,50,,,,\n'
+
+
+@dataclass(frozen=True)
+class Done:
+    """What became of a gesture: the view then, and why it was not done, or that it was for another version."""
+
+    view: View
+    refused: Refusal | None = None
+    stale: bool = False
+
+
+class Bench:
+    """Both files with their steps; one gesture at a time."""
+
+    def __init__(self, pinch: Pinch, case_file: OwnFile, network_file: OwnFile, case: bytes | None = None) -> None:
+        """Opens both files. A case that was made of a table is given by its text: it is written with the first
+        gesture."""
+        self.knowing = Knowing(pinch)
+        self.case_file, self.network_file = case_file, network_file
+        self.lock = threading.RLock()
+        self.version = 1
+        self.saved = 'saved'
+        kept = case_file.taken()
+        text = as_text(case if case is not None else kept if kept is not None else EMPTY_CASE.encode())
+        self.steps = [Made(Snapshot(text, self.network_of(text)), 'opened')]
+        self.at = 0
+
+    def network_of(self, case: str) -> str:
+        """What the network file holds; where it holds nothing, the text in which nothing is placed."""
+        content = self.network_file.taken()
+        return as_text(content) if content and content.strip() else begun(case)
+
+    @property
+    def now(self) -> Known:
+        return self.knowing.of(self.steps[self.at].snapshot)
+
+    def view(self) -> View:
+        """All that the page shows."""
+        with self.lock:
+            self.look()
+            return self.shown()
+
+    def shown(self) -> View:
+        names = (self.case_file.name, self.network_file.name, self.saved)
+        return seen(self.now, self.version, names, [step.told for step in self.steps], self.at)
+
+    def gesture(self, version: object, gesture: Mapping[str, object]) -> Done:
+        """Does a gesture on what the page saw."""
+        with self.lock:
+            self.look()
+            if version != self.version:
+                return Done(self.shown(), stale=True)
+            try:
+                self.do(str(gesture.get('kind', '')), Fields(gesture))
+            except NotDone as fault:
+                return Done(self.shown(), Refusal(str(fault), tuple(Mark(*place) for place in fault.places)))
+            except DeskError as fault:
+                return Done(self.shown(), Refusal(told(fault)))
+            return Done(self.shown())
+
+    def do(self, kind: str, fields: Fields) -> None:
+        if kind in ('undo', 'redo', 'step'):
+            self.go(self.target_of(kind, fields))
+            return
+        made = made_by(self.now, kind, fields)
+        if made.snapshot == self.now.snapshot:
+            raise NotDone('That changes nothing.')
+        self.check(made)
+        self.write(made.snapshot)
+        self.steps[self.at + 1:] = [made]
+        if len(self.steps) > MOST_STEPS:
+            del self.steps[1]
+        self.at = len(self.steps) - 1
+        self.version += 1
+
+    def target_of(self, kind: str, fields: Fields) -> int:
+        """The step to which a gesture goes back or forth."""
+        at = fields.fields.get('at')
+        target = self.at - 1 if kind == 'undo' else self.at + 1 if kind == 'redo' else at
+        if not isinstance(target, int) or isinstance(target, bool) or not 0 <= target < len(self.steps):
+            raise NotDone('There is no step to go to.')
+        return target
+
+    def go(self, target: int) -> None:
+        self.write(self.steps[target].snapshot)
+        self.at = target
+        self.version += 1
+
+    def check(self, made: Made) -> None:
+        """`NotDone` where `pinch` would refuse what a gesture makes, or its numbers are too fine."""
+        known = self.knowing.of(made.snapshot)
+        fault = known.fault if not self.now.fault else ''
+        if fault and known.case is not None and not known.case.streams:
+            return
+        if fault or known.network_fault and not fault:
+            raise NotDone(fault or known.network_fault)
+        if known.stand and isinstance(known.stand.placed, TooFine):
+            raise NotDone('A number would have more digits than can be judged: choose rounder duties or shares.')
+
+    def write(self, snapshot: Snapshot) -> None:
+        """Writes both files, or neither; `NotDone` where one cannot be written, or is not what it was."""
+        before = self.case_file.content
+        try:
+            self.case_file.save(snapshot.case_bytes)
+            try:
+                self.network_file.save(snapshot.network_bytes)
+            except (ChangedOutside, OutputError):
+                if before is not None and before != self.case_file.content:
+                    self.case_file.save(before)
+                raise
+        except (ChangedOutside, OutputError) as fault:
+            self.saved = f'not saved: {fault}'
+            raise NotDone(f'Nothing was changed: {fault}') from fault
+        self.saved = 'saved'
+
+    def look(self) -> bool:
+        """Takes what somebody else wrote as a step of its own; whether there was something."""
+        try:
+            changed = self.case_file.is_changed() or self.network_file.is_changed()
+        except DeskError as fault:
+            self.saved = f'cannot be read: {fault}'
+            return False
+        if not changed:
+            return False
+        now = self.steps[self.at].snapshot
+        case, network = self.case_file.taken(), self.network_file.taken()
+        text = as_text(case) if case is not None else now.case
+        made = Snapshot(text, as_text(network) if network is not None and network.strip() else begun(text))
+        if made != now:
+            self.steps[self.at + 1:] = [Made(made, 'changed outside')]
+            self.at += 1
+        self.version += 1
+        return True
+
+    def offers(self, version: object, piece: str) -> tuple[Offer, ...] | Done:
+        """The offers for a piece of what the page saw."""
+        with self.lock:
+            if version != self.version:
+                return Done(self.shown(), stale=True)
+            known = self.now
+        if known.plan is None:
+            return ()
+        try:
+            return offers_of(self.knowing.pinch, known.cut_plan(), piece, known.reach)
+        except NotDone as fault:
+            return Done(self.view(), Refusal(str(fault)))
+
+    def ways(self, version: object) -> tuple[WayOffer, ...] | Done:
+        """The loops and paths of what the page saw."""
+        with self.lock:
+            if version != self.version:
+                return Done(self.shown(), stale=True)
+            known = self.now
+        return told_ways(known.plan, ways_of(known.plan)) if known.plan else ()
+
+    def slider(self, version: object, difference: str) -> Slider | Done:
+        """Targets and curves at another least approach; nothing is written."""
+        with self.lock:
+            if version != self.version:
+                return Done(self.shown(), stale=True)
+            known = self.now
+        try:
+            if known.case is None:
+                raise NotDone(f'The case cannot be read: {known.fault}')
+            text = with_difference(known.snapshot.case, known.case, difference)
+            return slid(self.knowing.whole(completed_live(text), text))
+        except DeskError as fault:
+            return Done(self.view(), Refusal(told(fault)))

@@ -1,0 +1,200 @@
+"""The server of the live desk: one page on this machine alone (`guard`), its questions in JSON, and a WebSocket that
+says that something has changed."""
+from __future__ import annotations
+
+import asyncio
+import json
+import socket
+from collections.abc import Awaitable, Callable, Mapping
+from contextlib import suppress
+from dataclasses import asdict
+from pathlib import Path
+from typing import Any
+
+import uvicorn
+from starlette.concurrency import run_in_threadpool
+from starlette.requests import Request
+from starlette.responses import Response
+from starlette.websockets import WebSocket, WebSocketDisconnect
+
+from .bench import Bench, Done
+from .guard import HEADERS, HOST, Guard, Scope, fresh_token
+from .view import Refusal, Slider, View
+
+PAGE = Path(__file__).resolve().parent / 'page'
+KINDS = {'.html': 'text/html; charset=utf-8', '.css': 'text/css; charset=utf-8',
+         '.js': 'text/javascript; charset=utf-8', '.svg': 'image/svg+xml'}
+# How often it is looked whether somebody else has written a file, in seconds.
+LOOKS = 0.5
+Receive = Callable[[], Awaitable[Any]]
+Send = Callable[[Any], Awaitable[None]]
+
+
+def page_files(folder: Path = PAGE) -> dict[str, tuple[bytes, str]]:
+    """The files of the page with their kinds; they are read once."""
+    return {path.name: (path.read_bytes(), KINDS[path.suffix]) for path in sorted(folder.glob('*'))
+            if path.suffix in KINDS}
+
+
+def answer(content: object, status: int = 200) -> Response:
+    text = json.dumps(content, ensure_ascii=True, separators=(',', ':'))
+    return Response(text, status, media_type='application/json')
+
+
+def nothing() -> Response:
+    """The one answer to all that is wrong."""
+    return Response('Not found', 404, media_type='text/plain')
+
+
+class LiveDesk:
+    """The application: each request passes the guard first."""
+
+    def __init__(self, bench: Bench, guard: Guard, close: Callable[[], None]) -> None:
+        self.bench, self.guard, self.close = bench, guard, close
+        self.files = page_files()
+        self.waiting: set[asyncio.Event] = set()
+        self.watching: asyncio.Task[None] | None = None
+
+    async def __call__(self, scope: Scope, receive: Receive, send: Send) -> None:
+        if scope['type'] == 'lifespan':
+            await self.lifespan(receive, send)
+            return
+        path = self.guard.path(scope)
+        if scope['type'] == 'websocket':
+            await self.changes(WebSocket(scope, receive, send), path)
+            return
+        response = nothing() if path is None else await self.responded(Request(scope, receive), path)
+        response.headers.update(HEADERS)
+        await response(scope, receive, send)
+
+    async def lifespan(self, receive: Receive, send: Send) -> None:
+        while True:
+            message = await receive()
+            if message['type'] == 'lifespan.startup':
+                self.watching = asyncio.create_task(self.watch())
+                await send({'type': 'lifespan.startup.complete'})
+            else:
+                if self.watching:
+                    self.watching.cancel()
+                await send({'type': 'lifespan.shutdown.complete'})
+                return
+
+    async def watch(self) -> None:
+        """Looks whether somebody else has written a file."""
+        while True:
+            await asyncio.sleep(LOOKS)
+            with suppress(Exception):
+                if await run_in_threadpool(self.bench.look):
+                    self.tell()
+
+    def tell(self) -> None:
+        """All windows ask anew."""
+        for event in self.waiting:
+            event.set()
+
+    async def responded(self, request: Request, path: str) -> Response:
+        if request.method == 'GET':
+            return await self.got(path)
+        try:
+            asked = json.loads(await request.body())
+        except (ValueError, RecursionError):
+            return nothing()
+        if not isinstance(asked, dict):
+            return nothing()
+        return await self.posted(path, asked)
+
+    async def got(self, path: str) -> Response:
+        if path == 'view':
+            return answer(asdict(await run_in_threadpool(self.bench.view)))
+        name = 'index.html' if path == '' else path.removeprefix('page/') if path.startswith('page/') else ''
+        if name not in self.files:
+            return nothing()
+        content, kind = self.files[name]
+        return Response(content, media_type=kind)
+
+    async def posted(self, path: str, asked: Mapping[str, Any]) -> Response:
+        version = asked.get('version')
+        if path == 'gesture' and isinstance(asked.get('gesture'), dict):
+            done = await run_in_threadpool(self.bench.gesture, version, asked['gesture'])
+            self.tell()
+            return told(done)
+        if path == 'offers' and isinstance(asked.get('piece'), str):
+            return listed('offers', await run_in_threadpool(self.bench.offers, version, asked['piece']))
+        if path == 'ways':
+            return listed('ways', await run_in_threadpool(self.bench.ways, version))
+        if path == 'slider' and isinstance(asked.get('difference'), str):
+            found = await run_in_threadpool(self.bench.slider, version, asked['difference'])
+            return answer(asdict(found)) if isinstance(found, Slider) else told(found)
+        if path == 'close':
+            self.close()
+            return answer({})
+        return nothing()
+
+    async def changes(self, window: WebSocket, path: str | None) -> None:
+        """Says the version whenever it has changed, until the window is closed."""
+        if path != 'changes':
+            await window.close(1008)
+            return
+        await window.accept()
+        event = asyncio.Event()
+        event.set()
+        self.waiting.add(event)
+        closed = asyncio.create_task(ended(window))
+        try:
+            while not closed.done():
+                changed = asyncio.create_task(event.wait())
+                await asyncio.wait({changed, closed}, return_when=asyncio.FIRST_COMPLETED)
+                changed.cancel()
+                if not closed.done():
+                    event.clear()
+                    await window.send_text(str(self.bench.version))
+        except (WebSocketDisconnect, RuntimeError):
+            pass
+        finally:
+            closed.cancel()
+            self.waiting.discard(event)
+
+
+async def ended(window: WebSocket) -> None:
+    """Waits until a window is closed; what it says is not heard."""
+    while (await window.receive())['type'] != 'websocket.disconnect':
+        pass
+
+
+def told(done: Done) -> Response:
+    content: dict[str, View | Refusal | dict[str, Any]] = {'view': asdict(done.view)}
+    if done.refused:
+        content['refused'] = asdict(done.refused)
+    return answer(content, 409 if done.stale else 200)
+
+
+def listed(name: str, found: object) -> Response:
+    if isinstance(found, Done):
+        return told(found)
+    assert isinstance(found, tuple)
+    return answer({name: [asdict(offer) for offer in found]})
+
+
+class Served:
+    """A live desk on a free port, which begins to listen at once: its address can be told then."""
+
+    def __init__(self, bench: Bench) -> None:
+        self.socket = socket.socket(socket.AF_INET, socket.SOCK_STREAM)
+        self.socket.bind((HOST, 0))
+        self.socket.listen(100)
+        self.guard = Guard(fresh_token(), self.socket.getsockname()[1])
+        self.desk = LiveDesk(bench, self.guard, self.close)
+        config = uvicorn.Config(self.desk, log_level='critical', access_log=False, server_header=False,
+                                date_header=False, lifespan='on', ws='websockets')
+        self.server = uvicorn.Server(config)
+
+    @property
+    def address(self) -> str:
+        return self.guard.address
+
+    def close(self) -> None:
+        self.server.should_exit = True
+
+    def run(self) -> None:
+        """Serves until it is closed."""
+        self.server.run(sockets=[self.socket])
