@@ -51,12 +51,20 @@ def parser(answered: Doing, done_over_many: Doing, arguments: Sequence[str]) -> 
     first = arguments[0] if arguments else ''
     if first != MANY.name:
         add_words(words, asked_words(arguments), (), add_word, answered)
+    if first != MANY.name and first not in PLACES:
+        add_live(words)
     if first not in PLACES:
         many = add_parser(words, MANY.name, MANY.summary, MANY.example)
         after = arguments[1:] if first == MANY.name else ()
         add_words(many.add_subparsers(dest='part', metavar='PART', required=True), asked_words(after), (),
                   add_word_of_many, done_over_many)
     return top
+
+
+def add_live(words: Any) -> None:
+    """Adds the live desk, which is loaded only where it may be asked for."""
+    from .open_desk import EXAMPLE, SUMMARY, add_open
+    add_open(add_parser(words, 'open', SUMMARY, EXAMPLE))
 
 
 def asked_words(arguments: Sequence[str]) -> Words:

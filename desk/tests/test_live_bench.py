@@ -1,0 +1,207 @@
+"""The state of the live desk: tc3 made by hand from nothing, steps, files, and what others do to these."""
+from __future__ import annotations
+
+import errno
+import json
+from dataclasses import asdict
+from pathlib import Path
+
+import pytest
+from conftest import EXAMPLES
+from live_desk import Hand, bench_of, opened
+
+from pinchdesk import Pinch
+from pinchdesk.formats import written_files
+from pinchdesk.live.own_files import ChangedOutside, OpenedTwice, OwnFile, claimed
+from pinchdesk.program.verdicts import Accepted
+
+
+# Of each match of the published network its streams, the side of the pinch, and what is offered.
+PUBLISHED = (('S1', 'S3', 'above', '120 kW, finishes S1'), ('S2', 'S4', 'below', '135 kW, finishes S4'),
+             ('S2', 'S3', 'below', '105 kW, finishes S2'), ('S1', 'S3', 'below', '20 kW, finishes S3'))
+
+
+def test_tc3_is_made_by_hand_then_broken_and_mended(tmp_path: Path) -> None:
+    hand = Hand(bench_of(tmp_path, 'tc3'))
+    assert hand.view.verdict.kind == 'nothing-placed' and hand.view.score.units == '0 + 7 = 7; the rule: 7'
+    for hot, cold, where, words in PUBLISHED:
+        piece, partner = hand.piece(hot, where), hand.piece(cold, where)
+        best = next(offer for offer in hand.offers(piece) if offer.partner == partner)
+        assert best.words == words and best.free
+        view = hand.drops(piece, partner)
+        assert view.verdict.kind == 'unfinished' and view.score.reach_hot == '107.5'
+    view = hand.does('finish')
+    assert (view.verdict.kind, view.score.stands_hot, view.score.units) == ('accepted', '107.5', '7; the rule: 7')
+    ways = hand.bench.ways(view.version)
+    assert isinstance(ways, tuple)
+    loop = next(way for way in ways if way.breaks == 'E4 goes (20 kW)')
+    view = hand.does('break', way=loop.id)
+    assert view.verdict.kind == 'rejected'
+    assert [(place.kind, place.name) for place in view.verdict.places] == [('exchanger', 'E1')]
+    assert '80 °C' in view.verdict.text and '82 °C' in view.verdict.text
+    ways = hand.bench.ways(view.version)
+    assert isinstance(ways, tuple)
+    assert (ways[0].kind, ways[0].least, ways[0].most, ways[0].mends) == ('path', '4', '140', ('E1',))
+    view = hand.does('shift', way=ways[0].id, heat=ways[0].first)
+    assert (view.verdict.kind, view.score.stands_hot, view.score.placed) == ('accepted', '111.5', 6)
+    verdict = Pinch().audit((tmp_path / 'case.csv').read_bytes(), (tmp_path / 'network.txt').read_bytes())
+    assert isinstance(verdict, Accepted) and verdict.hot == 111_500
+
+
+def test_undo_gives_the_very_bytes_and_redo_them_again(tmp_path: Path) -> None:
+    hand = Hand(bench_of(tmp_path, 'tc3', 'tc3-network.txt'))
+    texts = [(tmp_path / 'network.txt').read_bytes()]
+    for kind, fields in (('take', {'exchanger': 'E1'}), ('take', {'exchanger': 'E2'}),
+                         ('duty', {'exchanger': 'E3', 'heat': '100'}),
+                         ('rename', {'exchanger': 'H3', 'name': 'heater-3'}),
+                         ('cell', {'row': 'stream S1', 'field': 'supply', 'text': '155'})):
+        hand.does(kind, **fields)
+        texts.append((tmp_path / 'network.txt').read_bytes())
+    for text in reversed(texts[:-1]):
+        hand.does('undo')
+        assert (tmp_path / 'network.txt').read_bytes() == text
+    assert (tmp_path / 'case.csv').read_bytes() == (EXAMPLES / 'tc3.csv').read_bytes()
+    assert not hand.view.can_undo
+    for text in texts[1:]:
+        hand.does('redo')
+        assert (tmp_path / 'network.txt').read_bytes() == text
+    hand.does('step', at=0)
+    assert (tmp_path / 'network.txt').read_bytes() == texts[0]
+    for wrong in (-1, 6, '0', True, None):
+        hand.may_not('step', at=wrong)
+
+
+def test_a_new_start_shows_what_was_saved(tmp_path: Path) -> None:
+    hand = Hand(bench_of(tmp_path, 'tc3'))
+    hand.drops(hand.piece('S1', 'above'), hand.piece('S3', 'above'))
+    before = hand.view
+    after = opened(tmp_path).view()
+    assert (after.grid, after.score, after.texts) == (before.grid, before.score, before.texts)
+
+
+def test_opening_writes_nothing(tmp_path: Path) -> None:
+    Hand(bench_of(tmp_path, 'tc3')).bench.view()
+    assert [path.name for path in tmp_path.iterdir()] == ['case.csv']
+
+
+def test_a_begun_network_goes_on(tmp_path: Path) -> None:
+    view = Hand(bench_of(tmp_path, 'four-stream', 'four-stream-begun.txt')).view
+    assert view.verdict.kind == 'unfinished' and view.score.reach_hot == '40'
+
+
+def test_what_changes_outside_is_a_step_that_undo_takes_back(tmp_path: Path) -> None:
+    hand = Hand(bench_of(tmp_path, 'tc3', 'tc3-network.txt'))
+    hand.does('take', exchanger='E4')
+    text = (tmp_path / 'network.txt').read_text(encoding='utf-8')
+    version = hand.view.version
+    (tmp_path / 'network.txt').write_bytes((EXAMPLES / 'tc3-network.txt').read_bytes())
+    done = hand.bench.gesture(version, {'kind': 'take', 'exchanger': 'E1'})
+    assert done.stale and [step.text for step in done.view.steps] == ['opened', 'E4 taken away', 'changed outside']
+    hand.does('undo')
+    assert (tmp_path / 'network.txt').read_text(encoding='utf-8') == text
+
+
+def test_a_faulty_text_from_outside_is_shown_and_can_be_mended(tmp_path: Path) -> None:
+    hand = Hand(bench_of(tmp_path, 'tc3', 'tc3-network.txt'))
+    for name, text in (('network.txt', 'exchanger E1 S1 S3 many\n'), ('case.csv', 'hot,S1\n')):
+        (tmp_path / name).write_text(text, encoding='utf-8')
+        view = hand.view
+        assert view.verdict.kind == 'faulty' and view.verdict.text
+        json.dumps(asdict(view))
+        hand.does('undo')
+        assert hand.view.verdict.kind == 'accepted'
+
+
+def test_a_file_that_was_changed_in_between_is_not_written_over(tmp_path: Path) -> None:
+    file = OwnFile(str(tmp_path / 'network.txt'))
+    file.taken()
+    file.save(b'one\n')
+    (tmp_path / 'network.txt').write_bytes(b'another\n')
+    with pytest.raises(ChangedOutside):
+        file.save(b'two\n')
+    assert (tmp_path / 'network.txt').read_bytes() == b'another\n'
+
+
+def test_a_full_disk_changes_nothing(tmp_path: Path, monkeypatch: pytest.MonkeyPatch) -> None:
+    hand = Hand(bench_of(tmp_path, 'tc3', 'tc3-network.txt'))
+
+    def full(_: int) -> None:
+        raise OSError(errno.ENOSPC, 'No space left on device')
+
+    monkeypatch.setattr(written_files.os, 'fsync', full)
+    assert 'No space left' in hand.may_not('take', exchanger='E1')
+    assert 'No space left' in hand.view.files.saved
+    assert (tmp_path / 'network.txt').read_bytes() == (EXAMPLES / 'tc3-network.txt').read_bytes()
+    assert sorted(path.name for path in tmp_path.iterdir()) == ['case.csv', 'network.txt']
+    monkeypatch.undo()
+    assert hand.does('take', exchanger='E1').files.saved == 'saved'
+
+
+def test_of_two_texts_that_are_written_both_or_none_are(tmp_path: Path) -> None:
+    hand = Hand(bench_of(tmp_path, 'tc3', 'tc3-network.txt'))
+    hand.bench.network_file.path = str(tmp_path / 'gone' / 'network.txt')
+    hand.bench.network_file.read = lambda: hand.bench.network_file.content  # type: ignore[method-assign]
+    hand.may_not('cell', row='stream S1', field='supply', text='155')
+    assert (tmp_path / 'case.csv').read_bytes() == (EXAMPLES / 'tc3.csv').read_bytes()
+
+
+def test_a_file_is_open_in_one_desk_alone(tmp_path: Path) -> None:
+    path = str(tmp_path / 'network.txt')
+    with claimed(path):
+        with pytest.raises(OpenedTwice):
+            claimed(path)
+    claimed(path).close()
+
+
+@pytest.mark.parametrize('gesture', [
+    {'kind': 'nothing'}, {}, {'kind': 'place'}, {'kind': 'place', 'piece': 3, 'partner': 'COLD'},
+    {'kind': 'place', 'piece': 'E1', 'partner': 'COLD'}, {'kind': 'take', 'exchanger': 'open-1'},
+    {'kind': 'take', 'exchanger': ''},
+    {'kind': 'duty', 'exchanger': 'E1', 'heat': '-1'}, {'kind': 'duty', 'exchanger': 'E1', 'heat': '1e999'},
+    {'kind': 'duty', 'exchanger': 'E1', 'heat': 'NaN'}, {'kind': 'duty', 'exchanger': 'E1', 'heat': '121'},
+    {'kind': 'duty', 'exchanger': 'E1', 'heat': '1/3'.replace('3', '999999999999999999999999999')},
+    {'kind': 'rename', 'exchanger': 'E1', 'name': 'open-9'}, {'kind': 'rename', 'exchanger': 'E1', 'name': 'E2'},
+    {'kind': 'rename', 'exchanger': 'E1', 'name': '<b>'}, {'kind': 'shares', 'joint': 'S2/1', 'shares': ['50', '60']},
+    {'kind': 'shares', 'joint': 'S9/1', 'shares': ['50', '50']}, {'kind': 'shares', 'joint': 'S2/1', 'shares': '50'},
+    {'kind': 'shift', 'way': 'x', 'heat': '1'}, {'kind': 'texts'}, {'kind': 'texts', 'network': 'nonsense'},
+    {'kind': 'texts', 'case': 'hot,A'}, {'kind': 'undo'},
+    {'kind': 'cell', 'row': 'stream S1', 'field': 'supply', 'text': 'x'},
+    {'kind': 'cell', 'row': 'stream S1', 'field': 'supply', 'text': '150.05'},
+    {'kind': 'cell', 'row': 'stream S1', 'field': 'name', 'text': 'S2'},
+    {'kind': 'cell', 'row': 'stream S9', 'field': 'name', 'text': 'A'},
+    {'kind': 'cell', 'row': 'stream S1', 'field': 'target', 'text': '160'}, {'kind': 'difference', 'difference': '-1'},
+    {'kind': 'remove', 'row': 'contribution '}, {'kind': 'add', 'what': 'stream', 'side': 'hot', 'name': 'S1'},
+    {'kind': 'add', 'what': 'forbid', 'hot': 'S3', 'cold': 'S1'}], ids=str)
+def test_what_cannot_be_done_changes_nothing(tmp_path: Path, gesture: dict[str, object]) -> None:
+    bench = bench_of(tmp_path, 'tc3', 'tc3-network.txt')
+    done = bench.gesture(bench.view().version, gesture)
+    assert done.refused is not None and done.refused.text
+    assert (tmp_path / 'network.txt').read_bytes() == (EXAMPLES / 'tc3-network.txt').read_bytes()
+    assert (tmp_path / 'case.csv').read_bytes() == (EXAMPLES / 'tc3.csv').read_bytes()
+
+
+def test_cells_are_edited_in_their_lines_and_the_network_follows(tmp_path: Path) -> None:
+    hand = Hand(bench_of(tmp_path, 'tc3', 'tc3-network.txt'))
+    view = hand.does('cell', row='stream S1', field='supply', text='160')
+    assert view.texts.case == (EXAMPLES / 'tc3.csv').read_text().replace('hot,S1,1500', 'hot,S1,1600')
+    assert view.verdict.kind == 'unfinished' and [row.hot_in for row in view.exchangers if row.name == 'E1'] == ['150']
+    view = hand.does('cell', row='stream S1', field='name', text='HX')
+    assert 'pass HX open-1' in view.texts.network and 'S1' not in view.texts.network.split()
+    view = hand.does('add', what='stream', name='N', side='cold', supply='20', target='90', flow='1,5')
+    assert 'cold,N,200,900,150,,\n' in view.texts.case and view.verdict.kind == 'unfinished'
+    view = hand.does('remove', row='stream N')
+    view = hand.does('add', what='utility', name='LP', side='hot', level='160', price='2')
+    assert 'heater,LP,1600,0,1000000000000,2,\n' in view.texts.case
+    view = hand.does('add', what='forbid', hot='HX', cold='S4')
+    assert view.forbids[0].row == 'forbid HX S4'
+    view = hand.does('difference', difference='18')
+    assert view.difference.text == '18' and 'contribution,,90,' in view.texts.case
+
+
+def test_a_case_begins_with_nothing(tmp_path: Path) -> None:
+    hand = Hand(opened(tmp_path))
+    assert hand.view.verdict.title == 'No streams'
+    hand.does('add', what='stream', name='A', side='hot', supply='150', target='50', flow='2')
+    view = hand.does('add', what='stream', name='B', side='cold', supply='20', target='120', flow='1')
+    assert view.verdict.kind == 'nothing-placed' and len(view.grid.pieces if view.grid else ()) > 1
+    hand.drops(hand.piece('A', view.grid.pieces[0].where if view.grid else ''), 'COLD')
