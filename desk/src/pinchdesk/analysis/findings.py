@@ -9,6 +9,7 @@ from ..formats.network import End, Mix, Pass, Split
 from ..formats.shown import Shown, decimal, is_rounded
 from ..program.verdicts import Accepted, PlaceKind, Rejected, Verdict
 from .follow import Followed
+from .unfinished import unfinished_told
 
 REASONS = {
     'HotEndApproach': 'too close at its hot end: the hot side enters at {found}, and the cold one leaves so warm that '
@@ -61,9 +62,10 @@ def finding_of(followed: Followed, rejected: Rejected, shown: Shown) -> Finding:
 
 def headline(followed: Followed, verdict: Verdict) -> str:
     """A verdict in one sentence."""
-    shown = Shown(followed.case.basis)
+    shown, unfinished = Shown(followed.case.basis), unfinished_told(followed)
     if isinstance(verdict, Accepted):
-        return f'accepted, {shown.kilowatts(verdict.excess)} kW above the hot target'
+        told = f'accepted, {shown.kilowatts(verdict.excess)} kW above the hot target'
+        return f'{unfinished}; with utilities there it is {told}' if unfinished else told
     if isinstance(verdict, Rejected):
         finding = finding_of(followed, verdict, shown)
         return f'rejected at {finding.place}: {finding.sentence} ({verdict.reason})'

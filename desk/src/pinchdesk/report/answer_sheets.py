@@ -7,6 +7,7 @@ from ..analysis.findings import finding_of
 from ..analysis.follow import Followed
 from ..analysis.pinch_places import temperatures_at
 from ..analysis.sweep_request import own_contributions
+from ..analysis.unfinished import unfinished_told
 from ..formats.case import Basis, Case, Side
 from ..formats.shown import Number, Shown
 from ..program.answers import (Cut, HeatFlow, Prices, PriceScenarioAnswer, SiteAnswer, SpanAnswer, Sweep, SweepRow,
@@ -138,7 +139,7 @@ def audit_sheets(followed: Followed, verdict: Verdict) -> list[Sheet]:
     """A verdict: the balance of an accepted network and where it loses heat, or why it is rejected."""
     shown = Shown(followed.case.basis)
     if isinstance(verdict, Accepted):
-        return [balance_sheet(verdict, shown), penalties_sheet(verdict, shown)]
+        return [balance_sheet(verdict, shown, unfinished_told(followed)), penalties_sheet(verdict, shown)]
     if isinstance(verdict, TooFine):
         return [Sheet('Too fine: nothing is said about the network', (), ((too_fine_told(verdict),),))]
     found = finding_of(followed, verdict, shown)
@@ -150,11 +151,13 @@ def too_fine_told(verdict: TooFine) -> str:
 
 
 def audit_told(followed: Followed, verdict: Verdict) -> str:
-    """Why a network, or its penalties, cannot be told; nothing of one that is accepted with them."""
+    """Why a network, or its penalties, cannot be told, or that it is unfinished; nothing of one that is accepted with
+    them."""
     if isinstance(verdict, TooFine):
         return too_fine_told(verdict)
     if isinstance(verdict, Accepted):
-        return penalties_told(verdict.too_fine) if verdict.too_fine else ''
+        fine = penalties_told(verdict.too_fine) if verdict.too_fine else ''
+        return '; '.join(told for told in (unfinished_told(followed), fine) if told)
     found = finding_of(followed, verdict, Shown(followed.case.basis))
     return f'{found.place} {verdict.reason}; {found.sentence}'
 
@@ -170,8 +173,9 @@ def balance_facts(verdict: Accepted, shown: Shown) -> FactRow:
             Fact('reference place, shifted', temperature(shown, verdict.place), '°C'))
 
 
-def balance_sheet(verdict: Accepted, shown: Shown) -> Sheet:
-    return lines_sheet('Accepted', balance_facts(verdict, shown))
+def balance_sheet(verdict: Accepted, shown: Shown, unfinished: str = '') -> Sheet:
+    title = f'{unfinished[0].upper()}{unfinished[1:]}: with utilities there' if unfinished else 'Accepted'
+    return lines_sheet(title, balance_facts(verdict, shown))
 
 
 def penalties_told(too_fine: TooFine) -> str:

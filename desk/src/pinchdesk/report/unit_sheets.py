@@ -11,6 +11,7 @@ from ..analysis.follow import Followed, Passage, SideState, heat_above
 from ..analysis.independent_sets import MOST_SOURCES, MOST_SUBSETS
 from ..analysis.joined import exchanger_count, joined
 from ..analysis.least_units import IndependentSet, RegionUnits, Units
+from ..analysis.unfinished import placed
 from ..formats.case import Side, Utility, shifted
 from ..formats.shown import Shown
 from .facts import Fact, FactRow, FactTable
@@ -99,7 +100,7 @@ def all_counted(units: Units) -> Sequence[RegionUnits]:
 def found_in(followed: Followed | None, region: Region) -> FactRow:
     if followed is None:
         return ()
-    whole, partly = exchangers_in(joined(followed).followed.passages, region)
+    whole, partly = exchangers_in(placed(joined(followed).followed), region)
     return Fact('in the network', Decimal(whole)), Fact('partly', Decimal(partly))
 
 

@@ -92,7 +92,7 @@ class FewExchangers:
 
     @property
     def bounds(self) -> str:
-        """What no network has fewer exchangers than, and which networks, in words; each segment is a stream of its own."""
+        """What no network has fewer exchangers than, and which networks, in words; each segment counts as a stream."""
         parts = ' in the program, each segment a stream of its own,' if self.basis.segments else ''
         told = [f'bound: at least {self.bound}{parts} in any network at this cost']
         if self.of_uses > self.bound:

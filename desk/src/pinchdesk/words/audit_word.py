@@ -8,7 +8,7 @@ from ..program.run import Pinch
 from ..program.verdicts import Accepted
 from ..report.answer_sheets import audit_sheets, audit_told, balance_facts
 from ..search.budget import Telling, nobody
-from .shared import CASE, NETWORK, areas_beside, ended, with_areas
+from .shared import CASE, NETWORK, areas_beside, ended, open_notes, with_areas
 from .word import Answer, Files, NoOptions, Word
 
 
@@ -19,7 +19,8 @@ def audit(files: Files, _: NoOptions = NoOptions(), tell: Telling = nobody) -> A
         followed, verdict = audited(pinch, case.content, network.content)
         beside = areas_beside(pinch, followed, verdict)
     facts = balance_facts(verdict, Shown(followed.case.basis)) if isinstance(verdict, Accepted) else ()
-    answer = Answer(tuple(audit_sheets(followed, verdict)), facts=(facts,), headline=audit_told(followed, verdict))
+    answer = Answer(tuple(audit_sheets(followed, verdict)), facts=(facts,), headline=audit_told(followed, verdict),
+                    notes=open_notes(network, followed))
     return ended(with_areas(answer, beside), [verdict])
 
 

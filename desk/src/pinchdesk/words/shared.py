@@ -7,6 +7,7 @@ from dataclasses import dataclass, replace
 from typing import TYPE_CHECKING
 
 from ..analysis.follow import Followed
+from ..analysis.unfinished import unfinished_told
 from ..formats.amounts import whole
 from ..formats.case import Case, completed, read_case
 from ..program.run import Pinch
@@ -64,14 +65,20 @@ def told_of(file: TextFile | None, notes: Iterable[str]) -> tuple[str, ...]:
     return tuple(f'{file.name}: {note}' for note in notes) if file else ()
 
 
+def open_notes(network: TextFile, followed: Followed) -> tuple[str, ...]:
+    """That a network is unfinished, where it is."""
+    unfinished = unfinished_told(followed)
+    return told_of(network, [f'{unfinished}: what is open counts as served by utilities'] if unfinished else [])
+
+
 def rounding_told(file: TextFile, case: Case) -> tuple[str, ...]:
     """How far what its table rounded takes the targets of a case."""
     return told_of(file, [case.basis.rounding] if case.basis.rounding else [])
 
 
 def areas_beside(pinch: Pinch, followed: Followed, verdict: Verdict) -> AreasBeside | None:
-    """The areas and costs beside an accepted network whose case says something of them."""
-    if not isinstance(verdict, Accepted) or not followed.case.basis.cost_rows:
+    """The areas and costs beside an accepted network, all of it placed, whose case says something of them."""
+    if not isinstance(verdict, Accepted) or not followed.case.basis.cost_rows or unfinished_told(followed):
         return None
     # It is slow to load, and few cases have areas.
     from ..costs.areas_beside import asked_beside

@@ -7,7 +7,7 @@ from ..errors import about
 from ..program.run import Pinch
 from ..report.exchangers import (exchangers_sheet, mixes_sheets, streams_sheets, sums_facts, sums_sheet, verdict_sheet)
 from ..search.budget import Telling, nobody
-from .shared import CASE, NETWORK, areas_beside, ended, with_areas
+from .shared import CASE, NETWORK, areas_beside, ended, open_notes, with_areas
 from .word import Answer, Files, NoOptions, Word
 
 
@@ -19,7 +19,8 @@ def table(files: Files, _: NoOptions = NoOptions(), tell: Telling = nobody) -> A
         pinches, beside = asked_pinches(pinch, case.content), areas_beside(pinch, followed, verdict)
     sheets = (verdict_sheet(followed, verdict), exchangers_sheet(followed, pinches, verdict),
               *mixes_sheets(followed, verdict), *streams_sheets(followed, verdict), sums_sheet(followed))
-    answer = Answer(sheets, facts=(sums_facts(followed),), headline=headline(followed, verdict))
+    answer = Answer(sheets, facts=(sums_facts(followed),), headline=headline(followed, verdict),
+                    notes=open_notes(network, followed))
     return ended(with_areas(answer, beside, all_exchangers=True), [verdict])
 
 

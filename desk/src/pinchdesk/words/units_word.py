@@ -7,6 +7,7 @@ from ..analysis.audited import audited
 from ..analysis.findings import headline
 from ..analysis.follow import Followed
 from ..analysis.least_units import Units, least_units
+from ..analysis.unfinished import unfinished_told
 from ..errors import about
 from ..formats.shown import Shown
 from ..program.answers import Cut
@@ -33,7 +34,8 @@ def units(files: Files, _: NoOptions = NoOptions(), tell: Telling = nobody) -> A
         if network is None:
             return counted_units(counted)
         followed, verdict = audited(pinch, case.content, network.content)
-    told = () if isinstance(verdict, Accepted) else told_of(network, [headline(followed, verdict)])
+    right = isinstance(verdict, Accepted) and not unfinished_told(followed)
+    told = () if right else told_of(network, [headline(followed, verdict)])
     return ended(replace(counted_units(counted, followed), notes=told), [verdict])
 
 

@@ -8,6 +8,7 @@ from matplotlib.figure import Figure
 from ...analysis.findings import Finding, finding_of
 from ...analysis.follow import Followed, Passage, PinchPoint, PinchSide
 from ...analysis.joined import joined
+from ...analysis.unfinished import unfinished_told
 from ...errors import WordsError
 from ...formats.case import Side, Utility
 from ...formats.shown import Shown
@@ -62,7 +63,9 @@ def headline(followed: Followed, verdict: Verdict, finding: Finding | None, plan
     """What the audit said, in lines that the picture holds."""
     shown = Shown(followed.case.basis)
     if isinstance(verdict, Accepted):
-        told = f'Accepted: hot utility {shown.kilowatts(verdict.hot)} kW, cold utility ' \
+        unfinished = unfinished_told(followed)
+        begun = f'{unfinished[0].upper()}{unfinished[1:]}; with utilities there' if unfinished else 'Accepted'
+        told = f'{begun}: hot utility {shown.kilowatts(verdict.hot)} kW, cold utility ' \
                f'{shown.kilowatts(verdict.cold)} kW, excess {shown.kilowatts(verdict.excess)} kW'
     elif finding:
         told = f'Rejected at {finding.place}: {finding.sentence}'
