@@ -15,8 +15,8 @@ from pinchdesk.formats.network import read_network
 from pinchdesk.live import gestures
 from pinchdesk.live.gestures import NotDone
 from pinchdesk.live.judgement import Whole, asked_whole, judged_stand, reachable
-from pinchdesk.live.network_lines import Layout, begun_plan, read_plan, write_plan
-from pinchdesk.live.pieces import Plan, cut
+from pinchdesk.live.network_lines import TextLayout, begun_plan, read_plan, write_plan
+from pinchdesk.live.pieces import HandPlan, cut
 from pinchdesk.live.seats import seated
 from pinchdesk.live.offers import ways_to_place
 from pinchdesk.live.ways import shift, ways_of
@@ -34,24 +34,24 @@ def whole_of(name: str) -> tuple[Whole, bytes]:
 
 
 @lru_cache(maxsize=None)
-def network_of(name: str) -> tuple[Plan, Layout]:
+def network_of(name: str) -> tuple[HandPlan, TextLayout]:
     text = (EXAMPLES / f'{name}-network.txt').read_text(encoding='utf-8')
     return read_plan(whole_of(name)[0].case, text)
 
 
-def balanced(plan: Plan) -> bool:
+def balanced(plan: HandPlan) -> bool:
     """Whether each stream ends at its target."""
     return all(sum((plan.duties[name] for name in throughs(plan.structure.courses[stream.name])), Fraction(0))
                == stream.heat for stream in plan.case.streams)
 
 
-def placed_is_right(plan: Plan, content: bytes) -> bool:
+def placed_is_right(plan: HandPlan, content: bytes) -> bool:
     """Whether the audit takes what is placed; a plan whose numbers are too fine is not asked about."""
-    verdict = Pinch().audit(content, write_plan(plan, Layout()))
+    verdict = Pinch().audit(content, write_plan(plan, TextLayout()))
     return isinstance(judged_stand(Pinch(), plan, verdict).placed, (Accepted, TooFine))
 
 
-def unmoved(before: Plan, after: Plan, *named: str) -> bool:
+def unmoved(before: HandPlan, after: HandPlan, *named: str) -> bool:
     """Whether every exchanger that is not named has its temperatures as before."""
     return all(before.ends(name, side) == after.ends(name, side) for name in before.placed
                if name in after.placed and name not in named for side in Side)
@@ -89,7 +89,7 @@ def test_a_network_taken_apart_is_all_open(name: str) -> None:
 def test_a_walk_of_gestures_keeps_what_holds(name: str, data: some.DataObject) -> None:
     whole, content = whole_of(name)
     plan, layout = network_of(name) if data.draw(some.booleans(), 'from the network') else \
-        (begun_plan(whole.case), Layout())
+        (begun_plan(whole.case), TextLayout())
     for _ in range(data.draw(some.integers(1, 6), 'steps')):
         kind = data.draw(some.sampled_from(['place', 'place', 'take', 'grow', 'duty', 'finish', 'split', 'shift']))
         try:
@@ -105,7 +105,7 @@ def test_a_walk_of_gestures_keeps_what_holds(name: str, data: some.DataObject) -
         plan = after
 
 
-def done(plan: Plan, kind: str, whole: Whole, data: some.DataObject) -> tuple[Plan, tuple[str, ...], bool]:
+def done(plan: HandPlan, kind: str, whole: Whole, data: some.DataObject) -> tuple[HandPlan, tuple[str, ...], bool]:
     """One gesture, whom it names, and whether it is a shift."""
     if kind == 'shift':
         ways = [ranged for ranged in ways_of(plan) if ranged.most]

@@ -17,6 +17,7 @@ from ..formats.shown import Shown
 from ..formats.whole_streams import WholeStream, parts_of, whole_streams
 from .findings import Finding
 from .follow import Branch, Followed, Passage, PinchPoint, SideState, StreamEnd, follow
+from .unfinished import placed
 
 
 @dataclass(frozen=True)
@@ -74,6 +75,15 @@ def exchanger_count(followed: Followed) -> int:
     """How many exchangers of the plant a network has, or a beginning of one."""
     wholes = wholes_of(followed.case)
     return len(list(Joiner(followed, wholes).chains())) if wholes else len(followed.passages)
+
+
+def placed_count(followed: Followed) -> int:
+    """The same without what stands for open pieces."""
+    standing = {passage.exchanger.name for passage in placed(followed)}
+    wholes = wholes_of(followed.case)
+    chains: Iterable[Sequence[Passage]] = Joiner(followed, wholes).chains() if wholes else \
+        [[passage] for passage in followed.passages]
+    return sum(any(passage.exchanger.name in standing for passage in chain) for chain in chains)
 
 
 def network_count(case: Case, network: Network) -> int:

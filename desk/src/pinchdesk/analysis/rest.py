@@ -22,6 +22,7 @@ from ..program.verdicts import Accepted, PlaceKind, Rejected, Verdict
 from ..tables.names import apart
 from .follow import Followed, PinchPoint, follow, pinches_of
 from .open_branches import Left, Rounding, Scale, is_exact, left_of, open_branches, rest_case, scale_of, used_heats
+from .unfinished import open_exchangers, placed
 
 
 @dataclass(frozen=True)
@@ -109,10 +110,11 @@ def remaining(case: CaseText, network: NetworkText, pinch: Pinch | None = None) 
     content, text = case_bytes(case), network_bytes(network)
     verdict = asked.audit(content, text)
     followed = follow(completed(read_case(content)), read_network(text))
-    left = left_of(followed.case, open_branches(followed))
+    pieces = open_pieces(followed)
+    left = (*left_of(followed.case, open_branches(followed)), *pieces)
     whole, flow = asked.targets(content), asked.flow(content)
-    used = used_heats(followed.case, followed.network)
-    if not left or not ends_early(verdict):
+    used = used_heats(followed.case, Network(tuple(passage.exchanger for passage in placed(followed))))
+    if not left or not ends_early(verdict) and not pieces or is_elsewhere(verdict, followed):
         return Rest(followed, followed, verdict, left, whole, flow, used)
     check_ways(left)
     finished, verdict = judged(asked, followed, left)
@@ -120,6 +122,24 @@ def remaining(case: CaseText, network: NetworkText, pinch: Pinch | None = None) 
     if not isinstance(verdict, Accepted) or not any(open_branch.heat for open_branch in left):
         return rest
     return posed_rest(asked, rest)
+
+
+def open_pieces(followed: Followed) -> tuple[Left, ...]:
+    """The exchangers that stand for what is not served yet, each from where it begins to where it ends."""
+    taken = {source.name for source in followed.case.sources} | {'HOT', 'COLD'}
+    standing = {passage.exchanger.name for passage in placed(followed)}
+    sides = [(passage.exchanger.name, passage.hot if passage.hot.before else passage.cold)
+             for passage in followed.passages if passage.exchanger.name not in standing]
+    return tuple(Left(fresh(name, taken), side.before, side.behind.state) for name, side in sides
+                 if side.before and side.behind and side.before.state is not None)
+
+
+def is_elsewhere(verdict: Verdict, followed: Followed) -> bool:
+    """Whether the audit found a fault that is none of what is open."""
+    if not isinstance(verdict, Rejected) or ends_early(verdict):
+        return False
+    names = {exchanger.name for exchanger in open_exchangers(followed.case, followed.network.exchangers)}
+    return verdict.place.kind is not PlaceKind.UTILITY and verdict.place.name not in names
 
 
 def ends_early(verdict: Verdict) -> bool:
@@ -141,7 +161,8 @@ def judged(pinch: Pinch, followed: Followed, lefts: Sequence[Left]) -> tuple[Fol
     """The network with its open branches led to their targets, and what the audit says of it. Where nothing is left to
     lead it is audited for the case itself."""
     case = finishing_case(followed, lefts) if any(left.heat for left in lefts) else followed.case
-    network = Network((*followed.network.statements, *finishing(completed(case), followed, lefts)))
+    statements = with_stand_ins(completed(case), followed)
+    network = Network((*statements, *finishing(completed(case), followed, lefts)))
     return follow(completed(case), network), pinch.audit(case, network)
 
 
@@ -149,7 +170,7 @@ def finishing_case(followed: Followed, lefts: Sequence[Left]) -> Case:
     """The case with the utilities that the network uses, of which none has to give a least heat, and with one more on a
     side that has such, at a level that reaches every branch. A side without any has `HOT` or `COLD` by itself."""
     case = followed.case
-    used = {name for exchanger in followed.network.exchangers for name in (exchanger.hot, exchanger.cold)}
+    used = {name for passage in placed(followed) for name in (passage.exchanger.hot, passage.exchanger.cold)}
     kept = [replace(utility, least=0) for utility in case.utilities if utility.name in used and not utility.invented]
     taken = {source.name for source in case.sources}
     ends = {side: [(stream.target, stream.contribution) for stream in case.streams if stream.side is not side]
@@ -165,6 +186,21 @@ def finishing_case(followed: Followed, lefts: Sequence[Left]) -> Case:
     return replace(case, utilities=tuple(kept), forbids=forbids)
 
 
+def with_stand_ins(case: Case, followed: Followed) -> Iterator[Statement]:
+    """The statements of a network, in which what stands for something open has the utility that reaches every
+    branch."""
+    last = {utility.side: utility.name for utility in case.utilities}
+    streams = {stream.name for stream in case.streams}
+    names = {exchanger.name for exchanger in open_exchangers(followed.case, followed.network.exchangers)}
+    for statement in followed.network.statements:
+        if isinstance(statement, Exchanger) and statement.name in names:
+            hot = statement.hot if statement.hot in streams else last[Side.HOT]
+            cold = statement.cold if statement.cold in streams else last[Side.COLD]
+            yield Exchanger(statement.name, hot, cold, statement.duty)
+        else:
+            yield statement
+
+
 def finishing(case: Case, followed: Followed, lefts: Sequence[Left]) -> Iterator[Statement]:
     """The statements that lead every open branch to its target, mix those of a stream and end it. The utility that
     stands last on its side reaches every branch."""
@@ -173,7 +209,7 @@ def finishing(case: Case, followed: Followed, lefts: Sequence[Left]) -> Iterator
     branches = set(followed.branches)
     for stream in case.streams:
         at = ''
-        for left in (open_branch for open_branch in lefts if open_branch.stream.name == stream.name):
+        for left in (branch for branch in lefts if branch.stream.name == stream.name and branch.until is None):
             ready = left.branch.name
             if left.heat:
                 hot = stream.side is Side.HOT

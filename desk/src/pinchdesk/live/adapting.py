@@ -7,10 +7,10 @@ from fractions import Fraction
 from ..formats.case import Case, Side, Stream
 from ..search.reduce.structure import Course, Structure, Through, throughs
 from .gestures import NotDone, opened
-from .pieces import Plan, fresh_open, merged, pair_with
+from .pieces import HandPlan, fresh_open, merged, pair_with
 
 
-def adapted(plan: Plan, case: Case) -> Plan:
+def adapted(plan: HandPlan, case: Case) -> HandPlan:
     """A plan for a changed case. `NotDone` where the exchangers of a stream have more than it has now."""
     for name in plan.placed:
         if not fits(plan, name, case):
@@ -37,11 +37,11 @@ def adapted(plan: Plan, case: Case) -> Plan:
         courses[stream.name] = course
     passed = {name for course in courses.values() for name in throughs(course)}
     structure = Structure({name: pair for name, pair in pairs.items() if name in passed}, courses)
-    made = Plan(case, structure, {name: duty for name, duty in duties.items() if name in passed})
+    made = HandPlan(case, structure, {name: duty for name, duty in duties.items() if name in passed})
     return merged(with_utilities(made))
 
 
-def with_utilities(plan: Plan) -> Plan:
+def with_utilities(plan: HandPlan) -> HandPlan:
     """A plan whose open pieces have utilities that there are."""
     pairs = dict(plan.pairs)
     for name in list(pairs):
@@ -50,10 +50,10 @@ def with_utilities(plan: Plan) -> Plan:
             stream = plan.sources[known[0]]
             assert isinstance(stream, Stream)
             pairs[name] = pair_with(stream, any_of(plan.case, stream))
-    return Plan(plan.case, replace(plan.structure, pairs=pairs), plan.duties)
+    return HandPlan(plan.case, replace(plan.structure, pairs=pairs), plan.duties)
 
 
-def fits(plan: Plan, name: str, case: Case) -> bool:
+def fits(plan: HandPlan, name: str, case: Case) -> bool:
     """Whether both sources of an exchanger are still there, on their sides."""
     sources = {source.name: source for source in case.sources}
     for source_name, side in zip(plan.pairs[name], Side):
@@ -78,7 +78,7 @@ def moved_begin(old: Stream, new: Stream) -> Fraction:
     return Fraction(new.cp * (way if new.side is Side.HOT else -way))
 
 
-def with_less(plan: Plan, course: Course, heat: Fraction, first: bool, duties: dict[str, Fraction],
+def with_less(plan: HandPlan, course: Course, heat: Fraction, first: bool, duties: dict[str, Fraction],
               stream: Stream) -> Course:
     """A course whose open pieces have so much less, from its beginning or from its end on."""
     steps = list(course)

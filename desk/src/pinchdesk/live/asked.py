@@ -15,7 +15,7 @@ from .case_lines import added, removed, with_cell, with_difference
 from .gestures import NotDone
 from .known import Known, Snapshot, begun, completed_live
 from .network_lines import write_plan
-from .pieces import Plan
+from .pieces import HandPlan
 from .seats import Seat
 from .ways import break_way, shift, way_named
 
@@ -63,7 +63,7 @@ def number(text: str) -> Fraction:
         raise NotDone(f'{text[:40] or "Nothing"} is no number.') from fault
 
 
-def heat_of(plan: Plan, text: str, near: Fraction | None = None) -> Fraction:
+def heat_of(plan: HandPlan, text: str, near: Fraction | None = None) -> Fraction:
     """A heat as typed, in W of the program. What is shown of a number that is finer stands for that number."""
     shown = Shown(plan.case.basis)
     value = number(text) * shown.units.parts * plan.case.basis.scale
@@ -74,17 +74,17 @@ def share_of(text: str) -> Fraction:
     return number(text) / 100
 
 
-def planned(known: Known, cut: bool = False) -> Plan:
+def planned(known: Known, cut: bool = False) -> HandPlan:
     """The plan of both texts; `NotDone` where there is none."""
     if known.plan is None:
         raise NotDone(known.read_only or known.network_fault or known.fault or 'There is no network.')
     return known.cut_plan() if cut else known.plan
 
 
-PlanGesture = Callable[[Known, Fields], tuple[Plan, str]]
+PlanGesture = Callable[[Known, Fields], tuple[HandPlan, str]]
 
 
-def place(known: Known, fields: Fields) -> tuple[Plan, str]:
+def place(known: Known, fields: Fields) -> tuple[HandPlan, str]:
     plan = planned(known, True)
     piece, partner = fields.text('piece'), fields.text('partner')
     names = fields.maybe('hot_seat'), fields.maybe('cold_seat')
@@ -99,7 +99,7 @@ def place(known: Known, fields: Fields) -> tuple[Plan, str]:
     return made, placed_told(plan, made)
 
 
-def placed_told(before: Plan, after: Plan) -> str:
+def placed_told(before: HandPlan, after: HandPlan) -> str:
     """What is placed by a gesture, in words."""
     shown = Shown(after.case.basis)
     new = [name for name in after.placed if name not in before.pairs]
@@ -107,73 +107,73 @@ def placed_told(before: Plan, after: Plan) -> str:
                      for name in new) or 'placed'
 
 
-def take(known: Known, fields: Fields) -> tuple[Plan, str]:
+def take(known: Known, fields: Fields) -> tuple[HandPlan, str]:
     name = fields.text('exchanger')
     return gestures.take_away(planned(known), name), f'{name} taken away'
 
 
-def grow(known: Known, fields: Fields) -> tuple[Plan, str]:
+def grow(known: Known, fields: Fields) -> tuple[HandPlan, str]:
     name = fields.text('exchanger')
     made = gestures.grown(planned(known), name, known.whole.pinches if known.whole else ())
     return made, duty_told(made, name)
 
 
-def duty(known: Known, fields: Fields) -> tuple[Plan, str]:
+def duty(known: Known, fields: Fields) -> tuple[HandPlan, str]:
     plan, name = planned(known), fields.text('exchanger')
     heat = heat_of(plan, fields.text('heat'), plan.duties.get(name))
     made = gestures.with_duty(plan, name, heat, known.whole.pinches if known.whole else ())
     return made, duty_told(made, name)
 
 
-def duty_told(plan: Plan, name: str) -> str:
+def duty_told(plan: HandPlan, name: str) -> str:
     shown = Shown(plan.case.basis)
     return f'{name} has {shown.heat(plan.duties[name])} {shown.heat_unit}'
 
 
-def utility(known: Known, fields: Fields) -> tuple[Plan, str]:
+def utility(known: Known, fields: Fields) -> tuple[HandPlan, str]:
     plan = planned(known, True)
     made = gestures.serve(plan, fields.text('piece'), fields.maybe('utility'))
     return made, placed_told(plan, made)
 
 
-def finish(known: Known, fields: Fields) -> tuple[Plan, str]:
+def finish(known: Known, fields: Fields) -> tuple[HandPlan, str]:
     return gestures.finish(planned(known)), 'the rest by utilities'
 
 
-def change(known: Known, fields: Fields) -> tuple[Plan, str]:
+def change(known: Known, fields: Fields) -> tuple[HandPlan, str]:
     name, other = fields.text('exchanger'), fields.text('utility')
     return gestures.change_utility(planned(known), name, other), f'{name} by {other}'
 
 
-def split(known: Known, fields: Fields) -> tuple[Plan, str]:
+def split(known: Known, fields: Fields) -> tuple[HandPlan, str]:
     plan, piece = planned(known, True), fields.text('piece')
     made = gestures.split(plan, piece, share_of(fields.maybe('share') or '50'))
     return made, f'{plan.piece(piece).stream.name} split'
 
 
-def shares(known: Known, fields: Fields) -> tuple[Plan, str]:
+def shares(known: Known, fields: Fields) -> tuple[HandPlan, str]:
     plan, joint = planned(known), fields.text('joint')
     typed = [share_of(text) for text in fields.texts('shares')]
     return gestures.with_shares(plan, joint, typed), f'shares of {joint.partition("/")[0]}'
 
 
-def join(known: Known, fields: Fields) -> tuple[Plan, str]:
+def join(known: Known, fields: Fields) -> tuple[HandPlan, str]:
     joint = fields.text('joint')
     return gestures.join(planned(known), joint), f'{joint.partition("/")[0]} in one lane'
 
 
-def move(known: Known, fields: Fields) -> tuple[Plan, str]:
+def move(known: Known, fields: Fields) -> tuple[HandPlan, str]:
     name, piece = fields.text('exchanger'), fields.text('piece')
     made = gestures.move_end(planned(known), name, piece, known.whole.pinches if known.whole else ())
     return made, f'{name}: {"–".join(made.pairs[name])}'
 
 
-def rename(known: Known, fields: Fields) -> tuple[Plan, str]:
+def rename(known: Known, fields: Fields) -> tuple[HandPlan, str]:
     old, new = fields.text('exchanger'), fields.text('name')
     return gestures.rename(planned(known), old, new), f'{old} is {new}'
 
 
-def shifted_along(known: Known, fields: Fields) -> tuple[Plan, str]:
+def shifted_along(known: Known, fields: Fields) -> tuple[HandPlan, str]:
     plan, way = planned(known), fields.text('way')
     found = way_named(plan, way)
     heat = heat_of(plan, fields.text('heat'))
@@ -184,7 +184,7 @@ def shifted_along(known: Known, fields: Fields) -> tuple[Plan, str]:
     return shift(plan, way, heat), f'{shown.heat(heat)} {shown.heat_unit} along {names}'
 
 
-def broken(known: Known, fields: Fields) -> tuple[Plan, str]:
+def broken(known: Known, fields: Fields) -> tuple[HandPlan, str]:
     plan, way = planned(known), fields.text('way')
     found, shown = way_named(plan, way), Shown(plan.case.basis)
     heat = plan.duties[found.goes]
@@ -236,7 +236,7 @@ def with_case(known: Known, text: str) -> Snapshot:
     if known.plan is None:
         return Snapshot(text, known.snapshot.network or begun(text))
     plan = adapted(known.plan, case)
-    same = plan == Plan(case, known.plan.structure, known.plan.duties)
+    same = plan == HandPlan(case, known.plan.structure, known.plan.duties)
     return Snapshot(text, known.snapshot.network if same else write_plan(plan, known.layout))
 
 

@@ -24,7 +24,7 @@ EMPTY_CASE = 'contribution,,50,,,,\n'
 
 
 @dataclass(frozen=True)
-class Done:
+class GestureDone:
     """What became of a gesture: the view then, and why it was not done, or that it was for another version."""
 
     view: View
@@ -67,19 +67,19 @@ class Bench:
         names = (self.case_file.name, self.network_file.name, self.saved)
         return seen(self.now, self.version, names, [step.told for step in self.steps], self.at)
 
-    def gesture(self, version: object, gesture: Mapping[str, object]) -> Done:
+    def gesture(self, version: object, gesture: Mapping[str, object]) -> GestureDone:
         """Does a gesture on what the page saw."""
         with self.lock:
             self.look()
             if version != self.version:
-                return Done(self.shown(), stale=True)
+                return GestureDone(self.shown(), stale=True)
             try:
                 self.do(str(gesture.get('kind', '')), Fields(gesture))
             except NotDone as fault:
-                return Done(self.shown(), Refusal(str(fault), tuple(Mark(*place) for place in fault.places)))
+                return GestureDone(self.shown(), Refusal(str(fault), tuple(Mark(*place) for place in fault.places)))
             except DeskError as fault:
-                return Done(self.shown(), Refusal(told(fault)))
-            return Done(self.shown())
+                return GestureDone(self.shown(), Refusal(told(fault)))
+            return GestureDone(self.shown())
 
     def do(self, kind: str, fields: Fields) -> None:
         if kind in ('undo', 'redo', 'step'):
@@ -155,32 +155,32 @@ class Bench:
         self.version += 1
         return True
 
-    def offers(self, version: object, piece: str) -> tuple[Offer, ...] | Done:
+    def offers(self, version: object, piece: str) -> tuple[Offer, ...] | GestureDone:
         """The offers for a piece of what the page saw."""
         with self.lock:
             if version != self.version:
-                return Done(self.shown(), stale=True)
+                return GestureDone(self.shown(), stale=True)
             known = self.now
         if known.plan is None:
             return ()
         try:
             return offers_of(self.knowing.pinch, known.cut_plan(), piece, known.reach)
         except NotDone as fault:
-            return Done(self.view(), Refusal(str(fault)))
+            return GestureDone(self.view(), Refusal(str(fault)))
 
-    def ways(self, version: object) -> tuple[WayOffer, ...] | Done:
+    def ways(self, version: object) -> tuple[WayOffer, ...] | GestureDone:
         """The loops and paths of what the page saw."""
         with self.lock:
             if version != self.version:
-                return Done(self.shown(), stale=True)
+                return GestureDone(self.shown(), stale=True)
             known = self.now
         return told_ways(known.plan, ways_of(known.plan)) if known.plan else ()
 
-    def slider(self, version: object, difference: str) -> Slider | Done:
+    def slider(self, version: object, difference: str) -> Slider | GestureDone:
         """Targets and curves at another least approach; nothing is written."""
         with self.lock:
             if version != self.version:
-                return Done(self.shown(), stale=True)
+                return GestureDone(self.shown(), stale=True)
             known = self.now
         try:
             if known.case is None:
@@ -188,4 +188,4 @@ class Bench:
             text = with_difference(known.snapshot.case, known.case, difference)
             return slid(self.knowing.whole(completed_live(text), text))
         except DeskError as fault:
-            return Done(self.view(), Refusal(told(fault)))
+            return GestureDone(self.view(), Refusal(told(fault)))

@@ -9,7 +9,7 @@ from ..formats.case import ANY_HEAT, Case, Side, Stream, Utility
 from ..formats.shown import Shown
 from ..program.answers import Point
 from .judgement import Whole
-from .pieces import Plan
+from .pieces import HandPlan
 from .view import CurvePicture, Difference, ForbidRow, PinchMark, StreamRow, UnitNames, UtilityRow
 
 # Numbers of cells are read again: they have as many places as they need.
@@ -54,10 +54,10 @@ def own_contribution(case: Case, source: Stream | Utility, shown: Shown) -> str:
     return '' if same else shown.difference(source.contribution, PLACES)
 
 
-def utility_rows(plan_or_case: Plan | Case) -> tuple[UtilityRow, ...]:
+def utility_rows(plan_or_case: HandPlan | Case) -> tuple[UtilityRow, ...]:
     """The utilities with what is used of them, where there is a plan."""
-    case = plan_or_case.case if isinstance(plan_or_case, Plan) else plan_or_case
-    used = plan_or_case.used(True) if isinstance(plan_or_case, Plan) else {}
+    case = plan_or_case.case if isinstance(plan_or_case, HandPlan) else plan_or_case
+    used = plan_or_case.used(True) if isinstance(plan_or_case, HandPlan) else {}
     return tuple(utility_row(case, utility, used.get(utility.name, Fraction(0))) for utility in case.utilities)
 
 

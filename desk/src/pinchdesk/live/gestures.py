@@ -13,7 +13,7 @@ from ..errors import DeskError
 from ..formats.case import Side, Utility
 from ..formats.shown import Shown
 from ..search.reduce.structure import Course, Lane, Parting, Through, throughs
-from .pieces import (Plan, changed, cut, fresh_open, merged, named, pair_with, reaches, replaced, side_at,
+from .pieces import (HandPlan, changed, cut, fresh_open, merged, named, pair_with, reaches, replaced, side_at,
                      utilities_for, without_idle_partings)
 from .seats import Seat, seated, seatings, settled
 
@@ -28,21 +28,21 @@ class NotDone(DeskError):
         self.places = places
 
 
-def known(plan: Plan, exchanger: str) -> str:
+def known(plan: HandPlan, exchanger: str) -> str:
     """The name of an exchanger that stands; `NotDone` where there is none."""
     if exchanger not in plan.pairs or plan.is_open(exchanger):
         raise NotDone(f'There is no exchanger {exchanger}.')
     return exchanger
 
 
-def open_piece(plan: Plan, piece: str) -> str:
+def open_piece(plan: HandPlan, piece: str) -> str:
     """The name of an open piece; `NotDone` where there is none."""
     if piece not in plan.pairs or not plan.is_open(piece):
         raise NotDone(f'{piece} is no open piece.')
     return piece
 
 
-def other_side(plan: Plan, piece: str, partner: str) -> tuple[str, str]:
+def other_side(plan: HandPlan, piece: str, partner: str) -> tuple[str, str]:
     """A piece and its partner, the hot one first; `NotDone` where they are of one side."""
     side = plan.piece(open_piece(plan, piece)).stream.side
     source = plan.sources.get(partner)
@@ -54,8 +54,8 @@ def other_side(plan: Plan, piece: str, partner: str) -> tuple[str, str]:
     return (piece, partner) if side is Side.HOT else (partner, piece)
 
 
-def place(plan: Plan, piece: str, partner: str, seats: tuple[Seat, Seat] | None = None,
-          duty: Fraction | None = None) -> Plan:
+def place(plan: HandPlan, piece: str, partner: str, seats: tuple[Seat, Seat] | None = None,
+          duty: Fraction | None = None) -> HandPlan:
     """An exchanger between two pieces of a plan that is cut, or one of them and a utility."""
     hot, cold = other_side(plan, piece, partner)
     found = [chosen for chosen in seatings(plan, hot, cold, duty)
@@ -71,12 +71,12 @@ def place(plan: Plan, piece: str, partner: str, seats: tuple[Seat, Seat] | None 
     return seated(plan, chosen)
 
 
-def take_away(plan: Plan, exchanger: str) -> Plan:
+def take_away(plan: HandPlan, exchanger: str) -> HandPlan:
     """What an exchanger served is open again."""
     return settled(opened(plan, known(plan, exchanger)))
 
 
-def opened(plan: Plan, exchanger: str) -> Plan:
+def opened(plan: HandPlan, exchanger: str) -> HandPlan:
     """A plan in which an exchanger is an open piece on each of its streams; lanes that nothing serves are one again."""
     duties, pairs, courses = dict(plan.duties), dict(plan.pairs), dict(plan.structure.courses)
     taken, made = set(plan.pairs), set()
@@ -94,7 +94,7 @@ def opened(plan: Plan, exchanger: str) -> Plan:
     return merged(changed(parted, courses, duties=duties))
 
 
-def with_duty(plan: Plan, exchanger: str, duty: Fraction, pinches: Sequence[PinchPoint]) -> Plan:
+def with_duty(plan: HandPlan, exchanger: str, duty: Fraction, pinches: Sequence[PinchPoint]) -> HandPlan:
     """An exchanger with another duty: what it gives up is open, what it takes was open beside it. The end nearer to the
     pinch stays where it is."""
     known(plan, exchanger)
@@ -113,7 +113,7 @@ def with_duty(plan: Plan, exchanger: str, duty: Fraction, pinches: Sequence[Pinc
     raise NotDone(told, ('exchanger', exchanger))
 
 
-def grown(plan: Plan, exchanger: str, pinches: Sequence[PinchPoint]) -> Plan:
+def grown(plan: HandPlan, exchanger: str, pinches: Sequence[PinchPoint]) -> HandPlan:
     """An exchanger as large as what is open beside it and the approach allow."""
     most = room_of(plan, known(plan, exchanger))
     best = max((largest_resized(plan, exchanger, anchors, most) for anchors in anchorings(plan, exchanger, pinches)),
@@ -126,7 +126,7 @@ def grown(plan: Plan, exchanger: str, pinches: Sequence[PinchPoint]) -> Plan:
 Anchors = dict[Side, Seat]
 
 
-def anchorings(plan: Plan, exchanger: str, pinches: Sequence[PinchPoint]) -> list[Anchors]:
+def anchorings(plan: HandPlan, exchanger: str, pinches: Sequence[PinchPoint]) -> list[Anchors]:
     """Which end of each side stays, in the order in which they are tried: above a pinch the cold ends, else the hot
     ones; a seat `BEGIN` is where the stream comes from."""
     above = side_at(plan, exchanger, pinches) is PinchSide.ABOVE
@@ -137,7 +137,7 @@ def anchorings(plan: Plan, exchanger: str, pinches: Sequence[PinchPoint]) -> lis
             {Side.HOT: turned[hot], Side.COLD: cold}, {Side.HOT: turned[hot], Side.COLD: turned[cold]}]
 
 
-def room_of(plan: Plan, exchanger: str) -> Fraction:
+def room_of(plan: HandPlan, exchanger: str) -> Fraction:
     """The largest duty for which there is heat: its own and what is open beside it, on each stream."""
     rooms = []
     for stream in plan.streams_of(exchanger):
@@ -147,7 +147,7 @@ def room_of(plan: Plan, exchanger: str) -> Fraction:
     return min(rooms)
 
 
-def neighbours(plan: Plan, course: Course, exchanger: str) -> tuple[str | None, str | None]:
+def neighbours(plan: HandPlan, course: Course, exchanger: str) -> tuple[str | None, str | None]:
     """The open pieces just before and just behind an exchanger, in its own lane."""
     for at, step in enumerate(course):
         if isinstance(step, Through) and step.exchanger == exchanger:
@@ -162,7 +162,7 @@ def neighbours(plan: Plan, course: Course, exchanger: str) -> tuple[str | None, 
     return None, None
 
 
-def resized(plan: Plan, exchanger: str, duty: Fraction, anchors: Anchors) -> list[Plan]:
+def resized(plan: HandPlan, exchanger: str, duty: Fraction, anchors: Anchors) -> list[HandPlan]:
     """The plan with another duty, where the anchored ends stay as long as there is something open at the others; no
     plan where an end would have to give way."""
     duties, pairs, courses = dict(plan.duties), dict(plan.pairs), dict(plan.structure.courses)
@@ -193,12 +193,12 @@ def resized(plan: Plan, exchanger: str, duty: Fraction, anchors: Anchors) -> lis
     return [changed(plan, courses, pairs, duties)]
 
 
-def keeps_approach(plan: Plan, exchanger: str) -> bool:
+def keeps_approach(plan: HandPlan, exchanger: str) -> bool:
     """Whether both ends keep the approach."""
     return min(plan.differences(exchanger)) >= plan.approach(exchanger)
 
 
-def largest_resized(plan: Plan, exchanger: str, anchors: Anchors, most: Fraction) -> Fraction:
+def largest_resized(plan: HandPlan, exchanger: str, anchors: Anchors, most: Fraction) -> Fraction:
     """The largest duty with these anchors. Each difference is affine between the duties at which an open piece is used
     up: so it is looked for between these."""
     corners = {most}
@@ -214,7 +214,7 @@ def largest_resized(plan: Plan, exchanger: str, anchors: Anchors, most: Fraction
     return best
 
 
-def affine_end(lower: Plan, upper: Plan, exchanger: str, low: Fraction, high: Fraction) -> Fraction:
+def affine_end(lower: HandPlan, upper: HandPlan, exchanger: str, low: Fraction, high: Fraction) -> Fraction:
     """The largest duty between two at which the approach is kept; 0 where it is at none."""
     first, last = Fraction(0), Fraction(1)
     for begin, end in zip(lower.differences(exchanger), upper.differences(exchanger)):
@@ -228,7 +228,7 @@ def affine_end(lower: Plan, upper: Plan, exchanger: str, low: Fraction, high: Fr
     return low + (high - low) * last if first <= last else Fraction(0)
 
 
-def serve(plan: Plan, piece: str, utility: str | None) -> Plan:
+def serve(plan: HandPlan, piece: str, utility: str | None) -> HandPlan:
     """An open piece is served by a utility: that of this name, else the cheapest that reaches its end."""
     reach = plan.piece(open_piece(plan, piece))
     if utility is not None:
@@ -242,7 +242,7 @@ def serve(plan: Plan, piece: str, utility: str | None) -> Plan:
     return place(plan, piece, min(reaching, key=lambda other: other.price).name, duty=reach.heat)
 
 
-def finish(plan: Plan) -> Plan:
+def finish(plan: HandPlan) -> HandPlan:
     """All that is open is served by utilities."""
     if not plan.open:
         raise NotDone('Nothing is open.')
@@ -251,7 +251,7 @@ def finish(plan: Plan) -> Plan:
     return plan
 
 
-def change_utility(plan: Plan, exchanger: str, utility: str) -> Plan:
+def change_utility(plan: HandPlan, exchanger: str, utility: str) -> HandPlan:
     """A heater or a cooler takes another utility."""
     before = plan.utility_of(known(plan, exchanger))
     after = plan.sources.get(utility)
@@ -264,7 +264,7 @@ def change_utility(plan: Plan, exchanger: str, utility: str) -> Plan:
     return made
 
 
-def split(plan: Plan, piece: str, share: Fraction) -> Plan:
+def split(plan: HandPlan, piece: str, share: Fraction) -> HandPlan:
     """A lane of this share beside the rest of a piece."""
     reach = plan.piece(open_piece(plan, piece))
     if not 0 < share < 1:
@@ -287,7 +287,7 @@ def partings_of(course: Course) -> list[Parting]:
     return found
 
 
-def joint_names(plan: Plan) -> dict[str, tuple[str, Parting]]:
+def joint_names(plan: HandPlan) -> dict[str, tuple[str, Parting]]:
     """The partings by the names that they have in the view: the stream and a number."""
     return {f'{stream}/{number}': (stream, parting) for stream, course in plan.structure.courses.items()
             for number, parting in enumerate(partings_of(course), 1)}
@@ -307,14 +307,14 @@ def with_parting(course: Course, old: Parting, made: Course) -> Course:
     return tuple(steps)
 
 
-def joint_of(plan: Plan, joint: str) -> tuple[str, Parting]:
+def joint_of(plan: HandPlan, joint: str) -> tuple[str, Parting]:
     found = joint_names(plan).get(joint)
     if found is None:
         raise NotDone(f'There is no split {joint}.')
     return found
 
 
-def with_shares(plan: Plan, joint: str, shares: Sequence[Fraction]) -> Plan:
+def with_shares(plan: HandPlan, joint: str, shares: Sequence[Fraction]) -> HandPlan:
     """The lanes of a parting with other shares: it names all exchangers in them."""
     stream, parting = joint_of(plan, joint)
     if len(shares) != len(parting.lanes) or min(shares) <= 0 or sum(shares) != 1:
@@ -324,7 +324,7 @@ def with_shares(plan: Plan, joint: str, shares: Sequence[Fraction]) -> Plan:
     return settled(changed(plan, {stream: course}))
 
 
-def join(plan: Plan, joint: str) -> Plan:
+def join(plan: HandPlan, joint: str) -> HandPlan:
     """Lanes of which at most one has exchangers are one again: that one, then what the others have open."""
     stream, parting = joint_of(plan, joint)
     busy = [lane for lane in parting.lanes if not all(map(plan.is_open, throughs(lane.course)))]
@@ -335,7 +335,7 @@ def join(plan: Plan, joint: str) -> Plan:
     return settled(changed(plan, {stream: with_parting(plan.structure.courses[stream], parting, course)}))
 
 
-def move_end(plan: Plan, exchanger: str, piece: str, pinches: Sequence[PinchPoint]) -> Plan:
+def move_end(plan: HandPlan, exchanger: str, piece: str, pinches: Sequence[PinchPoint]) -> HandPlan:
     """The end of an exchanger on the side of a piece is moved to there, with its duty or as much of it as goes there;
     the other end keeps its place."""
     side = plan.piece(open_piece(plan, piece)).stream.side
@@ -356,14 +356,14 @@ def move_end(plan: Plan, exchanger: str, piece: str, pinches: Sequence[PinchPoin
     return seated(without, max(found, key=lambda chosen: chosen.duty), exchanger)
 
 
-def overlap(plan: Plan, piece: str, inlet: Fraction, outlet: Fraction) -> bool:
+def overlap(plan: HandPlan, piece: str, inlet: Fraction, outlet: Fraction) -> bool:
     """Whether a piece has something of a range."""
     reach = plan.piece(piece)
     return max(min(reach.inlet, reach.outlet), min(inlet, outlet)) <= min(max(reach.inlet, reach.outlet),
                                                                           max(inlet, outlet))
 
 
-def rename(plan: Plan, exchanger: str, name: str) -> Plan:
+def rename(plan: HandPlan, exchanger: str, name: str) -> HandPlan:
     """An exchanger with another name."""
     known(plan, exchanger)
     if not NAME.fullmatch(name):

@@ -14,8 +14,8 @@ from ..formats.case import Side, Stream, Utility
 from ..formats.network import End, Network
 from ..formats.shown import Shown, decimal
 from .gestures import joint_names
-from .network_lines import Layout, LineWriter
-from .pieces import Plan, reaches, side_at, utilities_for
+from .network_lines import TextLayout, LineWriter
+from .pieces import HandPlan, reaches, side_at, utilities_for
 from .view import BranchLine, ExchangerBar, GridPicture, GridRow, JointLine, OpenPill, PinchLine
 
 
@@ -23,7 +23,7 @@ from .view import BranchLine, ExchangerBar, GridPicture, GridRow, JointLine, Ope
 class Lines:
     """Where everything stands: columns, the lanes of each stream, and the first line of each row, from the top."""
 
-    plan: Plan
+    plan: HandPlan
     followed: Followed
     pinches: tuple[PinchPoint, ...]
     course: Course
@@ -46,7 +46,7 @@ class Lines:
         return float(self.columns.of[node.key])
 
 
-def laid_out(plan: Plan, layout: Layout, pinches: tuple[PinchPoint, ...], faults: Mapping[str, str]) -> Lines:
+def laid_out(plan: HandPlan, layout: TextLayout, pinches: tuple[PinchPoint, ...], faults: Mapping[str, str]) -> Lines:
     """The layout of a plan that is cut at its pinches."""
     followed = follow(plan.case, Network(tuple(LineWriter(plan, layout).written())))
     hot, cold = (sources_of(plan, side) for side in Side)
@@ -66,7 +66,7 @@ def laid_out(plan: Plan, layout: Layout, pinches: tuple[PinchPoint, ...], faults
     return Lines(plan, followed, pinches, course, columns, lanes, rows, tops, band, line, faults)
 
 
-def sources_of(plan: Plan, side: Side) -> list[Stream | Utility]:
+def sources_of(plan: HandPlan, side: Side) -> list[Stream | Utility]:
     """The rows of a side from the top: utilities stand outside."""
     streams: list[Stream | Utility] = [stream for stream in plan.case.streams if stream.side is side]
     utilities: list[Stream | Utility] = [utility for utility in plan.case.utilities if utility.side is side]

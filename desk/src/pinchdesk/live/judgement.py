@@ -14,8 +14,8 @@ from ..program.answers import Curves, Targets
 from ..program.run import Pinch
 from ..program.verdicts import Accepted, Verdict
 from ..tables.names import apart
-from .network_lines import Layout, LineWriter
-from .pieces import Plan, pair_with
+from .network_lines import TextLayout, LineWriter
+from .pieces import HandPlan, pair_with
 
 
 @dataclass(frozen=True)
@@ -47,7 +47,7 @@ def asked_whole(pinch: Pinch, case: Case, text: str | bytes) -> Whole:
     return Whole(case, targets, curves, pinches_of(targets, curves))
 
 
-def lefts_of(plan: Plan) -> list[Left]:
+def lefts_of(plan: HandPlan) -> list[Left]:
     """The open pieces of a plan as streams of what is left."""
     taken = {source.name for source in plan.case.sources} | {'HOT', 'COLD'}
     pieces = [(name, plan.piece(name)) for name in plan.open]
@@ -60,14 +60,14 @@ def lefts_of(plan: Plan) -> list[Left]:
     return made
 
 
-def left_case(plan: Plan, rounding: Rounding = Rounding.HARDER) -> tuple[Case, Scale, bool]:
+def left_case(plan: HandPlan, rounding: Rounding = Rounding.HARDER) -> tuple[Case, Scale, bool]:
     """What is left of a plan as a case, how it holds the numbers, and whether all of them are exact."""
     lefts, used = lefts_of(plan), plan.used(True)
     scale = scale_of(lefts, plan.case, used)
     return rest_case(plan.case, lefts, used, scale, rounding), scale, is_exact(lefts, plan.case, used, scale)
 
 
-def reachable(pinch: Pinch, plan: Plan) -> Reachable | None:
+def reachable(pinch: Pinch, plan: HandPlan) -> Reachable | None:
     """What a plan can still reach; None where what is left is more than a case can hold."""
     used = plan.used(True)
     hot = sum((used[utility.name] for utility in plan.case.utilities if utility.side is Side.HOT), Fraction(0))
@@ -100,7 +100,7 @@ class Stand:
         return self.verdict if isinstance(self.verdict, Accepted) else None
 
 
-def judged_stand(pinch: Pinch, plan: Plan, verdict: Verdict) -> Stand:
+def judged_stand(pinch: Pinch, plan: HandPlan, verdict: Verdict) -> Stand:
     """How a plan stands whose text has this verdict."""
     if not plan.open or isinstance(verdict, Accepted):
         return Stand(verdict, verdict)
@@ -108,7 +108,7 @@ def judged_stand(pinch: Pinch, plan: Plan, verdict: Verdict) -> Stand:
     return Stand(verdict, pinch.audit(case, network))
 
 
-def with_stand_ins(plan: Plan) -> tuple[Case, Network]:
+def with_stand_ins(plan: HandPlan) -> tuple[Case, Network]:
     """The case with a utility on each side that reaches everything, at which no utility has a least heat, and the
     network with its open pieces at these."""
     taken = {source.name for source in plan.case.sources} | {'HOT', 'COLD'}
@@ -142,9 +142,9 @@ def extreme(case: Case, side: Side) -> int:
     return min((stream.target - stream.contribution for stream in served), default=0)
 
 
-def with_pairs(plan: Plan, pairs: Mapping[str, tuple[str, str]]) -> Network:
+def with_pairs(plan: HandPlan, pairs: Mapping[str, tuple[str, str]]) -> Network:
     """The network of a plan with other pairs of some exchangers."""
-    statements = LineWriter(plan, Layout()).written()
+    statements = LineWriter(plan, TextLayout()).written()
     return Network(tuple(Exchanger(statement.name, *pairs[statement.name], statement.duty)
                          if isinstance(statement, Exchanger) and statement.name in pairs else statement
                          for statement in statements))

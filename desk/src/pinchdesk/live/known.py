@@ -14,9 +14,9 @@ from ..program.causes import lines_of
 from ..program.run import Pinch
 from ..program.verdicts import PlaceKind, Rejected, Verdict
 from .judgement import Reachable, Stand, Whole, asked_whole, judged_stand, left_case, reachable
-from .network_lines import Layout, begun_plan, read_plan, write_plan
+from .network_lines import TextLayout, begun_plan, read_plan, write_plan
 from .network_view import Standing
-from .pieces import Plan, cut
+from .pieces import HandPlan, cut
 
 MOST_KEPT, ASKED_AT_ONCE = 200, 4
 
@@ -60,8 +60,8 @@ class Known:
     network_fault: str = ''
     read_only: str = ''
     verdict: Verdict | None = None
-    plan: Plan | None = None
-    layout: Layout = field(default_factory=Layout)
+    plan: HandPlan | None = None
+    layout: TextLayout = field(default_factory=TextLayout)
     standing: Standing | None = None
 
     @property
@@ -72,7 +72,7 @@ class Known:
     def stand(self) -> Stand | None:
         return self.standing.stand if self.standing else None
 
-    def cut_plan(self) -> Plan:
+    def cut_plan(self) -> HandPlan:
         """The plan with its open pieces cut at the pinches, as the page shows it."""
         assert self.plan is not None and self.whole is not None
         return cut(self.plan, self.whole.pinches)
@@ -130,7 +130,7 @@ class Knowing:
         return Known(snapshot, case, whole, verdict=verdict, plan=plan, layout=layout,
                      standing=self.standing(whole, plan, snapshot, verdict))
 
-    def standing(self, whole: Whole, plan: Plan, snapshot: Snapshot, verdict: Verdict) -> Standing:
+    def standing(self, whole: Whole, plan: HandPlan, snapshot: Snapshot, verdict: Verdict) -> Standing:
         """How a plan stands: what `pinch` has to be asked for is asked side by side."""
         reach = self.pool.submit(reachable, self.pinch, plan)
         stand = self.pool.submit(judged_stand, self.pinch, plan, verdict)
@@ -146,7 +146,7 @@ class Knowing:
                 self.rules.popitem(last=False)
         return self.rules[text]
 
-    def rule_of_left(self, plan: Plan) -> int:
+    def rule_of_left(self, plan: HandPlan) -> int:
         """The rule's number for what is open."""
         if not plan.open:
             return 0
@@ -178,6 +178,6 @@ def begun(text: str) -> str:
     """The network text in which nothing is placed; empty where the case cannot be read or has no stream."""
     try:
         case = completed_live(text)
-        return write_plan(begun_plan(case), Layout()) if case.streams else ''
+        return write_plan(begun_plan(case), TextLayout()) if case.streams else ''
     except DeskError:
         return ''

@@ -13,7 +13,7 @@ from ..formats.case import Case, Stream
 from ..formats.network import End, Exchanger, Mix, Network, Pass, Split, Statement, read_network, words_of
 from ..search.reduce.network_structure import structure_of
 from ..search.reduce.structure import Course, Lane, Parting, Structure, Through, throughs
-from .pieces import Plan, fresh_open, merged, pair_with
+from .pieces import HandPlan, fresh_open, merged, pair_with
 
 # What a statement is told by, whatever its branches are called: its word, and the names that stay.
 Key = tuple[str, ...]
@@ -21,7 +21,7 @@ LONGEST = 16
 
 
 @dataclass(frozen=True)
-class Layout:
+class TextLayout:
     """How a text is laid out: the lines above each statement, all statements in their order, the lines behind the last
     one, the names of branches, and whether an empty line stands before each stream."""
 
@@ -32,7 +32,7 @@ class Layout:
     spaced: bool = True
 
 
-def read_plan(case: Case, text: str) -> tuple[Plan, Layout]:
+def read_plan(case: Case, text: str) -> tuple[HandPlan, TextLayout]:
     """The plan of a text that the program has read for this completed case, and how it is laid out. Open branches
     become open pieces. `Refused` where a plan cannot hold it: then it is shown, and changed by its text alone."""
     network = read_network(text)
@@ -42,7 +42,7 @@ def read_plan(case: Case, text: str) -> tuple[Plan, Layout]:
     orders = lane_orders(followed.network, case)
     courses = {name: in_order(course, orders[name]) for name, course in structure.courses.items()}
     duties = {exchanger.name: exchanger.duty for exchanger in followed.network.exchangers}
-    plan = Plan(case, Structure(structure.pairs, courses), duties)
+    plan = HandPlan(case, Structure(structure.pairs, courses), duties)
     for stream in case.streams:
         heat = sum((duties[name] for name in throughs(courses[stream.name])), Fraction(0))
         if heat != stream.heat:
@@ -144,7 +144,7 @@ def in_order(course: Course, orders: Mapping[str, Order]) -> Course:
                                       key=order_of))) for step in course)
 
 
-def layout_of(case: Case, network: Network, text: str) -> Layout:
+def layout_of(case: Case, network: Network, text: str) -> TextLayout:
     """How a text is laid out: the statements of the network that it has, in its order."""
     keys, branches = keys_of(case, network)
     above: dict[Key, tuple[str, ...]] = {}
@@ -158,7 +158,7 @@ def layout_of(case: Case, network: Network, text: str) -> Layout:
         else:
             waiting.append(line.removesuffix('\r'))
             spaced = spaced or not words
-    return Layout(above, tuple(keys), without_ends(waiting), branches, spaced or not at)
+    return TextLayout(above, tuple(keys), without_ends(waiting), branches, spaced or not at)
 
 
 def without_ends(lines: list[str]) -> tuple[str, ...]:
@@ -223,7 +223,7 @@ def made_by(statement: Statement) -> Iterable[str]:
 class LineWriter:
     """Writes the statements of a plan with the names that a layout has."""
 
-    def __init__(self, plan: Plan, layout: Layout) -> None:
+    def __init__(self, plan: HandPlan, layout: TextLayout) -> None:
         self.plan, self.layout = plan, layout
         self.statements: list[Statement] = []
         self.taken = {stream.name for stream in plan.case.streams} | set(layout.branches.values())
@@ -290,7 +290,7 @@ def first_of(course: Course) -> str:
     return step.exchanger if isinstance(step, Through) else '+'.join(first_of(lane.course) for lane in step.lanes)
 
 
-def write_plan(plan: Plan, layout: Layout) -> str:
+def write_plan(plan: HandPlan, layout: TextLayout) -> str:
     """The text of a plan, laid out as before: what stood above a statement that is gone stands above the next one."""
     statements = LineWriter(plan, layout).written()
     keys, _ = keys_of(plan.case, Network(tuple(statements)))
@@ -317,6 +317,6 @@ def comments_of(lines: tuple[str, ...], stays: bool) -> list[str]:
     return [line for line in lines if stays or line.strip()]
 
 
-def begun_plan(case: Case) -> Plan:
+def begun_plan(case: Case) -> HandPlan:
     """The plan in which nothing is placed: each stream is one open piece."""
     return merged(read_plan(case, '')[0])

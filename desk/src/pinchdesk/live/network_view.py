@@ -10,7 +10,7 @@ from ..formats.shown import Shown
 from ..program.verdicts import Accepted, Place, PlaceKind, Rejected, TooFine, Verdict
 from .grid_view import Lines, place_of
 from .judgement import Reachable, Stand, Whole
-from .pieces import Plan
+from .pieces import HandPlan
 from .view import ExchangerRow, Judgement, Mark, ScoreView
 
 KINDS = {PlaceKind.EXCHANGER: 'exchanger', PlaceKind.STREAM: 'stream', PlaceKind.UTILITY: 'utility'}
@@ -22,7 +22,7 @@ class Standing:
     for the whole and for what is left."""
 
     whole: Whole
-    plan: Plan
+    plan: HandPlan
     stand: Stand
     reach: Reachable | None
     rule: int
@@ -91,7 +91,7 @@ def marks_of(rejected: Rejected) -> tuple[Mark, ...]:
     return (Mark(kind, rejected.place.name),) if kind and rejected.place.name else ()
 
 
-def faults_of(stand: Stand, plan: Plan) -> dict[str, str]:
+def faults_of(stand: Stand, plan: HandPlan) -> dict[str, str]:
     """What is wrong at exchangers, by their names."""
     verdict, shown = stand.placed, Shown(plan.case.basis)
     if isinstance(verdict, Rejected) and verdict.place.kind is PlaceKind.EXCHANGER:
@@ -119,8 +119,13 @@ def score_of(standing: Standing) -> ScoreView:
         shown.heat(stands_hot + cold_more) if stands_hot is not None else '',
         shown.heat(max(Fraction(0), reached - whole.targets.hot)) if reached is not None else '',
         bar_of_score(whole, reached, stands_hot), placed, left, rule, units,
-        shown.with_unit(accepted.cost) if accepted else '', shown.with_unit(accepted.floor) if accepted else '',
+        money(shown, accepted.cost) if accepted else '', money(shown, accepted.floor) if accepted else '',
         notes_of(standing, known))
+
+
+def money(shown: Shown, cost: Fraction | int) -> str:
+    """A cost with its unit; of a case whose prices have none it is a price times a heat."""
+    return shown.with_unit(cost) if shown.basis.cost_unit else f'{shown.cost(cost)} (price × W)'
 
 
 def notes_of(standing: Standing, known: bool) -> tuple[str, ...]:
@@ -158,7 +163,7 @@ def exchanger_row(lines: Lines, name: str, verdict: Verdict) -> ExchangerRow:
                         lines.faults.get(name, ''))
 
 
-def side_ends(plan: Plan, name: str, side: Side, shown: Shown) -> list[str]:
+def side_ends(plan: HandPlan, name: str, side: Side, shown: Shown) -> list[str]:
     """The temperatures at both ends of a side; none of a utility that stands in."""
     utility = plan.utility_of(name)
     if utility is not None and utility.side is side and utility.invented:

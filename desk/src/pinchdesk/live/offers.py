@@ -12,7 +12,7 @@ from ..formats.shown import Shown
 from ..program.run import Pinch
 from .gestures import open_piece
 from .judgement import Reachable, reachable
-from .pieces import Plan, utilities_for
+from .pieces import HandPlan, utilities_for
 from .seats import Seat, Seated, seated, seatings
 from .view import Offer
 
@@ -22,7 +22,7 @@ MOST_WAYS = 6
 
 
 @dataclass(frozen=True)
-class Priced:
+class PricedOffer:
     """A way to place an exchanger with what can be reached then; None where that is not known."""
 
     chosen: Seated
@@ -30,14 +30,14 @@ class Priced:
     after: Reachable | None
 
 
-def partners(plan: Plan, piece: str) -> list[str]:
+def partners(plan: HandPlan, piece: str) -> list[str]:
     """The pieces of the other side and the utilities that may serve a piece."""
     stream = plan.piece(open_piece(plan, piece)).stream
     pieces = [name for name in plan.open if plan.piece(name).stream.side is not stream.side]
     return [*pieces, *(utility.name for utility in utilities_for(plan.case, stream))]
 
 
-def ways_to_place(plan: Plan, piece: str) -> Iterator[tuple[str, Seated]]:
+def ways_to_place(plan: HandPlan, piece: str) -> Iterator[tuple[str, Seated]]:
     """All ways to serve a piece of a plan that is cut."""
     hot = plan.piece(piece).stream.side is Side.HOT
     for partner in partners(plan, piece):
@@ -46,31 +46,31 @@ def ways_to_place(plan: Plan, piece: str) -> Iterator[tuple[str, Seated]]:
         yield from ((partner, chosen) for chosen in found[:MOST_WAYS])
 
 
-def offers_of(pinch: Pinch, plan: Plan, piece: str, before: Reachable | None) -> tuple[Offer, ...]:
+def offers_of(pinch: Pinch, plan: HandPlan, piece: str, before: Reachable | None) -> tuple[Offer, ...]:
     """All offers for a piece of a plan that is cut, the best first: what costs least, then what has the larger duty,
     then what wants no split."""
     ways = list(ways_to_place(plan, piece))
     with ThreadPoolExecutor(ASKED_AT_ONCE) as pool:
         after = list(pool.map(lambda way: reachable(pinch, seated(plan, way[1])), ways))
-    priced = [Priced(chosen, partner, found) for (partner, chosen), found in zip(ways, after)]
+    priced = [PricedOffer(chosen, partner, found) for (partner, chosen), found in zip(ways, after)]
     priced.sort(key=lambda offer: rank(plan, offer, before))
     return tuple(told(plan, piece, offer, before) for offer in priced)
 
 
-def cost_of(offer: Priced, before: Reachable | None) -> Fraction | None:
+def cost_of(offer: PricedOffer, before: Reachable | None) -> Fraction | None:
     """What it costs at most, in W of hot utility; None where that is not known."""
     if before is None or offer.after is None:
         return None
     return max(Fraction(0), offer.after.most - before.least)
 
 
-def rank(plan: Plan, offer: Priced, before: Reachable | None) -> tuple[object, ...]:
+def rank(plan: HandPlan, offer: PricedOffer, before: Reachable | None) -> tuple[object, ...]:
     cost = cost_of(offer, before)
     lanes = (offer.chosen.hot_seat, offer.chosen.cold_seat).count(Seat.LANE)
     return (offer.partner in plan.utilities, cost is None, cost or Fraction(0), -offer.chosen.duty, lanes)
 
 
-def told(plan: Plan, piece: str, offer: Priced, before: Reachable | None) -> Offer:
+def told(plan: HandPlan, piece: str, offer: PricedOffer, before: Reachable | None) -> Offer:
     """An offer in words."""
     shown, chosen = Shown(plan.case.basis), offer.chosen
     duty = f'{shown.heat(chosen.duty)} {shown.heat_unit}'
@@ -83,18 +83,20 @@ def told(plan: Plan, piece: str, offer: Priced, before: Reachable | None) -> Off
     seats = ', '.join(where(plan, name, seat) for name, seat in sides
                       if seat is not Seat.LEVEL and not ends_piece(plan, name, chosen))
     partner = offer.partner
-    return Offer(partner, 'utility' if partner in plan.utilities else 'piece',
-                 partner if partner in plan.utilities else plan.piece(partner).stream.name, shown.heat(chosen.duty),
-                 duty + (f', finishes {" and ".join(ended)}' if ended else ''), price + (f' ({seats})' if seats else
-                 ''), cost == 0, bool(ended), {'kind': 'place', 'piece': piece, 'partner': partner,
-                                          'hot_seat': chosen.hot_seat.value, 'cold_seat': chosen.cold_seat.value})
+    is_utility = partner in plan.utilities
+    gesture = {'kind': 'place', 'piece': piece, 'partner': partner, 'hot_seat': chosen.hot_seat.value,
+               'cold_seat': chosen.cold_seat.value}
+    words = duty + (f', finishes {" and ".join(ended)}' if ended else '')
+    return Offer(partner, 'utility' if is_utility else 'piece',
+                 partner if is_utility else plan.piece(partner).stream.name, shown.heat(chosen.duty), words,
+                 price + (f' ({seats})' if seats else ''), cost == 0, bool(ended), gesture)
 
 
-def ends_piece(plan: Plan, name: str, chosen: Seated) -> bool:
+def ends_piece(plan: HandPlan, name: str, chosen: Seated) -> bool:
     return name not in plan.utilities and plan.piece(name).heat == chosen.duty
 
 
-def where(plan: Plan, name: str, seat: Seat) -> str:
+def where(plan: HandPlan, name: str, seat: Seat) -> str:
     """Where on its stream an exchanger would stand that leaves some of a piece."""
     stream = plan.piece(name).stream
     if seat is Seat.LANE:

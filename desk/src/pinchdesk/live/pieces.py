@@ -53,7 +53,7 @@ class Reach:
 
 
 @dataclass(frozen=True)
-class Plan:
+class HandPlan:
     """The structure and the duties of a network of a completed case. Each stream ends at its target: what nobody serves
     yet is an open piece, an exchanger with a utility whose name begins with `open-`."""
 
@@ -136,7 +136,7 @@ class Plan:
         return heats
 
 
-def led(plan: Plan, stream: Stream, course: Course, size: Fraction, state: Fraction,
+def led(plan: HandPlan, stream: Stream, course: Course, size: Fraction, state: Fraction,
         found: dict[End, Reach]) -> Fraction:
     """The state behind a course; the reaches of its exchangers are added to those found."""
     for step in course:
@@ -151,7 +151,7 @@ def led(plan: Plan, stream: Stream, course: Course, size: Fraction, state: Fract
     return state
 
 
-def side_at(plan: Plan, name: str, pinches: Iterable[PinchPoint]) -> PinchSide | None:
+def side_at(plan: HandPlan, name: str, pinches: Iterable[PinchPoint]) -> PinchSide | None:
     """On which side of the pinches an exchanger works, judged by its streams; `ACROSS` where one of the pinches is
     inside of it; None where there is no pinch, or none is touched by both sides alike."""
     sides = set()
@@ -213,16 +213,16 @@ def opened_lanes(course: Course) -> Course:
     return tuple(steps)
 
 
-def changed(plan: Plan, courses: Mapping[str, Course] | None = None, pairs: Mapping[str, tuple[str, str]] | None = None,
-            duties: Mapping[str, Fraction] | None = None) -> Plan:
+def changed(plan: HandPlan, courses: Mapping[str, Course] | None = None,
+            pairs: Mapping[str, tuple[str, str]] | None = None,
+            duties: Mapping[str, Fraction] | None = None) -> HandPlan:
     """A plan with other courses, pairs or duties; exchangers that no course passes are gone."""
-    held_courses = {**plan.structure.courses, **(courses or {})}
-    held_courses = {name: opened_lanes(course) for name, course in held_courses.items()}
-    passed = {name for course in held_courses.values() for name in throughs(course)}
-    all_pairs = {**plan.pairs, **(pairs or {})}
-    all_duties = {**plan.duties, **(duties or {})}
-    return Plan(plan.case, Structure({name: pair for name, pair in all_pairs.items() if name in passed}, held_courses),
-                {name: duty for name, duty in all_duties.items() if name in passed})
+    all_courses = {**plan.structure.courses, **(courses or {})}
+    all_courses = {name: opened_lanes(course) for name, course in all_courses.items()}
+    passed = {name for course in all_courses.values() for name in throughs(course)}
+    kept = {name: pair for name, pair in {**plan.pairs, **(pairs or {})}.items() if name in passed}
+    kept_duties = {name: duty for name, duty in {**plan.duties, **(duties or {})}.items() if name in passed}
+    return HandPlan(plan.case, Structure(kept, all_courses), kept_duties)
 
 
 def fresh_open(names: Iterable[str]) -> str:
@@ -238,7 +238,7 @@ def pair_with(stream: Stream, utility: str) -> tuple[str, str]:
     return (stream.name, utility) if stream.side is Side.HOT else (utility, stream.name)
 
 
-def merged(plan: Plan) -> Plan:
+def merged(plan: HandPlan) -> HandPlan:
     """A plan in which open pieces that follow one another are one, with the name of the first, and in which each has
     the cheapest utility that reaches its end."""
     duties = dict(plan.duties)
@@ -248,7 +248,7 @@ def merged(plan: Plan) -> Plan:
     return changed(joined, pairs=pairs)
 
 
-def merged_course(plan: Plan, course: Course, duties: dict[str, Fraction]) -> Course:
+def merged_course(plan: HandPlan, course: Course, duties: dict[str, Fraction]) -> Course:
     steps: list[Through | Parting] = []
     for step in course:
         last = steps[-1] if steps else None
@@ -262,7 +262,7 @@ def merged_course(plan: Plan, course: Course, duties: dict[str, Fraction]) -> Co
     return tuple(steps)
 
 
-def without_idle_partings(plan: Plan, course: Course, names: frozenset[str], duties: dict[str, Fraction]) -> Course:
+def without_idle_partings(plan: HandPlan, course: Course, names: frozenset[str], duties: dict[str, Fraction]) -> Course:
     """A course in which a parting with one of these pieces, all lanes of which are open or empty, is one open piece."""
     steps: list[Through | Parting] = []
     for step in course:
@@ -281,7 +281,7 @@ def without_idle_partings(plan: Plan, course: Course, names: frozenset[str], dut
     return tuple(steps)
 
 
-def standing_in(plan: Plan, name: str) -> Utility:
+def standing_in(plan: HandPlan, name: str) -> Utility:
     """The utility of an open piece: the cheapest that reaches its end, else the one that comes nearest."""
     reach = plan.piece(name)
     others = utilities_for(plan.case, reach.stream)
@@ -305,7 +305,7 @@ def reaches(utility: Utility, stream: Stream, temperature: Fraction) -> bool:
     return (gap if utility.side is Side.HOT else -gap) >= utility.contribution + stream.contribution
 
 
-def cut(plan: Plan, pinches: Iterable[PinchPoint]) -> Plan:
+def cut(plan: HandPlan, pinches: Iterable[PinchPoint]) -> HandPlan:
     """A plan whose open pieces are cut at each pinch: the parts of `open-3` are `open-3`, `open-3/2` and so on, in the
     direction of the stream."""
     places = tuple(pinches)
@@ -330,7 +330,7 @@ def heats_between(reach: Reach, pinches: Iterable[PinchPoint]) -> Iterator[Fract
     yield from (reach.heat * part for part in (parts if reach.stream.side is Side.HOT else reversed(parts)))
 
 
-def named(plan: Plan, name_of: Callable[[str], str]) -> Plan:
+def named(plan: HandPlan, name_of: Callable[[str], str]) -> HandPlan:
     """A plan with other names of its exchangers."""
     def course_named(course: Course) -> Course:
         return tuple(Through(name_of(step.exchanger)) if isinstance(step, Through) else
@@ -339,4 +339,4 @@ def named(plan: Plan, name_of: Callable[[str], str]) -> Plan:
 
     courses = {stream: course_named(course) for stream, course in plan.structure.courses.items()}
     pairs = {name_of(name): pair for name, pair in plan.pairs.items()}
-    return Plan(plan.case, Structure(pairs, courses), {name_of(name): duty for name, duty in plan.duties.items()})
+    return HandPlan(plan.case, Structure(pairs, courses), {name_of(name): duty for name, duty in plan.duties.items()})

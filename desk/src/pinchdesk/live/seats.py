@@ -11,7 +11,7 @@ from itertools import product
 from ..formats.case import ANY_HEAT, Side, Utility
 from ..search.reduce.moves import letter_of, next_name, taken_names
 from ..search.reduce.structure import Course, Lane, Parting, Through
-from .pieces import Plan, Reach, changed, fresh_open, merged, named, replaced
+from .pieces import HandPlan, Reach, changed, fresh_open, merged, named, replaced
 
 
 class Seat(enum.Enum):
@@ -49,14 +49,14 @@ class Seated:
         return (self.hot, self.hot_seat) if side is Side.HOT else (self.cold, self.cold_seat)
 
 
-def seats_of(plan: Plan, name: str) -> tuple[Seat, ...]:
+def seats_of(plan: HandPlan, name: str) -> tuple[Seat, ...]:
     """The seats of a piece, or of a utility. At one temperature all seats are alike."""
     if name in plan.utilities:
         return (Seat.LEVEL,)
     return (Seat.BEGIN,) if plan.piece(name).stream.latent else (Seat.BEGIN, Seat.END, Seat.LANE)
 
 
-def ends_at(plan: Plan, name: str, seat: Seat) -> tuple[Affine, Affine]:
+def ends_at(plan: HandPlan, name: str, seat: Seat) -> tuple[Affine, Affine]:
     """The temperatures at which an exchanger in this seat enters and leaves, by its duty."""
     source = plan.sources.get(name)
     if isinstance(source, Utility):
@@ -88,7 +88,7 @@ def largest(ends: tuple[tuple[Affine, Affine], tuple[Affine, Affine]], approach:
     return high if 0 < high and low <= high else None
 
 
-def most_of(plan: Plan, name: str) -> Fraction:
+def most_of(plan: HandPlan, name: str) -> Fraction:
     """What a piece has to give or to take, or what a utility still may."""
     source = plan.sources.get(name)
     if isinstance(source, Utility):
@@ -96,18 +96,18 @@ def most_of(plan: Plan, name: str) -> Fraction:
     return plan.piece(name).heat
 
 
-def may_meet(plan: Plan, hot: str, cold: str) -> bool:
+def may_meet(plan: HandPlan, hot: str, cold: str) -> bool:
     """Whether no forbidden match is in the way."""
     names = {source_of(plan, hot), source_of(plan, cold)}
     return not any({pair.hot, pair.cold} == names for pair in plan.case.forbids)
 
 
-def source_of(plan: Plan, name: str) -> str:
+def source_of(plan: HandPlan, name: str) -> str:
     """The stream of a piece, or the utility itself."""
     return name if name in plan.utilities else plan.piece(name).stream.name
 
 
-def seatings(plan: Plan, hot: str, cold: str, most: Fraction | None = None) -> Iterator[Seated]:
+def seatings(plan: HandPlan, hot: str, cold: str, most: Fraction | None = None) -> Iterator[Seated]:
     """All ways to place an exchanger between two pieces, or a piece and a utility, each with its largest duty, up to
     `most`; those that come to the same stand once."""
     if not may_meet(plan, hot, cold):
@@ -126,12 +126,12 @@ def seatings(plan: Plan, hot: str, cold: str, most: Fraction | None = None) -> I
             yield Seated(hot, cold, where[0], where[1], duty)
 
 
-def whole_seat(plan: Plan, name: str, seat: Seat, duty: Fraction) -> Seat:
+def whole_seat(plan: HandPlan, name: str, seat: Seat, duty: Fraction) -> Seat:
     """The seat; one that takes a whole piece stands at its beginning, whichever it was."""
     return Seat.BEGIN if seat is not Seat.LEVEL and plan.piece(name).heat == duty else seat
 
 
-def seated(plan: Plan, chosen: Seated, name: str | None = None) -> Plan:
+def seated(plan: HandPlan, chosen: Seated, name: str | None = None) -> HandPlan:
     """The plan with an exchanger in its seats, settled."""
     pair = (source_of(plan, chosen.hot), source_of(plan, chosen.cold))
     made = name or next_name(taken_names(plan.case, plan.structure), letter_of(plan.case, pair))
@@ -163,7 +163,7 @@ def course_with(reach: Reach, seat: Seat, duty: Fraction, made: str, rest: str) 
     return (Parting((Lane((Through(made),), share), Lane((Through(rest),), 1 - share))),)
 
 
-def settled(plan: Plan) -> Plan:
+def settled(plan: HandPlan) -> HandPlan:
     """A plan as it is kept: open pieces are not cut, and have names that a network may have."""
     joined = merged(plan)
     taken = {name for name in joined.pairs if '/' not in name}
@@ -176,7 +176,7 @@ def settled(plan: Plan) -> Plan:
     return named(joined, lambda name: names.get(name, name)) if names else joined
 
 
-def renumbered(plan: Plan, earlier: Mapping[str, tuple[str, str]]) -> Plan:
+def renumbered(plan: HandPlan, earlier: Mapping[str, tuple[str, str]]) -> HandPlan:
     """A plan whose new open pieces have the lowest numbers that are free."""
     taken = {name for name in plan.pairs if name in earlier}
     names: dict[str, str] = {}

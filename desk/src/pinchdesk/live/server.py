@@ -17,7 +17,7 @@ from starlette.requests import Request
 from starlette.responses import Response
 from starlette.websockets import WebSocket, WebSocketDisconnect
 
-from .bench import Bench, Done
+from .bench import Bench, GestureDone
 from .guard import HEADERS, HOST, Guard, Scope, fresh_token
 from .view import Refusal, Slider, View
 
@@ -161,7 +161,7 @@ async def ended(window: WebSocket) -> None:
         pass
 
 
-def told(done: Done) -> Response:
+def told(done: GestureDone) -> Response:
     content: dict[str, View | Refusal | dict[str, Any]] = {'view': asdict(done.view)}
     if done.refused:
         content['refused'] = asdict(done.refused)
@@ -169,7 +169,7 @@ def told(done: Done) -> Response:
 
 
 def listed(name: str, found: object) -> Response:
-    if isinstance(found, Done):
+    if isinstance(found, GestureDone):
         return told(found)
     assert isinstance(found, tuple)
     return answer({name: [asdict(offer) for offer in found]})

@@ -11,7 +11,7 @@ from ..formats.case import ANY_HEAT, Side
 from ..formats.shown import Shown
 from ..search.reduce.paths import Leg, Shift
 from .gestures import NotDone
-from .pieces import Plan, changed, replaced
+from .pieces import HandPlan, changed, replaced
 from .seats import settled
 from .view import WayLeg, WayOffer
 
@@ -48,7 +48,7 @@ class Ranged:
         return ','.join(('+' if leg.gains else '-') + leg.exchanger for leg in self.way.legs)
 
 
-def ways_of(plan: Plan) -> tuple[Ranged, ...]:
+def ways_of(plan: HandPlan) -> tuple[Ranged, ...]:
     """The loops and paths of a plan, those that mend something first, then those that can be moved along."""
     found: dict[frozenset[tuple[str, bool]], Shift] = {}
     for way in every_way(plan):
@@ -62,7 +62,7 @@ def order(found: Ranged) -> tuple[object, ...]:
     return (not found.mends, found.most is None, found.way.loop, len(found.way.legs))
 
 
-def every_way(plan: Plan) -> Iterator[Shift]:
+def every_way(plan: HandPlan) -> Iterator[Shift]:
     """For each exchanger the shortest loop through it, and for each two exchangers with utilities the shortest path
     between them; nothing is moved to and fro."""
     for name in plan.placed:
@@ -78,7 +78,7 @@ def every_way(plan: Plan) -> Iterator[Shift]:
                 yield path
 
 
-def path_between(plan: Plan, first: str, last: str) -> Shift | None:
+def path_between(plan: HandPlan, first: str, last: str) -> Shift | None:
     """The shortest path from the utility of one exchanger to that of another one, a heater first."""
     one, other = plan.utility_of(first), plan.utility_of(last)
     if one is None or other is None or one == other:
@@ -92,7 +92,7 @@ def path_between(plan: Plan, first: str, last: str) -> Shift | None:
     return Shift(Fraction(0), one.name, alternating((first, *between, last), plan, one.name), False)
 
 
-def shortest(plan: Plan, begin: str, ends: set[str], *without: str) -> tuple[str, ...] | None:
+def shortest(plan: HandPlan, begin: str, ends: set[str], *without: str) -> tuple[str, ...] | None:
     """The fewest exchangers that lead from a source to one of others without passing some; None where none do."""
     at_source: dict[str, list[str]] = {}
     for name in plan.placed:
@@ -113,7 +113,7 @@ def shortest(plan: Plan, begin: str, ends: set[str], *without: str) -> tuple[str
     return None
 
 
-def alternating(names: Iterable[str], plan: Plan, begin: str) -> tuple[Leg, ...]:
+def alternating(names: Iterable[str], plan: HandPlan, begin: str) -> tuple[Leg, ...]:
     """Exchangers of which the first gains, the next loses, and so on, with the source behind each."""
     legs: list[Leg] = []
     source = begin
@@ -130,13 +130,13 @@ def turned_round(way: Shift) -> Shift:
                  way.loop)
 
 
-def moved(plan: Plan, way: Shift, heat: Fraction) -> Plan:
+def moved(plan: HandPlan, way: Shift, heat: Fraction) -> HandPlan:
     """The plan with so much heat moved; the duties may be anything then."""
     duties = {leg.exchanger: plan.duties[leg.exchanger] + (heat if leg.gains else -heat) for leg in way.legs}
     return changed(plan, duties=duties)
 
 
-def limits_of(plan: Plan, way: Shift) -> list[Bound]:
+def limits_of(plan: HandPlan, way: Shift) -> list[Bound]:
     """All that has to stay at 0 or above: both ends of each exchanger, what loses, and the ranges of utilities."""
     other = moved(plan, way, Fraction(1))
     limits: list[Bound] = []
@@ -158,7 +158,7 @@ def limits_of(plan: Plan, way: Shift) -> list[Bound]:
     return limits
 
 
-def with_range(plan: Plan, way: Shift) -> Ranged:
+def with_range(plan: HandPlan, way: Shift) -> Ranged:
     """A way with its exact range. One that is too close at an end where nothing moves cannot be mended by it."""
     least, most, stops = Fraction(0), None, ''
     impossible = ''
@@ -181,7 +181,7 @@ def with_range(plan: Plan, way: Shift) -> Ranged:
     return Ranged(way, least, most, stops, mends, goes)
 
 
-def way_named(plan: Plan, identity: str) -> Ranged:
+def way_named(plan: HandPlan, identity: str) -> Ranged:
     """The way with this name; `NotDone` where there is none."""
     found = next((ranged for ranged in ways_of(plan) if ranged.identity == identity), None)
     if found is None:
@@ -189,7 +189,7 @@ def way_named(plan: Plan, identity: str) -> Ranged:
     return found
 
 
-def shift(plan: Plan, identity: str, heat: Fraction) -> Plan:
+def shift(plan: HandPlan, identity: str, heat: Fraction) -> HandPlan:
     """So much heat is moved along a way. Exchangers that have nothing left go. The verdict says what comes too
     close."""
     found = way_named(plan, identity)
@@ -200,7 +200,7 @@ def shift(plan: Plan, identity: str, heat: Fraction) -> Plan:
     return without_idle(moved(plan, found.way, heat))
 
 
-def break_way(plan: Plan, identity: str) -> Plan:
+def break_way(plan: HandPlan, identity: str) -> HandPlan:
     """So much heat is moved that the smallest exchanger of those that lose goes."""
     found = way_named(plan, identity)
     if not found.goes:
@@ -208,7 +208,7 @@ def break_way(plan: Plan, identity: str) -> Plan:
     return without_idle(moved(plan, found.way, plan.duties[found.goes]))
 
 
-def without_idle(plan: Plan) -> Plan:
+def without_idle(plan: HandPlan) -> HandPlan:
     """A plan without the exchangers that have no duty. A lane that is left without any stays, as a way past the
     others."""
     courses = dict(plan.structure.courses)
@@ -218,13 +218,13 @@ def without_idle(plan: Plan) -> Plan:
     return settled(changed(plan, courses))
 
 
-def told_ways(plan: Plan, found: Sequence[Ranged]) -> tuple[WayOffer, ...]:
+def told_ways(plan: HandPlan, found: Sequence[Ranged]) -> tuple[WayOffer, ...]:
     """Ways as the page shows them."""
     shown = Shown(plan.case.basis)
     return tuple(told_way(plan, ranged, shown) for ranged in found)
 
 
-def told_way(plan: Plan, ranged: Ranged, shown: Shown) -> WayOffer:
+def told_way(plan: HandPlan, ranged: Ranged, shown: Shown) -> WayOffer:
     way = ranged.way
     least, most = ('' if heat is None else shown.heat(heat) for heat in (ranged.least, ranged.most))
     goes = f'{ranged.goes} goes ({shown.heat(plan.duties[ranged.goes])} {shown.heat_unit})' if ranged.goes else ''

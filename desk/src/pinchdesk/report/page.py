@@ -15,8 +15,8 @@ from typing import TYPE_CHECKING, Any
 
 from ..analysis.findings import headline
 from ..analysis.follow import Followed, PinchPoint, follow, pinches_of
-from ..analysis.joined import joined
-from ..analysis.unfinished import placed, unfinished_told
+from ..analysis.joined import placed_count
+from ..analysis.unfinished import unfinished_told
 from ..errors import Status, WordsError, about
 from ..formats.case import ANY_HEAT, Case, Side, completed, read_case
 from ..formats.network import read_network
@@ -239,7 +239,7 @@ def compared(networks: Sequence[Reviewed], shown: Shown) -> Sheet:
     """The networks side by side, each in a column."""
     columns: list[list[Cell]] = []
     for network in networks:
-        verdict, count = network.verdict, Decimal(len(placed(joined(network.followed).followed)))
+        verdict, count = network.verdict, Decimal(placed_count(network.followed))
         word = 'unfinished' if unfinished_told(network.followed) else 'accepted' if network.good else \
             'rejected' if isinstance(verdict, Rejected) else 'too fine'
         cells: list[Cell] = [word, count]

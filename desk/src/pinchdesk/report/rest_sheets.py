@@ -9,9 +9,10 @@ from fractions import Fraction
 
 from ..analysis.findings import exact, finding_of
 from ..analysis.follow import PinchPoint
-from ..analysis.joined import exchanger_count
+from ..analysis.joined import placed_count
 from ..analysis.open_branches import Left, rounded
 from ..analysis.rest import Posed, Rest
+from ..analysis.unfinished import placed
 from ..formats.case import Side, Stream, shifted
 from ..formats.shown import Shown, decimal
 from ..program.answers import Cut
@@ -41,7 +42,7 @@ def rest_facts(rest: Rest) -> FactRow:
 
     def heat(low: Fraction, high: Fraction) -> Cell:
         return between(low, high, lambda watts: shown.kilowatts(watts, 6))
-    return (Fact('exchangers so far', Decimal(exchanger_count(rest.followed))),
+    return (Fact('exchangers so far', Decimal(placed_count(rest.followed))),
             Fact('hot utility that they use', heat(used, used), 'kW'),
             Fact('hot target of the rest', heat(least, most), 'kW'),
             Fact('hot target of the whole', heat(Fraction(rest.whole.hot), Fraction(rest.whole.hot)), 'kW'),
@@ -84,9 +85,10 @@ def open_row(left: Left, shown: Shown) -> tuple[Cell, ...]:
     stream = left.stream
     size = None if stream.latent else Decimal(shown.kilowatts_per_kelvin(left.size, 6))
     begins = Fraction(stream.supply) if stream.latent else left.state
+    ends = Fraction(stream.target) if stream.latent else left.end
     named = left.name if left.heat else 'at its target'
     return (stream.name, left.branch.name, named, stream.side.value, size, Decimal(shown.celsius(begins, 3)),
-            Decimal(shown.celsius(stream.target)), Decimal(shown.kilowatts(left.heat)))
+            Decimal(shown.celsius(ends, 3)), Decimal(shown.kilowatts(left.heat)))
 
 
 def stands(stream: Stream, pinch: PinchPoint) -> tuple[bool, bool]:
@@ -144,7 +146,7 @@ def lost_sheets(rest: Rest) -> list[Sheet]:
     if not isinstance(rest.verdict, Accepted):
         return []
     shown = Shown(rest.followed.case.basis)
-    names = {passage.exchanger.name for passage in rest.followed.passages}
+    names = {passage.exchanger.name for passage in placed(rest.followed)}
     lines = len(rest.followed.network.statements)
     rows = tuple((str(penalty.place), Decimal(shown.kilowatts(penalty.heat))) for penalty in rest.verdict.penalties
                  if penalty.heat and (penalty.place.name in names or 0 < penalty.place.line <= lines))

@@ -9,7 +9,7 @@ from fractions import Fraction
 from ..analysis.cuts import Piece, CutPlace, Region
 from ..analysis.follow import Followed, Passage, SideState, heat_above
 from ..analysis.independent_sets import MOST_SOURCES, MOST_SUBSETS
-from ..analysis.joined import exchanger_count, joined
+from ..analysis.joined import joined, placed_count
 from ..analysis.least_units import IndependentSet, RegionUnits, Units
 from ..analysis.unfinished import placed
 from ..formats.case import Side, Utility, shifted
@@ -171,7 +171,7 @@ def units_notes(units: Units, followed: Followed | None = None) -> list[str]:
         told.append(f'{shown.kilowatts(cross.heat)} kW cross the pinch at {shown.celsius(cross.temperature)} °C at the '
                     'uses of least cost: there is no cut at it')
     if followed is not None:
-        told.append(f'the network has {exchanger_count(followed)} exchangers; `partly` are those that work in other '
+        told.append(f'the network has {placed_count(followed)} exchangers; `partly` are those that work in other '
                     'regions too')
     return told
 
