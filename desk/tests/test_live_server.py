@@ -163,3 +163,11 @@ def test_it_can_be_closed_with_a_window_open(tmp_path: Path) -> None:
 
     with served(bench_of(tmp_path, 'tc3')) as server:
         asyncio.run(closed())
+
+
+@pytest.mark.long
+def test_the_page_for_the_reviewer_has_no_script(tmp_path: Path) -> None:
+    with served(bench_of(tmp_path, 'tc3', 'tc3-network.txt')) as server:
+        heard = asked(server, 'GET', at(server, 'report'))
+        assert heard.status == 200 and b'<h1>' in heard.body and b'<script' not in heard.body
+        assert heard.headers['content-security-policy'].startswith("default-src 'none'; style-src 'unsafe-inline'")

@@ -176,6 +176,15 @@ class Bench:
             known = self.now
         return told_ways(known.plan, ways_of(known.plan)) if known.plan else ()
 
+    def report(self) -> str:
+        """The page for the reviewer, of both texts as they are."""
+        from ..report.page import Given, page_of, review_of
+        with self.lock:
+            snapshot = self.steps[self.at].snapshot
+        case, network = (Given(file.name, file.name, content) for file, content in
+                         ((self.case_file, snapshot.case_bytes), (self.network_file, snapshot.network_bytes)))
+        return page_of(review_of(self.knowing.pinch, case, [network]))
+
     def slider(self, version: object, difference: str) -> Slider | GestureDone:
         """Targets and curves at another least approach; nothing is written."""
         with self.lock:

@@ -235,11 +235,16 @@ def serve(plan: HandPlan, piece: str, utility: str | None) -> HandPlan:
         return place(plan, piece, utility)
     used = plan.used(True)
     reaching = [other for other in utilities_for(plan.case, reach.stream)
-                if reaches(other, reach.stream, reach.outlet) and used[other.name] + reach.heat <= other.most]
+                if reaches(other, reach.stream, reach.outlet)]
     if not reaching:
         raise NotDone(f'No utility of the case reaches the end of this piece of {reach.stream.name}: add one to the '
                       'case.', ('piece', piece))
-    return place(plan, piece, min(reaching, key=lambda other: other.price).name, duty=reach.heat)
+    enough = [other for other in reaching if used[other.name] + reach.heat <= other.most]
+    if not enough:
+        names = ' and '.join(other.name for other in reaching)
+        raise NotDone(f'{names} cannot serve this piece of {reach.stream.name}: it would be more than there is.',
+                      ('piece', piece))
+    return place(plan, piece, min(enough, key=lambda other: other.price).name, duty=reach.heat)
 
 
 def finish(plan: HandPlan) -> HandPlan:

@@ -17,6 +17,9 @@ HEADERS = {
     'Cross-Origin-Resource-Policy': 'same-origin', 'Cross-Origin-Opener-Policy': 'same-origin',
     'Referrer-Policy': 'no-referrer', 'X-Content-Type-Options': 'nosniff', 'X-Frame-Options': 'DENY',
     'Cache-Control': 'no-store'}
+# The page for the reviewer has its styles and its pictures inside of it.
+OF_REPORT = "default-src 'none'; style-src 'unsafe-inline'; img-src data:; base-uri 'none'; form-action 'none'; " \
+            "frame-ancestors 'none'"
 Scope = MutableMapping[str, Any]
 
 

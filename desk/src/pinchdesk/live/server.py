@@ -17,8 +17,10 @@ from starlette.requests import Request
 from starlette.responses import Response
 from starlette.websockets import WebSocket, WebSocketDisconnect
 
+from ..errors import DeskError
+from ..program.causes import lines_of
 from .bench import Bench, GestureDone
-from .guard import HEADERS, HOST, Guard, Scope, fresh_token
+from .guard import HEADERS, HOST, OF_REPORT, Guard, Scope, fresh_token
 from .view import Refusal, Slider, View
 
 PAGE = Path(__file__).resolve().parent / 'page'
@@ -64,7 +66,8 @@ class LiveDesk:
             await self.changes(WebSocket(scope, receive, send), path)
             return
         response = nothing() if path is None else await self.responded(Request(scope, receive), path)
-        response.headers.update(HEADERS)
+        for name, value in HEADERS.items():
+            response.headers.setdefault(name, value)
         await response(scope, receive, send)
 
     async def lifespan(self, receive: Receive, send: Send) -> None:
@@ -106,11 +109,23 @@ class LiveDesk:
     async def got(self, path: str) -> Response:
         if path == 'view':
             return answer(asdict(await run_in_threadpool(self.bench.view)))
+        if path == 'report':
+            return await self.reported()
         name = 'index.html' if path == '' else path.removeprefix('page/') if path.startswith('page/') else ''
         if name not in self.files:
             return nothing()
         content, kind = self.files[name]
         return Response(content, media_type=kind)
+
+    async def reported(self) -> Response:
+        """The page for the reviewer, as `pinchdesk page` writes it; its styles are inside of it, and it has no script."""
+        try:
+            content = await run_in_threadpool(self.bench.report)
+        except DeskError as fault:
+            return Response(' '.join(lines_of(fault)), media_type='text/plain')
+        response = Response(content, media_type='text/html; charset=utf-8')
+        response.headers['Content-Security-Policy'] = OF_REPORT
+        return response
 
     async def posted(self, path: str, asked: Mapping[str, Any]) -> Response:
         version = asked.get('version')
