@@ -100,13 +100,24 @@ def units_of(case: Case, targets: Targets, flow: HeatFlow) -> Units:
     return Units(case, targets, flow, whole, at_pinches, each_counted(case, pieces, cuts), crossed(pieces, targets))
 
 
+def rule_between_pinches(case: Case, targets: Targets, flow: HeatFlow) -> int:
+    """The rule's number between the pinches of a completed case alone."""
+    pieces = whole_pieces(case, flow)
+    cuts = [cut for cut in places(pieces, targets) if cut.process]
+    return sum(partition(list(members_of(case, region))).least_exchangers for region in regions(pieces, cuts))
+
+
+def members_of(case: Case, region: Region) -> dict[Member, Piece]:
+    return {Member(piece.source.name, piece.signed, isinstance(piece.source, Utility)): piece
+            for piece in whole_pieces_of(case, region.pieces)}
+
+
 def each_counted(case: Case, pieces: Sequence[Piece], cuts: Sequence[CutPlace]) -> tuple[RegionUnits, ...]:
     return tuple(counted(case, region) for region in regions(pieces, cuts))
 
 
 def counted(case: Case, region: Region) -> RegionUnits:
-    members = {Member(piece.source.name, piece.signed, isinstance(piece.source, Utility)): piece
-               for piece in whole_pieces_of(case, region.pieces)}
+    members = members_of(case, region)
     parted = partition(list(members))
     sets = independent(case, members, parted)
     if all(independent_set.joinable for independent_set in sets):

@@ -6,7 +6,7 @@ from collections import OrderedDict
 from concurrent.futures import ThreadPoolExecutor
 from dataclasses import dataclass, field
 
-from ..analysis.least_units import units_of
+from ..analysis.least_units import rule_between_pinches
 from ..errors import DeskError, Refused
 from ..formats.case import Case, completed, read_case
 from ..program.answers import HeatFlow
@@ -161,7 +161,7 @@ def rule_of(pinch: Pinch, case: Case, text: Case | bytes) -> int:
     flow = pinch.flow(text)
     if not isinstance(flow, HeatFlow):
         return 0
-    return sum(region.least for region in units_of(case, pinch.targets(text), flow).at_pinches)
+    return rule_between_pinches(case, pinch.targets(text), flow)
 
 
 def completed_live(text: str) -> Case:
