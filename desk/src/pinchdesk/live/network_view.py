@@ -125,7 +125,7 @@ def score_of(standing: Standing) -> ScoreView:
 
 def money(shown: Shown, cost: Fraction | int) -> str:
     """A cost with its unit; of a case whose prices have none it is a price times a heat."""
-    return shown.with_unit(cost) if shown.basis.cost_unit else f'{shown.cost(cost)} (price × W)'
+    return shown.with_unit(cost) if shown.basis.cost_unit else f'{shown.cost(cost)} price × W'
 
 
 def notes_of(standing: Standing, known: bool) -> tuple[str, ...]:
