@@ -1,0 +1,229 @@
+// What the user does: each gesture is asked of the desk, one after the other, and what it answers becomes the state.
+
+import { Lost } from './talk.js';
+
+/** @typedef {import('./contract.js').Gesture} Gesture */
+/** @typedef {import('./contract.js').Offer} Offer */
+/** @typedef {import('./contract.js').View} View */
+/** @typedef {import('./contract.js').WayOffer} WayOffer */
+/** @typedef {import('./state.js').Chosen} Chosen */
+/** @typedef {import('./state.js').Store} Store */
+/** @typedef {import('./talk.js').Talk} Talk */
+
+const LATE = 'This was changed meanwhile, in another window or in the file. Look at it, and do it again.';
+const AGO = 250;
+
+export class Actions {
+  /**
+   * @param {Talk} talk
+   * @param {Store} store
+   */
+  constructor(talk, store) {
+    this.talk = talk;
+    this.store = store;
+    /** @type {Promise<unknown>} */
+    this.last = Promise.resolve();
+    /** @type {string | null} */
+    this.wanted = null;
+    this.sliding = false;
+    this.waiting = 0;
+  }
+
+  /** The present state. */
+  get state() {
+    return this.store.state;
+  }
+
+  /**
+   * Does a gesture after those that are under way. Gives whether it was done.
+   * @param {Gesture} gesture
+   * @returns {Promise<boolean>}
+   */
+  do(gesture) {
+    const done = this.last.then(() => this.send(gesture));
+    this.last = done.catch(() => undefined);
+    return done;
+  }
+
+  /**
+   * @param {Gesture} gesture
+   * @returns {Promise<boolean>}
+   */
+  async send(gesture) {
+    performance.mark('asked');
+    this.store.set({ busy: true });
+    try {
+      const done = await this.talk.gesture(this.state.view.version, gesture);
+      performance.mark('answered');
+      const refusal = done.late ? { text: LATE, places: [] } : done.refused ?? null;
+      this.show(done.view, { busy: false, refusal, slider: null, instead: null });
+      return !refusal;
+    } catch (cause) {
+      this.failed(cause);
+      return false;
+    }
+  }
+
+  /**
+   * Shows a new view; what was chosen stays chosen where it still is.
+   * @param {View} view
+   * @param {Partial<import('./state.js').State>} [more]
+   */
+  show(view, more = {}) {
+    const { chosen, view: before } = this.state;
+    const same = view.version === before.version;
+    const still = chosen && isThere(view, chosen) ? chosen : null;
+    this.store.set({
+      view, chosen: still, offers: same ? this.state.offers : null, way: null, partner: null,
+      waysAsked: same ? this.state.waysAsked : true, ...more,
+    });
+    if (same) return;
+    if (still && still.kind === 'piece') this.offer(still.name);
+    this.findWaysSoon();
+  }
+
+  /** @param {unknown} cause */
+  failed(cause) {
+    if (!(cause instanceof Lost)) throw cause;
+    this.store.set({ busy: false, lost: true });
+  }
+
+  /**
+   * The state anew, where it may have changed elsewhere.
+   * @param {number} [version] the version that the desk has; what is shown may be it already
+   */
+  refresh(version) {
+    const done = this.last.then(async () => {
+      if (version === this.state.view.version) return;
+      try {
+        this.show(await this.talk.view(), { lost: false });
+      } catch (cause) {
+        this.failed(cause);
+      }
+    });
+    this.last = done;
+    return done;
+  }
+
+  /** @param {Chosen | null} chosen */
+  choose(chosen) {
+    const { chosen: before } = this.state;
+    if (chosen && before && chosen.kind === before.kind && chosen.name === before.name) return;
+    this.store.set({ chosen, partner: null, refusal: null });
+    if (chosen && chosen.kind === 'piece') this.offer(chosen.name);
+  }
+
+  /**
+   * What a piece may be matched with, asked once for each version.
+   * @param {string} piece
+   * @returns {Promise<Offer[]>}
+   */
+  offer(piece) {
+    const { offers, view } = this.state;
+    const at = `${view.version} ${piece}`;
+    if (offers && offers.piece === piece && this.asked && this.askedAt === at) return this.asked;
+    this.askedAt = at;
+    this.store.set({ offers: { piece, list: null } });
+    this.asked = this.last.then(() => this.findOffers(piece));
+    return this.asked;
+  }
+
+  /**
+   * @param {string} piece
+   * @returns {Promise<Offer[]>}
+   */
+  async findOffers(piece) {
+    const version = this.state.view.version;
+    try {
+      const list = await this.talk.offers(version, piece) ?? [];
+      const { offers, view } = this.state;
+      if (offers && offers.piece === piece && view.version === version) this.store.set({ offers: { piece, list } });
+      return list;
+    } catch (cause) {
+      this.failed(cause);
+      return [];
+    }
+  }
+
+  /**
+   * Places an exchanger, and chooses it; other places for it stay at hand.
+   * @param {Offer} offer
+   * @param {Offer[]} all
+   */
+  async place(offer, all) {
+    const names = new Set(this.state.view.exchangers.map(row => row.name));
+    if (!await this.do(offer.gesture)) return;
+    const made = this.state.view.exchangers.find(row => !names.has(row.name));
+    if (!made) return;
+    this.store.set({
+      chosen: { kind: 'exchanger', name: made.name },
+      instead: { exchanger: made.name, list: all.filter(other => other !== offer) },
+    });
+  }
+
+  /**
+   * Another place in place of the one just taken.
+   * @param {Offer} offer
+   */
+  async placeInstead(offer) {
+    const all = this.state.instead ? this.state.instead.list : [];
+    if (await this.do({ kind: 'undo' })) await this.place(offer, all);
+  }
+
+  /** A moment after the last change, so that a quick hand does not wait for what it does not look at. */
+  findWaysSoon() {
+    clearTimeout(this.waiting);
+    this.waiting = setTimeout(() => this.findWays(), AGO);
+  }
+
+  async findWays() {
+    const version = this.state.view.version;
+    try {
+      const ways = await this.talk.ways(version);
+      if (ways && this.state.view.version === version) this.store.set({ ways, waysAsked: false, way: null });
+    } catch (cause) {
+      this.failed(cause);
+    }
+  }
+
+  /**
+   * Targets and curves at another least approach: the newest that is wanted, one question at a time.
+   * @param {string} difference
+   */
+  async slide(difference) {
+    this.wanted = difference;
+    if (this.sliding) return;
+    this.sliding = true;
+    try {
+      while (this.wanted !== null) {
+        const asked = this.wanted;
+        const answer = await this.talk.slider(this.state.view.version, asked);
+        if (this.wanted === asked) this.wanted = null;
+        if (answer && 'refused' in answer) this.store.set({ refusal: answer.refused });
+        else if (answer) this.store.set({ slider: answer, refusal: null });
+      }
+    } catch (cause) {
+      this.failed(cause);
+    } finally {
+      this.sliding = false;
+    }
+  }
+
+  /** Back to the least approach that is kept. */
+  letGo() {
+    this.wanted = null;
+    this.store.set({ slider: null, refusal: null });
+  }
+}
+
+/**
+ * @param {View} view
+ * @param {Chosen} chosen
+ */
+function isThere(view, chosen) {
+  const { grid } = view;
+  if (!grid) return false;
+  if (chosen.kind === 'exchanger') return grid.exchangers.some(exchanger => exchanger.name === chosen.name);
+  if (chosen.kind === 'piece') return grid.pieces.some(piece => piece.id === chosen.name);
+  return grid.joints.some(joint => joint.id === chosen.name);
+}

@@ -1,0 +1,119 @@
+// Elements are made here, texts always as texts: no name of a stream is ever read as markup.
+
+/** @typedef {string | number | boolean | null | undefined | ((event: any) => unknown)} Attribute */
+/** @typedef {Record<string, Attribute>} Attributes */
+/** @typedef {Node | string | null | undefined | false} Child */
+
+const SVG = 'http://www.w3.org/2000/svg';
+
+/**
+ * @template {Element} Kind
+ * @param {Kind} element
+ * @param {Attributes} attributes a function is called at the event of this name
+ * @param {Child[]} children
+ * @returns {Kind}
+ */
+function furnish(element, attributes, children) {
+  for (const [name, value] of Object.entries(attributes)) {
+    if (typeof value === 'function') element.addEventListener(name, value);
+    else if (value === true) element.setAttribute(name, '');
+    else if (value !== false && value !== null && value !== undefined) element.setAttribute(name, String(value));
+  }
+  for (const child of children) if (child) element.append(child);
+  return element;
+}
+
+/**
+ * An element of the page.
+ * @template {keyof HTMLElementTagNameMap} Name
+ * @param {Name} name
+ * @param {Attributes} [attributes]
+ * @param {...Child} children
+ * @returns {HTMLElementTagNameMap[Name]}
+ */
+export function make(name, attributes = {}, ...children) {
+  return furnish(document.createElement(name), attributes, children);
+}
+
+/**
+ * An element of a picture.
+ * @template {keyof SVGElementTagNameMap} Name
+ * @param {Name} name
+ * @param {Attributes} [attributes]
+ * @param {...Child} children
+ * @returns {SVGElementTagNameMap[Name]}
+ */
+export function draw(name, attributes = {}, ...children) {
+  return furnish(document.createElementNS(SVG, name), attributes, children);
+}
+
+/**
+ * The element of the page with this id.
+ * @param {string} id
+ * @returns {HTMLElement}
+ */
+export function part(id) {
+  const found = document.getElementById(id);
+  if (!found) throw new Error(`the page has no part ${id}`);
+  return found;
+}
+
+/** @typedef {HTMLInputElement | HTMLTextAreaElement} Field */
+
+/**
+ * @param {Element | null} element
+ * @returns {element is Field}
+ */
+function isField(element) {
+  return element instanceof HTMLInputElement || element instanceof HTMLTextAreaElement;
+}
+
+/**
+ * Puts new children into a part. What had the focus has it again where it still is (by its `data-key`), with what was
+ * being typed and where.
+ * @param {Element} parent
+ * @param {...Child} children
+ */
+export function fill(parent, ...children) {
+  const focused = document.activeElement;
+  const key = focused && parent.contains(focused) ? focused.getAttribute('data-key') : null;
+  const typed = isField(focused) && focused.value !== focused.defaultValue ? focused.value : null;
+  const range = isField(focused) && focused.type !== 'range' ? [focused.selectionStart, focused.selectionEnd] : null;
+  parent.replaceChildren(...children.flatMap(child => child ? [child] : []));
+  const again = key === null ? null : keyed(parent, key);
+  if (!again) return;
+  again.focus({ preventScroll: true });
+  if (!isField(again)) return;
+  if (typed !== null) again.value = typed;
+  if (range && range[0] !== null) again.setSelectionRange(range[0], range[1]);
+}
+
+/**
+ * The element inside that has this key.
+ * @param {Element} parent
+ * @param {string} key
+ * @returns {HTMLElement | SVGElement | null}
+ */
+export function keyed(parent, key) {
+  const found = parent.querySelector(`[data-key="${CSS.escape(key)}"]`);
+  return found instanceof HTMLElement || found instanceof SVGElement ? found : null;
+}
+
+/** How much larger than usual the reader has the letters: pictures grow with them. */
+export function letterScale() {
+  return parseFloat(getComputedStyle(document.documentElement).fontSize) / 16 || 1;
+}
+
+const ruler = document.createElement('canvas').getContext('2d');
+
+/**
+ * How wide a text is in the letters of the page.
+ * @param {string} text
+ * @param {number} size in CSS pixels
+ * @param {boolean} [bold]
+ */
+export function textWidth(text, size, bold = false) {
+  if (!ruler) return text.length * size * 0.62;
+  ruler.font = `${bold ? 'bold ' : ''}${size}px ${getComputedStyle(document.body).fontFamily}`;
+  return ruler.measureText(text).width;
+}

@@ -1,0 +1,195 @@
+// Dragging in the grid diagram, by mouse, pen or finger: an open piece to its partner, or an end of an exchanger to a
+// piece of another stream. What a drop would cost stands beside the pointer before it is done.
+
+import { draw, make, part } from './dom.js';
+
+/** @typedef {import('./contract.js').Offer} Offer */
+/** @typedef {import('./grid.js').GridPart} GridPart */
+
+/** So far a hand moves that only wants to press. */
+const STILL = 5;
+
+/**
+ * @typedef {object} Pull
+ * @property {'piece' | 'exchanger'} kind
+ * @property {string} name
+ * @property {string} side
+ * @property {{x: number, y: number}} from where it began, in the picture
+ * @property {{x: number, y: number}} down where it began, in the window
+ * @property {number} pointer
+ * @property {boolean} moving
+ * @property {SVGLineElement | null} line
+ * @property {Element | null} target
+ */
+
+export class Drag {
+  /** @param {GridPart} part */
+  constructor(part) {
+    this.part = part;
+    /** @type {Pull | null} */
+    this.pull = null;
+    this.justEnded = false;
+    this.hint = part('hint');
+    document.addEventListener('keydown', event => {
+      if (event.key === 'Escape' && this.pull) this.stop();
+    });
+  }
+
+  /** The piece that is being dragged. */
+  get piece() {
+    return this.pull && this.pull.moving && this.pull.kind === 'piece' ? this.pull.name : null;
+  }
+
+  /** @param {PointerEvent} event */
+  down(event) {
+    const target = event.target instanceof Element ? event.target : null;
+    const piece = target?.closest('[data-piece]'), ending = target?.closest('[data-end]');
+    const shape = (piece ?? ending)?.querySelector('rect'), { picture } = this.part;
+    if (event.button !== 0 || !picture || !shape) return;
+    const exchanger = ending?.closest('[data-exchanger]');
+    this.pull = {
+      kind: piece ? 'piece' : 'exchanger',
+      name: piece?.getAttribute('data-piece') ?? exchanger?.getAttribute('data-exchanger') ?? '',
+      side: piece ? (piece.classList.contains('hot') ? 'hot' : 'cold') : ending?.getAttribute('data-end') ?? '',
+      from: middleOf(shape), down: { x: event.clientX, y: event.clientY },
+      pointer: event.pointerId, moving: false, line: null, target: null,
+    };
+    if (piece) this.part.actions.offer(this.pull.name);
+    picture.addEventListener('pointermove', this.moved);
+    picture.addEventListener('pointerup', this.dropped);
+    picture.addEventListener('pointercancel', this.cancelled);
+  }
+
+  /** @param {PointerEvent} event */
+  moved = event => {
+    const { pull } = this, { picture } = this.part;
+    if (!pull || !picture || event.pointerId !== pull.pointer) return;
+    if (!pull.moving) {
+      if (Math.hypot(event.clientX - pull.down.x, event.clientY - pull.down.y) < STILL) return;
+      pull.moving = true;
+      // Not before: what is captured gets the click too.
+      picture.setPointerCapture(event.pointerId);
+      pull.line = draw('line', { class: 'pull', x1: pull.from.x, y1: pull.from.y });
+      picture.append(pull.line);
+      picture.classList.add('dragging');
+      this.part.mark(this.part.actions.state);
+    }
+    this.aim(event);
+  };
+
+  /**
+   * The dotted line to the pointer or to what is below it, and what would come of a drop there.
+   * @param {PointerEvent} event
+   */
+  aim(event) {
+    const { pull } = this, { picture } = this.part;
+    if (!pull || !pull.line || !picture) return;
+    const target = this.targetAt(event.clientX, event.clientY);
+    if (pull.target !== target) {
+      pull.target?.classList.remove('aimed');
+      target?.classList.add('aimed');
+      pull.target = target;
+    }
+    const frame = picture.getBoundingClientRect();
+    const free = { x: event.clientX - frame.left, y: event.clientY - frame.top };
+    const shape = target?.matches('[data-piece]') ? target.querySelector('rect') : null;
+    const to = shape ? middleOf(shape) : free;
+    pull.line.setAttribute('x2', String(to.x));
+    pull.line.setAttribute('y2', String(to.y));
+    this.tell(event.clientX, event.clientY);
+  }
+
+  /**
+   * Where a drop would go: a piece or a utility of the other side; for an end of an exchanger a piece of its side.
+   * @param {number} x
+   * @param {number} y
+   */
+  targetAt(x, y) {
+    const { pull } = this;
+    const found = document.elementFromPoint(x, y)?.closest('[data-piece], [data-utility]');
+    if (!pull || !found || !this.part.picture?.contains(found)) return null;
+    const side = found.classList.contains('hot') ? 'hot' : 'cold';
+    if (pull.kind === 'exchanger') return found.matches('[data-piece]') && side === pull.side ? found : null;
+    return side === pull.side ? null : found;
+  }
+
+  /**
+   * Beside the pointer, in words, what would come of a drop.
+   * @param {number} x
+   * @param {number} y
+   */
+  tell(x, y) {
+    const lines = this.words();
+    this.hint.hidden = !lines.length;
+    if (!lines.length) return;
+    this.hint.replaceChildren(...lines.map(line => make('div', {}, line)));
+    const { offsetWidth: wide, offsetHeight: high } = this.hint;
+    this.hint.style.left = `${Math.max(4, Math.min(x + 14, innerWidth - wide - 4))}px`;
+    this.hint.style.top = `${y - high - 14 > 4 ? y - high - 14 : y + 18}px`;
+  }
+
+  /** @returns {string[]} */
+  words() {
+    const { pull } = this;
+    if (!pull || !pull.target) return [];
+    const partner = nameOf(pull.target);
+    if (pull.kind === 'exchanger') return [`move this end of ${pull.name} here`];
+    const { offers } = this.part.actions.state;
+    if (!offers || offers.piece !== pull.name || !offers.list) return ['…'];
+    const offer = offers.list.find(found => found.partner === partner);
+    return offer ? [offer.words, offer.cost] : ['no heat can go from one to the other here'];
+  }
+
+  /** @param {PointerEvent} event */
+  dropped = async event => {
+    const { pull } = this;
+    if (!pull || event.pointerId !== pull.pointer) return;
+    if (pull.moving) {
+      this.aim(event);
+      performance.mark('dropped');
+    }
+    const { moving, target } = pull;
+    this.stop();
+    this.justEnded = moving;
+    setTimeout(() => { this.justEnded = false; }, 50);
+    if (!moving || !target) return;
+    const partner = nameOf(target), { actions } = this.part;
+    if (pull.kind === 'exchanger') {
+      await actions.do({ kind: 'move', exchanger: pull.name, piece: partner });
+      return;
+    }
+    // The place that costs least is another one where costs are not known yet: so a drop waits for them.
+    const offers = await actions.offer(pull.name), offer = offers.find(found => found.partner === partner);
+    if (offer) await actions.place(offer, offers);
+    else await actions.do({ kind: 'place', piece: pull.name, partner });
+  };
+
+  cancelled = () => this.stop();
+
+  /** Nothing is dragged any more. */
+  stop() {
+    const { pull } = this, { picture } = this.part;
+    this.pull = null;
+    this.hint.hidden = true;
+    if (!pull || !picture) return;
+    pull.line?.remove();
+    pull.target?.classList.remove('aimed');
+    picture.classList.remove('dragging');
+    picture.removeEventListener('pointermove', this.moved);
+    picture.removeEventListener('pointerup', this.dropped);
+    picture.removeEventListener('pointercancel', this.cancelled);
+    if (picture.hasPointerCapture(pull.pointer)) picture.releasePointerCapture(pull.pointer);
+    this.part.mark(this.part.actions.state);
+  }
+}
+
+/** @param {Element} target */
+function nameOf(target) {
+  return target.getAttribute('data-piece') ?? target.getAttribute('data-utility') ?? '';
+}
+
+/** @param {SVGRectElement} shape */
+function middleOf(shape) {
+  const box = shape.getBBox();
+  return { x: box.x + box.width / 2, y: box.y + box.height / 2 };
+}

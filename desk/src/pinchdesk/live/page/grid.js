@@ -1,0 +1,153 @@
+// The grid diagram: it is drawn anew with each view, and marked as the user points and chooses.
+
+import { draw, fill, keyed, make } from './dom.js';
+import { Geometry } from './geometry.js';
+import { exchangerShape, jointShape, lineShape, pieceShape, pinchShape, rowShape } from './grid_shapes.js';
+import { GridKeys } from './grid_keys.js';
+import { chosenAt, markOne } from './grid_marks.js';
+import { Drag } from './drag.js';
+import { changed } from './state.js';
+
+/** @typedef {import('./actions.js').Actions} Actions */
+/** @typedef {import('./contract.js').GridPicture} GridPicture */
+/** @typedef {import('./state.js').Chosen} Chosen */
+/** @typedef {import('./state.js').State} State */
+
+const WORDS = 'Grid diagram. Arrows go from place to place, Enter opens what is there.';
+const MARKED = '[data-exchanger], [data-piece], [data-utility], [data-joint], [data-row]';
+
+export class GridPart {
+  /**
+   * @param {HTMLElement} panel
+   * @param {Actions} actions
+   * @param {(chosen: Chosen) => unknown} enter goes on to what is chosen, in the panel below
+   */
+  constructor(panel, actions, enter) {
+    this.panel = panel;
+    this.actions = actions;
+    this.enter = enter;
+    /** @type {SVGSVGElement | null} */
+    this.picture = null;
+    /** @type {Geometry | null} */
+    this.at = null;
+    this.keys = new GridKeys(this);
+    this.drag = new Drag(this);
+    this.room = 0;
+    new ResizeObserver(() => this.resized()).observe(panel);
+  }
+
+  /** @type {import('./state.js').Renderer} */
+  render = (state, before) => {
+    if (changed(state, before, 'view')) this.redraw(state);
+    this.mark(state);
+  };
+
+  resized() {
+    if (this.panel.clientWidth === this.room) return;
+    this.redraw(this.actions.state);
+    this.mark(this.actions.state);
+  }
+
+  /** @param {State} state */
+  redraw(state) {
+    const { view } = state;
+    this.drag.stop();
+    this.room = this.panel.clientWidth;
+    if (!view.grid) {
+      this.picture = null;
+      fill(this.panel, make('p', { class: 'none' }, view.read_only || 'There is no network to be shown.'));
+      return;
+    }
+    const focused = this.panel.contains(document.activeElement);
+    const scrolled = this.panel.querySelector('.wide')?.scrollLeft ?? 0;
+    this.at = new Geometry(view.grid, this.room - 4);
+    this.picture = this.drawn(view.grid, this.at);
+    const wide = make('div', { class: 'wide' }, this.picture);
+    fill(this.panel, view.read_only && make('p', { class: 'note' }, view.read_only), wide);
+    wide.scrollLeft = scrolled;
+    this.keys.renew(this.picture, focused);
+  }
+
+  /**
+   * @param {GridPicture} grid
+   * @param {Geometry} at
+   */
+  drawn(grid, at) {
+    const sides = new Map(grid.rows.map(row => [row.name, row.side]));
+    /** @param {string} stream */
+    const side = stream => sides.get(stream) ?? 'hot';
+    const width = Math.ceil(at.width), height = Math.ceil(at.height);
+    const picture = draw('svg', {
+      class: 'grid', role: 'group', 'aria-label': WORDS, width, height, viewBox: `0 0 ${width} ${height}`,
+      'font-size': at.size,
+    },
+    ...grid.pinches.map((pinch, place) => pinchShape(pinch, at.levels[place], at)),
+    ...grid.rows.map(row => rowShape(row, at)),
+    ...grid.lines.map(line => lineShape(line, side(line.stream), at)),
+    ...grid.joints.map(joint => jointShape(joint, side(joint.stream), at)),
+    ...grid.exchangers.map(exchanger => exchangerShape(exchanger, grid, at)),
+    ...grid.pieces.map(piece => pieceShape(piece, at)),
+    draw('g', { class: 'over' }));
+    this.listen(picture);
+    return picture;
+  }
+
+  /** @param {SVGSVGElement} picture */
+  listen(picture) {
+    picture.addEventListener('keydown', event => this.keys.pressed(event));
+    picture.addEventListener('focusin', event => this.keys.entered(event));
+    picture.addEventListener('pointerdown', event => this.drag.down(event));
+    picture.addEventListener('click', event => this.clicked(event));
+  }
+
+  /** @param {MouseEvent} event */
+  clicked(event) {
+    if (this.drag.justEnded) return;
+    const chosen = chosenAt(event.target);
+    this.actions.choose(chosen);
+  }
+
+  /**
+   * Gives the focus to a place of the diagram.
+   * @param {string} key
+   */
+  focus(key) {
+    const found = keyed(this.panel, key);
+    if (found) found.focus();
+    return Boolean(found);
+  }
+
+  /** @param {State} state */
+  mark(state) {
+    const { picture } = this;
+    if (!picture) return;
+    const { chosen, refusal, view, offers, way } = state;
+    const dragged = this.drag.piece;
+    const matched = dragged ?? (chosen && chosen.kind === 'piece' ? chosen.name : null);
+    const list = matched !== null && offers && offers.piece === matched ? offers.list ?? [] : [];
+    const partners = new Set(list.map(offer => offer.partner));
+    picture.classList.toggle('matching', matched !== null && partners.size > 0);
+    const places = [...(refusal ? refusal.places : []), ...view.verdict.places];
+    const legs = new Map(way ? way.legs.map(leg => [leg.exchanger, leg.gains]) : []);
+    picture.classList.toggle('pointing', legs.size > 0);
+    const marks = { chosen, matched, partners, pointed: state.partner, places, legs };
+    for (const element of picture.querySelectorAll(MARKED)) {
+      if (element instanceof SVGElement) markOne(element, marks);
+    }
+    this.signs(picture, legs);
+  }
+
+  /**
+   * The exchangers of a way with what each gains or loses.
+   * @param {SVGSVGElement} picture
+   * @param {Map<string, boolean>} legs
+   */
+  signs(picture, legs) {
+    const over = picture.querySelector('.over'), { at } = this, { grid } = this.actions.state.view;
+    if (!over || !at || !grid) return;
+    const ends = grid.exchangers.filter(exchanger => legs.has(exchanger.name));
+    over.replaceChildren(...ends.map(exchanger => draw('text', {
+      class: 'sign', x: at.x(exchanger.hot_x) + at.radius + 2 * at.scale, y: at.y(exchanger.hot_y) + 20 * at.scale,
+    }, legs.get(exchanger.name) ? '+' : '−')));
+  }
+}

@@ -1,0 +1,170 @@
+// The shapes of the grid diagram: streams, partings, exchangers, open pieces, pinches.
+
+import { draw, textWidth } from './dom.js';
+
+/** @typedef {import('./contract.js').ExchangerBar} ExchangerBar */
+/** @typedef {import('./contract.js').GridPicture} GridPicture */
+/** @typedef {import('./contract.js').JointLine} JointLine */
+/** @typedef {import('./contract.js').BranchLine} BranchLine */
+/** @typedef {import('./contract.js').OpenPill} OpenPill */
+/** @typedef {import('./contract.js').PinchLine} PinchLine */
+/** @typedef {import('./contract.js').GridRow} GridRow */
+/** @typedef {import('./geometry.js').Geometry} Geometry */
+
+/**
+ * A text of the diagram.
+ * @param {number} x
+ * @param {number} y
+ * @param {string} text
+ * @param {import('./dom.js').Attributes} [more]
+ */
+function write(x, y, text, more = {}) {
+  return draw('text', { x: round(x), y: round(y), ...more }, text);
+}
+
+/** @param {number} length */
+function round(length) {
+  return Math.round(length * 10) / 10;
+}
+
+/**
+ * @param {PinchLine} pinch
+ * @param {number} level
+ * @param {Geometry} at
+ */
+export function pinchShape(pinch, level, at) {
+  const x = at.x(pinch.x), top = at.top - 30 * at.scale, bottom = at.height - 6 * at.scale;
+  const half = textWidth(pinch.text, at.size) / 2 + 4 * at.scale;
+  const middle = Math.max(half, Math.min(x, at.width - half));
+  const band = pinch.end > pinch.begin && draw('rect', {
+    class: 'band', x: round(at.x(pinch.begin - 0.5)), y: top, width: round(at.pitch * (pinch.end - pinch.begin + 1)),
+    height: bottom - top,
+  });
+  return draw('g', { class: 'pinch' }, band,
+    draw('line', { x1: round(x), y1: top, x2: round(x), y2: bottom }),
+    write(middle, top - (6 + 15 * level) * at.scale, pinch.text, { 'text-anchor': 'middle' }));
+}
+
+/**
+ * The name of a row and what stands at its ends; of a utility its line too, on which an open piece can be dropped.
+ * @param {GridRow} row
+ * @param {Geometry} at
+ */
+export function rowShape(row, at) {
+  const y = at.y(row.y), left = at.x(row.begin), right = at.x(row.end), scale = at.scale;
+  const utility = row.kind === 'utility';
+  const group = draw('g', {
+    class: `row ${row.kind} ${row.side}`, 'data-row': row.name, 'data-utility': utility && row.name,
+  });
+  if (utility) {
+    const wide = textWidth(row.name, at.size * 1.12, true) + 20 * scale;
+    group.append(
+      draw('line', { class: 'reach', x1: round(left), y1: y, x2: round(right), y2: y }),
+      draw('line', { class: 'level', x1: round(left), y1: y, x2: round(right), y2: y }),
+      draw('rect', {
+        class: 'box', x: 12 * scale, y: y - 13 * scale, width: round(wide), height: 26 * scale, rx: 4 * scale,
+      }));
+  }
+  group.append(
+    write(utility ? 22 * scale : 12 * scale, y + (row.detail && !utility ? 0 : 4 * scale), row.name, { class: 'name' }),
+    write(left - 8 * scale, y + 4 * scale, row.first, { class: 'end', 'text-anchor': 'end' }),
+    write(right + 9 * scale, y + 4 * scale, row.last, { class: 'end' }));
+  if (row.detail) group.append(write(12 * scale, y + (utility ? 26 : 13) * scale, row.detail, { class: 'detail' }));
+  group.append(draw('title', {}, row.text));
+  return group;
+}
+
+/**
+ * @param {BranchLine} line
+ * @param {string} side
+ * @param {Geometry} at
+ */
+export function lineShape(line, side, at) {
+  const y = at.y(line.y), from = at.x(line.begin), to = at.x(line.end), scale = at.scale;
+  const group = draw('g', { class: `line ${side}` }, draw('line', { x1: round(from), y1: y, x2: round(to), y2: y }));
+  if (line.arrow) {
+    const way = side === 'hot' ? 1 : -1, tip = way > 0 ? Math.max(from, to) : Math.min(from, to);
+    const back = round(tip - way * 8 * scale);
+    const high = 6 * scale;
+    group.append(draw('path', { class: 'arrow', d: `M${back} ${y - high}L${round(tip)} ${y}L${back} ${y + high}` }));
+  }
+  if (line.label) {
+    const below = line.kind === 'share';
+    group.append(write(at.x(line.label_x), y + (below ? 14 : -7) * scale, line.label, {
+      class: line.kind, 'text-anchor': 'middle',
+    }));
+  }
+  return group;
+}
+
+/**
+ * @param {JointLine} joint
+ * @param {string} side
+ * @param {Geometry} at
+ */
+export function jointShape(joint, side, at) {
+  const x = at.x(joint.x), first = at.y(joint.first), last = at.y(joint.last);
+  return draw('g', {
+    class: `joint ${side}`, 'data-joint': joint.id, 'data-key': `joint ${joint.id} ${joint.x}`, role: 'button',
+    tabindex: -1,
+    'aria-label': `parting of ${joint.stream}: ${joint.shares.map(share => `${share} %`).join(', ')}`,
+  },
+  draw('line', { class: 'touch', x1: round(x), y1: first, x2: round(x), y2: last }),
+  draw('line', { class: 'upright', x1: round(x), y1: first, x2: round(x), y2: last }));
+}
+
+/**
+ * The bar of an exchanger with its name at both ends and its duty below it.
+ * @param {ExchangerBar} exchanger
+ * @param {GridPicture} grid
+ * @param {Geometry} at
+ */
+export function exchangerShape(exchanger, grid, at) {
+  const [x, y, u, v] = [at.x(exchanger.hot_x), at.y(exchanger.hot_y), at.x(exchanger.cold_x), at.y(exchanger.cold_y)];
+  const middle = at.y(grid.band), bend = Math.min(at.lane / 3, 14 * at.scale);
+  const way = x === u ? `M${round(x)} ${y}V${v}`
+    : `M${round(x)} ${y}V${middle - bend}L${round(u)} ${middle + bend}V${v}`;
+  const mark = exchanger.fault ? '⚠ ' : exchanger.where === 'across' ? '↯ ' : '';
+  const duty = mark + exchanger.duty, low = Math.max(y, v), below = low === v ? u : x;
+  return draw('g', {
+    class: `exchanger ${exchanger.kind} ${exchanger.where || 'nowhere'}${exchanger.fault ? ' fault' : ''}`,
+    'data-exchanger': exchanger.name, 'data-key': `exchanger ${exchanger.name}`, role: 'button', tabindex: -1,
+    'aria-label': exchanger.fault ? `${exchanger.text}: ${exchanger.fault}` : exchanger.text,
+  },
+  draw('path', { class: 'touch', d: way }), draw('path', { class: 'bar', d: way }),
+  endShape(exchanger.name, x, y, 'hot', at), endShape(exchanger.name, u, v, 'cold', at),
+  write(below, low + at.radius + 12 * at.scale, duty, { class: 'duty', 'text-anchor': 'middle' }));
+}
+
+/**
+ * @param {string} name
+ * @param {number} x
+ * @param {number} y
+ * @param {string} side
+ * @param {Geometry} at
+ */
+function endShape(name, x, y, side, at) {
+  const wide = at.pill(name);
+  return draw('g', { class: `ending ${side}`, 'data-end': side },
+    draw('rect', {
+      x: round(x - wide / 2), y: round(y - at.radius), width: round(wide), height: 2 * at.radius, rx: at.radius,
+    }),
+    write(x, y + at.size * 0.36, name, { 'text-anchor': 'middle' }));
+}
+
+/**
+ * @param {OpenPill} piece
+ * @param {Geometry} at
+ */
+export function pieceShape(piece, at) {
+  const x = at.x(piece.x), y = at.y(piece.y), text = (piece.fault ? '⚠ ' : '') + piece.duty, wide = at.pill(text);
+  return draw('g', {
+    class: `piece ${piece.side}${piece.fault ? ' fault' : ''}`, 'data-piece': piece.id, 'data-key': `piece ${piece.id}`,
+    role: 'button', tabindex: -1, 'aria-haspopup': 'true',
+    'aria-label': piece.fault ? `${piece.text}: ${piece.fault}` : piece.text,
+  },
+  draw('rect', {
+    x: round(x - wide / 2), y: round(y - at.radius), width: round(wide), height: 2 * at.radius, rx: at.radius,
+  }),
+  write(x, y + at.size * 0.36, text, { 'text-anchor': 'middle' }));
+}

@@ -1,0 +1,35 @@
+// What can be done, and by which keys.
+
+import { fill, make } from './dom.js';
+
+/** @type {[string, string][]} */
+const KEYS = [
+  ['Tab', 'goes from part to part; the diagram is one of them'],
+  ['← → ↑ ↓', 'in the diagram: from place to place'],
+  ['Enter', 'on an open piece: its partners, the best first; on an exchanger: its duty; on a parting: its shares'],
+  ['m', 'on an exchanger: as large as it can be'],
+  ['Delete', 'on an exchanger: takes it away; on a parting: joins the branches'],
+  ['u', 'on an open piece: served by the cheapest utility that reaches'],
+  ['U', 'all that is open is served by utilities'],
+  ['s', 'on an open piece: splits the stream'],
+  ['g', 'goes to loops and paths'],
+  ['Esc', 'goes back: to the diagram, to the least approach that is kept; ends a drag'],
+  ['Ctrl+Z, Ctrl+Shift+Z', 'undo, redo'],
+];
+
+/**
+ * @param {HTMLElement} place
+ * @returns {() => void} shows it
+ */
+export function helpPart(place) {
+  const dialog = /** @type {HTMLDialogElement} */ (place);
+  fill(dialog, make('h2', { id: 'help-title' }, 'Making a network by hand'),
+    make('p', {}, 'What is not served yet is an open piece: a dashed pill with its duty. Drag it to a piece of the '
+      + 'other side, or to a utility: before it is dropped, the page says how large the exchanger becomes and what it '
+      + 'costs. Begin at the pinch and go away from it. An end of an exchanger can be dragged to an open piece of '
+      + 'another stream.'),
+    make('p', {}, 'Each step is judged by the program and saved in the two files at once. Undo takes back any.'),
+    make('dl', {}, ...KEYS.flatMap(([key, words]) => [make('dt', {}, make('kbd', {}, key)), make('dd', {}, words)])),
+    make('form', { method: 'dialog' }, make('button', {}, 'close')));
+  return () => dialog.showModal();
+}

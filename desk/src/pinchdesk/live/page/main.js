@@ -1,0 +1,80 @@
+// The page: what the desk says is shown in parts, and what the user does is asked of it.
+
+import { Actions } from './actions.js';
+import { ChosenPart } from './chosen.js';
+import { CurvesPart } from './curves.js';
+import { make, part } from './dom.js';
+import { GridPart } from './grid.js';
+import { helpPart } from './help.js';
+import { scorePart, stepsPart } from './score.js';
+import { Store } from './state.js';
+import { StreamsPart } from './streams.js';
+import { tablePart, textsPart } from './tables.js';
+import { Talk } from './talk.js';
+import { lostPart, toastPart, topPart } from './top.js';
+import { WaysPart } from './ways.js';
+
+/**
+ * How long it took from the end of a gesture until it is painted, for those who measure.
+ * @type {import('./state.js').Renderer}
+ */
+const measured = (state, before) => {
+  if (!before || state.view === before.view) return;
+  requestAnimationFrame(() => setTimeout(() => performance.mark('painted', { detail: state.view.version })));
+};
+
+/**
+ * @param {KeyboardEvent} event
+ * @param {Actions} actions
+ * @param {() => void} help
+ */
+function pressed(event, actions, help) {
+  const { target } = event;
+  const typing = target instanceof HTMLElement && target.matches('input:not([type=range]), textarea, select');
+  if ((event.ctrlKey || event.metaKey) && event.key.toLowerCase() === 'z' && !typing) {
+    event.preventDefault();
+    actions.do({ kind: event.shiftKey ? 'redo' : 'undo' });
+  } else if (typing || event.ctrlKey || event.metaKey || event.altKey || !isAtDiagram(target)) return;
+  else if (event.key === '?') help();
+  else if (event.key === 'g') focusFirst(part('ways'));
+}
+
+/**
+ * Single letters do something in the diagram alone.
+ * @param {EventTarget | null} target
+ */
+function isAtDiagram(target) {
+  return target === document.body || target instanceof Node && part('grid').contains(target);
+}
+
+/** @param {HTMLElement} panel */
+function focusFirst(panel) {
+  const found = panel.querySelector('input, button');
+  if (found instanceof HTMLElement) found.focus();
+}
+
+async function begin() {
+  const talk = new Talk(new URL('.', location.href).href);
+  const store = new Store(await talk.view());
+  const actions = new Actions(talk, store);
+  const help = helpPart(part('help'));
+  const chosen = new ChosenPart(part('chosen'), actions, key => grid.focus(key));
+  const grid = new GridPart(part('grid'), actions, () => chosen.enter());
+  for (const renderer of [
+    topPart(actions, help), toastPart(), lostPart(), new StreamsPart(part('streams'), actions).render,
+    new CurvesPart(part('curves'), actions).render, grid.render, chosen.render,
+    new WaysPart(part('ways'), actions).render, scorePart(part('score'), actions), stepsPart(part('steps'), actions),
+    tablePart(part('table'), actions), textsPart(part('texts'), actions), measured,
+  ]) store.add(renderer);
+  document.addEventListener('keydown', event => pressed(event, actions, help));
+  actions.findWays();
+  talk.changes(version => actions.refresh(version), lost => {
+    if (lost !== store.state.lost) lost ? store.set({ lost }) : actions.refresh();
+  });
+  document.body.classList.add('ready');
+}
+
+begin().catch(cause => {
+  part('lost').hidden = false;
+  part('lost').append(make('span', {}, `The page cannot be shown: ${cause instanceof Error ? cause.message : cause}`));
+});

@@ -1,0 +1,71 @@
+// How good the network is, and the steps that led to it.
+
+import { draw, fill, make } from './dom.js';
+import { changed } from './state.js';
+
+/** @typedef {import('./actions.js').Actions} Actions */
+/** @typedef {import('./contract.js').ScoreView} ScoreView */
+/** @typedef {import('./contract.js').View} View */
+
+/**
+ * @param {HTMLElement} panel
+ * @param {Actions} actions
+ * @returns {import('./state.js').Renderer}
+ */
+export function scorePart(panel, actions) {
+  return (state, before) => {
+    if (!changed(state, before, 'view')) return;
+    const { view } = state, { score, units } = view, open = view.grid !== null && view.grid.pieces.length > 0;
+    /** @type {(text: string) => Node} */
+    const heat = text => make('p', { class: 'large' }, make('b', {}, text || '–'), ` ${units.heat}`);
+    fill(panel,
+      make('h2', { id: 'score-title' }, open ? 'Hot utility that can be reached' : 'Hot utility'),
+      heat(open ? score.reach_hot : score.stands_hot || score.reach_hot), bar(score, view),
+      make('p', { class: 'pale' }, `target ${score.target_hot}`,
+        open && score.stands_hot && `; as it stands, all that is open is served by utilities: ${score.stands_hot}`),
+      make('h3', {}, 'Above the target'), heat(score.above),
+      make('h3', {}, 'Exchangers'), make('p', { class: 'units' }, score.units),
+      score.cost && make('p', { class: 'pale' }, `cost ${score.cost} ${units.cost}`),
+      score.floor && make('p', { class: 'pale' }, `no network costs less than ${score.floor} ${units.cost}`),
+      ...score.notes.map(note => make('p', { class: 'pale' }, note)),
+      make('button', {
+        type: 'button', class: 'wide-button', 'data-key': 'finish', disabled: !open,
+        click: () => actions.do({ kind: 'finish' }),
+      }, 'Serve the rest by utilities'));
+  };
+}
+
+/**
+ * The target as a mark, what can be reached and what stands as bars.
+ * @param {ScoreView} score
+ * @param {View} view
+ */
+function bar(score, view) {
+  const [target, reach, stands] = score.bar.map(part => Math.max(0, Math.min(1, part)) * 200);
+  return draw('svg', {
+    class: 'bar', viewBox: '-1 0 202 20', role: 'img', preserveAspectRatio: 'none',
+    'aria-label': `hot utility: target ${score.target_hot}, within reach ${score.reach_hot || 'unknown'}, as it stands `
+      + `${score.stands_hot || 'unknown'} ${view.units.heat}`,
+  },
+  draw('rect', { class: 'all', x: 0, y: 5, width: 200, height: 10 }),
+  draw('rect', { class: 'stands', x: 0, y: 5, width: stands, height: 10 }),
+  draw('rect', { class: 'reach', x: 0, y: 5, width: reach, height: 10 }),
+  draw('rect', { class: 'target', x: target - 1, y: 0, width: 2, height: 20 }));
+}
+
+/**
+ * @param {HTMLElement} panel
+ * @param {Actions} actions
+ * @returns {import('./state.js').Renderer}
+ */
+export function stepsPart(panel, actions) {
+  return (state, before) => {
+    if (!changed(state, before, 'view')) return;
+    fill(panel, make('h2', { id: 'steps-title' }, 'Steps'), make('ol', { class: 'steps' },
+      ...state.view.steps.map((step, at) => make('li', {}, make('button', {
+        type: 'button', 'data-key': `step ${at}`, 'aria-current': step.present ? 'step' : null,
+        click: () => actions.do({ kind: 'step', at }),
+      }, step.text)))));
+    panel.querySelector('[aria-current]')?.scrollIntoView({ block: 'nearest' });
+  };
+}

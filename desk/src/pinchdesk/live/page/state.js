@@ -1,0 +1,65 @@
+// What the page knows: the view of the desk, and what the user is at.
+
+/** @typedef {import('./contract.js').Offer} Offer */
+/** @typedef {import('./contract.js').Refusal} Refusal */
+/** @typedef {import('./contract.js').Slider} Slider */
+/** @typedef {import('./contract.js').View} View */
+/** @typedef {import('./contract.js').WayOffer} WayOffer */
+
+/** @typedef {{kind: 'exchanger' | 'piece' | 'joint', name: string}} Chosen */
+/** @typedef {{piece: string, list: Offer[] | null}} Offers `list` is null until it is there */
+/** @typedef {{exchanger: string, list: Offer[]}} Instead other places for an exchanger that was just placed */
+
+/**
+ * @typedef {object} State
+ * @property {View} view
+ * @property {Chosen | null} chosen
+ * @property {Offers | null} offers
+ * @property {Instead | null} instead
+ * @property {WayOffer[]} ways
+ * @property {boolean} waysAsked whether the ways are those of an earlier version
+ * @property {WayOffer | null} way the way that is pointed at
+ * @property {string | null} partner the partner of an offer that is pointed at
+ * @property {Slider | null} slider
+ * @property {Refusal | null} refusal
+ * @property {boolean} busy
+ * @property {boolean} lost
+ */
+
+/** @typedef {(state: State, before: State | null) => void} Renderer */
+
+export class Store {
+  /** @param {View} view */
+  constructor(view) {
+    /** @type {State} */
+    this.state = {
+      view, chosen: null, offers: null, instead: null, ways: [], waysAsked: true, way: null, partner: null,
+      slider: null, refusal: null, busy: false, lost: false,
+    };
+    /** @type {Renderer[]} */
+    this.renderers = [];
+  }
+
+  /** @param {Renderer} renderer */
+  add(renderer) {
+    this.renderers.push(renderer);
+    renderer(this.state, null);
+  }
+
+  /** @param {Partial<State>} changes */
+  set(changes) {
+    const before = this.state;
+    this.state = { ...before, ...changes };
+    for (const renderer of this.renderers) renderer(this.state, before);
+  }
+}
+
+/**
+ * Whether one of these parts of the state is another than before.
+ * @param {State} state
+ * @param {State | null} before
+ * @param {...keyof State} names
+ */
+export function changed(state, before, ...names) {
+  return before === null || names.some(name => state[name] !== before[name]);
+}

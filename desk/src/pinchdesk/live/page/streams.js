@@ -1,0 +1,204 @@
+// The table of streams, utilities and forbidden matches: each cell is typed in place, in the units of the case.
+
+import { fill, make } from './dom.js';
+import { changed } from './state.js';
+
+/** @typedef {import('./actions.js').Actions} Actions */
+/** @typedef {import('./contract.js').Mark} Mark */
+/** @typedef {import('./contract.js').StreamRow} StreamRow */
+/** @typedef {import('./contract.js').UtilityRow} UtilityRow */
+/** @typedef {import('./contract.js').ForbidRow} ForbidRow */
+/** @typedef {import('./contract.js').View} View */
+/** @typedef {import('./dom.js').Child} Child */
+
+/** What can be added: the words of its fields, and which of them are chosen from a list. */
+const FORMS = {
+  stream: ['name', 'side', 'supply', 'target', 'flow', 'load', 'contribution'],
+  utility: ['name', 'side', 'level', 'price', 'least', 'most', 'contribution'],
+  forbid: ['hot', 'cold'],
+};
+/** @type {Record<string, string>} */
+const WORDS = { flow: 'CP', contribution: 'own ΔT', least: 'at least', most: 'at most' };
+const TITLES = { stream: 'a stream', utility: 'a utility', forbid: 'a forbidden match' };
+
+export class StreamsPart {
+  /**
+   * @param {HTMLElement} panel
+   * @param {Actions} actions
+   */
+  constructor(panel, actions) {
+    this.panel = panel;
+    this.actions = actions;
+    /** What the desk refused, in which cell, with what had been typed. */
+    this.typed = '';
+    this.opened = '';
+    /** @type {Map<string, string>} what is wrong in a cell */
+    this.wrong = new Map();
+  }
+
+  /** @type {import('./state.js').Renderer} */
+  render = (state, before) => {
+    if (!changed(state, before, 'view', 'refusal')) return;
+    const { view } = state, { temperature, flow, heat, difference } = view.units;
+    const marks = [...state.refusal?.places ?? [], ...view.verdict.places].filter(mark => mark.kind === 'cell');
+    const text = state.refusal?.text ?? view.verdict.text;
+    this.wrong = new Map(marks.map(mark => [`${mark.name} ${mark.field}`, text]));
+    fill(this.panel,
+      make('h2', { id: 'streams-title' }, 'Streams ', make('small', {}, `${temperature}, ${flow}, ${heat}`)),
+      make('div', { class: 'wide' }, make('table', { class: 'cells' },
+        head(['', 'supply', 'target', 'CP', 'load', 'own ΔT', '']),
+        make('tbody', {}, ...view.streams.map(stream => this.streamRow(stream))))),
+      view.utilities.length > 0 && make('div', { class: 'wide' }, make('table', { class: 'cells' },
+        head(['utility', 'level', 'uses', 'at most', 'price', 'own ΔT', '']),
+        make('tbody', {}, ...view.utilities.map(utility => this.utilityRow(utility))))),
+      view.forbids.length > 0 && make('ul', { class: 'forbids', 'aria-label': 'forbidden matches' },
+        ...view.forbids.map(forbid => make('li', {}, `${forbid.hot} and ${forbid.cold} may not meet `,
+          this.remover(forbid.row, `the forbidden match of ${forbid.hot} and ${forbid.cold}`)))),
+      ...[...this.wrong.values()].slice(0, 1).map(text => make('p', { class: 'fault', id: 'cell-fault' }, `⚠ ${text}`)),
+      this.adders(view, difference));
+  };
+
+  /** @param {StreamRow} stream */
+  streamRow(stream) {
+    const latent = !stream.target;
+    const sign = stream.side === 'hot' ? '→' : '←';
+    return make('tr', { class: stream.side }, make('th', { scope: 'row' },
+      make('span', { 'aria-label': stream.side, role: 'img' }, sign), ' ',
+      this.cell(stream.row, 'name', stream.name, stream.name, 'name')),
+    this.data(stream.row, 'supply', stream.supply, stream.name),
+    latent ? make('td', { class: 'pale' }, 'latent') : this.data(stream.row, 'target', stream.target, stream.name),
+    latent ? make('td', { class: 'pale' }, '–') : this.data(stream.row, 'flow', stream.flow, stream.name),
+    latent || stream.load ? this.data(stream.row, 'load', stream.load || stream.heat, stream.name)
+      : make('td', { class: 'number' }, stream.heat),
+    this.data(stream.row, 'contribution', stream.contribution, stream.name),
+    make('td', {}, this.remover(stream.row, stream.name)));
+  }
+
+  /** @param {UtilityRow} utility */
+  utilityRow(utility) {
+    const { row, name, side } = utility;
+    if (utility.invented) {
+      return make('tr', { class: side }, make('th', { scope: 'row' }, name), make('td', { class: 'pale' }, 'any'),
+        make('td', { class: 'number' }, utility.uses), make('td', { class: 'pale' }, 'any'), make('td'), make('td'),
+        make('td'));
+    }
+    return make('tr', { class: side }, make('th', { scope: 'row' }, this.cell(row, 'name', name, name, 'name')),
+      this.data(row, 'level', utility.level, name), make('td', { class: 'number' }, utility.uses),
+      this.data(row, 'most', utility.most, name), this.data(row, 'price', utility.price, name),
+      this.data(row, 'contribution', utility.contribution, name), make('td', {}, this.remover(row, name)));
+  }
+
+  /**
+   * @param {string} row
+   * @param {string} field
+   * @param {string} text
+   * @param {string} name
+   */
+  data(row, field, text, name) {
+    return make('td', { class: 'number' }, this.cell(row, field, text, name, 'number'));
+  }
+
+  /**
+   * A field of a row. What is typed is asked of the desk when the field is left or Enter is pressed; Escape takes it
+   * back.
+   * @param {string} row
+   * @param {string} field
+   * @param {string} text
+   * @param {string} name
+   * @param {string} kind
+   */
+  cell(row, field, text, name, kind) {
+    const key = `${row} ${field}`, wrong = this.wrong.has(key);
+    const input = make('input', {
+      value: text, class: kind, 'data-key': `cell ${key}`, 'aria-label': `${WORDS[field] ?? field} of ${name}`,
+      spellcheck: 'false', autocomplete: 'off', 'aria-invalid': wrong && 'true',
+      'aria-describedby': wrong && 'cell-fault',
+      change: () => this.change(row, field, input),
+      keydown: (/** @type {KeyboardEvent} */ event) => {
+        if (event.key !== 'Escape') return;
+        input.value = input.defaultValue;
+        this.typed = '';
+      },
+    });
+    if (wrong && this.typed) input.value = this.typed;
+    return input;
+  }
+
+  /**
+   * @param {string} row
+   * @param {string} field
+   * @param {HTMLInputElement} input
+   */
+  async change(row, field, input) {
+    this.typed = input.value;
+    if (await this.actions.do({ kind: 'cell', row, field, text: input.value })) this.typed = '';
+  }
+
+  /**
+   * @param {string} row
+   * @param {string} name
+   */
+  remover(row, name) {
+    return make('button', {
+      type: 'button', class: 'remove', 'aria-label': `remove ${name}`, title: `remove ${name}`,
+      'data-key': `remove ${row}`, click: () => this.actions.do({ kind: 'remove', row }),
+    }, '×');
+  }
+
+  /**
+   * @param {View} view
+   * @param {string} difference
+   */
+  adders(view, difference) {
+    const kinds = /** @type {('stream' | 'utility' | 'forbid')[]} */ (['stream', 'utility', 'forbid']);
+    return make('div', { class: 'adders' }, ...kinds.map(kind => make('details', {
+      open: this.opened === kind, toggle: (/** @type {{target: HTMLDetailsElement}} */ event) => {
+        if (event.target.open) this.opened = kind;
+        else if (this.opened === kind) this.opened = '';
+      },
+    }, make('summary', { 'data-key': `add ${kind}` }, `Add ${TITLES[kind]}`), this.adder(kind, view, difference))));
+  }
+
+  /**
+   * @param {'stream' | 'utility' | 'forbid'} kind
+   * @param {View} view
+   * @param {string} difference
+   */
+  adder(kind, view, difference) {
+    /** @type {[string, HTMLInputElement | HTMLSelectElement][]} */
+    const fields = FORMS[kind].map(name => [name, adderField(kind, name, view)]);
+    return make('form', {
+      class: 'adder', submit: async (/** @type {Event} */ event) => {
+        event.preventDefault();
+        const filled = fields.map(([name, field]) => [name, field.value.trim()]).filter(([, text]) => text);
+        if (await this.actions.do({ kind: 'add', what: kind, ...Object.fromEntries(filled) })) this.opened = '';
+      },
+    }, ...fields.map(([name, field]) => make('label', {}, make('span', {}, WORDS[name] ?? name), field)),
+    kind === 'stream' && make('p', { class: 'pale' }, 'A latent stream has a load in place of a target and a CP. '
+      + `Without an own ΔT (${difference}) it has that of the case.`),
+    make('button', { 'data-key': `add ${kind} now` }, 'add'));
+  }
+}
+
+/**
+ * @param {string} kind
+ * @param {string} name
+ * @param {View} view
+ */
+function adderField(kind, name, view) {
+  const key = { 'data-key': `new ${kind} ${name}` };
+  const lists = {
+    side: ['hot', 'cold'],
+    hot: [...view.streams, ...view.utilities].filter(source => source.side === 'hot').map(source => source.name),
+    cold: [...view.streams, ...view.utilities].filter(source => source.side === 'cold').map(source => source.name),
+  };
+  const list = name === 'side' || kind === 'forbid' ? lists[/** @type {'side' | 'hot' | 'cold'} */ (name)] : null;
+  return list ? make('select', key, ...list.map(word => make('option', {}, word)))
+    : make('input', { ...key, size: 9, autocomplete: 'off', spellcheck: 'false' });
+}
+
+/** @param {string[]} words */
+function head(words) {
+  const cells = words.map(word => word ? make('th', { scope: 'col' }, word) : make('td'));
+  return make('thead', {}, make('tr', {}, ...cells));
+}

@@ -1,0 +1,106 @@
+// What is asked of the desk. Nothing goes anywhere else.
+
+/** @typedef {import('./contract.js').Gesture} Gesture */
+/** @typedef {import('./contract.js').Offer} Offer */
+/** @typedef {import('./contract.js').Refusal} Refusal */
+/** @typedef {import('./contract.js').Slider} Slider */
+/** @typedef {import('./contract.js').View} View */
+/** @typedef {import('./contract.js').WayOffer} WayOffer */
+
+/** The desk does not answer any more. */
+export class Lost extends Error {}
+
+/**
+ * @typedef {object} Done what came of a gesture: the state, and why nothing was done; `late` where it had changed
+ * @property {View} view
+ * @property {Refusal} [refused]
+ * @property {boolean} [late]
+ */
+
+export class Talk {
+  /** @param {string} base the address of the page, which ends with its token and a slash */
+  constructor(base) {
+    this.base = base;
+  }
+
+  /**
+   * @param {string} name
+   * @param {object} [content]
+   * @returns {Promise<{status: number, content: any}>}
+   */
+  async ask(name, content) {
+    /** @type {Response} */
+    let answer;
+    try {
+      answer = await fetch(this.base + name, content === undefined ? {} : {
+        method: 'POST', headers: { 'Content-Type': 'application/json' }, body: JSON.stringify(content),
+      });
+    } catch (cause) {
+      throw new Lost(String(cause));
+    }
+    if (!answer.ok && answer.status !== 409) throw new Lost(`${name}: ${answer.status}`);
+    return { status: answer.status, content: await answer.json() };
+  }
+
+  /** @returns {Promise<View>} */
+  async view() {
+    return (await this.ask('view')).content;
+  }
+
+  /**
+   * @param {number} version
+   * @param {Gesture} gesture
+   * @returns {Promise<Done>}
+   */
+  async gesture(version, gesture) {
+    const { status, content } = await this.ask('gesture', { version, gesture });
+    return { ...content, late: status === 409 };
+  }
+
+  /**
+   * What an open piece may be matched with; null where the state has changed meanwhile.
+   * @param {number} version
+   * @param {string} piece
+   * @returns {Promise<Offer[] | null>}
+   */
+  async offers(version, piece) {
+    const { status, content } = await this.ask('offers', { version, piece });
+    return status === 409 ? null : content.offers ?? [];
+  }
+
+  /**
+   * @param {number} version
+   * @returns {Promise<WayOffer[] | null>}
+   */
+  async ways(version) {
+    const { status, content } = await this.ask('ways', { version });
+    return status === 409 ? null : content.ways ?? [];
+  }
+
+  /**
+   * @param {number} version
+   * @param {string} difference
+   * @returns {Promise<Slider | {refused: Refusal} | null>}
+   */
+  async slider(version, difference) {
+    const { status, content } = await this.ask('slider', { version, difference });
+    return status === 409 ? null : content;
+  }
+
+  /**
+   * Calls with each version that the desk has, also where another window made it. It asks again where the line breaks.
+   * @param {(version: number) => void} told
+   * @param {(lost: boolean) => void} lost
+   */
+  changes(told, lost) {
+    const address = new URL(this.base + 'changes');
+    address.protocol = 'ws:';
+    const line = new WebSocket(address);
+    line.addEventListener('open', () => lost(false));
+    line.addEventListener('message', event => told(Number(JSON.parse(event.data))));
+    line.addEventListener('close', () => {
+      lost(true);
+      setTimeout(() => this.changes(told, lost), 1500);
+    });
+  }
+}

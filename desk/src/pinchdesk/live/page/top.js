@@ -1,0 +1,80 @@
+// The head of the page: the files, the verdict, back and forth; what was refused, and whether the desk still answers.
+
+import { fill, make, part } from './dom.js';
+import { changed } from './state.js';
+
+/** @typedef {import('./actions.js').Actions} Actions */
+
+/** @type {Record<string, string>} */
+const SIGNS = { accepted: '✓', rejected: '✗', faulty: '⚠', unfinished: '…', 'nothing-placed': '○' };
+
+/**
+ * @param {Actions} actions
+ * @param {() => unknown} help
+ * @returns {import('./state.js').Renderer}
+ */
+export function topPart(actions, help) {
+  return (state, before) => {
+    if (!changed(state, before, 'view', 'busy')) return;
+    const { view } = state, { files, verdict } = view;
+    if (changed(state, before, 'view')) {
+      document.title = `${files.case} · ${files.network} – pinchdesk`;
+      fill(part('files'), make('bdi', {}, files.case), ' · ', make('bdi', {}, files.network));
+      tell(part('verdict'), verdict);
+    }
+    fill(part('history'),
+      make('button', {
+        type: 'button', 'data-key': 'undo', disabled: !view.can_undo, title: 'Ctrl+Z',
+        click: () => actions.do({ kind: 'undo' }),
+      }, '↶ Undo'),
+      make('button', {
+        type: 'button', 'data-key': 'redo', disabled: !view.can_redo, title: 'Ctrl+Shift+Z',
+        click: () => actions.do({ kind: 'redo' }),
+      }, '↷ Redo'),
+      make('button', { type: 'button', 'data-key': 'help', 'aria-label': 'help', title: '?', click: help }, '?'),
+      make('span', { class: 'saved' }, files.saved));
+  };
+}
+
+/**
+ * Says the verdict, once: what is the same is not told again.
+ * @param {HTMLElement} place
+ * @param {import('./contract.js').Judgement} verdict
+ */
+function tell(place, verdict) {
+  const text = `${verdict.title}. ${verdict.text}`;
+  if (place.dataset.text === text) return;
+  place.dataset.text = text;
+  place.className = verdict.kind;
+  place.replaceChildren(
+    make('span', { class: 'badge' }, make('span', { 'aria-hidden': 'true' }, SIGNS[verdict.kind] ?? '', ' '),
+      verdict.title),
+    make('span', { class: 'hidden' }, '. '), make('span', { class: 'words' }, verdict.text));
+}
+
+/**
+ * What was refused lies over the page for a while, so that nothing moves below the hand.
+ * @returns {import('./state.js').Renderer}
+ */
+export function toastPart() {
+  const toast = part('toast');
+  let timer = 0;
+  return (state, before) => {
+    if (!changed(state, before, 'refusal')) return;
+    clearTimeout(timer);
+    fill(toast, state.refusal && make('p', {}, `⚠ ${state.refusal.text}`));
+    if (state.refusal) timer = setTimeout(() => fill(toast), 9000);
+  };
+}
+
+/** @returns {import('./state.js').Renderer} */
+export function lostPart() {
+  const place = part('lost');
+  return (state, before) => {
+    if (!changed(state, before, 'lost')) return;
+    place.hidden = !state.lost;
+    place.textContent = state.lost ? 'The desk does not answer. All that was done is in the two files: call '
+      + '“pinchdesk open” again, and look at the page that it opens.' : '';
+    document.body.classList.toggle('is-lost', state.lost);
+  };
+}
