@@ -1,4 +1,4 @@
-"""The contract of the live desk: the page knows just the fields that the desk sends, and its files need nothing else."""
+"""The contract of the live desk: the page knows just the fields that the desk sends, and loads nothing else."""
 from __future__ import annotations
 
 import ast

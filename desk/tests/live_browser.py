@@ -1,0 +1,155 @@
+"""What the tests of the live page share: a desk that is open, a browser, what is done in it by pointer and by keys."""
+from __future__ import annotations
+
+import os
+import re
+import shutil
+import subprocess
+import sys
+import time
+from collections.abc import Callable, Iterator
+from contextlib import contextmanager
+from dataclasses import dataclass
+from pathlib import Path
+from typing import TypeVar
+
+from selenium.common.exceptions import StaleElementReferenceException
+from selenium.webdriver import ActionChains, Chrome, ChromeOptions, ChromeService
+from selenium.webdriver.common.by import By
+from selenium.webdriver.common.keys import Keys
+from selenium.webdriver.remote.webelement import WebElement
+
+from conftest import DESK
+
+CHROMIUM, DRIVER = (shutil.which(name) for name in ('chromium', 'chromedriver'))
+WAIT = 20.0
+WORDS = ('--headless=new', '--no-sandbox', '--disable-gpu', '--disable-dev-shm-usage')
+Found = TypeVar('Found')
+
+
+@contextmanager
+def browser(*words: str, size: str = '1500,960') -> Iterator[Chrome]:
+    """A browser without a window."""
+    options = ChromeOptions()
+    options.binary_location = str(CHROMIUM)
+    for word in (*WORDS, f'--window-size={size}', *words):
+        options.add_argument(word)
+    options.set_capability('goog:loggingPrefs', {'browser': 'ALL'})
+    driver = Chrome(service=ChromeService(str(DRIVER)), options=options)
+    try:
+        yield driver
+    finally:
+        driver.quit()
+
+
+@dataclass(frozen=True)
+class OpenDesk:
+    """A desk that serves two files."""
+
+    process: subprocess.Popen[str]
+    address: str
+    case: Path
+    network: Path
+
+    def end(self) -> None:
+        self.process.terminate()
+        self.process.wait(timeout=WAIT)
+
+    def kill(self) -> None:
+        self.process.kill()
+        self.process.wait(timeout=WAIT)
+
+
+def open_desk(case: Path, network: Path) -> OpenDesk:
+    """Opens a case and a network, without a browser."""
+    words = [sys.executable, str(DESK / 'pinchdesk'), 'open', str(case), str(network), '--no-browser']
+    process = subprocess.Popen(words, stdout=subprocess.PIPE, stdin=subprocess.DEVNULL, text=True, env=dict(os.environ))
+    assert process.stdout is not None
+    for line in process.stdout:
+        found = re.search(r'http://127\.0\.0\.1:\d+/\S+/', line)
+        if found:
+            return OpenDesk(process, found.group(), case, network)
+    raise AssertionError(f'no address was printed; status {process.wait()}')
+
+
+@dataclass(frozen=True)
+class LivePage:
+    """The page in a browser."""
+
+    driver: Chrome
+
+    def go(self, address: str) -> LivePage:
+        self.driver.get(address)
+        self.until(lambda: self.all('body.ready'))
+        return self
+
+    def until(self, true: Callable[[], Found], seconds: float = WAIT) -> Found:
+        """Waits until something is there; what goes away meanwhile is looked for again."""
+        end = time.monotonic() + seconds
+        while True:
+            try:
+                found = true()
+                if found:
+                    return found
+            except StaleElementReferenceException:
+                pass
+            assert time.monotonic() < end, f'waited in vain: {self.text("#verdict")!r} {self.text("#toast")!r}'
+            time.sleep(0.03)
+
+    def all(self, selector: str) -> list[WebElement]:
+        return self.driver.find_elements(By.CSS_SELECTOR, selector)
+
+    def one(self, selector: str) -> WebElement:
+        return self.until(lambda: self.all(selector))[0]
+
+    def text(self, selector: str) -> str:
+        return ' '.join(element.text for element in self.all(selector))
+
+    def names(self, selector: str = '#grid [role=button]') -> list[str]:
+        """What a screen reader says of the places of the diagram."""
+        return [str(element.get_attribute('aria-label')) for element in self.all(selector)]
+
+    def piece(self, stream: str, duty: str) -> WebElement:
+        """An open piece of a stream, by its duty."""
+        return self.until(lambda: [piece for piece in self.all('[data-piece]') if piece.text.strip('⚠ ') == duty
+                                   and stream in str(piece.get_attribute('aria-label')).split()])[0]
+
+    def exchanger(self, name: str) -> WebElement:
+        return self.one(f'[data-exchanger="{name}"]')
+
+    def exchangers(self) -> list[str]:
+        return sorted(str(bar.get_attribute('data-exchanger')) for bar in self.all('[data-exchanger]'))
+
+    def button(self, text: str, inside: str = 'body') -> WebElement:
+        """The first button whose text begins so."""
+        return self.until(lambda: [button for button in self.all(f'{inside} button')
+                                   if button.text.startswith(text)])[0]
+
+    def drag(self, source: WebElement, target: WebElement, *, drop: bool = True) -> None:
+        chain = ActionChains(self.driver, duration=20)
+        chain.move_to_element(source).click_and_hold().move_by_offset(9, 9).move_to_element(target)
+        (chain.release() if drop else chain).perform()
+
+    def place(self, source: tuple[str, str], target: tuple[str, str]) -> None:
+        """Drags one piece to another, and waits until there is one exchanger more."""
+        count = len(self.exchangers())
+        self.drag(self.piece(*source), self.piece(*target))
+        self.until(lambda: len(self.exchangers()) > count)
+
+    def press(self, *keys: str) -> None:
+        ActionChains(self.driver).send_keys(*keys).perform()
+
+    def undo(self) -> None:
+        ActionChains(self.driver).key_down(Keys.CONTROL).send_keys('z').key_up(Keys.CONTROL).perform()
+
+    def focused(self) -> str:
+        """What has the focus: its key."""
+        return str(self.driver.execute_script('return document.activeElement.getAttribute("data-key")'))
+
+    def says(self, *words: str) -> None:
+        """Waits until the verdict has these words."""
+        self.until(lambda: all(word in self.text('#verdict') for word in words))
+
+    def errors(self) -> list[str]:
+        """What went wrong in scripts or was kept from loading."""
+        return [str(entry['message']) for entry in self.driver.get_log('browser') if entry['level'] == 'SEVERE']

@@ -1,0 +1,266 @@
+"""The live page in a real browser: a network is made by hand, by pointer and by keys, and judged at each step."""
+from __future__ import annotations
+
+import shutil
+from collections.abc import Iterator
+from pathlib import Path
+
+import pytest
+
+from conftest import EXAMPLES, pinchdesk
+
+pytest.importorskip('selenium', reason='no selenium to lead a browser')
+pytest.importorskip('uvicorn', reason='no uvicorn to serve the page')
+
+from selenium.webdriver import ActionChains, Chrome  # noqa: E402
+from selenium.webdriver.common.by import By  # noqa: E402
+from selenium.webdriver.common.keys import Keys  # noqa: E402
+
+from live_browser import CHROMIUM, DRIVER, LivePage, OpenDesk, browser, open_desk  # noqa: E402
+
+pytestmark = [pytest.mark.skipif(not CHROMIUM or not DRIVER, reason='no chromium and chromedriver to show the page'),
+              pytest.mark.xdist_group('browser')]
+START = '# nothing is placed yet\n'
+
+
+@pytest.fixture(scope='module')
+def driver() -> Iterator[Chrome]:
+    with browser() as found:
+        yield found
+
+
+@pytest.fixture
+def desk(tmp_path: Path) -> Iterator[OpenDesk]:
+    """The case tc3, with a network that is not there yet."""
+    case = tmp_path / 'tc3.csv'
+    shutil.copy(EXAMPLES / 'tc3.csv', case)
+    found = open_desk(case, tmp_path / 'tc3-network.txt')
+    yield found
+    found.kill()
+
+
+@pytest.fixture
+def page(driver: Chrome, desk: OpenDesk) -> LivePage:
+    return LivePage(driver).go(desk.address)
+
+
+def place_all(page: LivePage) -> None:
+    """The published network of tc3: four drags and a button."""
+    page.place(('S1', '120'), ('S3', '137.5'))
+    page.place(('S2', '240'), ('S4', '135'))
+    page.place(('S2', '105'), ('S3', '125'))
+    page.place(('S1', '60'), ('S3', '20'))
+    page.button('Serve the rest', '#score').click()
+    page.says('Accepted')
+
+
+def test_a_drag_makes_an_exchanger_and_the_verdict_follows(page: LivePage, desk: OpenDesk) -> None:
+    page.says('Nothing placed', '107.5 kW')
+    assert page.exchangers() == []
+    page.place(('S1', '120'), ('S3', '137.5'))
+    page.says('Unfinished')
+    name, = page.exchangers()
+    page.until(lambda: '120' in page.exchanger(name).text)
+    assert f'exchanger {name} S1 S3 120000' in desk.network.read_text(encoding='utf-8')
+    assert not page.errors()
+
+
+def test_the_cost_stands_beside_the_pointer_before_the_drop(page: LivePage) -> None:
+    page.drag(page.piece('S1', '120'), page.piece('S3', '137.5'), drop=False)
+    page.until(lambda: '120 kW, finishes S1' in page.text('#hint') and 'costs nothing' in page.text('#hint'))
+    assert len(page.all('.piece.partner')) > 1
+    page.press(Keys.ESCAPE)
+    page.until(lambda: not page.text('#hint'))
+    ActionChains(page.driver).release().perform()
+    assert page.exchangers() == []
+
+
+@pytest.mark.long
+def test_tc3_is_made_broken_and_mended(page: LivePage, desk: OpenDesk) -> None:
+    place_all(page)
+    page.says('107.5 kW')
+    assert len(page.exchangers()) == 7
+    assert audited(desk) == 'accepted'
+    breaking = page.until(lambda: [button for button in page.all('#ways button') if '20 kW' in button.text])[0]
+    breaking.click()
+    page.says('Rejected', '80', '82')
+    assert page.all('.exchanger.fault')
+    mending = page.until(lambda: page.all('#ways .mending'))[0]
+    assert '4 to 140' in mending.text
+    field = mending.find_element(By.CSS_SELECTOR, 'input')
+    assert field.get_attribute('value') == '4'
+    mending.find_element(By.XPATH, './/button[.="move"]').click()
+    page.says('Accepted', '111.5 kW')
+    assert len(page.exchangers()) == 6
+    assert audited(desk) == 'accepted'
+    assert not page.errors()
+
+
+def audited(desk: OpenDesk) -> str:
+    return pinchdesk('audit', str(desk.case), str(desk.network)).out.split()[0].rstrip(':,.').lower()
+
+
+@pytest.mark.long
+def test_undo_gives_the_very_bytes(page: LivePage, desk: OpenDesk) -> None:
+    texts = [desk.network.read_bytes() if desk.network.exists() else b'']
+    for source, target in ((('S1', '120'), ('S3', '137.5')), (('S2', '240'), ('S4', '135'))):
+        page.place(source, target)
+        texts.append(desk.network.read_bytes())
+    for text in reversed(texts[1:]):
+        assert desk.network.read_bytes() == text
+        count = len(page.exchangers())
+        page.undo()
+        page.until(lambda: len(page.exchangers()) == count - 1)  # noqa: B023
+    page.button('↷ Redo').click()
+    page.until(lambda: len(page.exchangers()) == 1)
+    assert desk.network.read_bytes() == texts[1]
+
+
+def test_by_keys_alone(page: LivePage, desk: OpenDesk) -> None:
+    """The diagram is one stop of Tab; arrows go, Enter opens the partners and takes the first."""
+    page.driver.execute_script('document.activeElement.blur()')
+    for _ in range(12):
+        page.press(Keys.TAB)
+        if page.focused().startswith('piece'):
+            break
+    page.until(lambda: 'S1' in focused_name(page))
+    page.press(Keys.ENTER)
+    page.until(lambda: page.focused() == 'offer 0')
+    page.press(Keys.ARROW_DOWN)
+    page.until(lambda: page.focused() == 'offer 1')
+    page.press(Keys.ARROW_UP, Keys.ENTER)
+    page.until(lambda: len(page.exchangers()) == 1)
+    page.until(lambda: page.focused().startswith('exchanger'))
+    page.press(Keys.ENTER)
+    page.until(lambda: page.focused() == 'duty')
+    page.press(Keys.CONTROL + 'a' + Keys.NULL, '100', Keys.ENTER)
+    page.until(lambda: '100000' in desk.network.read_text(encoding='utf-8'))
+    page.press(Keys.ESCAPE)
+    page.until(lambda: page.focused().startswith('exchanger'))
+    page.press(Keys.DELETE)
+    page.until(lambda: page.exchangers() == [])
+    assert page.focused().startswith('piece')
+    page.press('U')
+    page.says('Accepted')
+
+
+def focused_name(page: LivePage) -> str:
+    return str(page.driver.execute_script('return document.activeElement.getAttribute("aria-label")'))
+
+
+def test_the_slider_changes_nothing_until_enter(page: LivePage, desk: OpenDesk) -> None:
+    before = desk.case.read_bytes()
+    slider = page.one('#curves input[type=range]')
+    first = page.text('.told')
+    slider.click()
+    page.until(lambda: page.text('.told') != first and page.all('.before'))
+    assert desk.case.read_bytes() == before
+    page.press(Keys.ESCAPE)
+    page.until(lambda: page.text('.told') == first)
+    field = page.one('#curves input[data-key=difference]')
+    field.send_keys(Keys.CONTROL + 'a' + Keys.NULL, '30')
+    page.until(lambda: page.all('.before') and page.text('.told') != first)
+    assert desk.case.read_bytes() == before
+    field.send_keys(Keys.ENTER)
+    page.until(lambda: desk.case.read_bytes() != before)
+    page.until(lambda: not page.all('.before'))
+    page.undo()
+
+
+def test_what_is_wrong_is_said_in_its_cell(page: LivePage, desk: OpenDesk) -> None:
+    before = desk.case.read_bytes()
+    cell = page.one('#streams input[aria-label="supply of S1"]')
+    cell.send_keys(Keys.CONTROL + 'a' + Keys.NULL, 'warm', Keys.ENTER)
+    wrong = page.until(lambda: page.all('#streams input[aria-invalid]'))[0]
+    assert wrong.get_attribute('value') == 'warm' and page.text('#cell-fault') and page.text('#toast')
+    assert desk.case.read_bytes() == before
+    wrong.send_keys(Keys.CONTROL + 'a' + Keys.NULL, '160', Keys.ENTER)
+    page.until(lambda: desk.case.read_bytes() != before)
+    page.until(lambda: not page.all('#streams input[aria-invalid]'))
+
+
+def test_a_page_that_is_loaded_again_is_the_same(page: LivePage, desk: OpenDesk) -> None:
+    page.place(('S1', '120'), ('S3', '137.5'))
+    names, steps = page.names(), page.text('#steps')
+    page.go(desk.address)
+    assert (page.names(), page.text('#steps')) == (names, steps)
+
+
+@pytest.mark.long
+def test_two_windows_follow_each_other(page: LivePage, desk: OpenDesk) -> None:
+    with browser() as second:
+        other = LivePage(second).go(desk.address)
+        page.place(('S1', '120'), ('S3', '137.5'))
+        other.until(lambda: len(other.exchangers()) == 1)
+        other.place(('S2', '240'), ('S4', '135'))
+        page.until(lambda: len(page.exchangers()) == 2)
+
+
+def test_a_change_from_outside_is_shown_as_a_step(page: LivePage, desk: OpenDesk) -> None:
+    shutil.copy(EXAMPLES / 'tc3-network.txt', desk.network)
+    page.until(lambda: len(page.exchangers()) == 7)
+    page.says('Accepted')
+    page.undo()
+    page.until(lambda: page.exchangers() == [])
+
+
+def test_a_desk_that_is_gone_is_told_and_nothing_is_lost(page: LivePage, desk: OpenDesk) -> None:
+    page.place(('S1', '120'), ('S3', '137.5'))
+    text = desk.network.read_bytes()
+    desk.kill()
+    page.until(lambda: 'does not answer' in page.text('#lost'))
+    assert desk.network.read_bytes() == text
+    again = open_desk(desk.case, desk.network)
+    try:
+        page.go(again.address)
+        assert len(page.exchangers()) == 1
+    finally:
+        again.kill()
+
+
+@pytest.mark.long
+def test_a_hostile_name_is_only_a_name(driver: Chrome, tmp_path: Path) -> None:
+    """Names that a case can have, and what a file may be called."""
+    case = tmp_path / '<img src=x onerror=alert(1)>&"\'.csv'
+    text = (EXAMPLES / 'tc3.csv').read_text(encoding='utf-8')
+    case.write_text(text.replace('S1', '<b>S1</b>').replace('S3', 'S"3\'&amp;'), encoding='utf-8')
+    desk = open_desk(case, tmp_path / 'network.txt')
+    try:
+        page = LivePage(driver).go(desk.address)
+        assert '<img src=x onerror=alert(1)>' in page.text('#files')
+        assert not page.all('img') and not page.all('#grid b')
+        assert not page.errors()
+    finally:
+        desk.kill()
+
+
+@pytest.mark.long
+def test_a_foreign_page_that_knows_the_address_can_do_nothing(driver: Chrome, desk: OpenDesk, tmp_path: Path) -> None:
+    """It can neither read nor write nor frame it, from a file or from another port."""
+    foreign = tmp_path / 'foreign.html'
+    foreign.write_text(f'''<!DOCTYPE html><title>foreign</title><iframe id="frame" src="{desk.address}"></iframe>
+<script>
+const told = [];
+const gesture = {{version: 1, gesture: {{kind: 'finish'}}}};
+const tries = [
+  fetch('{desk.address}view').then(answer => answer.text()),
+  fetch('{desk.address}gesture', {{method: 'POST', headers: {{'Content-Type': 'application/json'}},
+    body: JSON.stringify(gesture)}}).then(answer => answer.text()),
+  fetch('{desk.address}gesture', {{method: 'POST', mode: 'no-cors', body: JSON.stringify(gesture)}})
+    .then(answer => answer.type === 'opaque' ? '' : answer.text()),
+  new Promise((read, shut) => {{
+    const line = new WebSocket('{desk.address}changes'.replace('http', 'ws'));
+    line.onmessage = event => read('read ' + event.data);
+    line.onclose = () => shut('shut');
+  }}),
+];
+Promise.allSettled(tries).then(all => {{ document.title = JSON.stringify(all.map(one => one.value || '')); }});
+</script>''', encoding='utf-8')
+    driver.get(foreign.as_uri())
+    page = LivePage(driver)
+    page.until(lambda: driver.title.startswith('['))
+    assert driver.title == '["","","",""]'
+    driver.switch_to.frame('frame')
+    assert not driver.find_elements(By.CSS_SELECTOR, '#grid')
+    driver.switch_to.default_content()
+    assert not desk.network.exists() or 'open-' in desk.network.read_text(encoding='utf-8')
