@@ -209,6 +209,17 @@ export class Actions {
     }
   }
 
+  /** Ends the desk; all is saved. */
+  async close() {
+    this.store.set({ closed: true });
+    try {
+      await this.last;
+      await this.talk.close();
+    } catch (cause) {
+      this.failed(cause);
+    }
+  }
+
   /** Back to the least approach that is kept. */
   letGo() {
     this.wanted = null;

@@ -36,8 +36,9 @@ export function pinchShape(pinch, level, at) {
   const x = at.x(pinch.x), top = at.top - 30 * at.scale, bottom = at.height - 6 * at.scale;
   const half = textWidth(pinch.text, at.size) / 2 + 4 * at.scale;
   const middle = Math.max(half, Math.min(x, at.width - half));
-  const band = pinch.end > pinch.begin && draw('rect', {
-    class: 'band', x: round(at.x(pinch.begin - 0.5)), y: top, width: round(at.pitch * (pinch.end - pinch.begin + 1)),
+  // The column of the line alone is no band.
+  const band = pinch.end - pinch.begin > 1 && draw('rect', {
+    class: 'band', x: round(at.x(pinch.begin)), y: top, width: round(at.pitch * (pinch.end - pinch.begin)),
     height: bottom - top,
   });
   return draw('g', { class: 'pinch' }, band,
@@ -104,13 +105,13 @@ export function lineShape(line, side, at) {
  */
 export function jointShape(joint, side, at) {
   const x = at.x(joint.x), first = at.y(joint.first), last = at.y(joint.last);
-  return draw('g', {
-    class: `joint ${side}`, 'data-joint': joint.id, 'data-key': `joint ${joint.id} ${joint.x}`, role: 'button',
-    tabindex: -1,
+  const named = joint.id ? {
+    'data-joint': joint.id, 'data-key': `joint ${joint.id} ${joint.x}`, role: 'button', tabindex: -1,
     'aria-label': `parting of ${joint.stream}: ${joint.shares.map(share => `${share} %`).join(', ')}`,
-  },
-  draw('line', { class: 'touch', x1: round(x), y1: first, x2: round(x), y2: last }),
-  draw('line', { class: 'upright', x1: round(x), y1: first, x2: round(x), y2: last }));
+  } : {};
+  return draw('g', { class: `joint ${side}`, ...named },
+    draw('line', { class: 'touch', x1: round(x), y1: first, x2: round(x), y2: last }),
+    draw('line', { class: 'upright', x1: round(x), y1: first, x2: round(x), y2: last }));
 }
 
 /**
@@ -129,7 +130,7 @@ export function exchangerShape(exchanger, grid, at) {
   return draw('g', {
     class: `exchanger ${exchanger.kind} ${exchanger.where || 'nowhere'}${exchanger.fault ? ' fault' : ''}`,
     'data-exchanger': exchanger.name, 'data-key': `exchanger ${exchanger.name}`, role: 'button', tabindex: -1,
-    'aria-label': exchanger.fault ? `${exchanger.text}: ${exchanger.fault}` : exchanger.text,
+    'aria-label': exchanger.text,
   },
   draw('path', { class: 'touch', d: way }), draw('path', { class: 'bar', d: way }),
   endShape(exchanger.name, x, y, 'hot', at), endShape(exchanger.name, u, v, 'cold', at),
@@ -161,7 +162,7 @@ export function pieceShape(piece, at) {
   return draw('g', {
     class: `piece ${piece.side}${piece.fault ? ' fault' : ''}`, 'data-piece': piece.id, 'data-key': `piece ${piece.id}`,
     role: 'button', tabindex: -1, 'aria-haspopup': 'true',
-    'aria-label': piece.fault ? `${piece.text}: ${piece.fault}` : piece.text,
+    'aria-label': piece.text,
   },
   draw('rect', {
     x: round(x - wide / 2), y: round(y - at.radius), width: round(wide), height: 2 * at.radius, rx: at.radius,

@@ -6,7 +6,7 @@ import { CurvesPart } from './curves.js';
 import { make, part } from './dom.js';
 import { GridPart } from './grid.js';
 import { helpPart } from './help.js';
-import { scorePart, stepsPart } from './score.js';
+import { restPart, scorePart, stepsPart } from './score.js';
 import { Store } from './state.js';
 import { StreamsPart } from './streams.js';
 import { tablePart, textsPart } from './tables.js';
@@ -66,10 +66,13 @@ async function begin() {
     new WaysPart(part('ways'), actions).render, scorePart(part('score'), actions), stepsPart(part('steps'), actions),
     tablePart(part('table'), actions), textsPart(part('texts'), actions), measured,
   ]) store.add(renderer);
+  restPart(part('rest'), actions);
   document.addEventListener('keydown', event => pressed(event, actions, help));
   actions.findWays();
   talk.changes(version => actions.refresh(version), lost => {
-    if (lost !== store.state.lost) lost ? store.set({ lost }) : actions.refresh();
+    if (lost) store.set({ lost });
+    else if (store.state.lost) actions.refresh();
+    return !store.state.closed;
   });
   document.body.classList.add('ready');
 }

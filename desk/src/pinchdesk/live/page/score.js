@@ -25,8 +25,8 @@ export function scorePart(panel, actions) {
         open && score.stands_hot && `; as it stands, all that is open is served by utilities: ${score.stands_hot}`),
       make('h3', {}, 'Above the target'), heat(score.above),
       make('h3', {}, 'Exchangers'), make('p', { class: 'units' }, score.units),
-      score.cost && make('p', { class: 'pale' }, `cost ${score.cost} ${units.cost}`),
-      score.floor && make('p', { class: 'pale' }, `no network costs less than ${score.floor} ${units.cost}`),
+      score.cost && make('p', { class: 'pale' }, `cost ${score.cost}`),
+      score.floor && make('p', { class: 'pale' }, `no network costs less than ${score.floor}`),
       ...score.notes.map(note => make('p', { class: 'pale' }, note)),
       make('button', {
         type: 'button', class: 'wide-button', 'data-key': 'finish', disabled: !open,
@@ -66,6 +66,27 @@ export function stepsPart(panel, actions) {
         type: 'button', 'data-key': `step ${at}`, 'aria-current': step.present ? 'step' : null,
         click: () => actions.do({ kind: 'step', at }),
       }, step.text)))));
-    panel.querySelector('[aria-current]')?.scrollIntoView({ block: 'nearest' });
+    showPresent(panel);
   };
+}
+
+/**
+ * What else can be done.
+ * @param {HTMLElement} panel
+ * @param {Actions} actions
+ */
+export function restPart(panel, actions) {
+  fill(panel, make('button', { type: 'button', click: () => actions.close() }, 'Close the desk'));
+}
+
+/**
+ * Scrolls the list, and nothing else, to the present step.
+ * @param {HTMLElement} panel
+ */
+function showPresent(panel) {
+  const list = panel.querySelector('.steps'), present = panel.querySelector('[aria-current]');
+  if (!(list instanceof HTMLElement) || !(present instanceof HTMLElement)) return;
+  const top = present.offsetTop - list.offsetTop, bottom = top + present.offsetHeight;
+  if (top < list.scrollTop) list.scrollTop = top;
+  else if (bottom > list.scrollTop + list.clientHeight) list.scrollTop = bottom - list.clientHeight;
 }

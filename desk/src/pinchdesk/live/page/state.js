@@ -23,7 +23,8 @@
  * @property {Slider | null} slider
  * @property {Refusal | null} refusal
  * @property {boolean} busy
- * @property {boolean} lost
+ * @property {boolean} lost whether the desk does not answer
+ * @property {boolean} closed whether it was closed from here
  */
 
 /** @typedef {(state: State, before: State | null) => void} Renderer */
@@ -34,7 +35,7 @@ export class Store {
     /** @type {State} */
     this.state = {
       view, chosen: null, offers: null, instead: null, ways: [], waysAsked: true, way: null, partner: null,
-      slider: null, refusal: null, busy: false, lost: false,
+      slider: null, refusal: null, busy: false, lost: false, closed: false,
     };
     /** @type {Renderer[]} */
     this.renderers = [];

@@ -7,6 +7,9 @@
 /** @typedef {import('./contract.js').View} View */
 /** @typedef {import('./contract.js').WayOffer} WayOffer */
 
+/** How long it waits, in ms, before it calls again. */
+const AGAIN = 1500;
+
 /** The desk does not answer any more. */
 export class Lost extends Error {}
 
@@ -87,10 +90,15 @@ export class Talk {
     return status === 409 ? null : content;
   }
 
+  /** Ends the desk. */
+  async close() {
+    await this.ask('close', {});
+  }
+
   /**
    * Calls with each version that the desk has, also where another window made it. It asks again where the line breaks.
    * @param {(version: number) => void} told
-   * @param {(lost: boolean) => void} lost
+   * @param {(lost: boolean) => boolean} lost says whether to call again
    */
   changes(told, lost) {
     const address = new URL(this.base + 'changes');
@@ -99,8 +107,7 @@ export class Talk {
     line.addEventListener('open', () => lost(false));
     line.addEventListener('message', event => told(Number(JSON.parse(event.data))));
     line.addEventListener('close', () => {
-      lost(true);
-      setTimeout(() => this.changes(told, lost), 1500);
+      if (lost(true)) setTimeout(() => this.changes(told, lost), AGAIN);
     });
   }
 }

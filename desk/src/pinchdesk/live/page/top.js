@@ -71,10 +71,13 @@ export function toastPart() {
 export function lostPart() {
   const place = part('lost');
   return (state, before) => {
-    if (!changed(state, before, 'lost')) return;
-    place.hidden = !state.lost;
-    place.textContent = state.lost ? 'The desk does not answer. All that was done is in the two files: call '
-      + '“pinchdesk open” again, and look at the page that it opens.' : '';
-    document.body.classList.toggle('is-lost', state.lost);
+    if (!changed(state, before, 'lost', 'closed')) return;
+    const gone = state.lost || state.closed;
+    place.hidden = !gone;
+    place.className = state.closed ? 'closed' : '';
+    place.textContent = state.closed ? 'The desk is closed. All that was done is in the two files.'
+      : state.lost ? 'The desk does not answer. All that was done is in the two files: call “pinchdesk open” again, and '
+        + 'look at the page that it opens.' : '';
+    document.body.classList.toggle('is-lost', gone);
   };
 }
