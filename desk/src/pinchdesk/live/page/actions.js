@@ -27,6 +27,9 @@ export class Actions {
     this.wanted = null;
     this.sliding = false;
     this.waiting = 0;
+    /** @type {Promise<Offer[]> | null} */
+    this.asked = null;
+    this.askedAt = '';
   }
 
   /** The present state. */
@@ -188,17 +191,18 @@ export class Actions {
 
   /**
    * Targets and curves at another least approach: the newest that is wanted, one question at a time.
-   * @param {string} difference
+   * @param {string} wanted
    */
-  async slide(difference) {
-    this.wanted = difference;
+  async slide(wanted) {
+    this.wanted = wanted;
     if (this.sliding) return;
     this.sliding = true;
     try {
       while (this.wanted !== null) {
-        const asked = this.wanted;
-        const answer = await this.talk.slider(this.state.view.version, asked);
-        if (this.wanted === asked) this.wanted = null;
+        /** @type {string} */
+        const difference = this.wanted;
+        const answer = await this.talk.slider(this.state.view.version, difference);
+        if (this.wanted === difference) this.wanted = null;
         if (answer && 'refused' in answer) this.store.set({ refusal: answer.refused });
         else if (answer) this.store.set({ slider: answer, refusal: null });
       }

@@ -22,10 +22,12 @@ export class CurvesPart {
     this.actions = actions;
     this.grand = false;
     this.left = false;
+    /** @type {HTMLInputElement} */
     this.field = make('input', {
       size: 6, class: 'number', inputmode: 'decimal', 'aria-label': 'least approach ΔTmin', 'data-key': 'difference',
       input: () => this.moved(this.field.value), keydown: (/** @type {KeyboardEvent} */ event) => this.pressed(event),
     });
+    /** @type {HTMLInputElement} */
     this.slider = make('input', {
       type: 'range', 'aria-label': 'least approach ΔTmin', 'data-key': 'slider',
       input: () => this.slid(), keydown: (/** @type {KeyboardEvent} */ event) => this.pressed(event),

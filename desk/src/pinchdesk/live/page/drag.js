@@ -23,9 +23,9 @@ const STILL = 5;
  */
 
 export class Drag {
-  /** @param {GridPart} part */
-  constructor(part) {
-    this.part = part;
+  /** @param {GridPart} gridPart */
+  constructor(gridPart) {
+    this.part = gridPart;
     /** @type {Pull | null} */
     this.pull = null;
     this.justEnded = false;

@@ -58,7 +58,9 @@ async function begin() {
   const store = new Store(await talk.view());
   const actions = new Actions(talk, store);
   const help = helpPart(part('help'));
+  /** @type {ChosenPart} */
   const chosen = new ChosenPart(part('chosen'), actions, key => grid.focus(key));
+  /** @type {GridPart} */
   const grid = new GridPart(part('grid'), actions, () => chosen.enter());
   for (const renderer of [
     topPart(actions, help), toastPart(), lostPart(), new StreamsPart(part('streams'), actions).render,

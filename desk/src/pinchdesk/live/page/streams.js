@@ -109,6 +109,7 @@ export class StreamsPart {
    */
   cell(row, field, text, name, kind) {
     const key = `${row} ${field}`, wrong = this.wrong.has(key);
+    /** @type {HTMLInputElement} */
     const input = make('input', {
       value: text, class: kind, 'data-key': `cell ${key}`, 'aria-label': `${WORDS[field] ?? field} of ${name}`,
       spellcheck: 'false', autocomplete: 'off', 'aria-invalid': wrong && 'true',
