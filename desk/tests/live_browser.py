@@ -14,7 +14,8 @@ from pathlib import Path
 from typing import TypeVar
 
 from selenium.common.exceptions import StaleElementReferenceException
-from selenium.webdriver import ActionChains, Chrome, ChromeOptions, ChromeService
+from selenium.webdriver import ActionChains, Chrome, ChromeOptions
+from selenium.webdriver.chrome.service import Service
 from selenium.webdriver.common.by import By
 from selenium.webdriver.common.keys import Keys
 from selenium.webdriver.remote.webelement import WebElement
@@ -35,7 +36,7 @@ def browser(*words: str, size: str = '1500,960') -> Iterator[Chrome]:
     for word in (*WORDS, f'--window-size={size}', *words):
         options.add_argument(word)
     options.set_capability('goog:loggingPrefs', {'browser': 'ALL'})
-    driver = Chrome(service=ChromeService(str(DRIVER)), options=options)
+    driver = Chrome(service=Service(str(DRIVER)), options=options)
     try:
         yield driver
     finally:
@@ -111,8 +112,7 @@ class LivePage:
 
     def piece(self, stream: str, duty: str) -> WebElement:
         """An open piece of a stream, by its duty."""
-        return self.until(lambda: [piece for piece in self.all('[data-piece]') if piece.text.strip('⚠ ') == duty
-                                   and stream in str(piece.get_attribute('aria-label')).split()])[0]
+        return self.one(f'[data-piece][aria-label*="of {stream},"][aria-label*=", {duty} "]')
 
     def exchanger(self, name: str) -> WebElement:
         return self.one(f'[data-exchanger="{name}"]')

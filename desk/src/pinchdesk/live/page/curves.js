@@ -144,8 +144,8 @@ function curvesPicture(curves, before, grand) {
   const warm = points.map(point => point[1]);
   const x = linear([Math.min(...heats), Math.max(...heats)], [MARGIN.left, WIDE - MARGIN.right]);
   const y = linear([Math.min(...warm), Math.max(...warm)], [HIGH - MARGIN.bottom, MARGIN.top]);
-  const label = `${grand ? 'Grand composite curve' : 'Composite curves'}: hot utility ${curves.hot_utility}, cold `
-    + `utility ${curves.cold_utility}${curves.pinches.map(pinch => `, ${pinch.text}`).join('')}`;
+  const label = `${grand ? 'Grand composite curve' : 'Composite curves'}: utilities ${curves.hot_utility}, `
+    + `${curves.cold_utility}${curves.pinches.map(pinch => `, ${pinch.text}`).join('')}`;
   return draw('svg', {
     class: 'curves', viewBox: `0 0 ${WIDE} ${HIGH}`, width: WIDE * scale, height: HIGH * scale, role: 'img',
     'aria-label': label,
@@ -206,8 +206,8 @@ function marks(curves, x, y) {
     ...curves.pinches.map(pinch => draw('line', {
       class: 'near', x1: x(pinch.heat), x2: x(pinch.heat), y1: y(pinch.hot), y2: y(pinch.cold),
     })),
-    ...span(x(curves.hot_from), x(curves.hot_to), y(hottest), `hot ${curves.hot_utility}`, -6),
-    ...span(x(curves.cold_from), x(curves.cold_to), y(coldest), `cold ${curves.cold_utility}`, -6),
+    ...span(x(curves.hot_from), x(curves.hot_to), y(hottest), curves.hot_utility, -6),
+    ...span(x(curves.cold_from), x(curves.cold_to), y(coldest), curves.cold_utility, -6),
   ];
 }
 

@@ -16,6 +16,7 @@ const STILL = 5;
  * @property {string} side
  * @property {{x: number, y: number}} from where it began, in the picture
  * @property {{x: number, y: number}} down where it began, in the window
+ * @property {{x: number, y: number}} now where it is, in the window
  * @property {number} pointer
  * @property {boolean} moving
  * @property {SVGLineElement | null} line
@@ -51,7 +52,7 @@ export class Drag {
       kind: piece ? 'piece' : 'exchanger',
       name: piece?.getAttribute('data-piece') ?? exchanger?.getAttribute('data-exchanger') ?? '',
       side: piece ? (piece.classList.contains('hot') ? 'hot' : 'cold') : ending?.getAttribute('data-end') ?? '',
-      from: middleOf(shape), down: { x: event.clientX, y: event.clientY },
+      from: middleOf(shape), down: { x: event.clientX, y: event.clientY }, now: { x: event.clientX, y: event.clientY },
       pointer: event.pointerId, moving: false, line: null, target: null,
     };
     if (piece) this.part.actions.offer(this.pull.name);
@@ -96,7 +97,8 @@ export class Drag {
     const to = shape ? middleOf(shape) : free;
     pull.line.setAttribute('x2', String(to.x));
     pull.line.setAttribute('y2', String(to.y));
-    this.tell(event.clientX, event.clientY);
+    pull.now = { x: event.clientX, y: event.clientY };
+    this.tell();
   }
 
   /**
@@ -113,13 +115,9 @@ export class Drag {
     return side === pull.side ? null : found;
   }
 
-  /**
-   * Beside the pointer, in words, what would come of a drop.
-   * @param {number} x
-   * @param {number} y
-   */
-  tell(x, y) {
-    const lines = this.words();
+  /** Beside the pointer, in words, what would come of a drop; again when costs have come. */
+  tell() {
+    const lines = this.words(), { x, y } = this.pull ? this.pull.now : { x: 0, y: 0 };
     this.hint.hidden = !lines.length;
     if (!lines.length) return;
     this.hint.replaceChildren(...lines.map(line => make('div', {}, line)));

@@ -5,7 +5,7 @@ import { letterScale, textWidth } from './dom.js';
 /** @typedef {import('./contract.js').GridPicture} GridPicture */
 
 /** The usual distances, for letters of 16 pixels. */
-const LANE = 54, LEAST = 40, MOST = 78, TOP = 46, GAP = 10;
+const LANE = 54, LEAST = 40, MOST = 92, TOP = 46, GAP = 10;
 
 export class Geometry {
   /**

@@ -135,6 +135,7 @@ export class GridPart {
       if (element instanceof SVGElement) markOne(element, marks);
     }
     this.signs(picture, legs);
+    this.drag.tell();
   }
 
   /**
