@@ -166,7 +166,7 @@ function offerButton(offer, key, actions, taken) {
   return make('button', {
     type: 'button', class: `offer ${offer.free ? 'free' : 'dear'}`, 'data-key': key, click: taken,
     pointerenter: point, focus: point, pointerleave: leave, blur: leave,
-  }, make('b', {}, offer.kind === 'utility' ? offer.partner : offer.stream), ' ', make('span', {}, offer.words), ' ',
+  }, make('b', {}, offer.kind === 'utility' ? offer.partner : offer.stream), ' ', make('span', {}, offer.words), ' · ',
   make('span', { class: 'cost' }, offer.cost));
 }
 

@@ -5,7 +5,7 @@ import { letterScale, textWidth } from './dom.js';
 /** @typedef {import('./contract.js').GridPicture} GridPicture */
 
 /** The usual distances, for letters of 16 pixels. */
-const LANE = 54, LEAST = 40, MOST = 92, TOP = 46, GAP = 10;
+const LANE = 54, LEAST = 40, MOST = 92, TOP = 50, GAP = 10;
 
 export class Geometry {
   /**
@@ -26,9 +26,12 @@ export class Geometry {
     const lasts = Math.max(...grid.rows.map(row => textWidth(row.last, this.size)), 20);
     this.left = (GAP + 4) * scale + names + GAP * scale + firsts + GAP * scale;
     this.right = lasts + 2 * GAP * scale;
-    const least = Math.max(LEAST * scale, this.widest(grid) + 10 * scale);
+    const pills = this.widest(grid), labels = Math.max(0, ...grid.lines.map(line => textWidth(line.label, this.size)));
+    const least = Math.max(LEAST * scale, pills + 8 * scale, labels + 4 * scale);
     const fitting = (room - this.left - this.right) / (grid.columns + 0.5);
     this.pitch = Math.max(least, Math.min(fitting, MOST * scale));
+    // A label stands between two pills where it has room there, else above them.
+    this.labelled = labels + 4 * scale <= this.pitch - pills ? 7 * scale : this.radius + 3 * scale;
     this.top = (TOP + 15 * (Math.max(0, ...this.levels))) * scale;
     this.width = this.left + this.right + this.pitch * (grid.columns + 0.5);
     this.height = this.top + LANE * scale * Math.max(grid.lanes - 1, 0) + 44 * scale;

@@ -14,6 +14,8 @@ import { changed } from './state.js';
 /** @typedef {import('./state.js').State} State */
 
 const WORDS = 'Grid diagram. Arrows go from place to place, Enter opens what is there.';
+/** What the panel has left and right of the diagram, in pixels. */
+const PADDING = 10;
 const MARKED = '[data-exchanger], [data-piece], [data-utility], [data-joint], [data-row]';
 
 export class GridPart {
@@ -60,7 +62,7 @@ export class GridPart {
     }
     const focused = this.panel.contains(document.activeElement);
     const scrolled = this.panel.querySelector('.wide')?.scrollLeft ?? 0;
-    this.at = new Geometry(view.grid, this.room - 4);
+    this.at = new Geometry(view.grid, this.room - PADDING);
     this.picture = this.drawn(view.grid, this.at);
     const wide = make('div', { class: 'wide' }, this.picture);
     fill(this.panel, view.read_only && make('p', { class: 'note' }, view.read_only), wide);

@@ -90,8 +90,7 @@ export function lineShape(line, side, at) {
     group.append(draw('path', { class: 'arrow', d: `M${back} ${y - high}L${round(tip)} ${y}L${back} ${y + high}` }));
   }
   if (line.label) {
-    const below = line.kind === 'share';
-    group.append(write(at.x(line.label_x), y + (below ? 14 : -7) * scale, line.label, {
+    group.append(write(at.x(line.label_x), y - at.labelled, line.label, {
       class: line.kind, 'text-anchor': 'middle',
     }));
   }

@@ -32,6 +32,8 @@ export class StreamsPart {
     /** What the desk refused, in which cell, with what had been typed. */
     this.typed = '';
     this.opened = '';
+    /** How long the longest name is. */
+    this.longest = 0;
     /** @type {Map<string, string>} what is wrong in a cell */
     this.wrong = new Map();
   }
@@ -40,6 +42,7 @@ export class StreamsPart {
   render = (state, before) => {
     if (!changed(state, before, 'view', 'refusal')) return;
     const { view } = state, { temperature, flow, heat, difference } = view.units;
+    this.longest = Math.max(...[...view.streams, ...view.utilities].map(source => source.name.length), 3);
     const marks = [...state.refusal?.places ?? [], ...view.verdict.places].filter(mark => mark.kind === 'cell');
     const text = state.refusal?.text ?? view.verdict.text;
     this.wrong = new Map(marks.map(mark => [`${mark.name} ${mark.field}`, text]));
@@ -111,8 +114,8 @@ export class StreamsPart {
     const key = `${row} ${field}`, wrong = this.wrong.has(key);
     /** @type {HTMLInputElement} */
     const input = make('input', {
-      value: text, class: kind, 'data-key': `cell ${key}`, 'aria-label': `${WORDS[field] ?? field} of ${name}`,
-      spellcheck: 'false', autocomplete: 'off', 'aria-invalid': wrong && 'true',
+      value: text, class: kind, size: kind === 'name' && Math.min(this.longest, 14), 'data-key': `cell ${key}`, 'aria-label': `${WORDS[field] ?? field} of ${name}`,
+      spellcheck: 'false', autocomplete: 'off', placeholder: '–', 'aria-invalid': wrong && 'true',
       'aria-describedby': wrong && 'cell-fault',
       change: () => this.change(row, field, input),
       keydown: (/** @type {KeyboardEvent} */ event) => {

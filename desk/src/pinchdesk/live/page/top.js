@@ -20,7 +20,7 @@ export function topPart(actions, help) {
     if (changed(state, before, 'view')) {
       document.title = `${files.case} · ${files.network} – pinchdesk`;
       fill(part('files'), make('bdi', {}, files.case), ' · ', make('bdi', {}, files.network));
-      tell(part('verdict'), verdict);
+      tell(part('verdict'), verdict, verdict.kind === 'accepted' && view.score.above !== '0');
     }
     fill(part('history'),
       make('button', {
@@ -40,12 +40,13 @@ export function topPart(actions, help) {
  * Says the verdict, once: what is the same is not told again.
  * @param {HTMLElement} place
  * @param {import('./contract.js').Judgement} verdict
+ * @param {boolean} over whether more is used than the target
  */
-function tell(place, verdict) {
+function tell(place, verdict, over) {
   const text = `${verdict.title}. ${verdict.text}`;
   if (place.dataset.text === text) return;
   place.dataset.text = text;
-  place.className = verdict.kind;
+  place.className = `${verdict.kind}${over ? ' over' : ''}`;
   place.replaceChildren(
     make('span', { class: 'badge' }, make('span', { 'aria-hidden': 'true' }, SIGNS[verdict.kind] ?? '', ' '),
       verdict.title),
