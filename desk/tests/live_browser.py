@@ -80,6 +80,7 @@ class LivePage:
     driver: Chrome
 
     def go(self, address: str) -> LivePage:
+        self.errors()
         self.driver.get(address)
         self.until(lambda: self.all('body.ready'))
         return self

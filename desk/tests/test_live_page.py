@@ -40,8 +40,9 @@ def desk(tmp_path: Path) -> Iterator[OpenDesk]:
 
 
 @pytest.fixture
-def page(driver: Chrome, desk: OpenDesk) -> LivePage:
-    return LivePage(driver).go(desk.address)
+def page(driver: Chrome, desk: OpenDesk) -> Iterator[LivePage]:
+    yield LivePage(driver).go(desk.address)
+    driver.get('about:blank')
 
 
 def place_all(page: LivePage) -> None:
@@ -133,7 +134,7 @@ def test_by_keys_alone(page: LivePage, desk: OpenDesk) -> None:
     page.until(lambda: page.focused().startswith('exchanger'))
     page.press(Keys.ENTER)
     page.until(lambda: page.focused() == 'duty')
-    page.press(Keys.CONTROL + 'a' + Keys.NULL, '100', Keys.ENTER)
+    page.press('100', Keys.ENTER)
     page.until(lambda: '100000' in desk.network.read_text(encoding='utf-8'))
     page.press(Keys.ESCAPE)
     page.until(lambda: page.focused().startswith('exchanger'))
@@ -231,6 +232,7 @@ def test_a_hostile_name_is_only_a_name(driver: Chrome, tmp_path: Path) -> None:
         assert not page.all('img') and not page.all('#grid b')
         assert not page.errors()
     finally:
+        driver.get('about:blank')
         desk.kill()
 
 

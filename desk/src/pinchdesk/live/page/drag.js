@@ -109,7 +109,7 @@ export class Drag {
   targetAt(x, y) {
     const { pull } = this;
     const found = document.elementFromPoint(x, y)?.closest('[data-piece], [data-utility]');
-    if (!pull || !found || !this.part.picture?.contains(found)) return null;
+    if (!pull || !found || !this.part.panel.contains(found)) return null;
     const side = found.classList.contains('hot') ? 'hot' : 'cold';
     if (pull.kind === 'exchanger') return found.matches('[data-piece]') && side === pull.side ? found : null;
     return side === pull.side ? null : found;

@@ -1,11 +1,15 @@
-// Where the things of the grid diagram stand, in CSS pixels.
+// Where the things of the grid diagram stand, in CSS pixels: columns as near as texts allow, so that much fits.
 
 import { letterScale, textWidth } from './dom.js';
 
+/** @typedef {import('./contract.js').ExchangerBar} ExchangerBar */
 /** @typedef {import('./contract.js').GridPicture} GridPicture */
+/** @typedef {import('./contract.js').BranchLine} BranchLine */
+
+/** @typedef {{x: number, wide: number}} Beside what stands in a lane: in which column, how wide */
 
 /** The usual distances, for letters of 16 pixels. */
-const LANE = 54, LEAST = 40, MOST = 92, TOP = 50, GAP = 10;
+const LANE = 54, LEAST = 25, MOST = 92, TOP = 50, GAP = 10;
 
 export class Geometry {
   /**
@@ -15,36 +19,28 @@ export class Geometry {
   constructor(grid, room) {
     const scale = letterScale();
     this.scale = scale;
-    this.size = 11.5 * scale;
+    this.size = 12.5 * scale;
     this.radius = 13 * scale;
-    this.levels = levelsOf(grid.pinches.map(pinch => textWidth(pinch.text, this.size)),
-      grid.pinches.map(pinch => pinch.x));
     const names = Math.max(...grid.rows.map(row => Math.max(
-      textWidth(row.name, this.size * 1.12, true) + (row.kind === 'utility' ? 24 * scale : 0),
-      textWidth(row.detail, this.size * 0.92))), 30);
-    const firsts = Math.max(...grid.rows.map(row => textWidth(row.first, this.size)), 20);
+      textWidth(row.name, this.size * 1.1, true) + (row.kind === 'utility' ? 24 * scale : 0),
+      textWidth(row.detail, this.size))), 30);
+    const firsts = Math.max(...grid.rows.map(row => row.begin < 0 ? textWidth(row.first, this.size) : 0), 20);
     const lasts = Math.max(...grid.rows.map(row => textWidth(row.last, this.size)), 20);
-    this.left = (GAP + 4) * scale + names + GAP * scale + firsts + GAP * scale;
+    /** The names stay where the diagram is scrolled: they are a picture of their own. */
+    this.names = (GAP + 4) * scale + names + 4 * scale;
+    this.left = firsts + GAP * scale;
     this.right = lasts + 2 * GAP * scale;
-    const pills = this.widest(grid), labels = Math.max(0, ...grid.lines.map(line => textWidth(line.label, this.size)));
-    const least = Math.max(LEAST * scale, pills + 8 * scale, labels + 4 * scale);
-    const fitting = (room - this.left - this.right) / (grid.columns + 0.5);
+    this.pills = pillsOf(grid, text => this.pill(text));
+    const least = Math.max(LEAST * scale, ...[this.pills, labelsOf(grid, this.size), dutiesOf(grid, this.size)]
+      .flatMap(lanes => [...lanes.values()].map(lane => leastPitch(lane, 4 * scale))));
+    const fitting = (room - this.names - this.left - this.right) / (grid.columns + 0.5);
     this.pitch = Math.max(least, Math.min(fitting, MOST * scale));
-    // A label stands between two pills where it has room there, else above them.
-    this.labelled = labels + 4 * scale <= this.pitch - pills ? 7 * scale : this.radius + 3 * scale;
-    this.top = (TOP + 15 * (Math.max(0, ...this.levels))) * scale;
+    this.levels = levelsOf(grid.pinches.map(pinch => ({
+      x: pinch.x * this.pitch, wide: textWidth(pinch.text, this.size) + GAP * scale,
+    })));
+    this.top = (TOP + 16 * Math.max(0, ...this.levels)) * scale;
     this.width = this.left + this.right + this.pitch * (grid.columns + 0.5);
     this.height = this.top + LANE * scale * Math.max(grid.lanes - 1, 0) + 44 * scale;
-  }
-
-  /**
-   * The widest text that stands in a column.
-   * @param {GridPicture} grid
-   */
-  widest(grid) {
-    return Math.max(0, ...grid.exchangers.map(exchanger => Math.max(
-      this.pill(exchanger.name), textWidth(exchanger.duty, this.size, true))),
-    ...grid.pieces.map(piece => this.pill(piece.duty)));
   }
 
   /**
@@ -52,19 +48,15 @@ export class Geometry {
    * @param {string} text
    */
   pill(text) {
-    return Math.max(2 * this.radius, textWidth(text, this.size, true) + 14 * this.scale);
+    return Math.max(2 * this.radius, textWidth(text, this.size, true) + 10 * this.scale);
   }
 
-  /**
-   * @param {number} column
-   */
+  /** @param {number} column */
   x(column) {
     return this.left + (column + 0.75) * this.pitch;
   }
 
-  /**
-   * @param {number} lane
-   */
+  /** @param {number} lane */
   y(lane) {
     return this.top + lane * LANE * this.scale;
   }
@@ -73,21 +65,106 @@ export class Geometry {
   get lane() {
     return LANE * this.scale;
   }
+
+  /**
+   * The height of a label over its line: beside pills where it has room there, else above them.
+   * @param {BranchLine} line
+   */
+  over(line) {
+    const half = textWidth(line.label, this.size) / 2 + 2 * this.scale;
+    const beside = (this.pills.get(line.y) ?? []).every(pill =>
+      Math.abs(pill.x - line.label_x) * this.pitch >= half + pill.wide / 2);
+    return beside ? 7 * this.scale : this.radius + 4 * this.scale;
+  }
+}
+
+/**
+ * The pills of each lane: ends of exchangers, and open pieces.
+ * @param {GridPicture} grid
+ * @param {(text: string) => number} pill
+ */
+function pillsOf(grid, pill) {
+  return byLane([
+    ...grid.exchangers.map(bar => ({ y: bar.hot_y, x: bar.hot_x, wide: pill(bar.name) })),
+    ...grid.exchangers.map(bar => ({ y: bar.cold_y, x: bar.cold_x, wide: pill(bar.name) })),
+    ...grid.pieces.map(piece => ({ y: piece.y, x: piece.x, wide: pill(pieceText(piece)) })),
+  ]);
+}
+
+/**
+ * @param {GridPicture} grid
+ * @param {number} size
+ */
+function labelsOf(grid, size) {
+  return byLane(grid.lines.filter(line => line.label)
+    .map(line => ({ y: line.y, x: line.label_x, wide: textWidth(line.label, size) })));
+}
+
+/**
+ * The duties below exchangers.
+ * @param {GridPicture} grid
+ * @param {number} size
+ */
+function dutiesOf(grid, size) {
+  return byLane(grid.exchangers.map(bar => ({ ...lowerEnd(bar), wide: textWidth(dutyText(bar), size, true) })));
+}
+
+/**
+ * The end of an exchanger that stands lower.
+ * @param {ExchangerBar} bar
+ */
+export function lowerEnd(bar) {
+  return bar.cold_y >= bar.hot_y ? { x: bar.cold_x, y: bar.cold_y } : { x: bar.hot_x, y: bar.hot_y };
+}
+
+/**
+ * The duty with a sign where the exchanger is wrong or works across a pinch: not by its colour alone.
+ * @param {ExchangerBar} bar
+ */
+export function dutyText(bar) {
+  return (bar.fault ? '⚠ ' : bar.where === 'across' ? '↯ ' : '') + bar.duty;
+}
+
+/** @param {import('./contract.js').OpenPill} piece */
+export function pieceText(piece) {
+  return (piece.fault ? '⚠ ' : '') + piece.duty;
+}
+
+/**
+ * @param {(Beside & {y: number})[]} things
+ * @returns {Map<number, Beside[]>}
+ */
+function byLane(things) {
+  /** @type {Map<number, Beside[]>} */
+  const lanes = new Map();
+  for (const { y, x, wide } of things) lanes.set(y, [...lanes.get(y) ?? [], { x, wide }]);
+  return lanes;
+}
+
+/**
+ * How far apart columns have to be so that nothing of a lane touches its neighbour.
+ * @param {Beside[]} lane
+ * @param {number} gap
+ */
+function leastPitch(lane, gap) {
+  const sorted = [...lane].sort((one, other) => one.x - other.x);
+  return Math.max(0, ...sorted.slice(1).map((other, at) => {
+    const one = sorted[at];
+    return other.x > one.x ? ((one.wide + other.wide) / 2 + gap) / (other.x - one.x) : 0;
+  }));
 }
 
 /**
  * Texts above pinches that are near lie above one another: the level of each.
- * @param {number[]} widths
- * @param {number[]} columns
+ * @param {Beside[]} texts
  */
-function levelsOf(widths, columns) {
+function levelsOf(texts) {
   /** @type {number[]} */
   const ends = [];
-  return widths.map((width, at) => {
-    const half = width / 2 / LEAST;
-    let level = ends.findIndex(end => end < columns[at] - half);
+  return texts.map(({ x, wide }) => {
+    let level = ends.findIndex(end => end < x - wide / 2);
     if (level < 0) level = ends.length;
-    ends[level] = columns[at] + half;
+    ends[level] = x + wide / 2;
     return level;
   });
 }

@@ -2,7 +2,7 @@
 
 import { draw, fill, keyed, make } from './dom.js';
 import { Geometry } from './geometry.js';
-import { exchangerShape, jointShape, lineShape, pieceShape, pinchShape, rowShape } from './grid_shapes.js';
+import { exchangerShape, jointShape, lineShape, nameShape, pieceShape, pinchShape, rowShape } from './grid_shapes.js';
 import { GridKeys } from './grid_keys.js';
 import { chosenAt, markOne } from './grid_marks.js';
 import { Drag } from './drag.js';
@@ -64,7 +64,7 @@ export class GridPart {
     const scrolled = this.panel.querySelector('.wide')?.scrollLeft ?? 0;
     this.at = new Geometry(view.grid, this.room - PADDING);
     this.picture = this.drawn(view.grid, this.at);
-    const wide = make('div', { class: 'wide' }, this.picture);
+    const wide = make('div', { class: 'wide' }, namesPicture(view.grid, this.at), this.picture);
     fill(this.panel, view.read_only && make('p', { class: 'note' }, view.read_only), wide);
     wide.scrollLeft = scrolled;
     this.keys.renew(this.picture, focused);
@@ -121,19 +121,19 @@ export class GridPart {
 
   /** @param {State} state */
   mark(state) {
-    const { picture } = this;
-    if (!picture) return;
+    const { picture } = this, places = this.panel.querySelector('.wide');
+    if (!picture || !places) return;
     const { chosen, refusal, view, offers, way } = state;
     const dragged = this.drag.piece;
     const matched = dragged ?? (chosen && chosen.kind === 'piece' ? chosen.name : null);
     const list = matched !== null && offers && offers.piece === matched ? offers.list ?? [] : [];
     const partners = new Set(list.map(offer => offer.partner));
-    picture.classList.toggle('matching', matched !== null && partners.size > 0);
-    const places = [...(refusal ? refusal.places : []), ...view.verdict.places];
+    places.classList.toggle('matching', matched !== null && partners.size > 0);
+    const wrong = [...(refusal ? refusal.places : []), ...view.verdict.places];
     const legs = new Map(way ? way.legs.map(leg => [leg.exchanger, leg.gains]) : []);
-    picture.classList.toggle('pointing', legs.size > 0);
-    const marks = { chosen, matched, partners, pointed: state.partner, places, legs };
-    for (const element of picture.querySelectorAll(MARKED)) {
+    places.classList.toggle('pointing', legs.size > 0);
+    const marks = { chosen, matched, partners, pointed: state.partner, places: wrong, legs };
+    for (const element of places.querySelectorAll(MARKED)) {
       if (element instanceof SVGElement) markOne(element, marks);
     }
     this.signs(picture, legs);
@@ -153,4 +153,16 @@ export class GridPart {
       class: 'sign', x: at.x(exchanger.hot_x) + at.radius + 2 * at.scale, y: at.y(exchanger.hot_y) + 20 * at.scale,
     }, legs.get(exchanger.name) ? '+' : '−')));
   }
+}
+
+/**
+ * The names of all rows, which stay where the diagram is scrolled.
+ * @param {GridPicture} grid
+ * @param {Geometry} at
+ */
+function namesPicture(grid, at) {
+  const width = Math.ceil(at.names), height = Math.ceil(at.height);
+  return draw('svg', {
+    class: 'grid names', width, height, viewBox: `0 0 ${width} ${height}`, 'font-size': at.size,
+  }, ...grid.rows.map(row => nameShape(row, at)));
 }

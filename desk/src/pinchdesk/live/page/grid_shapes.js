@@ -1,6 +1,7 @@
 // The shapes of the grid diagram: streams, partings, exchangers, open pieces, pinches.
 
 import { draw, textWidth } from './dom.js';
+import { dutyText, lowerEnd, pieceText } from './geometry.js';
 
 /** @typedef {import('./contract.js').ExchangerBar} ExchangerBar */
 /** @typedef {import('./contract.js').GridPicture} GridPicture */
@@ -47,32 +48,50 @@ export function pinchShape(pinch, level, at) {
 }
 
 /**
- * The name of a row and what stands at its ends; of a utility its line too, on which an open piece can be dropped.
+ * What stands at the ends of a row; of a utility its line too, on which an open piece can be dropped.
  * @param {GridRow} row
  * @param {Geometry} at
  */
 export function rowShape(row, at) {
   const y = at.y(row.y), left = at.x(row.begin), right = at.x(row.end), scale = at.scale;
-  const utility = row.kind === 'utility';
-  const group = draw('g', {
-    class: `row ${row.kind} ${row.side}`, 'data-row': row.name, 'data-utility': utility && row.name,
-  });
-  if (utility) {
-    const wide = textWidth(row.name, at.size * 1.12, true) + 20 * scale;
+  const group = rowGroup(row);
+  if (row.kind === 'utility') {
     group.append(
       draw('line', { class: 'reach', x1: round(left), y1: y, x2: round(right), y2: y }),
-      draw('line', { class: 'level', x1: round(left), y1: y, x2: round(right), y2: y }),
-      draw('rect', {
-        class: 'box', x: 12 * scale, y: y - 13 * scale, width: round(wide), height: 26 * scale, rx: 4 * scale,
-      }));
+      draw('line', { class: 'level', x1: round(left), y1: y, x2: round(right), y2: y }));
   }
   group.append(
-    write(utility ? 22 * scale : 12 * scale, y + (row.detail && !utility ? 0 : 4 * scale), row.name, { class: 'name' }),
     write(left - 8 * scale, y + 4 * scale, row.first, { class: 'end', 'text-anchor': 'end' }),
-    write(right + 9 * scale, y + 4 * scale, row.last, { class: 'end' }));
+    write(right + 9 * scale, y + 4 * scale, row.last, { class: 'end' }), draw('title', {}, row.text));
+  return group;
+}
+
+/**
+ * The name of a row; that of a utility stands in a box, on which an open piece can be dropped too.
+ * @param {GridRow} row
+ * @param {Geometry} at
+ */
+export function nameShape(row, at) {
+  const y = at.y(row.y), scale = at.scale, utility = row.kind === 'utility';
+  const wide = textWidth(row.name, at.size * 1.1, true) + 20 * scale;
+  const group = rowGroup(row);
+  if (utility) {
+    group.append(draw('rect', {
+      class: 'box', x: 12 * scale, y: y - 13 * scale, width: round(wide), height: 26 * scale, rx: 4 * scale,
+    }));
+  }
+  group.append(write(utility ? 22 * scale : 12 * scale, y + (row.detail && !utility ? 0 : 4 * scale), row.name,
+    { class: 'name' }));
   if (row.detail) group.append(write(12 * scale, y + (utility ? 26 : 13) * scale, row.detail, { class: 'detail' }));
   group.append(draw('title', {}, row.text));
   return group;
+}
+
+/** @param {GridRow} row */
+function rowGroup(row) {
+  return draw('g', {
+    class: `row ${row.kind} ${row.side}`, 'data-row': row.name, 'data-utility': row.kind === 'utility' && row.name,
+  });
 }
 
 /**
@@ -90,7 +109,7 @@ export function lineShape(line, side, at) {
     group.append(draw('path', { class: 'arrow', d: `M${back} ${y - high}L${round(tip)} ${y}L${back} ${y + high}` }));
   }
   if (line.label) {
-    group.append(write(at.x(line.label_x), y - at.labelled, line.label, {
+    group.append(write(at.x(line.label_x), y - at.over(line), line.label, {
       class: line.kind, 'text-anchor': 'middle',
     }));
   }
@@ -124,8 +143,7 @@ export function exchangerShape(exchanger, grid, at) {
   const middle = at.y(grid.band), bend = Math.min(at.lane / 3, 14 * at.scale);
   const way = x === u ? `M${round(x)} ${y}V${v}`
     : `M${round(x)} ${y}V${middle - bend}L${round(u)} ${middle + bend}V${v}`;
-  const mark = exchanger.fault ? '⚠ ' : exchanger.where === 'across' ? '↯ ' : '';
-  const duty = mark + exchanger.duty, low = Math.max(y, v), below = low === v ? u : x;
+  const low = lowerEnd(exchanger);
   return draw('g', {
     class: `exchanger ${exchanger.kind} ${exchanger.where || 'nowhere'}${exchanger.fault ? ' fault' : ''}`,
     'data-exchanger': exchanger.name, 'data-key': `exchanger ${exchanger.name}`, role: 'button', tabindex: -1,
@@ -133,7 +151,9 @@ export function exchangerShape(exchanger, grid, at) {
   },
   draw('path', { class: 'touch', d: way }), draw('path', { class: 'bar', d: way }),
   endShape(exchanger.name, x, y, 'hot', at), endShape(exchanger.name, u, v, 'cold', at),
-  write(below, low + at.radius + 12 * at.scale, duty, { class: 'duty', 'text-anchor': 'middle' }));
+  write(at.x(low.x), at.y(low.y) + at.radius + 12 * at.scale, dutyText(exchanger), {
+    class: 'duty', 'text-anchor': 'middle',
+  }));
 }
 
 /**
@@ -157,7 +177,7 @@ function endShape(name, x, y, side, at) {
  * @param {Geometry} at
  */
 export function pieceShape(piece, at) {
-  const x = at.x(piece.x), y = at.y(piece.y), text = (piece.fault ? '⚠ ' : '') + piece.duty, wide = at.pill(text);
+  const x = at.x(piece.x), y = at.y(piece.y), text = pieceText(piece), wide = at.pill(text);
   return draw('g', {
     class: `piece ${piece.side}${piece.fault ? ' fault' : ''}`, 'data-piece': piece.id, 'data-key': `piece ${piece.id}`,
     role: 'button', tabindex: -1, 'aria-haspopup': 'true',

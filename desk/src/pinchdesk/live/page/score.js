@@ -25,14 +25,23 @@ export function scorePart(panel, actions) {
         open && score.stands_hot && `; as it stands, all that is open is served by utilities: ${score.stands_hot}`),
       make('h3', {}, 'Above the target'), heat(score.above),
       make('h3', {}, 'Exchangers'), make('p', { class: 'units' }, score.units),
-      score.cost && make('p', { class: 'pale' }, `cost ${score.cost}`),
-      score.floor && make('p', { class: 'pale' }, `no network costs less than ${score.floor}`),
+      score.cost && make('p', { class: 'pale' }, `cost ${bracketed(score.cost)}`),
+      score.floor && make('p', { class: 'pale' }, `no network costs less than ${bracketed(score.floor)}`),
       ...score.notes.map(note => make('p', { class: 'pale' }, note)),
       make('button', {
         type: 'button', class: 'wide-button', 'data-key': 'finish', disabled: !open,
         click: () => actions.do({ kind: 'finish' }),
       }, 'Serve the rest by utilities'));
   };
+}
+
+/**
+ * A number with its unit in brackets, as that of costs is no word.
+ * @param {string} text
+ */
+function bracketed(text) {
+  const [, number, unit] = /^(\S+) (.+)$/.exec(text) ?? ['', text, ''];
+  return unit ? `${number} (${unit.replace(' times ', ' × ')})` : number;
 }
 
 /**

@@ -29,8 +29,8 @@ export class StreamsPart {
   constructor(panel, actions) {
     this.panel = panel;
     this.actions = actions;
-    /** What the desk refused, in which cell, with what had been typed. */
-    this.typed = '';
+    /** What was typed last, and in which cell: where it is refused it stays there. */
+    this.typed = { key: '', text: '' };
     this.opened = '';
     /** How long the longest name is. */
     this.longest = 0;
@@ -46,6 +46,7 @@ export class StreamsPart {
     const marks = [...state.refusal?.places ?? [], ...view.verdict.places].filter(mark => mark.kind === 'cell');
     const text = state.refusal?.text ?? view.verdict.text;
     this.wrong = new Map(marks.map(mark => [`${mark.name} ${mark.field}`, text]));
+    if (state.refusal && this.typed.key) this.wrong.set(this.typed.key, text);
     fill(this.panel,
       make('h2', { id: 'streams-title' }, 'Streams ', make('small', {}, `${temperature}, ${flow}, ${heat}`)),
       make('div', { class: 'wide' }, make('table', { class: 'cells' },
@@ -114,17 +115,19 @@ export class StreamsPart {
     const key = `${row} ${field}`, wrong = this.wrong.has(key);
     /** @type {HTMLInputElement} */
     const input = make('input', {
-      value: text, class: kind, size: kind === 'name' && Math.min(this.longest, 14), 'data-key': `cell ${key}`, 'aria-label': `${WORDS[field] ?? field} of ${name}`,
+      value: text, class: kind, size: kind === 'name' && Math.min(this.longest, 14), 'data-key': `cell ${key}`,
+      'aria-label': `${WORDS[field] ?? field} of ${name}`,
       spellcheck: 'false', autocomplete: 'off', placeholder: '–', 'aria-invalid': wrong && 'true',
       'aria-describedby': wrong && 'cell-fault',
       change: () => this.change(row, field, input),
       keydown: (/** @type {KeyboardEvent} */ event) => {
         if (event.key !== 'Escape') return;
         input.value = input.defaultValue;
-        this.typed = '';
+        this.typed = { key: '', text: '' };
+        this.actions.store.set({ refusal: null });
       },
     });
-    if (wrong && this.typed) input.value = this.typed;
+    if (wrong && this.typed.key === key) input.value = this.typed.text;
     return input;
   }
 
@@ -134,8 +137,8 @@ export class StreamsPart {
    * @param {HTMLInputElement} input
    */
   async change(row, field, input) {
-    this.typed = input.value;
-    if (await this.actions.do({ kind: 'cell', row, field, text: input.value })) this.typed = '';
+    this.typed = { key: `${row} ${field}`, text: input.value };
+    if (await this.actions.do({ kind: 'cell', row, field, text: input.value })) this.typed = { key: '', text: '' };
   }
 
   /**

@@ -77,8 +77,8 @@ export function lostPart() {
     place.hidden = !gone;
     place.className = state.closed ? 'closed' : '';
     place.textContent = state.closed ? 'The desk is closed. All that was done is in the two files.'
-      : state.lost ? 'The desk does not answer. All that was done is in the two files: call “pinchdesk open” again, and '
-        + 'look at the page that it opens.' : '';
+      : state.lost ? 'The desk does not answer. All that was done is in the two files: call “pinchdesk open” again, '
+        + 'and look at the page that it opens.' : '';
     document.body.classList.toggle('is-lost', gone);
   };
 }
