@@ -4,7 +4,7 @@ from __future__ import annotations
 from fractions import Fraction
 
 import pytest
-from conftest import example, as_objects, tried
+from conftest import as_objects, example, tried
 from costed import AROMATICS, ONE_TWO, SMALL, costed_case, data_of, law_rows, near, plants, targets, uses_of
 from hypothesis import given
 from hypothesis import strategies as st

@@ -81,9 +81,10 @@ def placed_count(followed: Followed) -> int:
     """The same without what stands for open pieces."""
     standing = {passage.exchanger.name for passage in placed(followed)}
     wholes = wholes_of(followed.case)
-    chains: Iterable[Sequence[Passage]] = Joiner(followed, wholes).chains() if wholes else \
-        [[passage] for passage in followed.passages]
-    return sum(any(passage.exchanger.name in standing for passage in chain) for chain in chains)
+    if not wholes:
+        return len(standing)
+    return sum(any(passage.exchanger.name in standing for passage in chain)
+               for chain in Joiner(followed, wholes).chains())
 
 
 def network_count(case: Case, network: Network) -> int:

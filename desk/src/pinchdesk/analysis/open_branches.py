@@ -205,7 +205,8 @@ def rest_case(case: Case, lefts: Sequence[Left], used: Mapping[str, Fraction], s
     utilities = tuple(rest_utility(utility, used[utility.name], scale, rounding)
                       for utility in case.utilities if not utility.invented)
     segments = rest_segments(case, streams)
-    kept = {source.name for source in (*streams, *utilities)} | {segmented.name for segmented in segments}
+    sources: tuple[Source, ...] = (*streams, *utilities)
+    kept = {*(source.name for source in sources), *(segmented.name for segmented in segments)}
     basis = replace(case.basis, scale=case.basis.scale * scale.factor, segments=segments,
                     names=tuple(renamed for renamed in case.basis.names if renamed[1] in kept))
     return Case(case.contribution if scale.degrees == 1 else 0, streams, utilities, forbids, basis)

@@ -173,9 +173,10 @@ def segments_sheets(plant: Joined) -> list[Sheet]:
     case = plant.followed.case
     shown = Shown(case.basis)
     wholes = [stream for stream in case.streams if isinstance(stream, WholeStream)]
-    rows = tuple((whole.name, segment.name, *(Decimal(shown.celsius(end)) for end in (segment.supply, segment.target)),
-                  flow_of(segment, shown), Decimal(shown.kilowatts(segment.heat)))
-                 for whole in wholes for segment in whole.segments)
+    rows: tuple[tuple[Cell, ...], ...] = tuple(
+        (whole.name, segment.name, *(Decimal(shown.celsius(end)) for end in (segment.supply, segment.target)),
+         flow_of(segment, shown), Decimal(shown.kilowatts(segment.heat)))
+        for whole in wholes for segment in whole.segments)
     headings = ('stream', 'in the program', 'from °C', 'to °C', 'CP kW/K', 'load kW')
     sheets = [Sheet('Segments of streams', headings, rows)] if rows else []
     return [*sheets, *([Sheet('Kinks', (), tuple((note,) for note in plant.notes))] if plant.notes else [])]

@@ -127,7 +127,7 @@ class PlantSearch:
         # How many jobs were taken, and when the last of them found something better.
         self.taken, self.bettered = 0, 0
         # What stays may stand in several windows, so that these are not searched by themselves then.
-        self.cycle = [None] if judge.wishes.kept else cycle_of(self.pools)
+        self.cycle: Sequence[tuple[int, int] | None] = [None] if judge.wishes.kept else cycle_of(self.pools)
 
     def job(self, number: int) -> Job:
         """The job of this number."""
