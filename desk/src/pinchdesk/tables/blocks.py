@@ -4,6 +4,7 @@ from __future__ import annotations
 
 from collections.abc import Sequence
 from dataclasses import dataclass, replace
+from functools import cached_property
 from itertools import groupby
 
 from .headings import has_unit, heading_of, is_comment, is_number, known_in
@@ -33,7 +34,7 @@ class TableBlock:
     section: Section | None = None
     again: bool = False
 
-    @property
+    @cached_property
     def numbers(self) -> frozenset[int]:
         """The numbers of its rows."""
         return frozenset(row.number for row in self.rows)
