@@ -5,16 +5,18 @@ import io
 import os
 import subprocess
 import sys
-from collections.abc import Collection, Iterable, Iterator
+from collections.abc import Collection, Generator, Iterable, Iterator
 from contextlib import chdir, redirect_stderr, redirect_stdout
 from dataclasses import dataclass
 from pathlib import Path
-from typing import Any
+from typing import Any, TypeVar
 
 import pytest
 from hypothesis import HealthCheck, settings
 
 from pinchdesk import Pinch
+from pinchdesk.batch.job import Job, JobOutcome
+from pinchdesk.batch.job import done as done_of
 from pinchdesk.cli.main import main
 from pinchdesk.search.tasks import Task
 
@@ -23,6 +25,7 @@ EXAMPLES = DESK.parent / 'examples'
 SITES = ('site-books', 'three-plants')
 NO_CASES = (*SITES, 'changes', 'steam-prices', 'table')
 CASES = sorted(path.stem for path in EXAMPLES.glob('*.csv') if path.stem not in NO_CASES)
+Value = TypeVar('Value')
 NETWORKS = [name for name in CASES if (EXAMPLES / f'{name}-network.txt').exists()]
 # Between them they have a pinch, levels of steam, latent streams, contributions of their own, and prices.
 FEW = ('four-stream', 'own-contributions', 'preheater', 'two-reactors', 'two-steam-levels')
@@ -38,10 +41,19 @@ def few_of(names: Iterable[str], few: Collection[str] = FEW) -> list[Any]:
                          marks=[] if name in few else [pytest.mark.long]) for name in names]
 
 
+def few_rows(rows: Iterable[tuple[Any, ...]], few: Collection[object]) -> list[Any]:
+    """Rows of parameters of a test: all but those that begin with one of a few are long."""
+    return [pytest.param(*row, marks=[] if row[0] in few else [pytest.mark.long]) for row in rows]
+
+
+def of_all(few: Value, many: Value) -> Value:
+    """What a test takes that would take long otherwise; with --all what it takes then."""
+    return many if settings().max_examples == settings.get_profile('all').max_examples else few
+
+
 def tried(few: int, many: int) -> settings:
     """How many examples a property has of which each takes long: few, or with --all many."""
-    is_all = settings().max_examples == settings.get_profile('all').max_examples
-    return settings(max_examples=many if is_all else few)
+    return settings(max_examples=of_all(few, many))
 
 
 def pytest_addoption(parser: pytest.Parser) -> None:
@@ -122,6 +134,20 @@ def search_here(monkeypatch: pytest.MonkeyPatch) -> None:
     for module in ('pinchdesk.search.find', 'pinchdesk.search.reduce.tradeoff'):
         monkeypatch.setattr(f'{module}.SearchProcess', SearchHere)
     monkeypatch.setattr('pinchdesk.search.reduce.fewer.TRIES', 0)
+
+
+def done_here(jobs: Iterator[Job], count: int) -> Generator[JobOutcome, None, None]:
+    """Stands in for the processes of many cases."""
+    del count
+    yield from map(done_of, jobs)
+
+
+@pytest.fixture
+def many_here(monkeypatch: pytest.MonkeyPatch) -> None:
+    """Many cases are done in this process, unless all tests are asked for: a process that is started for them loads all
+    anew."""
+    if of_all(True, False):
+        monkeypatch.setattr('pinchdesk.batch.order.by_processes', done_here)
 
 
 @pytest.fixture

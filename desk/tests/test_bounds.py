@@ -113,7 +113,7 @@ TOO_LARGE = {
 TOO_LARGE['many places'] *= 6_000
 
 
-@pytest.mark.parametrize('name', TOO_LARGE)
+@pytest.mark.parametrize('name', few_of(TOO_LARGE, ('many brackets', 'a long cell', 'many rows', 'many quotes')))
 def test_a_text_is_refused_by_its_size(name: str) -> None:
     begun = time.process_time()
     assert 'a table has at most 20000 rows and 200 columns' in refusal(TOO_LARGE[name])
@@ -132,7 +132,7 @@ FORMS = [
     'kind;name;supply;target;CP;price {}\n;H1;150;60;2;\nheater;HP;180;;;30 {}\n', '{}\n', 'H1;150;60;2;;;{}\n']
 
 
-@pytest.mark.parametrize('atom', few_of(ATOMS, ('(', 'a_', '1', '10^', '1000 kcal/h ', 'sum ')))
+@pytest.mark.parametrize('atom', few_of(ATOMS, ('(', 'a_', '1000 kcal/h ', 'sum ')))
 def test_no_long_text_takes_long(atom: str) -> None:
     text = (atom * LONG)[:LONG]
     begun = time.process_time()

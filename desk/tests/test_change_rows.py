@@ -11,6 +11,7 @@ from pinchdesk import Refused
 from pinchdesk.analysis.change_table import CaseScenarios, read_changes
 from pinchdesk.formats.comments import Basis
 
+pytestmark = pytest.mark.usefixtures('many_here')
 HEAD = 'scenario;source;field;value\n'
 
 

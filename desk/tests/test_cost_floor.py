@@ -5,7 +5,7 @@ from fractions import Fraction
 
 import numpy
 import pytest
-from conftest import example, tried
+from conftest import example, of_all, tried
 from costed import AROMATICS, costed_case, data_of, plants, uses_of
 from hypothesis import given
 from hypothesis import strategies as st
@@ -61,10 +61,11 @@ def test_the_floor_rises_with_finer_slices_and_stays_under_the_network(pinch: Pi
     found = network_areas(AROMATICS, example('aromatics-network.txt'), pinch)
     network = read_network(example('aromatics-network.txt'))
     uses = uses_in(follow(data.case, network).passages)
-    floors = [area_floor(data, uses, 100, Fraction(width)) for width in (20, 10, 5)]
+    widths = of_all((20, 10), (20, 10, 5))
+    floors = [area_floor(data, uses, 100, Fraction(width)) for width in widths]
     areas = [floor.area for floor in floors]
     assert areas == sorted(areas) and areas[0] > 10_000 and areas[-1] <= found.area.low
-    assert [floor.slice for floor in floors] == [20, 10, 5]
+    assert [floor.slice for floor in floors] == list(widths)
 
 
 @tried(3, 8)

@@ -73,7 +73,7 @@ def test_curves_show_targets_and_pinches_on_both_scales(name: str, pinch: Pinch)
         assert f'hot {hot} °C, cold {cold} °C' in texts
 
 
-@pytest.mark.parametrize('name', ['refinery', 'column', 'too-little-cooling'])
+@pytest.mark.parametrize('name', few_of(('refinery', 'column', 'too-little-cooling'), ('column',)))
 @pytest.mark.parametrize('drawing', [composite_figure, balanced_figure, grand_figure])
 def test_each_diagram_alone_can_be_read(name: str, drawing: Drawing, pinch: Pinch) -> None:
     content = example(f'{name}.csv')
@@ -186,7 +186,7 @@ def test_raised_steam_touches_the_grand_curve(pinch: Pinch) -> None:
     assert raised.last == heat_of_grand(drawn, raised.temperature, True) == 5000000
 
 
-@pytest.mark.parametrize('name', ['four-stream', 'three-levels', 'refinery'])
+@pytest.mark.parametrize('name', few_of(('four-stream', 'three-levels', 'refinery'), ('three-levels',)))
 def test_labels_do_not_lie_on_curves(name: str, pinch: Pinch) -> None:
     figure = curves(pinch, example(f'{name}.csv'))
     for axes in figure.axes[:3]:

@@ -13,7 +13,7 @@ from fractions import Fraction
 from pathlib import Path
 
 import pytest
-from conftest import DESK, EXAMPLES, example
+from conftest import DESK, EXAMPLES, example, few_of
 
 from pinchdesk import Accepted, Pinch, ProgramError, find_network, tradeoff
 from pinchdesk.cli.start_time import started
@@ -37,7 +37,7 @@ def taken(call: Callable[[], object]) -> float:
     return min(times)
 
 
-@pytest.mark.parametrize('name', ['crude', 'refinery'])
+@pytest.mark.parametrize('name', few_of(('crude', 'refinery'), ('crude',)))
 def test_a_network_is_there_when_its_time_is_over(name: str, pinch: Pinch) -> None:
     case = example(f'{name}.csv')
 
@@ -58,6 +58,7 @@ def test_a_trade_off_is_there_when_its_time_is_over(pinch: Pinch) -> None:
     assert taken(search) < SECONDS + AFTER
 
 
+@pytest.mark.long
 def test_in_another_thread_the_time_is_kept_too(pinch: Pinch) -> None:
     found: list[int] = []
 

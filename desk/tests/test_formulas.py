@@ -10,7 +10,7 @@ from pathlib import Path
 
 import openpyxl
 import pytest
-from conftest import example, few_of
+from conftest import example, few_of, of_all
 from hypothesis import given
 from hypothesis import strategies as some
 from tabled import made, streams
@@ -23,6 +23,7 @@ from pinchdesk.text import plain, read_again
 BEGINNINGS = ('=', '+', '-', '@', '\t')
 texts = some.text(some.sampled_from("=+-@'\taZ1, ;\"\r\n＝"), max_size=6)
 HEAD = 'scenario;source;field;value\n'
+pytestmark = pytest.mark.usefixtures('many_here')
 
 
 @given(texts)
@@ -89,7 +90,7 @@ WORDS = ['targets', 'flow', 'audit', 'table', 'sweep 0 20 10', 'prices', 'units'
 
 
 @pytest.mark.usefixtures('searched_here')
-@pytest.mark.parametrize('words', few_of(WORDS, ('targets', 'table', 'units')))
+@pytest.mark.parametrize('words', few_of(WORDS, ('targets', 'table')))
 def test_no_word_writes_a_formula(words: str, hostile: Path, capfd: pytest.CaptureFixture[str]) -> None:
     word, *more = words.split()
     place = str(hostile / 'cases' / '=1+1.csv')
@@ -102,7 +103,7 @@ def test_no_word_writes_a_formula(words: str, hostile: Path, capfd: pytest.Captu
         check_book(Path('out.xlsx').read_bytes())
     changes = ['--changes', 'changes.csv'] if word == 'whatif' else []
     for output in ('many.csv', 'many.xlsx'):
-        main(['many', word, 'cases', *more, *changes, '--processes', '1', '-o', output])
+        main(['many', word, 'cases', *more, *changes, '--processes', of_all('1', '2'), '-o', output])
     check_text(Path('many.csv').read_text(encoding='utf-8'))
     check_book(Path('many.xlsx').read_bytes())
 

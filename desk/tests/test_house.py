@@ -5,6 +5,7 @@ from __future__ import annotations
 import ast
 from collections import Counter
 from collections.abc import Iterator
+from functools import cache
 from pathlib import Path
 
 from conftest import DESK
@@ -27,6 +28,7 @@ def file_of(module: tuple[str, ...]) -> Path:
     return path / '__init__.py' if path.is_dir() else path.with_suffix('.py')
 
 
+@cache
 def tree_of(module: tuple[str, ...]) -> ast.Module:
     return ast.parse(file_of(module).read_text(encoding='utf-8'))
 

@@ -8,7 +8,7 @@ from pathlib import Path
 
 import openpyxl
 import pytest
-from conftest import CASES, as_objects, example, pinchdesk
+from conftest import CASES, as_objects, example, of_all, pinchdesk
 from tabled import TEN, made, refusal, saved, streams, workbook
 
 from pinchdesk import Pinch, Refused, read, read_case
@@ -66,7 +66,7 @@ def test_too_many_sources_are_counted() -> None:
     coolers = 'kind,name,supply °C,target °C,CP kW/K\nhot,H,150,60,2\n' + ''.join(
         f'cooler,U{at},15,,\n' for at in range(13))
     assert refusal(coolers) == 'row 15: a case has at most 12 heaters and coolers, and this is the 13th'
-    many = ''.join(f'a name that is long {":" * (at % 99)},150,60,2\n' for at in range(9999))
+    many = ''.join(f'a name that is long {":" * (at % 99)},150,60,2\n' for at in range(of_all(999, 9999)))
     head = 'name,supply °C,target °C,CP kW/K\n'
     assert 'row 502: a case has at most 30 hot and 30 cold streams' in refusal(head + many)
 

@@ -34,8 +34,8 @@ Desk = Callable[..., Done]
 
 
 @pytest.fixture
-def desk(capfd: pytest.CaptureFixture[str]) -> Desk:
-    """Runs words in this process, by two processes of its own."""
+def desk(capfd: pytest.CaptureFixture[str], many_here: None) -> Desk:
+    """Runs words in this process, by two processes of its own where all tests are asked for."""
     def run(*words: str) -> Done:
         status = main(['many', *words, *(['--processes', '2'] if '--help' not in words else [])])
         held = capfd.readouterr()

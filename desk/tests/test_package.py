@@ -23,6 +23,7 @@ from pinchdesk.report.answer_sheets import targets_sheets
 from pinchdesk.tables.convert import Wanted, case_of_table
 
 
+@pytest.mark.long
 def test_the_readme_runs_as_it_is_shown(monkeypatch: pytest.MonkeyPatch) -> None:
     pytest.importorskip('pandas')
     monkeypatch.chdir(DESK.parent)

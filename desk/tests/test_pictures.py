@@ -8,7 +8,7 @@ from time import process_time
 
 import pytest
 from branched import THREE, THREE_NETWORK
-from conftest import NETWORKS, example
+from conftest import NETWORKS, example, few_of
 from looking import bars_of, cut_off, dashed_of, on_lines, overlapping, pale, svg_texts, texts_of
 from matplotlib.figure import Figure
 
@@ -38,7 +38,7 @@ def assert_readable(figure: Figure) -> None:
     assert pale(figure) == []
 
 
-@pytest.mark.parametrize('name', NETWORKS)
+@pytest.mark.parametrize('name', few_of(NETWORKS))
 def test_a_grid_diagram_has_every_number_and_nothing_on_another(name: str, pinch: Pinch) -> None:
     content, text = example(f'{name}.csv'), example(f'{name}-network.txt')
     figure, case = grid(pinch, content, text), completed(read_case(content))
@@ -56,7 +56,7 @@ def test_a_grid_diagram_has_every_number_and_nothing_on_another(name: str, pinch
     assert wide <= 16.6 and high <= 16.6
 
 
-@pytest.mark.parametrize('name', NETWORKS)
+@pytest.mark.parametrize('name', few_of(NETWORKS))
 def test_no_bar_passes_through_the_label_of_another(name: str, pinch: Pinch) -> None:
     figure = grid(pinch, example(f'{name}.csv'), example(f'{name}-network.txt'))
     bars = [points for points, _ in bars_of(figure)]
@@ -67,7 +67,7 @@ def test_no_bar_passes_through_the_label_of_another(name: str, pinch: Pinch) -> 
             assert len(through) == 1, text
 
 
-@pytest.mark.parametrize('name', NETWORKS)
+@pytest.mark.parametrize('name', few_of(NETWORKS))
 def test_no_bar_and_no_pinch_passes_through_a_number(name: str, pinch: Pinch) -> None:
     figure = grid(pinch, example(f'{name}.csv'), example(f'{name}-network.txt'))
     bars = [points for points, _ in bars_of(figure)]
@@ -173,7 +173,7 @@ def test_a_sweep_has_a_gap_in_its_cost_alone(pinch: Pinch) -> None:
         assert [each != each for each in lines['least cost (right scale)'].get_ydata()] == gaps
 
 
-@pytest.mark.parametrize('name', ['crude', 'three-levels', 'refinery'])
+@pytest.mark.parametrize('name', few_of(('crude', 'three-levels', 'refinery'), ('three-levels',)))
 def test_of_a_sweep_neither_the_legend_nor_the_title_of_an_axis_is_cut(name: str, pinch: Pinch) -> None:
     content = example(f'{name}.csv')
     figure = sweep_figure(read_case(content), pinch.sweep(content, 0, 200, 10))

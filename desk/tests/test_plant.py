@@ -6,6 +6,7 @@ import subprocess
 import sys
 from pathlib import Path
 
+import pytest
 from conftest import EXAMPLES, Done
 
 
@@ -15,6 +16,7 @@ def run(*words: str, cwd: Path) -> Done:
     return Done(done.returncode, done.stdout, done.stderr)
 
 
+@pytest.mark.long
 def test_the_plant_runs_whole_and_writes_into_its_folder_alone(tmp_path: Path) -> None:
     folder, elsewhere = tmp_path / 'folder', tmp_path / 'elsewhere'
     folder.mkdir()

@@ -9,6 +9,7 @@ import subprocess
 import sys
 import tomllib
 import zipfile
+from importlib.util import find_spec
 from pathlib import Path
 
 import checked
@@ -209,11 +210,8 @@ def test_a_package_of_debian_is_the_same_bytes_each_time_and_runs_where_it_is_un
     assert (status, told) == (0, f'pinchdesk {pinchdesk.__version__}\n')
 
 
-def has_pip() -> bool:
-    return ran(sys.executable, '-m', 'pip', '--version')[0] == 0
-
-
-@pytest.mark.skipif(not has_pip(), reason='this Python has no pip')
+@pytest.mark.long
+@pytest.mark.skipif(find_spec('pip') is None, reason='this Python has no pip')
 def test_a_wheel_brings_the_program_which_its_desk_asks_before_another_one(pinch: Pinch, tmp_path: Path) -> None:
     name = wheel_file.name_of('9.9.9', False)
     program = Path(pinch.path).read_bytes()

@@ -32,7 +32,7 @@ PICTURES = ['curves {case.csv}', 'composite {case.csv}', 'balanced {case.csv}', 
             'grid {case.csv} {case-network.txt}', 'grid {case.csv} {bad.txt}', 'site {site.csv}',
             'sweep {case.csv} 4 16 4', 'prices {case.csv} {case-study.txt}']
 PAGES = ['{case.csv}', '{case.csv} {case-network.txt} {bad.txt}']
-pytestmark = pytest.mark.usefixtures('searched_here')
+pytestmark = pytest.mark.usefixtures('searched_here', 'many_here')
 
 
 @pytest.fixture(scope='module')
@@ -89,7 +89,7 @@ def test_each_number_of_a_table_is_that_of_the_same_plant(words: str, plain: Fil
         assert len(headings) == len(set(headings)), headings
 
 
-@pytest.mark.parametrize('words', SEARCHES)
+@pytest.mark.parametrize('words', few_of(SEARCHES, ()))
 def test_what_searches_find_is_told_in_the_same_units(words: str, plain: Files, other: Files) -> None:
     """A search may end elsewhere; what it costs at least is the same, and so is what it began with."""
     answers = [each.answer(words) for each in (plain, other)]
@@ -156,7 +156,7 @@ def many_of(files: Files, words: str) -> Parts:
     return list(cells_of('many', headings, rows, files.style))
 
 
-@pytest.mark.parametrize('words', MANY)
+@pytest.mark.parametrize('words', few_of(MANY, MANY[:10]))
 def test_a_row_of_many_is_that_of_the_same_plant(words: str, plain: Files, other: Files) -> None:
     one, same = many_of(plain, words), many_of(other, words)
     check_units(same)
@@ -177,21 +177,24 @@ def test_every_word_is_walked() -> None:
     assert {words.split()[0] for words in MANY} == walked - {'draw', 'page', 'case'}
 
 
-def test_cases_of_different_units_share_no_column_of_costs(plain: Files, other: Files, tmp_path: Path,
+OF_COSTS = ('flow', 'audit', 'rest', 'sweep 4 8 4', 'prices', 'network --seconds 30', 'tradeoff --seconds 30')
+
+
+@pytest.mark.parametrize('words', few_of(OF_COSTS, OF_COSTS[:5]))
+def test_cases_of_different_units_share_no_column_of_costs(words: str, plain: Files, other: Files, tmp_path: Path,
                                                            capfd: pytest.CaptureFixture[str]) -> None:
     names = ('case.csv', 'case-network.txt', 'case-study.txt')
     rows = [[files.path(name) for name in names] for files in (plain, other)]
     (tmp_path / 'list').write_text('\n'.join(['case;network;study', *map(';'.join, rows), '']))
-    for words in ('flow', 'audit', 'rest', 'sweep 4 8 4', 'prices', 'network --seconds 30', 'tradeoff --seconds 30'):
-        word, *more = words.split()
-        main(['many', word, str(tmp_path / 'list'), *more, '--form', 'csv', '--processes', '2'])
-        headings, held = csv_cells(capfd.readouterr().out)
-        unit = other.style.cost_unit
-        costs = [at for at, each in enumerate(headings) if each.endswith((' price times W', f' {unit}'))]
-        assert costs
-        for row in held:
-            own = PLAIN.cost_unit if row[0] == rows[0][0] else unit
-            assert all(headings[at].endswith(f' {own}') for at in costs if row[at] is not None)
+    word, *more = words.split()
+    main(['many', word, str(tmp_path / 'list'), *more, '--form', 'csv', '--processes', '2'])
+    headings, held = csv_cells(capfd.readouterr().out)
+    unit = other.style.cost_unit
+    costs = [at for at, heading in enumerate(headings) if heading.endswith((' price times W', f' {unit}'))]
+    assert costs
+    for row in held:
+        own = PLAIN.cost_unit if row[0] == rows[0][0] else unit
+        assert all(headings[at].endswith(f' {own}') for at in costs if row[at] is not None)
 
 
 # What two rows say is refused.

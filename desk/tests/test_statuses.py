@@ -8,7 +8,7 @@ from collections.abc import Callable
 from pathlib import Path
 
 import pytest
-from conftest import DESK, EXAMPLES, Done, example
+from conftest import DESK, EXAMPLES, Done, example, few_rows
 
 from pinchdesk.cli.main import main
 from pinchdesk.batch.job import Job, done
@@ -143,7 +143,7 @@ CLOSED = [
     ('$D targets $1/tc3.csv | true; true', 0, ''), ('python3 -u ${D#* } targets $1/tc3.csv > /dev/full', 2, 'No space')]
 
 
-@pytest.mark.parametrize('line, status, said', CLOSED)
+@pytest.mark.parametrize('line, status, said', few_rows(CLOSED, [CLOSED[at][0] for at in (0, 1, 3, 4)]))
 def test_a_closed_or_full_output_is_no_traceback(line: str, status: int, said: str, tmp_path: Path) -> None:
     (tmp_path / 't.csv').write_text('H1;150;60;2\n')
     ended = shell(line, tmp_path)
@@ -171,7 +171,7 @@ LIMITED = [
     ('mkfifo f; $D targets $1/tc3.csv -o f', 2, 'is not a plain file')]
 
 
-@pytest.mark.parametrize('line, status, said', LIMITED)
+@pytest.mark.parametrize('line, status, said', few_rows(LIMITED, [LIMITED[at][0] for at in (1, 7, 9)]))
 def test_a_machine_without_room_is_one_line(line: str, status: int, said: str, tmp_path: Path) -> None:
     ended = shell(line, tmp_path)
     assert (ended.status, ended.err.count('\n')) == (status, 1) and said in ended.err

@@ -11,7 +11,7 @@ from pathlib import Path
 import pytest
 from branched import THREE, THREE_NETWORK
 from captured import Captured
-from conftest import EXAMPLES, NETWORKS, example, search_here
+from conftest import EXAMPLES, NETWORKS, example, few_of, few_rows, search_here
 from hypothesis import given
 from hypothesis import strategies as st
 from looking import cut_off, overlapping, svg_texts
@@ -91,7 +91,7 @@ def test_branches_that_are_joined_across_one_another_are_refused(pinch: Pinch) -
 
 # The least cost of a structure.
 
-@pytest.mark.parametrize('name', NETWORKS)
+@pytest.mark.parametrize('name', few_of(NETWORKS))
 def test_the_least_cost_of_a_structure_is_that_of_the_audit(name: str, pinch: Pinch) -> None:
     case, network = those(name)
     judge = Judge(pinch, case)
@@ -138,8 +138,8 @@ def test_what_the_solver_writes_goes_nowhere(capfd: pytest.CaptureFixture[str]) 
 
 # Simpler networks.
 
-@pytest.mark.parametrize('name, most', [('preheater', 3), ('column', 7), ('two-reactors-steam', 10), ('tc3', 7),
-                                        ('three-levels', 10)])
+@pytest.mark.parametrize('name, most', few_rows([('preheater', 3), ('column', 7), ('two-reactors-steam', 10),
+                                                 ('tc3', 7), ('three-levels', 10)], ('preheater', 'tc3')))
 def test_a_network_made_simpler_costs_no_more(name: str, most: int, pinch: Pinch) -> None:
     case, network = those(name)
     made = simpler(case, network, pinch)
@@ -244,6 +244,7 @@ def test_control_c_gives_the_rows_so_far(pinch: Pinch) -> None:
     assert made.stopped and [row.exchangers for row in made.rows] == [7, 6] and len(told) == 1
 
 
+@pytest.mark.long
 def test_other_pairs_and_places_are_tried(pinch: Pinch) -> None:
     # With S1 on S4, which needs no split, five cost less than what is left of the network by hand.
     made = tradeoff(*those('tc3'), pinch, seconds=8)
@@ -253,6 +254,7 @@ def test_other_pairs_and_places_are_tried(pinch: Pinch) -> None:
         assert cost_of(pinch, made.case, row.network) == row.cost
 
 
+@pytest.mark.long
 def test_without_a_network_one_is_searched(pinch: Pinch) -> None:
     made = tradeoff(those('preheater')[0], None, pinch, seconds=30)
     assert {row.exchangers: int(row.cost) for row in made.rows} == {3: 2000, 2: 4000}
@@ -270,6 +272,7 @@ def test_a_picture_has_each_network(traded: TradeOff) -> None:
     assert overlapping(figure) == [] and cut_off(figure) == []
 
 
+@pytest.mark.long
 @pytest.mark.usefixtures('searched_here')
 def test_a_picture_of_long_costs_and_many_networks_has_room(pinch: Pinch) -> None:
     made = tradeoff(*those('three-levels'), pinch, seconds=10)

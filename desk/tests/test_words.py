@@ -11,7 +11,7 @@ from pathlib import Path
 import openpyxl
 import pytest
 from captured import Captured
-from conftest import CASES, EXAMPLES, NETWORKS, Done, command, example
+from conftest import CASES, EXAMPLES, NETWORKS, Done, command, example, few_of
 
 from pinchdesk import Accepted, Pinch
 from pinchdesk.formats.written_files import write_whole
@@ -276,7 +276,8 @@ def desk_text() -> str:
             '        85           90            80\n')
 
 
-@pytest.mark.parametrize('word', [*PLACES, 'many'])
+@pytest.mark.usefixtures('many_here')
+@pytest.mark.parametrize('word', few_of([*PLACES, 'many'], {*PLACES, 'many'} - {'network'}))
 def test_help_has_an_example_that_runs(word: str, desk: Captured, monkeypatch: pytest.MonkeyPatch,
                                        tmp_path: Path) -> None:
     monkeypatch.chdir(EXAMPLES.parent)
