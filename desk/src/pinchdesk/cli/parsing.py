@@ -20,6 +20,7 @@ Words = Sequence[Word[Any] | WordGroup]
 # What is done with what was parsed of a word with these names.
 Doing = Callable[[Word[Any], tuple[str, ...], Namespace], int]
 MANY_LIST = 'examples/list.txt'
+VERSION = '--version'
 MANY = WordGroup('many', 'one word over many cases: a table with the answer of each',
                  f'pinchdesk many audit {MANY_LIST} -o audits.xlsx', ())
 
@@ -46,9 +47,11 @@ def parser(answered: Doing, done_over_many: Doing, arguments: Sequence[str]) -> 
     """The parser of the command for these arguments, with what is done of a word, and of one over many cases."""
     top = Parser(prog='pinchdesk', description='From an engineer\'s spreadsheet to a page for the reviewer, around '
                                                'the proved program pinch.')
-    top.add_argument('--version', action=Version, nargs=0, help='print the version, and end')
-    words = top.add_subparsers(dest='word', metavar='WORD', required=True)
+    top.add_argument(VERSION, action=Version, nargs=0, help='print the version, and end')
     first = arguments[0] if arguments else ''
+    if first == VERSION:
+        return top
+    words = top.add_subparsers(dest='word', metavar='WORD', required=True)
     if first != MANY.name:
         add_words(words, asked_words(arguments), (), add_word, answered)
     if first != MANY.name and first not in PLACES:
