@@ -9,6 +9,7 @@ from fractions import Fraction
 
 from ..errors import refused_row
 
+BLANKS = re.compile('[ \t]+')
 RATIO = re.compile(r'(-?[0-9]{1,24})(?:/([0-9]{1,24}))?')
 FIELDS = {'exchanger': 5, 'split': 5, 'pass': 4, 'mix': 4, 'end': 2}
 
@@ -78,7 +79,8 @@ def read_network(text: str | bytes) -> Network:
     network_text = text.decode('utf-8', 'replace') if isinstance(text, bytes) else text
     statements: list[Statement] = []
     for line in network_text.split('\n'):
-        fields = [field for field in re.split('[ \t]+', line.removesuffix('\r')) if field]
+        # Most lines of a long file are none.
+        fields = [field for field in BLANKS.split(line.removesuffix('\r')) if field] if line else []
         if fields and not fields[0].startswith('#'):
             statements.append(statement_of(len(statements) + 1, fields))
     return Network(tuple(statements))
