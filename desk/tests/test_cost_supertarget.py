@@ -8,6 +8,7 @@ from costed import ONE_TWO, SMALL, costed_case, law_rows, near, targets
 
 from pinchdesk import Pinch, Refused, WordsError, completed, print_case, read_case
 from pinchdesk.costs.supertarget import Supertarget, at_contribution, supertarget
+from pinchdesk.figures.cost_curves import supertarget_figure
 
 
 @pytest.fixture(scope='module')
@@ -61,6 +62,8 @@ def test_differences_without_a_heat_flow_are_named(pinch: Pinch) -> None:
     assert [difference for difference, _ in found.without] == [0, 40, 60]
     assert found.without[0][1].startswith('case balanced curves: at ')
     assert found.without[1][1] == found.without[2][1] == 'there is no heat flow'
+    marks = next(line for line in supertarget_figure(found).axes[0].get_lines() if line.get_label() == 'no cost there')
+    assert list(marks.get_xdata()) == [0, 40, 60]
 
 
 def test_a_range_that_is_none_is_refused(pinch: Pinch) -> None:

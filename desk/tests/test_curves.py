@@ -180,6 +180,16 @@ def test_what_is_used_beyond_the_targets_is_left_of_the_axis_and_told(pinch: Pin
     assert any('hot utility 14500 kW, cold utility 17000 kW' in each for each in texts)
 
 
+def test_a_legend_has_the_utilities_from_the_hottest_down_and_says_what_the_dotted_line_is(pinch: Pinch) -> None:
+    drawn = answered(pinch, example('three-levels.csv'))
+    for drawing, first in ((balanced_figure, 'hot streams'), (grand_figure, 'used beyond the targets: 7000 kW')):
+        figure = drawing(drawn.case, drawn.targets, drawn.curves, pinch.flow(example('three-levels.csv')))
+        told = [text.get_text() for text in figure.axes[0].get_legend().get_texts()]
+        names = [text.split(' at ')[0] for text in told if ' at ' in text]
+        assert told[0] == first and names == ['HP', 'MP', 'LP', 'BFW', 'CW']
+    assert 'heat flows down between this line and the curve' in told
+
+
 def test_raised_steam_touches_the_grand_curve(pinch: Pinch) -> None:
     drawn = answered(pinch, example('three-levels.csv'))
     raised = next(each for each in stairs(drawn) if each.used.utility.name == 'BFW')

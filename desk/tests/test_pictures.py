@@ -18,8 +18,10 @@ from pinchdesk.costs.area_target import asked_area
 from pinchdesk.costs.network_areas import asked_duties
 from pinchdesk.figures import grid_figure, prices_figure, rendered, site_figure, sweep_figure
 from pinchdesk.figures.area_curves import driving_forces_figure
+from pinchdesk.figures.axes import plain
 from pinchdesk.figures.grid.layout import plan_of
 from pinchdesk.figures.labels import meets
+from pinchdesk.figures.price_spans import BETWEEN_PRICES
 from pinchdesk.figures.style import ACROSS, FAULT
 from pinchdesk.formats.shown import Shown
 from pinchdesk.formats.site import read_site
@@ -114,7 +116,7 @@ def test_what_works_across_the_pinch_is_marked(pinch: Pinch) -> None:
     figure = grid(pinch, content, text)
     assert any('↯ 1' in each for each in svg_texts(figure))
     marked = [colour for _, colour in bars_of(figure) if colour == ACROSS]
-    assert len(marked) == sum('↯' in each for each in svg_texts(figure) if not each.startswith('across'))
+    assert len(marked) == sum('↯' in each for each in svg_texts(figure) if not each.startswith('on both sides'))
 
 
 def test_of_several_pinches_each_is_drawn_and_streams_begin_there(pinch: Pinch) -> None:
@@ -192,13 +194,30 @@ def test_large_costs_and_long_units_have_room(pinch: Pinch) -> None:
     assert_readable(prices_figure(case, Prices((SpanAnswer('LONGEST-NAME-16B', segments),))))
 
 
+def test_where_both_targets_are_equal_both_lines_are_seen(pinch: Pinch) -> None:
+    content = example('preheater.csv')
+    axes = sweep_figure(read_case(content), pinch.sweep(content, 0, 100, 10)).axes[0]
+    hot, cold = (next(line for line in axes.get_lines() if line.get_label().startswith(f'{side} target'))
+                 for side in ('hot', 'cold'))
+    assert list(hot.get_ydata()) == list(cold.get_ydata())
+    assert hot.get_linewidth() >= 2 * cold.get_linewidth() and hot.get_zorder() <= cold.get_zorder()
+
+
+@pytest.mark.parametrize(('number', 'text'), [
+    (0, '0'), (-0.0000001, '0'), (-5000, '−5000'), (0.125, '0.125'), (99999.5, '99999.5'),
+    (-1234567, '−1\u202f234\u202f567')])
+def test_a_number_of_a_scale_has_no_exponent_and_its_digits_in_groups(number: float, text: str) -> None:
+    assert plain(number) == text
+
+
 def test_prices_are_segments_with_their_ends(pinch: Pinch) -> None:
     content = example('two-steam-levels.csv')
     prices = pinch.prices(content, example('steam-prices.csv'))
     figure = prices_figure(read_case(content), prices)
     assert_readable(figure)
     texts = svg_texts(figure)
-    for wanted in ('0: 55500', '3: 60000', '5: 60000', '1.5 kW', '20 kW', '18.5 kW'):
+    for wanted in ('0: 55500', '3: 60000', '5: 60000', '1.5 kW', '20 kW', '18.5 kW', BETWEEN_PRICES,
+                   'least cost; its slope is the heat of LP', 'least cost; its slope is the heat of HP'):
         assert wanted in texts
     with pytest.raises(WordsError, match='no span of CW'):
         prices_figure(read_case(content), prices, 'CW')

@@ -272,6 +272,12 @@ def test_a_picture_has_each_network(traded: TradeOff) -> None:
     assert overlapping(figure) == [] and cut_off(figure) == []
 
 
+def test_a_picture_of_one_network_has_whole_numbers_of_exchangers(traded: TradeOff) -> None:
+    axes = tradeoff_figure(replace(traded, rows=traded.rows[:1])).axes[0]
+    low, high = axes.get_xlim()
+    assert [tick for tick in axes.get_xticks() if low <= tick <= high] == [6, 7, 8]
+
+
 @pytest.mark.long
 @pytest.mark.usefixtures('searched_here')
 def test_a_picture_of_long_costs_and_many_networks_has_room(pinch: Pinch) -> None:

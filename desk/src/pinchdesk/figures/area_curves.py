@@ -26,8 +26,8 @@ def area_figure(target: AreaTarget) -> Figure:
         put_curves(curves, target.intervals)
         put_bars(bars, target.intervals)
         entitled(curves, '', 'temperature in °C', f'Area by the formula: {target.area.shown(1)} m²')
-        entitled(bars, 'heat in kW', 'm² a kW')
-        legend_below(bars, curves.get_legend_handles_labels()[0])
+        entitled(bars, 'heat in kW', 'area for a kW, m²/kW')
+        legend_below(bars, [*curves.get_legend_handles_labels()[0], *bars.get_legend_handles_labels()[0]])
         fitted(figure)
         spaced(bars)
     return figure
@@ -51,7 +51,7 @@ def put_bars(axes: Axes, intervals: Sequence[IntervalArea]) -> None:
     wide = [float(area.interval.heat) / 1000 for area in intervals]
     areas = [float(area.area.middle) for area in intervals]
     axes.bar(lefts, [area / width for area, width in zip(areas, wide)], wide, align='edge', color=ACROSS, alpha=0.35,
-             edgecolor=ACROSS, linewidth=0.5)
+             edgecolor=ACROSS, linewidth=0.5, label='area of an interval')
     for at in sorted(range(len(areas)), key=lambda place: -areas[place])[:WRITTEN]:
         axes.annotate(f'{intervals[at].area.shown(1)} m²', (lefts[at] + wide[at] / 2, areas[at] / wide[at]),
                       xytext=(0, 2), textcoords='offset points', ha='center', fontsize=7.5)

@@ -22,6 +22,9 @@ def supertarget_figure(found: Supertarget) -> Figure:
         across = [float(point.difference) for point in found.points]
         for label, colour, cost in curves_of():
             axes.plot(across, [float(cost(point)) for point in found.points], color=colour, linewidth=1.5, label=label)
+        if found.without:
+            axes.plot([float(difference) for difference, _ in found.without], [0] * len(found.without), 'x', color=INK,
+                      markersize=7, label='no cost there', clip_on=False)
         put_least(axes, found)
         put_area(axes.twinx(), found, across)
         money = said(found.data.capital.currency)
@@ -39,7 +42,7 @@ def supertarget_figure(found: Supertarget) -> Figure:
 def curves_of() -> tuple[tuple[str, str, Callable[[SupertargetPoint], Fraction]], ...]:
     return (('energy', HOT, lambda point: point.cost.energy),
             ('capital', COLD, lambda point: point.cost.capital_a_year.middle),
-            ('both', INK, lambda point: point.cost.whole.middle))
+            ('energy and capital', INK, lambda point: point.cost.whole.middle))
 
 
 def put_least(axes: Axes, found: Supertarget) -> None:

@@ -63,7 +63,11 @@ def put_points(axes: Axes, traded: TradeOff, points: list[Xy], shown: Shown) -> 
     entitled(axes, 'exchangers, with heaters and coolers', f'cost of utilities, {said(shown.cost_unit)}',
              'Exchangers against cost')
     plainly(axes)
-    axes.xaxis.set_major_locator(MaxNLocator(integer=True))
+    # One network alone has room on both sides, or its number would stand between fractions.
+    counts = sorted({row.exchangers for row in traded.rows} | ({begun.count} if traded.left_begun else set()))
+    if len(counts) == 1:
+        axes.set_xlim(counts[0] - 1, counts[0] + 1)
+    axes.xaxis.set_major_locator(MaxNLocator(integer=True, min_n_ticks=1))
     legend_below(axes)
 
 

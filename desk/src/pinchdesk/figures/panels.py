@@ -156,7 +156,7 @@ def put_balanced(axes: Axes, drawn: Drawn) -> None:
     for side, points, colour in ((Side.HOT, drawn.curves.hot, HOT), (Side.COLD, drawn.curves.cold, COLD)):
         corners, spans = balanced_side(drawn, side)
         put_curve(axes, drawn_at(corners, shown), colour, f'{side.value} streams')
-        for span in spans:
+        for span in reversed(spans):
             put_span(axes, span, shown)
         curves.append(corners)
         levels += [span.temperature / 10 for span in spans]
@@ -192,7 +192,8 @@ def put_grand(axes: Axes, drawn: Drawn) -> None:
     put_curve(axes, net, INK, 'grand composite curve')
     steps = [net[0], *[point for span in spans for point in ends_of(span, shown)], net[-1]]
     if spans:
-        axes.plot(*zip(*steps), color=PALE, linewidth=0.9, linestyle=':', gid='stairs')
+        axes.plot(*zip(*steps), color=PALE, linewidth=1.1, linestyle=':', gid='stairs',
+                  label='heat flows down between this line and the curve')
     for span in spans:
         put_span(axes, span, shown)
     for pinch in drawn.pinches:

@@ -2,6 +2,7 @@
 from __future__ import annotations
 
 from collections.abc import Sequence
+from itertools import pairwise
 
 from matplotlib.axes import Axes
 from matplotlib.figure import Figure
@@ -10,12 +11,13 @@ from ..errors import WordsError
 from ..formats.case import Case
 from ..formats.shown import Shown
 from ..program.answers import Prices, Segment, SpanAnswer
-from .axes import entitled, fitted, plainly, spaced
+from .axes import entitled, fitted, legend_below, plainly, spaced
 from .labels import Labels, Xy
 from .style import HOT, INK, blank, framed, said, styled
 
 # Of more segments than these not each has its numbers in the picture; the table has.
 MOST_LABELS = 14
+BETWEEN_PRICES = 'between two prices of the study, where nothing is asked'
 
 
 def spans_of(prices: Prices, utility: str | None) -> list[SpanAnswer]:
@@ -31,7 +33,7 @@ def prices_figure(case: Case, prices: Prices, utility: str | None = None) -> Fig
     """A diagram for each span of a study, or for those of one utility."""
     spans, shown = spans_of(prices, utility), Shown(case.basis)
     with styled():
-        figure = blank(7.2, 4.6 * len(spans))
+        figure = blank(7.2, 4.8 * len(spans))
         for axes, span in zip(figure.subplots(len(spans), squeeze=False)[:, 0], spans):
             put_span(axes, span, shown)
         fitted(figure)
@@ -53,16 +55,17 @@ def put_span(axes: Axes, span: SpanAnswer, shown: Shown) -> None:
     plainly(axes)
     if not span.segments:
         axes.text(0.5, 0.5, 'no heat flow', transform=axes.transAxes, ha='center', fontsize=12)
-    before: Xy | None = None
-    for segment in span.segments:
-        ends = ends_of(segment, shown)
-        if before:
-            axes.plot(*zip(before, ends[0]), color=HOT, linewidth=0.9, linestyle=':')
-        axes.plot(*zip(*ends), color=HOT, linewidth=1.8, marker='o', markersize=4.5, markerfacecolor=INK,
-                  markeredgecolor=INK)
-        before = ends[1]
+    lines = [ends_of(segment, shown) for segment in span.segments]
+    for line in lines:
+        axes.plot(*zip(*line), color=HOT, linewidth=1.8, marker='o', markersize=4.5, markerfacecolor=INK,
+                  markeredgecolor=INK, label=f'least cost; its slope is the heat of {name}')
+    for before, line in pairwise(lines):
+        axes.plot(*zip(before[1], line[0]), color=HOT, linewidth=0.9, linestyle=':', label=BETWEEN_PRICES)
     axes.margins(0.09, 0.16)
     framed(axes)
+    if lines:
+        handles, names = axes.get_legend_handles_labels()
+        legend_below(axes, list(dict(zip(names, handles)).values()))
 
 
 def put_labels(axes: Axes, segments: Sequence[Segment], shown: Shown) -> None:

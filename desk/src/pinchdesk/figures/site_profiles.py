@@ -27,9 +27,9 @@ def site_figure(site: Site, answer: SiteAnswer) -> Figure:
         source = [(-float(shown.in_kilowatts(profile.source)), profile.temperature / 10) for profile in answer.profiles]
         sink = [(float(shown.in_kilowatts(profile.sink)), profile.temperature / 10) for profile in answer.profiles]
         axes.plot(*zip(*source), color=HOT, marker='o', markersize=3, linewidth=1.5,
-                  label=f'to give: {shown.kilowatts(answer.profiles[0].source)} kW in all')
+                  label=f'heat to give: {shown.kilowatts(answer.profiles[0].source)} kW in all')
         axes.plot(*zip(*sink), color=COLD, marker='o', markersize=3, linewidth=1.5,
-                  label=f'to take: {shown.kilowatts(answer.profiles[-1].sink)} kW in all')
+                  label=f'heat to take: {shown.kilowatts(answer.profiles[-1].sink)} kW in all')
         finish(axes, [*source, *sink], title_of(answer, shown))
         put_mains(axes, site, [source, sink])
     return figure

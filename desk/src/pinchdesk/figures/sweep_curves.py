@@ -41,12 +41,13 @@ def sweep_figure(case: Case, sweep: Sweep) -> Figure:
 
 def put_targets(axes: Axes, sweep: Sweep, shown: Shown) -> None:
     across = [point.contribution / 5 for point in sweep.points]
-    for name, colour, heats in (('hot target', HOT, [point.hot for point in sweep.points]),
-                                ('cold target', COLD, [point.cold for point in sweep.points])):
+    # Where both are equal the wider line is seen on both sides of the other one; one at 0 lies above the axis.
+    for name, colour, wide, heats in (('hot target', HOT, 3.0, [point.hot for point in sweep.points]),
+                                      ('cold target', COLD, 1.4, [point.cold for point in sweep.points])):
         first, last = shown.kilowatts(heats[0]), shown.kilowatts(heats[-1])
         told = f'{name}: {first} to {last} kW' if first != last else f'{name}: {first} kW'
-        axes.plot(across, [float(shown.in_kilowatts(heat)) for heat in heats], color=colour, marker='o', markersize=3,
-                  linewidth=1.4, label=told)
+        axes.plot(across, [float(shown.in_kilowatts(heat)) for heat in heats], color=colour, marker='o',
+                  markersize=wide + 1.6, linewidth=wide, label=told, clip_on=False, zorder=3)
     axes.set_ylim(bottom=0)
     plainly(axes)
     framed(axes)

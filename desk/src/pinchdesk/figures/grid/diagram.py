@@ -25,7 +25,7 @@ from .streams import put_streams
 # How many exchangers have room; the order of their bars among what lies above and below them; the room around texts.
 MOST, BARS, PAD = 60, 4, 0.034
 LEGEND = ((ABOVE, 'above the pinch'), (BETWEEN, 'between pinches'), (BELOW, 'below the pinch'),
-          (ACROSS, 'across a pinch (↯ kW that cross it)'))
+          (ACROSS, 'on both sides of a pinch (↯ kW that cross it)'))
 
 
 def grid_figure(followed: Followed, pinches: tuple[PinchPoint, ...], verdict: Verdict, most: int = MOST) -> Figure:
