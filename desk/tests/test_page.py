@@ -115,7 +115,7 @@ def test_a_page_says_what_it_is_and_how_it_is_made_again(tmp_path: Path, pinch: 
     assert '<h1>Heat recovery &lt;2&gt;</h1>' in page and '<title>Heat recovery &lt;2&gt;</title>' in page
     text = words_of(page)
     for wanted in ('plant Unit & 3 author A. "B"? revision C date 1 May',
-                   'ΔTmin 10 K, by the row `contribution` of the case: each stream and utility contributes 5 K, but '
+                   'ΔTmin 10 K, by the contribution row of the case: each stream and utility contributes 5 K, but '
                    'off-gas 15 K, reboiler 2.5 K, steam 2.5 K',
                    f'desk pinchdesk {__version__} {desk_digest()}',
                    *(f'{name} {sha256(example(name)).hexdigest()}' for name in names),
@@ -143,7 +143,7 @@ def test_a_page_says_where_the_least_difference_comes_from(head: str, options: t
     case = (tmp_path / 'c.csv').read_text()
     assert difference_told(read_case(case)) == f'10 K, {origin}: each stream and utility contributes 5 K'
     changed = case.replace('contribution,,50,', 'contribution,,60,')
-    assert difference_told(read_case(changed)).startswith('12 K, by the row `contribution` of the case: each ')
+    assert difference_told(read_case(changed)).startswith('12 K, by the contribution row of the case: each ')
 
 
 def test_of_many_own_contributions_the_page_says_how_many_there_are() -> None:

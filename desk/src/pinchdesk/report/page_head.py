@@ -55,7 +55,7 @@ def difference_told(case: Case) -> str:
     whole, part = shown.celsius(2 * case.contribution), shown.celsius(case.contribution)
     # What the case says of another difference was right before somebody changed its row.
     said = case.basis.difference.removeprefix(f'{whole} K, ')
-    origin = 'by the row `contribution` of the case' if said == case.basis.difference else said
+    origin = 'by the contribution row of the case' if said == case.basis.difference else said
     own = [source for source in case.sources if source.contribution != case.contribution]
     told = f'{whole} K, {origin}: each stream and utility contributes {part} K'
     return f'{told}, but {own_told(own, len(case.sources), shown)}' if own else told
