@@ -4,6 +4,7 @@ from __future__ import annotations
 
 from dataclasses import replace
 from fractions import Fraction
+from itertools import combinations
 from time import process_time
 
 import pytest
@@ -131,6 +132,9 @@ def test_of_several_pinches_each_is_drawn_and_streams_begin_there(pinch: Pinch) 
     for each in targets.pinches:
         assert f'pinch {Shown().celsius(each)} °C' in texts
     assert len(dashed_of(figure)) == len(targets.pinches)
+    # Two numbers beside each other would be read as one.
+    boxes = [(text, box.padded(3)) for text, box, _ in texts_of(figure) if text.isdigit()]
+    assert [(one, other) for (one, box), (other, second) in combinations(boxes, 2) if box.overlaps(second)] == []
 
 
 def chain(count: int) -> tuple[bytes, bytes]:

@@ -11,6 +11,9 @@ from ...program.verdicts import PlaceKind, Rejected, Verdict
 from ..paper import Paper
 from .layout import GridLayout
 
+# How far apart two numbers beside each other stand at least.
+APART = 0.06
+
 
 @dataclass
 class Canvas:
@@ -25,6 +28,8 @@ class Canvas:
     verdict: Verdict
     # The upright pieces of all bars and pinches: where, from and to which height.
     bars: list[tuple[float, float, float]] = field(default_factory=list)
+    # The numbers at streams: left, right, low, high.
+    numbers: list[tuple[float, float, float, float]] = field(default_factory=list)
 
     def write(self, x: float, y: float, text: str, **style: Any) -> None:
         self.paper.write(x, y, text, **{'fontsize': self.plan.type.size, **style})
@@ -37,9 +42,17 @@ class Canvas:
         return name in (self.finding.stream, place.name if place.kind is PlaceKind.UTILITY else None)
 
     def is_free(self, left: float, right: float, low: float, high: float) -> bool:
-        """Whether no bar and no pinch passes through a box; both have to be drawn."""
-        return not any(left < x < right and min(one, other) < high and max(one, other) > low
-                       for x, one, other in self.bars)
+        """Whether no bar and no pinch passes through a box, and no number stands so near that both look like one; all
+        have to be drawn."""
+        return not (any(left < x < right and min(one, other) < high and max(one, other) > low
+                        for x, one, other in self.bars)
+                    or any(left < last + APART and first - APART < right and low < top and bottom < high
+                           for first, last, bottom, top in self.numbers))
+
+    def number(self, x: float, y: float, text: str, wide: float, high: float, **style: Any) -> None:
+        """Writes a number at a stream; its width and height are those of the place that it takes."""
+        self.numbers.append((x - wide / 2, x + wide / 2, y - high / 2, y + high / 2))
+        self.write(x, y, text, **style)
 
 
 def ends_at(sheet: Canvas, passage: Passage) -> tuple[tuple[float, float], tuple[float, float]]:

@@ -77,4 +77,4 @@ def put_end(sheet: Canvas, at: tuple[float, float], text: str, side: str, wrong:
     if not free:
         sheet.paper.ground(spot.x, spot.y, spot.wide + PAD, spot.high)
     mark = {'color': FAULT, 'fontweight': 'bold'} if wrong else {}
-    sheet.write(spot.x, spot.y, text, rotation=90.0 if spot.upright else 0.0, **mark)
+    sheet.number(spot.x, spot.y, text, spot.wide, spot.high, rotation=90.0 if spot.upright else 0.0, **mark)
