@@ -14,7 +14,8 @@ from looking import bars_of, cut_off, dashed_of, on_lines, overlapping, pale, sv
 from matplotlib.figure import Figure
 
 from pinchdesk import Accepted, Pinch, Rejected, WordsError, completed, follow, read_case, read_network
-from pinchdesk.analysis.follow import pinches_of
+from pinchdesk.analysis.follow import Followed, pinches_of
+from pinchdesk.analysis.joined import joined
 from pinchdesk.costs.area_target import asked_area
 from pinchdesk.costs.network_areas import asked_duties
 from pinchdesk.figures import grid_figure, prices_figure, rendered, site_figure, sweep_figure
@@ -26,6 +27,7 @@ from pinchdesk.figures.price_spans import BETWEEN_PRICES
 from pinchdesk.figures.style import ACROSS, FAULT
 from pinchdesk.formats.shown import Shown
 from pinchdesk.formats.site import read_site
+from pinchdesk.formats.whole_streams import parts_of
 from pinchdesk.program.answers import Prices, Segment, SpanAnswer
 
 
@@ -33,6 +35,11 @@ def grid(pinch: Pinch, content: bytes, text: bytes, most: int = 60) -> Figure:
     followed = follow(completed(read_case(content)), read_network(text))
     pinches = pinches_of(pinch.targets(content), pinch.curves(content))
     return grid_figure(followed, pinches, pinch.audit(content, text), most)
+
+
+def plant_of(content: bytes, text: bytes) -> Followed:
+    """A network with the streams and the exchangers of the plant, as it is drawn."""
+    return joined(follow(completed(read_case(content)), read_network(text))).followed
 
 
 def assert_readable(figure: Figure) -> None:
@@ -44,15 +51,15 @@ def assert_readable(figure: Figure) -> None:
 @pytest.mark.parametrize('name', few_of(NETWORKS))
 def test_a_grid_diagram_has_every_number_and_nothing_on_another(name: str, pinch: Pinch) -> None:
     content, text = example(f'{name}.csv'), example(f'{name}-network.txt')
-    figure, case = grid(pinch, content, text), completed(read_case(content))
+    figure, plant = grid(pinch, content, text), plant_of(content, text)
     assert_readable(figure)
-    shown, texts = Shown(case.basis), ' '.join(svg_texts(figure)).split()
-    for each in read_network(text).exchangers:
-        assert each.name in texts and shown.kilowatts(each.duty) in texts
-    for stream in case.streams:
+    shown, texts = Shown(plant.case.basis), ' '.join(svg_texts(figure)).split()
+    for passage in plant.passages:
+        assert passage.exchanger.name in texts and shown.kilowatts(passage.exchanger.duty) in texts
+    for stream in plant.case.streams:
         wanted = [stream.name, shown.celsius(stream.supply), shown.celsius(stream.target), shown.kilowatts(stream.heat)]
-        wanted += ['latent'] if stream.latent else [shown.kilowatts_per_kelvin(stream.cp)]
-        assert set(wanted) <= set(texts)
+        flows = ['latent' if part.latent else shown.kilowatts_per_kelvin(part.cp) for part in parts_of(stream)]
+        assert {*wanted, flows[0], flows[-1]} <= set(texts)
     for pinch_at in pinch.targets(content).pinches:
         assert shown.celsius(pinch_at) in texts
     wide, high = figure.get_size_inches()
@@ -63,7 +70,7 @@ def test_a_grid_diagram_has_every_number_and_nothing_on_another(name: str, pinch
 def test_no_bar_passes_through_the_label_of_another(name: str, pinch: Pinch) -> None:
     figure = grid(pinch, example(f'{name}.csv'), example(f'{name}-network.txt'))
     bars = [points for points, _ in bars_of(figure)]
-    assert len(bars) == len(read_network(example(f'{name}-network.txt')).exchangers)
+    assert len(bars) == len(plant_of(example(f'{name}.csv'), example(f'{name}-network.txt')).passages)
     for text, box, each in texts_of(figure):
         if each.get_zorder() == 7:
             through = [bar for bar in bars if any(meets(box, one, other) for one, other in zip(bar, bar[1:]))]
@@ -208,7 +215,7 @@ def test_where_both_targets_are_equal_both_lines_are_seen(pinch: Pinch) -> None:
 
 
 @pytest.mark.parametrize(('number', 'text'), [
-    (0, '0'), (-0.0000001, '0'), (-5000, '−5000'), (0.125, '0.125'), (99999.5, '99999.5'),
+    (0, '0'), (-0.0000001, '0'), (-5000, '−5000'), (0.125, '0.125'), (9999.5, '9999.5'), (-99999.5, '−99\u202f999.5'),
     (-1234567, '−1\u202f234\u202f567')])
 def test_a_number_of_a_scale_has_no_exponent_and_its_digits_in_groups(number: float, text: str) -> None:
     assert plain(number) == text

@@ -15,12 +15,12 @@ from .text_widths import width
 # How far below an axis its legend stands, in inches, and what a legend's line takes beside its text.
 BELOW, HANDLE = 0.46, 0.5
 MOST_LINES = 3
-GROUPED, NARROW_BLANK = 100_000, '\u202f'
+GROUPED, NARROW_BLANK = 10_000, '\u202f'
 ROOM, EDGE, STEPS = 0.14, 0.08, [1, 2, 2.5, 5, 10]
 
 
 def plain(value: float) -> str:
-    """A number of a scale without an exponent; one of six digits or more has them in groups."""
+    """A number of a scale without an exponent; one of five digits or more has them in groups."""
     text = f'{abs(value):,.6f}'.rstrip('0').rstrip('.')
     text = text.replace(',', NARROW_BLANK if abs(value) >= GROUPED else '')
     return f'−{text}' if value < 0 and text != '0' else text
