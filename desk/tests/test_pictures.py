@@ -12,6 +12,8 @@ from branched import THREE, THREE_NETWORK
 from conftest import NETWORKS, example, few_of
 from looking import bars_of, cut_off, dashed_of, on_lines, overlapping, pale, svg_texts, texts_of
 from matplotlib.figure import Figure
+from matplotlib.patches import PathPatch
+from matplotlib.path import Path
 
 from pinchdesk import Accepted, Pinch, Rejected, WordsError, completed, follow, read_case, read_network
 from pinchdesk.analysis.follow import Followed, pinches_of
@@ -21,6 +23,7 @@ from pinchdesk.costs.network_areas import asked_duties
 from pinchdesk.figures import grid_figure, prices_figure, rendered, site_figure, sweep_figure
 from pinchdesk.figures.area_curves import driving_forces_figure
 from pinchdesk.figures.axes import plain
+from pinchdesk.figures.grid.diagram import BARS
 from pinchdesk.figures.grid.layout import plan_of
 from pinchdesk.figures.labels import meets
 from pinchdesk.figures.price_spans import BETWEEN_PRICES
@@ -117,6 +120,23 @@ def test_a_missed_target_is_drawn_as_missed(pinch: Pinch) -> None:
     found = Shown().celsius(verdict.found or Fraction(0), 3)
     assert any(found in each and 'target' in each for each in red)
     assert any(each.startswith('Rejected at ') for each in red)
+
+
+OPEN = b"""exchanger E1 S1 S3 120000\nexchanger open-1 S1 COLD 60000\nexchanger open-2 S2 COLD 240000
+exchanger open-3 HOT S3 142500\nexchanger open-4 HOT S4 225000\npass S1 E1 s1a\npass s1a open-1 s1b\nend s1b
+pass S2 open-2 s2a\nend s2a\npass S3 E1 s3a\npass s3a open-3 s3b\nend s3b\npass S4 open-4 s4a\nend s4a
+"""
+
+
+def test_what_is_still_open_is_dashed(pinch: Pinch) -> None:
+    figure = grid(pinch, example('tc3.csv'), OPEN)
+    assert_readable(figure)
+    dashed = [patch for patch in figure.findobj(PathPatch) if patch.get_zorder() == BARS
+              and patch.get_linestyle() != 'solid']
+    assert sum(list(patch.get_path().codes).count(Path.MOVETO) for patch in dashed) == 4
+    assert 'still open' in svg_texts(figure)
+    whole = grid(pinch, example('tc3.csv'), example('tc3-network.txt'))
+    assert 'still open' not in svg_texts(whole)
 
 
 def test_what_works_across_the_pinch_is_marked(pinch: Pinch) -> None:

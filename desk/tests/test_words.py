@@ -177,7 +177,7 @@ ERRORS = [
     (['targets', FOUR, FOUR], 2, 'unrecognized'), (['targets', FOUR, '-o', '.'], 2, '.: is a folder'),
     (['targets', FOUR, '-o', FOUR], 2, 'is an input'), (['targets', FOUR, '-o', 'link.csv'], 2, 'is an input'),
     (['targets', FOUR, '-o', 'no/such/file'], 2, 'there is no folder'),
-    (['targets', FOUR, '-o', '/dev/null'], 2, 'no plain file'),
+    (['targets', FOUR, '-o', '/dev/null'], 2, 'not a plain file'),
     (['targets', FOUR, '--form', 'pdf'], 2, 'invalid choice'), (['targets', 'a\0b'], 3, 'cannot be read'),
 ]
 

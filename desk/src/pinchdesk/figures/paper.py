@@ -21,16 +21,18 @@ Point = tuple[float, float]
 Piece = Sequence[Point]
 # A path of very many pieces is more than the renderer of a .png takes.
 TOGETHER = 200
+DASHES = (0, (4, 2.5))
 
 
 @dataclass(frozen=True)
 class Look:
-    """How a line is drawn: its colour, its width in points, what lies above it, how it ends."""
+    """How a line is drawn: its colour, its width in points, what lies above it, how it ends, whether it is dashed."""
 
     colour: str
     width: float
     order: float
     cap: str = 'butt'
+    is_dashed: bool = False
 
 
 @dataclass
@@ -87,7 +89,8 @@ class Paper:
                 chosen = [piece for piece in pieces if is_straight(piece) == straight]
                 for path in paths_of(chosen):
                     self.add(PathPatch(path, fill=False, edgecolor=look.colour, linewidth=look.width, capstyle=look.cap,
-                                       joinstyle='round', zorder=look.order, snap=straight))
+                                       joinstyle='round', zorder=look.order, snap=straight,
+                                       linestyle=DASHES if look.is_dashed else 'solid'))
         for path in paths_of(self.grounds):
             self.add(PathPatch(path, facecolor='white', linewidth=0, zorder=6.5))
         return self.figure

@@ -8,7 +8,7 @@ from matplotlib.figure import Figure
 from ...analysis.findings import Finding, finding_of
 from ...analysis.follow import Followed, Passage, PinchPoint, PinchSide
 from ...analysis.joined import joined
-from ...analysis.unfinished import unfinished_told
+from ...analysis.unfinished import open_exchangers, unfinished_told
 from ...errors import WordsError
 from ...formats.case import Side, Utility
 from ...formats.shown import Shown
@@ -106,7 +106,9 @@ def colour_of(passage: Passage, pinches: tuple[PinchPoint, ...]) -> str:
 
 
 def put_exchangers(sheet: Canvas) -> None:
-    """The bar of each exchanger with a circle at both ends, its name, duty, and what it carries across."""
+    """The bar of each exchanger with a circle at both ends, its name, duty, and what it carries across; one that
+    stands for what is still open is dashed."""
+    left = open_names(sheet.plan)
     circles: dict[tuple[str, str, float], list[tuple[float, float]]] = {}
     for passage in sheet.plan.followed.passages:
         (x, y), (u, v) = ends_at(sheet, passage)
@@ -115,7 +117,7 @@ def put_exchangers(sheet: Canvas) -> None:
         ink, weight = (FAULT, 2.4) if bad else (colour, 1.2)
         bend = [y, v] if x == u else [y, sheet.slants + 0.12, sheet.slants - 0.12, v]
         across = [x, u] if x == u else [x, x, u, u]
-        sheet.paper.line(tuple(zip(across, bend)), Look(ink, weight, BARS))
+        sheet.paper.line(tuple(zip(across, bend)), Look(ink, weight, BARS, is_dashed=passage.exchanger.name in left))
         sheet.bars += [(across[at], bend[at], bend[at + 1]) for at in range(0, len(bend), 2)]
         for at, source in (((x, y), passage.hot.source), ((u, v), passage.cold.source)):
             heated = '#f5b7b1' if source.side is Side.HOT else '#aed6f1'
@@ -125,6 +127,12 @@ def put_exchangers(sheet: Canvas) -> None:
     for (fill, ink, weight), centres in circles.items():
         sheet.paper.points(centres, 'o', markersize=sheet.plan.type.size * 0.8, markerfacecolor=fill,
                            markeredgecolor=ink, markeredgewidth=weight, zorder=6)
+
+
+def open_names(plan: GridLayout) -> set[str]:
+    """The exchangers that stand for what is not served yet."""
+    followed = plan.followed
+    return {exchanger.name for exchanger in open_exchangers(followed.case, followed.network.exchangers)}
 
 
 def put_label(sheet: Canvas, name: str, x: float, ink: str, bad: bool) -> None:
@@ -144,10 +152,11 @@ def put_legend(sheet: Canvas, notes: list[str]) -> None:
     """What the colours say, where there is a pinch, and the units."""
     plan, x, y = sheet.plan, 0.25, 0.22 + 0.14 * len(notes)
     used = {colour_of(passage, plan.pinches) for passage in plan.followed.passages}
-    for colour, text in LEGEND:
-        if colour in used:
-            sheet.paper.line(((x, y), (x + 0.25, y)), Look(colour, 2, 2, 'projecting'))
-            sheet.write(x + 0.32, y, text, ha='left', fontsize=7.5)
-            x += 0.55 + width(text, 7.5)
+    looks = [(Look(colour, 2, 2, 'projecting'), text) for colour, text in LEGEND if colour in used]
+    looks += [(Look(NEUTRAL, 1.2, 2, is_dashed=True), 'still open')] if open_names(plan) else []
+    for look, text in looks:
+        sheet.paper.line(((x, y), (x + 0.25, y)), look)
+        sheet.write(x + 0.32, y, text, ha='left', fontsize=7.5)
+        x += 0.55 + width(text, 7.5)
     for at, line in enumerate(notes):
         sheet.write(0.25, y - 0.17 - 0.14 * at, line, ha='left', fontsize=7.5, color=PALE)
