@@ -48,7 +48,7 @@ def test_columns_without_headings_are_told() -> None:
     ('name;supply °C;target °C;CP (W/K);duty', 'A;150;60;2000;\nB;150;60;;180'),
     ('kind;name;supply °C;target °C;CP;most (MW)', ';A;150;60;2;\nheater;S;200;;;5')])
 def test_a_unit_that_stands_with_another_kind_is_not_passed_over(head: str, row: str) -> None:
-    assert 'and none with' in refusal(f'{head}\n{row}\n', Wanted('10 K'))
+    assert 'and none is given for' in refusal(f'{head}\n{row}\n', Wanted('10 K'))
 
 
 def test_units_that_go_together_are_taken() -> None:

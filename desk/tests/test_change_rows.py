@@ -48,7 +48,7 @@ def test_comments_and_titles_are_told_with_their_texts() -> None:
     f'duties in 1000 kcal/h;;;\n{HEAD}less;S3;load;80\n'])
 def test_a_unit_that_stands_elsewhere_is_not_passed_over(text: str) -> None:
     said = refusal(text)
-    assert 'names a unit, and the numbers have none' in said or 'and none with' in said
+    assert 'names a unit, and the numbers have none' in said or 'and none is given for' in said
 
 
 def test_the_unit_of_prices_that_is_taken_is_told() -> None:

@@ -56,7 +56,7 @@ def test_a_cp_and_a_duty_that_disagree_are_refused() -> None:
 
 
 def test_what_the_program_refuses_is_refused_by_the_row_of_the_table(pinch: Pinch) -> None:
-    table = 'My plant,,,\n\nname,supply,target,CP\nA,150,60,2\nA,20,120,3\n'
+    table = 'My plant,,,\n\nkind,name,supply,target,CP\nhot,A,150,60,2\nheater,A,250,,\n'
     with pytest.raises(Refused) as fault:
         checked(made(table), pinch)
     assert (fault.value.status, fault.value.text) == (3, 'row 5: the name is used above already (SameName)')
@@ -179,7 +179,7 @@ def test_utilities_have_prices_and_all_costs_come_back(pinch: Pinch) -> None:
     assert made(table.replace('EUR/MWh', 'EUR/(kW a)'),
                 replace(TEN, hours=Fraction(8000))).case.basis.cost_unit == 'EUR/a'
     assert 'is a price per mass' in refusal(table.replace('EUR/MWh', 'EUR/t'))
-    assert 'none of a price' in refusal(table.replace('EUR/MWh', 'EUR/m3'))
+    assert 'not that of a price' in refusal(table.replace('EUR/MWh', 'EUR/m3'))
     assert 'is missing' in refusal(table.replace('20 EUR/MWh', ''))
     assert '--hours' in refusal(table.replace('20 EUR/MWh', '20 EUR/(kW a)'))
     assert pinch.targets(case).hot >= 0

@@ -233,7 +233,7 @@ def test_what_is_said_of_areas_is_kept_by_a_case() -> None:
 
 @pytest.mark.parametrize(('row', 'cause'), [
     ('#film,H,0.7,kW/m2K,,,', 'a row above says something else'), ('#film,K,x,kW/m2K,,,', 'x is not a number'),
-    ('#film,,0.7,kW/m2K,,,', 'the source is missing'), ('#law,pump,,1,1,1,m2', 'no kind of exchangers'),
+    ('#film,,0.7,kW/m2K,,,', 'the source is missing'), ('#law,pump,,1,1,1,m2', 'not a kind of exchanger'),
     ('#law,,X,1,1,2,m2', 'the exponent 2 is above 1'), ('#build,cooler,1-2,,,,shell', 'as 0.9'),
     ('#annual,recovery,10,5,,,', 'another one|10 % are 0.1'), ('#range,W,20,30,,,', 'unit of temperature is missing')])
 def test_a_row_that_says_what_cannot_be_is_refused(row: str, cause: str) -> None:
@@ -243,7 +243,7 @@ def test_a_row_that_says_what_cannot_be_is_refused(row: str, cause: str) -> None
 
 @pytest.mark.parametrize(('row', 'cause'), [
     ('#film,K,0.7,kW/m2K,,,', 'no such source'), ('#range,H,20,30,C,,', 'it is not a utility'),
-    ('#range,S,20,30,C,,', 'a hot utility cools down'), ('#overall,H,1,kW/K,C,,', 'no unit of this kind'),
+    ('#range,S,20,30,C,,', 'a hot utility cools down'), ('#overall,H,1,kW/K,C,,', 'not a unit of this kind'),
     ('#overall,H,1,,,,', '1 has no unit'), ('#overall,H,0,kW/m2K,,,', 'has to be above 0')])
 def test_a_row_that_does_not_fit_its_case_is_refused(row: str, cause: str) -> None:
     data = data_of(SMALL + row + '\n')

@@ -42,10 +42,10 @@ def test_units_alone_may_stand_above_the_headings() -> None:
 
 
 def test_some_numbers_with_a_unit_and_some_without_are_refused() -> None:
-    assert 'none with the column `target`' in refusal('name,supply (K),target,CP\nA,423,60,2\n')
+    assert 'none is given for the column `target`' in refusal('name,supply (K),target,CP\nA,423,60,2\n')
     assert refusal(f'{HEAD}A,423 K,333 K,2\nB,150,60,2\n').startswith('row 2 column 2: this number has the unit `K`')
     held = 'kind,name,supply °C,target °C,duty (MW),most\nhot,A,150,60,1.8,\nheater,S,200,,,500\n'
-    assert 'none with the column `most`' in refusal(held)
+    assert 'none is given for the column `most`' in refusal(held)
     assert streams(f'{HEAD}A,150 °C,60,2\n') == [('hot', 'A', 1500, 600, 200, 0)]
 
 

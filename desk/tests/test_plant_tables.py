@@ -88,9 +88,9 @@ def test_a_title_holds_for_what_stands_below_it() -> None:
     bare = 'Stream;Tin;Tout;CP (kW/K)\n{};{}\n'
     kelvins = bare.format('B', '300;400;2')
     assert 'names a unit' in refusal(bare.format('A', '150;60;2') + 'Temperatures in K\n' + kelvins)
-    assert 'and none with' in refusal(workbook([[*'ab'], ['Stream', 'Tin', 'Tout', 'CP (kW/K)'], ['H', 150, 60, 2]],
-                                               Utilities=[['Temperatures in K'], ['Utility', 'Tin', 'Tout', 'Price'],
-                                                          ['Steam', 500, 499, 3]]))
+    utilities = [['Temperatures in K'], ['Utility', 'Tin', 'Tout', 'Price'], ['Steam', 500, 499, 3]]
+    book = workbook([[*'ab'], ['Stream', 'Tin', 'Tout', 'CP (kW/K)'], ['H', 150, 60, 2]], Utilities=utilities)
+    assert 'and none is given for' in refusal(book)
 
 
 @pytest.mark.parametrize('head', ['Name;T1;T2;CP', 'Name;Te;Ta;CP', 'Name;Tin;Tout;cp (kJ/kg K)',
@@ -134,8 +134,8 @@ def test_hot_and_cold_streams_on_sheets_of_their_own() -> None:
     cold: Rows = [head, ['C1', 20, 60, 2]]
     both: Rows = [*hot, *cold[1:]]
     assert [each.name for each in made(workbook(hot, Cold=cold)).case.streams] == ['H1', 'C1']
-    assert 'have streams: say --sheet' in refusal(workbook(hot, Other=both))
-    assert 'have streams: say --sheet' in refusal(workbook([['Plant 7']], Base=both, Revamp=both))
+    assert 'have streams: use --sheet' in refusal(workbook(hot, Other=both))
+    assert 'have streams: use --sheet' in refusal(workbook([['Plant 7']], Base=both, Revamp=both))
     read = made(workbook(both, Revamp=both))
     assert 'of the sheets the first one, Streams, is read, not Revamp (--sheet)' in read.notes
 

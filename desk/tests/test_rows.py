@@ -67,7 +67,7 @@ def test_what_may_be_units_and_may_be_numbers_is_refused(row: str) -> None:
 @pytest.mark.parametrize('row', [';;;3.4 MW', 'Sum;;;3400 MW', 'total;;;1780 kcal/h', ';;;1000 kcal/h',
                                  ';;;10^3 kcal/h'])
 def test_a_sum_in_another_unit_than_is_taken_is_refused(row: str) -> None:
-    assert 'and none with the column `Duty`' in refusal(f'{DUTY}Feed;20;180;1600\nH1;150;60;180\n{row}\n')
+    assert 'and none is given for the column `Duty`' in refusal(f'{DUTY}Feed;20;180;1600\nH1;150;60;180\n{row}\n')
 
 
 def test_a_sum_in_the_unit_that_is_taken_is_told_with_its_text() -> None:

@@ -13,7 +13,8 @@ import pytest
 from captured import Captured
 from conftest import CASES, EXAMPLES, NETWORKS, Done, command, example, few_of
 
-from pinchdesk import Accepted, Pinch
+from pinchdesk import Accepted, Pinch, completed, follow, read_case, read_network
+from pinchdesk.analysis.joined import joined
 from pinchdesk.formats.written_files import write_whole
 from pinchdesk.words.all_words import PLACES
 
@@ -54,8 +55,11 @@ def test_the_sums_of_a_table_are_those_of_the_audit(name: str, desk: Captured, p
         assert sum(Fraction(row[2]) * 1000 for row in rows if len(row) == 4 and row[1] == side) == wanted
     head = next(at for at, row in enumerate(rows) if row[:1] == ['exchanger'])
     lost = [row[15] for row in rows[head + 1:] if len(row) == 16]
-    exchangers = [each for each in verdict.penalties if each.place.kind.value == 'exchanger']
-    assert [round(Fraction(each) * 1000) for each in lost] == [round(each.heat) for each in exchangers]
+    heats = {penalty.place.name: penalty.heat for penalty in verdict.penalties
+             if penalty.place.kind.value == 'exchanger'}
+    plant = joined(follow(completed(read_case(example(f'{name}.csv'))), read_network(example(f'{name}-network.txt'))))
+    assert [round(Fraction(cell) * 1000) for cell in lost] == \
+        [round(sum(heats[part.exchanger.name] for part in passage.parts)) for passage in plant.followed.passages]
 
 
 def test_a_rejected_network_is_marked_in_its_row_and_is_no_good_answer(desk: Captured, tmp_path: Path) -> None:
@@ -199,7 +203,7 @@ def test_an_error_names_file_place_and_cause(words: list[str], status: int, said
 
 def test_a_case_that_the_program_refuses_is_refused(desk: Captured, tmp_path: Path) -> None:
     table, case = tmp_path / 'table.csv', tmp_path / 'case.csv'
-    table.write_text('name;supply;target;CP\nA;150;60;2\nA;150;60;2\n')
+    table.write_text('kind;name;supply;target;CP\nhot;A;150;60;2\nheater;A;250;;\n')
     done = desk('case', '-d', '10', str(table), '-o', str(case))
     assert (done.status, case.exists()) == (3, False)
     assert done.err == f'pinchdesk: {table}: row 3: the name is used above already (SameName)\n'
