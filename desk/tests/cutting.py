@@ -53,9 +53,9 @@ def cut_network(followed: Followed, name: str, places: list[int]) -> Network:
     branch = f'{name}-1'
     for passage in course:
         begin, end = at(passage, side)
-        ends = [begin, *cut[passage.exchanger.name], end]
+        ends = [begin, *map(Fraction, cut[passage.exchanger.name]), end]
         for part, (first, last) in zip(parts[passage.exchanger.name], zip(ends, ends[1:])):
-            duty = passage.exchanger.duty * abs(Fraction(last) - first) / abs(Fraction(end) - begin)
+            duty = passage.exchanger.duty * abs(last - first) / abs(end - begin)
             hot = f'{name}-{number}' if passage.exchanger.hot == name else passage.exchanger.hot
             cold = f'{name}-{number}' if passage.exchanger.cold == name else passage.exchanger.cold
             exchangers.append(Exchanger(part, hot, cold, duty))

@@ -50,6 +50,23 @@ def test_a_column_of_segments_is_passed_over() -> None:
     assert streams(table) == [*CRUDE, KERO] and made(table).case.basis.segments == OF_CRUDE
 
 
+@pytest.mark.parametrize('rows', [
+    'Crude\n  segment 1;25;125;310\n  segment 2;125;220;365\n  segment 3;220;360;440\nKero;185;45;33\n',
+    'Crude;25;360;\nSeg. 1;25;125;310\nSeg. 2;125;220;365\nSeg. 3;220;360;440\nKero;185;45;33\n',
+    'Crude;25;360;380.03\nPart A;25;125;310\nPart B;125;220;365\nPart C;220;360;440\nKero;185;45;33\n'])
+def test_rows_that_are_called_segments_below_a_name_are_its_segments(rows: str) -> None:
+    converted = made(HEAD + rows)
+    assert streams(HEAD + rows) == [*CRUDE, KERO] and converted.case.basis.segments == OF_CRUDE
+    again = made(HEAD + rows + rows.replace('Crude', 'Feed').replace('Kero', 'Naphtha')).case
+    assert [segmented.name for segmented in again.basis.segments] == ['Crude', 'Feed']
+
+
+def test_rows_below_a_title_are_no_segments_of_it() -> None:
+    rows = 'Kero;185;45;33\nCold streams\nsegment 1;25;125;310\nsegment 2;125;220;365\n'
+    assert made(HEAD + rows).case.basis.segments == ()
+    assert made(HEAD + 'Unit 3\nA;25;125;310\nB;125;220;365\nKero;185;45;33\n').case.basis.segments == ()
+
+
 def test_a_phase_change_has_the_side_of_its_stream() -> None:
     table = 'Stream;Supply (°C);Target (°C);CP (kW/K);Duty (kW)\n' \
             'Vapour;150;100;2;\nVapour;100;100;;600\nVapour;100;60;4.5;\nFeed;20;130;3;\n'
@@ -100,6 +117,7 @@ def test_the_segments_of_any_stream_are_read_as_they_are(chain: list[tuple[int, 
     ('Crude;25;125;310\nCrude;125;60;365\n', 'cools down in one row and warms up in another'),
     ('Crude;25;125;310\n;130;220;365\n', 'a name is missing'),
     ('Crude;25;125;310\nCrude;25;125;310\n', 'stands in several rows'),
+    ('Crude;25;360;380\nSeg. 1;25;125;310\nSeg. 2;125;220;365\n', '`Crude` may be the whole of the rows below it'),
 ])
 def test_rows_of_one_name_that_do_not_meet_are_refused(rows: str, cause: str) -> None:
     assert cause in refusal(HEAD + rows + 'Kero;185;45;33\n')

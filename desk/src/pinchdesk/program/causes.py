@@ -8,7 +8,7 @@ CAUSES = {
                   '`pinchdesk case`',
     'UnknownKind': 'the first field is not a kind of row; to make a case from a table use `pinchdesk case`',
     'UnknownWord': 'no statement begins with this word',
-    'TooMany': 'there are more of these than the limit (docs/FORMATS.md, Limits)',
+    'TooMany': 'there are more of these than the limit (docs/FORMATS.md, Limits); a segment counts as a stream',
     'Repeated': 'this was given above already',
     'BadName': 'a name has 1 to 16 letters, digits, _ and -, and begins with a letter or a digit; HOT and COLD are '
                'names of utilities',

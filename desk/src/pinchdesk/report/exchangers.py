@@ -6,6 +6,7 @@ and rounded here. A duty over the logarithmic mean of its differences is for the
 known."""
 from __future__ import annotations
 
+from collections.abc import Sequence
 from dataclasses import replace
 from decimal import Decimal, localcontext
 from fractions import Fraction
@@ -171,15 +172,18 @@ def segments_sheets(plant: Joined) -> list[Sheet]:
     """The segments of each stream that has some, and where they are shown as the program has them; no sheet where
     there are none."""
     case = plant.followed.case
-    shown = Shown(case.basis)
-    wholes = [stream for stream in case.streams if isinstance(stream, WholeStream)]
-    rows: tuple[tuple[Cell, ...], ...] = tuple(
-        (whole.name, segment.name, *(Decimal(shown.celsius(end)) for end in (segment.supply, segment.target)),
+    notes = tuple((note,) for note in plant.notes)
+    return [*segments_of(case.streams, Shown(case.basis)), *([Sheet('Kinks', (), notes)] if notes else [])]
+
+
+def segments_of(streams: Sequence[Stream], shown: Shown) -> list[Sheet]:
+    """The segments of each stream that has some."""
+    rows: list[tuple[Cell, ...]] = [
+        (stream.name, segment.name, Decimal(shown.celsius(segment.supply)), Decimal(shown.celsius(segment.target)),
          flow_of(segment, shown), Decimal(shown.kilowatts(segment.heat)))
-        for whole in wholes for segment in whole.segments)
+        for stream in streams if isinstance(stream, WholeStream) for segment in stream.segments]
     headings = ('stream', 'in the program', 'from °C', 'to °C', 'CP kW/K', 'load kW')
-    sheets = [Sheet('Segments of streams', headings, rows)] if rows else []
-    return [*sheets, *([Sheet('Kinks', (), tuple((note,) for note in plant.notes))] if plant.notes else [])]
+    return [Sheet('Segments of streams', headings, tuple(rows))] if rows else []
 
 
 def sums_sheet(followed: Followed) -> Sheet:

@@ -27,7 +27,7 @@ from ..program.digests import Digests, digests
 from ..program.run import Pinch
 from ..program.verdicts import Accepted, Rejected, Verdict, ending
 from .answer_sheets import audit_sheets, flow_sheets, targets_sheets
-from .exchangers import exchangers_sheet, flow_of, mixes_sheets, streams_sheets, sums_sheet
+from .exchangers import exchangers_sheet, flow_of, mixes_sheets, segments_of, streams_sheets, sums_sheet
 from .page_head import PageHead, digests_sheet, head_sheet, made_again
 from .sheet import Cell, Sheet
 
@@ -227,7 +227,8 @@ def case_utilities(case: Case, flow: HeatFlow | Cut) -> Sheet:
 def case_sheets(answered: Answered) -> list[Sheet]:
     case = answered.case
     forbids = tuple((forbid.hot, forbid.cold) for forbid in case.forbids)
-    return [case_streams(case), case_utilities(case, answered.flow),
+    return [case_streams(case), *segments_of(whole_streams(case), Shown(case.basis)),
+            case_utilities(case, answered.flow),
             *([Sheet('May not exchange heat', ('hot', 'cold'), forbids)] if forbids else [])]
 
 

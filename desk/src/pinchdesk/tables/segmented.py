@@ -2,18 +2,25 @@
 one, where the ends of these rows meet. Each row becomes a stream of the case, `CRUDE-1`, `CRUDE-2`, and so on."""
 from __future__ import annotations
 
+import re
 from collections.abc import Mapping, Sequence
 from dataclasses import dataclass, replace
 from fractions import Fraction
-from itertools import count
+from itertools import count, groupby
 
 from ..formats.case import Side
 from ..formats.segments import SegmentedStream
 from .cells import CellReader, Told
 from .rows import Body, Line
+from .sections import section_of
 from .spreadsheet import Cell, TableRow
 from .units import Kind, UnknownUnit, unit_of
 from .vocabulary import Heading
+
+
+# Names that say that a row is a part of the stream above it.
+PART = re.compile(r'(?:segment|seg\.?|part|parte|partie|teil|abschnitt|segmento|tramo|tron[cç]on|step)[\s.#:-]*'
+                  r'(?:[0-9]{1,2}|[a-z]|[ivx]{1,4})', re.I)
 
 
 @dataclass(frozen=True)
@@ -27,7 +34,7 @@ class SegmentRows:
 def with_segments(body: Body, reader: CellReader, told: Told) -> tuple[Body, tuple[SegmentRows, ...]]:
     """The lines of a table, those of a stream in several rows with a name for each of them. What is no such stream is a
     fault."""
-    lines = carried_down(body.lines, reader)
+    lines = carried_down(below_names(body, reader, told), reader)
     groups: dict[str, list[int]] = {}
     for at, line in enumerate(lines):
         if line.is_stream and line.name():
@@ -50,6 +57,44 @@ def with_segments(body: Body, reader: CellReader, told: Told) -> tuple[Body, tup
         told.note(chain[0].row.number, None, f'`{name}` {rows}: one stream with the segments {names[0]} to '
                   f'{names[-1]}')
     return replace(body, lines=tuple(lines)), tuple(made)
+
+
+def below_names(body: Body, reader: CellReader, told: Told) -> list[Line]:
+    """The lines, those that are called `segment 1`, `segment 2` and so on below a row with the name of their stream
+    with that name, where they meet. That row may have a name alone, or the ends of the whole too: then it is passed
+    over, since its heat is that of its segments."""
+    titles = {passed.row: passed.text for passed in body.over if passed.why == 'a note'}
+    numbers = [row.number for row in told.table.rows]
+    above = dict(zip(numbers[1:], numbers))
+    made: list[Line] = []
+    for is_part, group in groupby(body.lines, lambda line: line.is_stream and PART.fullmatch(line.name()) is not None):
+        lines = list(group)
+        if not is_part or not are_met(lines, reader):
+            made += lines
+            continue
+        title = titles.get(above.get(lines[0].row.number, 0), '')
+        whole = made[-1] if made and above.get(lines[0].row.number) == made[-1].row.number else None
+        same = ends_met(whole, lines, reader) if whole and whole.is_stream else []
+        if whole and all(same) and same:
+            made.pop()
+            title = whole.name()
+            told.note(whole.row.number, None, f'passed over, `{title}` as a whole: its segments stand below it')
+        elif whole and any(same):
+            told.fault(whole.row.number, None, f'`{whole.name()}` may be the whole of the rows below it, from '
+                       f'`{lines[0].name()}` on, which do not go from its supply to its target: take it out, or give '
+                       'them other names')
+        made += [named(line, title, None) for line in lines] if title and section_of(title) is None else lines
+    return made
+
+
+def are_met(lines: Sequence[Line], reader: CellReader) -> bool:
+    return len(lines) > 1 and all(meet(before, behind, reader) for before, behind in zip(lines, lines[1:]))
+
+
+def ends_met(whole: Line, lines: Sequence[Line], reader: CellReader) -> list[bool]:
+    """Whether a row begins where some segments do, and whether it ends there."""
+    pairs = ((lines[0], Heading.SUPPLY), (lines[-1], Heading.TARGET))
+    return [temperature(whole, heading, reader) == temperature(line, heading, reader) for line, heading in pairs]
 
 
 def carried_down(lines: Sequence[Line], reader: CellReader) -> list[Line]:
