@@ -10,6 +10,8 @@ from dataclasses import dataclass, replace
 from decimal import Decimal
 from fractions import Fraction
 from itertools import groupby
+from math import lcm
+from typing import NamedTuple
 
 from ..formats.case import Side
 from ..formats.shown import decimal
@@ -214,42 +216,61 @@ def number_cell(number: Fraction, unit: str) -> Cell:
 def simplified(points: Sequence[CurvePoint], aside: Fraction) -> tuple[CurvePoint, ...]:
     """As few points as there may be with straight pieces between them that are from the curve by no more than `aside`
     at each enthalpy, and to that side. Both ends stay; between them a piece ends at a point, or beside it."""
-    way = 1 if points[-1].temperature >= points[0].temperature else -1
-    places = [[points[0]], *([point, CurvePoint(point.temperature + aside, point.heat)] if aside else [point]
-                             for point in points[1:-1]), [points[-1]]]
-    # For each place how many pieces lead there, and the place before it.
-    best: list[list[tuple[int, tuple[int, int]] | None]] = [[(0, (0, 0))]]
-    for at in range(1, len(points)):
-        best.append([fewest(points, places, best, (at, end), aside, way) for end in range(len(places[at]))])
-    made, place = [points[-1]], (len(points) - 1, 0)
-    while place[0]:
-        found = best[place[0]][place[1]]
-        assert found is not None
-        place = found[1]
-        made.append(places[place[0]][place[1]])
-    return tuple(reversed(made))
+    degrees = lcm(aside.denominator, *(point.temperature.denominator for point in points))
+    heats = lcm(*(point.heat.denominator for point in points))
+    whole = [WholePoint(int(point.temperature * degrees), int(point.heat * heats)) for point in points]
+    made = Thinning(whole, int(aside * degrees)).places()
+    return tuple(CurvePoint(Fraction(place.temperature, degrees), Fraction(place.heat, heats)) for place in made)
 
 
-def fewest(points: Sequence[CurvePoint], places: Sequence[Sequence[CurvePoint]],
-           best: Sequence[Sequence[tuple[int, tuple[int, int]] | None]], end: tuple[int, int], aside: Fraction,
-           way: int) -> tuple[int, tuple[int, int]] | None:
-    """The fewest pieces up to a place, and the place before it; None where none lead there."""
-    at, which = end
-    found: tuple[int, tuple[int, int]] | None = None
-    for before in range(at - 1, -1, -1):
-        for place, reached in enumerate(best[before]):
-            if reached and (found is None or reached[0] + 1 < found[0]) and is_within(
-                    points[before:at + 1], places[before][place], places[at][which], aside, way):
-                found = (reached[0] + 1, (before, place))
-    return found
+class WholePoint(NamedTuple):
+    """A point in whole numbers, in which a comparison takes no time."""
+
+    temperature: int
+    heat: int
 
 
-def is_within(points: Sequence[CurvePoint], begin: CurvePoint, end: CurvePoint, aside: Fraction, way: int) -> bool:
-    """Whether a straight piece goes the way of the curve, and is to its safe side by no more than the tolerance."""
-    if (end.temperature - begin.temperature) * way < 0:
-        return False
-    low, high = sorted((Fraction(0), aside))
-    return all(low <= between(begin, end, point.heat) - point.temperature <= high for point in points)
+class Thinning:
+    """Looks for the fewest pieces, point by point."""
+
+    def __init__(self, points: Sequence[WholePoint], aside: int) -> None:
+        self.points, self.aside = points, aside
+        self.way = 1 if points[-1].temperature >= points[0].temperature else -1
+        between_ends = [[point, WholePoint(point.temperature + aside, point.heat)] if aside else [point]
+                        for point in points[1:-1]]
+        self.ends = [[points[0]], *between_ends, [points[-1]]]
+        # For each end how many pieces lead there, and the end before it; None where none do.
+        self.best: list[list[tuple[int, tuple[int, int]] | None]] = [[(0, (0, 0))]]
+
+    def places(self) -> list[WholePoint]:
+        for at in range(1, len(self.points)):
+            self.best.append([self.fewest(at, end) for end in self.ends[at]])
+        made, place = [self.points[-1]], (len(self.points) - 1, 0)
+        while place[0]:
+            found = self.best[place[0]][place[1]]
+            assert found is not None
+            place = found[1]
+            made.append(self.ends[place[0]][place[1]])
+        return made[::-1]
+
+    def fewest(self, at: int, end: WholePoint) -> tuple[int, tuple[int, int]] | None:
+        """The fewest pieces up to an end, and the end before it; None where none lead there."""
+        found: tuple[int, tuple[int, int]] | None = None
+        for before in range(at - 1, -1, -1):
+            for which, reached in enumerate(self.best[before]):
+                if reached and (found is None or reached[0] + 1 < found[0]) and self.is_within(before, at, which, end):
+                    found = (reached[0] + 1, (before, which))
+        return found
+
+    def is_within(self, before: int, at: int, which: int, end: WholePoint) -> bool:
+        """Whether a straight piece goes the way of the curve, and is to its safe side by no more than the tolerance."""
+        begin = self.ends[before][which]
+        rise, run = end.temperature - begin.temperature, end.heat - begin.heat
+        if rise * self.way < 0:
+            return False
+        low, high = sorted((0, self.aside * run))
+        return all(low <= (begin.temperature - point.temperature) * run + rise * (point.heat - begin.heat) <= high
+                   for point in self.points[before:at + 1])
 
 
 def between(begin: CurvePoint, end: CurvePoint, heat: Fraction) -> Fraction:
