@@ -56,7 +56,7 @@ def test_a_cp_and_a_duty_that_disagree_are_refused() -> None:
 
 
 def test_what_the_program_refuses_is_refused_by_the_row_of_the_table(pinch: Pinch) -> None:
-    table = 'My plant,,,\n\nkind,name,supply,target,CP\nhot,A,150,60,2\nheater,A,250,,\n'
+    table = 'My plant,,,,\n\nkind,name,supply,target,CP\nhot,A,150,60,2\nheater,A,200,,\n'
     with pytest.raises(Refused) as fault:
         checked(made(table), pinch)
     assert (fault.value.status, fault.value.text) == (3, 'row 5: the name is used above already (SameName)')

@@ -239,7 +239,7 @@ def test_what_a_stream_of_segments_has_not_once_is_refused(row: str, cause: str,
 def test_segments_that_no_longer_meet_are_a_fault_of_the_scenario(pinch: Pinch) -> None:
     table = read_changes((CHANGES + 'apart;FEED-1;target;+5').encode(), 't.csv', read_case(FEED).basis)
     outcome = what_if(FEED, table.variants, pinch).outcomes[0]
-    assert outcome.fault.startswith('FEED-1 ends at 850, and FEED-2 begins at 800') and outcome.targets is None
+    assert outcome.fault.startswith('FEED-1 ends at 85 °C, and FEED-2 begins at 80 °C') and outcome.targets is None
 
 
 def test_a_little_more_of_a_stream_is_of_all_its_segments(pinch: Pinch) -> None:

@@ -6,6 +6,7 @@ from dataclasses import replace
 
 from ..formats.case import Case, Stream
 from ..formats.segments import segment_fault
+from ..formats.shown import Shown
 from .change_columns import Field
 from .change_table import Change, Way, refusal
 
@@ -41,7 +42,11 @@ def on_segments(case: Case, change: Change, name: str) -> tuple[Change, ...]:
 def fault_in_segments(case: Case) -> str:
     """What of the segments of a case is no longer one stream; empty where all are."""
     streams, names = {stream.name: stream for stream in case.streams}, {source.name for source in case.sources}
-    faults = (segment_fault(segmented, streams, names) for segmented in case.basis.segments)
+    shown = Shown(case.basis)
+
+    def show(temperature: int) -> str:
+        return f'{shown.temperature(temperature)} {shown.temperature_unit}'
+    faults = (segment_fault(segmented, streams, names, show) for segmented in case.basis.segments)
     return next((fault.cause for fault in faults if fault), '')
 
 

@@ -6,7 +6,7 @@ each with a row `#segment,STREAM,SEGMENT`, in their order from the supply to the
 from __future__ import annotations
 
 import re
-from collections.abc import Collection, Iterator, Mapping, Sequence
+from collections.abc import Callable, Collection, Iterator, Mapping, Sequence
 from dataclasses import dataclass
 from typing import TYPE_CHECKING
 
@@ -54,10 +54,10 @@ def with_segment(streams: tuple[SegmentedStream, ...], row: Sequence[str]) -> tu
                  for stream in streams)
 
 
-def segment_fault(segmented: SegmentedStream, streams: Mapping[str, Stream],
-                  sources: Collection[str]) -> SegmentFault | None:
+def segment_fault(segmented: SegmentedStream, streams: Mapping[str, Stream], sources: Collection[str],
+                  show: Callable[[int], str] = str) -> SegmentFault | None:
     """What of the streams of a case contradicts that these are the segments of one; `sources` has the names of all its
-    sources."""
+    sources, and `show` shows a temperature."""
     before: Stream | None = None
     for name in segmented.segments:
         segment = streams.get(name)
@@ -69,8 +69,8 @@ def segment_fault(segmented: SegmentedStream, streams: Mapping[str, Stream],
             return SegmentFault(name, f'{before.name} is {before.side.value} and {name} is {segment.side.value}: the '
                                 'segments of a stream are of one side')
         if before and before.target != segment.supply:
-            return SegmentFault(name, f'{before.name} ends at {before.target}, and {name} begins at {segment.supply}: '
-                                'the segments of a stream meet')
+            return SegmentFault(name, f'{before.name} ends at {show(before.target)}, and {name} begins at '
+                                f'{show(segment.supply)}: the segments of a stream meet')
         before = segment
     return None
 
