@@ -257,4 +257,5 @@ def test_a_search_counts_the_exchangers_of_the_plant(pinch: Pinch) -> None:
     found = find_network(FEED, pinch=pinch, way=SearchWay(steps=1, workers=1), start=FEED_NETWORK)
     assert found.exchangers == network_count(completed(read_case(FEED)), found.network) <= 4
     assert f'{len(found.network.exchangers)} in the program, which has segments as streams' in found.text
-    assert 'in the program, each segment a stream of its own, by the solver' in found.bounds
+    assert 'in the program, each segment a stream of its own,' in found.bounds
+    assert found.rule == 3

@@ -15,6 +15,7 @@ from ..errors import INFEASIBLE, DeskError, Status, WordsError
 from ..formats.case import Basis, Case, completed, read_case
 from ..formats.network import Network, print_network, read_network
 from ..formats.shown import Shown, decimal_up
+from ..formats.whole_streams import whole_names
 from ..program.answers import Cut, Design, HeatFlow
 from ..program.run import CaseText, NetworkText, Pinch
 from ..program.verdicts import Accepted, ending
@@ -41,8 +42,8 @@ class FewExchangers:
     """A network that `pinch audit` accepted, with what it said. `bound` is what the solver says that no network at
     this cost has fewer exchangers than; `staged` the same for networks of so many stages, in each of the windows, with
     isothermal mixing, None where that was not settled; `ended` is why the search ended. `rule` is what the books' rule
-    counts, one less than the sources in each window: no bound. `tight` are the exchangers that work at the least
-    approach from end to end, and `libraries` those by which the same search finds the same again, where it does.
+    counts, one less than the sources of the plant in each window: no bound. `tight` are the exchangers that work at the
+    least approach from end to end, and `libraries` those by which the same search finds the same again, where it does.
     `of_uses` is the same as `bound` for networks with the uses of the utilities that the heat flow of least cost has.
     `basis` is that of the case; `exchangers` are those of the plant, of which one that goes on across the kink of a
     stream is one; `annual` is what is said of the cost of a year where the network was chosen by it."""
@@ -191,7 +192,9 @@ def found_in(task: NetworkTask, state: SearchState, ended: str) -> FewExchangers
     if best is None:
         raise NoNetwork('no network was found in time, and `pinch design` has none', Status.FAILED)
     staged = state.staged if state.staged is not None and state.staged[0] <= best.count else None
-    rule = sum(len(window.pieces) - 1 for window in windows(task.case, task.uses))
+    names = whole_names(task.case)
+    rule = sum(len({names.get(piece.name, piece.name) for piece in window.pieces}) - 1
+               for window in windows(task.case, task.uses))
     libraries = '' if task.way.steps is None else f'numpy {version("numpy")} and scipy {version("scipy")}'
     return FewExchangers(best.network, best.verdict, min(state.bound, best.count), staged, ended,
                          network_count(task.case, best.network), task.case.basis, rule,
