@@ -21,11 +21,13 @@ from pinchdesk.analysis.joined import Kink, exchanger_count, joined, network_cou
 from pinchdesk.analysis.least_units import Units, least_units
 from pinchdesk.analysis.rest import remaining, written_case
 from pinchdesk.analysis.what_if import what_if
+from pinchdesk.costs.network_areas import network_areas
 from pinchdesk.figures import grid_figure
 from pinchdesk.formats.case import print_case
 from pinchdesk.formats.segments import SegmentedStream
 from pinchdesk.formats.whole_streams import WholeStream
 from pinchdesk.program.verdicts import Accepted
+from pinchdesk.report.area_sheets import OF_THE_PROGRAM, network_notes
 from pinchdesk.report.exchangers import exchangers_sheet, segments_sheets, streams_sheet
 from pinchdesk.report.rest_sheets import rest_facts
 from pinchdesk.report.unit_sheets import units_table
@@ -259,3 +261,11 @@ def test_a_search_counts_the_exchangers_of_the_plant(pinch: Pinch) -> None:
     assert f'{len(found.network.exchangers)} in the program, which has segments as streams' in found.text
     assert 'in the program, each segment a stream of its own,' in found.bounds
     assert found.rule == 3
+
+
+def test_areas_of_exchangers_that_are_one_in_the_plant_say_so(pinch: Pinch) -> None:
+    films = ''.join(f'#film,{name},0.5,kW/m2K,,,\n' for name in ('FEED-1', 'FEED-2', 'FEED-3', 'H', 'K', 'CW'))
+    case = FEED + 'cooler,CW,200,0,1000000000000,1,\n#build,,counter-current,,,,exchanger\n' + films
+    areas = network_areas(case, FEED_NETWORK.replace('COLD', 'CW'), pinch)
+    assert [exchanger.name for exchanger in areas.exchangers] == ['E1', 'E2', 'E3', 'E4', 'E5', 'E6']
+    assert network_notes(areas)[-1] == OF_THE_PROGRAM

@@ -69,6 +69,13 @@ def test_what_cannot_be_segments_is_refused_by_its_place(old: str, new: str, pla
     assert refused.value.place == place and cause in refused.value.text
 
 
+def test_more_segments_than_a_case_has_streams_are_refused_at_once() -> None:
+    rows = ''.join(f'#segment,A,S{at},,,,\n' for at in range(1000))
+    with pytest.raises(Refused) as refused:
+        read_case(rows + 'contribution,,50,,,,\n')
+    assert refused.value.place == 'case row 61' and 'at most 60 streams, and each segment is one' in refused.value.text
+
+
 def test_of_streams_that_are_gone_the_segments_that_still_meet_are_kept() -> None:
     streams = (SegmentedStream('A', ('A1', 'A2', 'A3')), SegmentedStream('B', ('B1', 'B2')))
     assert kept_segments(streams, {'A2', 'A3', 'B1'}) == (SegmentedStream('A', ('A2', 'A3')),)

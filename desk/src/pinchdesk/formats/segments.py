@@ -16,6 +16,8 @@ if TYPE_CHECKING:
 FIELDS = 7
 NAME = re.compile(r'[A-Za-z0-9][A-Za-z0-9_-]{0,15}')
 STANDARD = ('HOT', 'COLD')
+# So many streams a case has at most, on both sides.
+MOST_SEGMENTS = 60
 
 
 @dataclass(frozen=True)
@@ -42,6 +44,8 @@ def with_segment(streams: tuple[SegmentedStream, ...], row: Sequence[str]) -> tu
     for text, what in ((name, 'a stream'), (segment, 'a segment')):
         if not NAME.fullmatch(text):
             raise ValueError(f'`{text[:40]}` is no name of {what}')
+    if sum(len(stream.segments) for stream in streams) >= MOST_SEGMENTS:
+        raise ValueError(f'a case has at most {MOST_SEGMENTS} streams, and each segment is one')
     if name in STANDARD:
         raise ValueError(f'{name} is a utility where a case has none of its side, and no stream')
     for stream in streams:
