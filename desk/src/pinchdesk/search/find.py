@@ -113,6 +113,24 @@ def unseen(found: AcceptedNetwork) -> None:
     del found
 
 
+class FewestInPlant:
+    """Of the networks that are found in a completed case the one with the fewest exchangers of the plant: the search
+    counts those of the program, which has the segments of a stream as streams."""
+
+    def __init__(self, case: Case, seen: Callable[[AcceptedNetwork], None]) -> None:
+        self.case, self.seen = case, seen
+        self.best: AcceptedNetwork | None = None
+        self.fewest = 0
+
+    def see(self, found: AcceptedNetwork) -> None:
+        self.seen(found)
+        if not self.case.basis.segments:
+            return
+        count = network_count(self.case, found.network)
+        if self.best is None or (count, found.rank) < (self.fewest, self.best.rank):
+            self.best, self.fewest = found, count
+
+
 def find_network(case: CaseText, most_cost: Fraction | int | None = None, above: Fraction | int | None = None,
                  seconds: Fraction | float = SECONDS, start: NetworkText | None = None,
                  tell: Callable[[str], None] = nobody, pinch: Pinch | None = None,
@@ -134,18 +152,20 @@ def find_network(case: CaseText, most_cost: Fraction | int | None = None, above:
         begins = bettered(pinch, asked, start)
         lasts = float(seconds) if way.steps is None else FOREVER
         task = task_of(pinch, asked, flow, limit, None, begun, lasts, way, staying(wishes, begins, limit))
-        task = replace(task, best=best_of(task, seen, begins, designing.result()))
+        fewest = FewestInPlant(asked, seen)
+        task = replace(task, best=best_of(task, fewest.see, begins, designing.result()))
         state, ended = SearchState(task.best, each_stream_has_one(asked)), TIME_OVER
         try:
             for message in process.told(task, begun + lasts + GRACE):
                 assert isinstance(message, SearchState)
                 state = message
                 if state.best:
-                    seen(state.best)
+                    fewest.see(state.best)
                 tell(str(state))
         except KeyboardInterrupt:
             ended = INTERRUPTED
-    return found_in(task, state, state.ended or ended)
+    found = found_in(task, state, state.ended or ended)
+    return in_place_of(found, asked, fewest.best, '') if fewest.best else found
 
 
 def flow_of(pinch: Pinch, case: CaseText) -> HeatFlow:
