@@ -301,7 +301,7 @@ def test_curves_that_touch_have_no_area_in_whole_numbers(pinch: Pinch) -> None:
     assert quick_area(carriers(data_of(touching), uses_of(touching, pinch))) is None
 
 
-@tried(5, 15)
+@tried(4, 15)
 @given(plants())
 def test_mirroring_hot_and_cold_changes_nothing(pinch: Pinch, case: str) -> None:
     members = carriers(data_of(case), uses_of(case, pinch))
@@ -358,7 +358,7 @@ def by_pairs(case: str) -> str:
     return ''.join(f'{row}\n' for row in (*case.split('\n'), *rows) if row and not row.startswith('#film'))
 
 
-@tried(5, 15)
+@tried(4, 15)
 @given(plants())
 def test_coefficients_of_pairs_that_films_make_give_the_area_of_the_films(pinch: Pinch, case: str) -> None:
     found = area_of(by_pairs(case), pinch)

@@ -19,7 +19,7 @@ from .log_mean import NEAR, ONE, logarithm_ends, series_ends
 
 
 @dataclass(frozen=True)
-class Parts:
+class WholeParts:
     """In how many parts of a tenth of a kelvin, of a flow in W per tenth, and of a resistance numbers are whole."""
 
     temperature: int
@@ -62,18 +62,18 @@ def quick_area(members: Sequence[Carrier]) -> Enclosure | None:
     return between(Fraction(low, whole), Fraction(high, whole))
 
 
-def parts_of(members: Sequence[Carrier]) -> Parts:
+def parts_of(members: Sequence[Carrier]) -> WholeParts:
     heats = [member.heat if member.flat else member.heat / (member.ends.high - member.ends.low) for member in members]
     ends = [end.denominator for member in members for end in (member.ends.low, member.ends.high)]
-    return Parts(lcm(*ends), lcm(*(heat.denominator for heat in heats)),
-                 lcm(*(member.resistance.denominator for member in members)))
+    return WholeParts(lcm(*ends), lcm(*(heat.denominator for heat in heats)),
+                      lcm(*(member.resistance.denominator for member in members)))
 
 
 def whole_of(number: Fraction, parts: int) -> int:
     return number.numerator * (parts // number.denominator)
 
 
-def curve(members: Sequence[Carrier], parts: Parts) -> Iterator[WholePiece]:
+def curve(members: Sequence[Carrier], parts: WholeParts) -> Iterator[WholePiece]:
     """The composite curve of carriers of one side, from its cold end up."""
     corners: list[tuple[int, int, int, int]] = []
     for member in members:
