@@ -1,6 +1,7 @@
 """Targets of area, units, shells and cost before a network: by hand, as published, and what has to hold of any case."""
 from __future__ import annotations
 
+from collections.abc import Sequence
 from fractions import Fraction
 
 import pytest
@@ -18,7 +19,9 @@ from pinchdesk.costs.cost_data import EndTemperatures
 from pinchdesk.costs.enclosure import Enclosure, total
 from pinchdesk.costs.quick_area import quick_area
 from pinchdesk.costs.shells import Duty, correction, correction_at, shells_of, whole_shells
+from pinchdesk.costs.supertarget import supertarget
 from pinchdesk.costs.unit_target import unit_target
+from pinchdesk.formats.case import Source
 from pinchdesk.program.answers import HeatFlow
 
 
@@ -345,6 +348,78 @@ def test_the_remarks_say_what_a_target_leaves_out(pinch: Pinch) -> None:
     found = targets(SMALL + '#law,heater,,1,1,1,m2\n#overall,S,0.9,kW/m2K,,,\n', pinch)
     assert [remark.split(':')[0] for remark in found.remarks] == [
         'the cost laws of heater are those of single exchangers']
+
+
+def test_a_target_has_the_law_of_the_material_that_all_streams_have(pinch: Pinch) -> None:
+    steel = SMALL + '#material,H,SS,,,,\n#material,C,SS,,,,\n#law,,SS,0,1,1,m2\n'
+    found = targets(steel, pinch)
+    assert meet(found.cost.capital, found.area.area) and near(found.cost.capital, '39.704')
+    assert near(targets(steel.replace('C,SS', 'C,CU'), pinch).cost.capital, '39474')
+    assert meet(supertarget(steel, 50, 50, 1, pinch).points[0].cost.capital, found.cost.capital)
+
+
+# The formula as an integral, by floats and in a way of its own.
+
+FOUR = costed_case(13, 'H1 175 45 10 .2, H2 125 65 40 .2, C3 20 155 20 .2, C4 40 112 15 .2', 'S/3 180 179 120 .2',
+                   'CW/3 15 25 10 .2', *law_rows('30000', '750', '0.81', 'compound', '0.1', '5'))
+SLICES = 4000
+
+
+@pytest.mark.parametrize(('case', 'hot', 'cold'), [(SMALL, 30, 50), (AROMATICS, None, None), (FOUR, 360, 280)])
+def test_the_formula_is_the_integral_of_resistance_over_difference(case: str, hot: int | None, cold: int | None,
+                                                                   pinch: Pinch) -> None:
+    """Case 4S1 of Shenoy (1995) has the targets 360 and 280 kW at 13 K."""
+    found = targets(case, pinch)
+    if hot:
+        assert [use.heat for use in found.flow.uses] == [hot * 1000, cold * 1000 if cold else 0]
+    lines = [by_heat(found.data.case.sources, side, case, pinch) for side in (Side.HOT, Side.COLD)]
+    whole = lines[0][-1][0]
+    places = [whole * (at + 0.5) / SLICES for at in range(SLICES)]
+    sides = [[at_heat(line, place) for place in places] for line in lines]
+    area = sum(whole / SLICES * (above[1] + below[1]) / (above[0] - below[0]) for above, below in zip(*sides))
+    assert abs(area / float(found.area.area.middle) - 1) < 2e-4
+
+
+Corner = tuple[float, float, float]
+
+
+def by_heat(sources: Sequence[Source], side: Side, case: str, pinch: Pinch) -> list[Corner]:
+    """A composite curve as corners: the heat below it in W, its temperature in °C, and the mean resistance of a watt of
+    the piece that ends there."""
+    data, uses = data_of(case), uses_of(case, pinch)
+    parts = [(float(data.ends(source).low) / 10, float(data.ends(source).high) / 10,
+              float(source.heat if isinstance(source, Stream) else uses[source.name]), float(data.resistance(source)))
+             for source in sources if source.side is side]
+    parts = [(low, high if high > low else low + 1e-6, heat, film) for low, high, heat, film in parts if heat]
+    ends = sorted({end for low, high, _, _ in parts for end in (low, high)})
+    corners: list[Corner] = [(0.0, ends[0], 0.0)]
+    for low, high in zip(ends, ends[1:]):
+        inside = [(heat / (end - begin) * (high - low), film) for begin, end, heat, film in parts
+                  if begin <= low and high <= end]
+        whole = sum(heat for heat, _ in inside)
+        mean = sum(heat * film for heat, film in inside) / whole if whole else 0.0
+        corners.append((corners[-1][0] + whole, high, mean))
+    return corners
+
+
+def at_heat(corners: Sequence[Corner], place: float) -> tuple[float, float]:
+    """The temperature and the resistance at a place along the axis of heat."""
+    at = next(at for at, corner in enumerate(corners) if corner[0] >= place)
+    (begin, low, _), (end, high, film) = corners[at - 1], corners[at]
+    return low + (place - begin) / (end - begin) * (high - low), film
+
+
+def test_shells_and_area_of_a_textbook_exchanger() -> None:
+    """Smith 2005, chapter 15, from memory: 3.5 MW from 300 to 100 °C into 60 to 200 °C at 100 W/m²K and X = 0.9 need
+    2.33 shells by W = 0.6748, so three. The rest by hand: R = 10/7, P = 7/12, LM 60/ln 2.5 = 65.481 K; (1-RP)/(1-P) is
+    0.4, its third root 0.736806, so p of one shell is 0.263194/0.691765 = 0.380467; s = 1.743790, LM(1-p, 1-Rp) =
+    0.533844, ln(1.739463/0.412554) = 1.438964, Ft = 0.663455/0.768182 = 0.8637, and 35,000/(65.481 Ft) is 618.9 m²."""
+    duty = Duty(EndTemperatures(Fraction(3000), Fraction(1000)), EndTemperatures(Fraction(600), Fraction(2000)))
+    shells = shells_of(duty, Fraction(9, 10))
+    assert near(shells, '2.33') and whole_shells(shells) == 3 and near(duty.mean, '65.481')
+    factor = correction(duty, 3)
+    assert factor and abs(factor.middle - Fraction('0.86365')) < Fraction(5, 10 ** 5)
+    assert near(35000 / (factor * duty.mean), '618.9')
 
 
 # Coefficients of pairs.

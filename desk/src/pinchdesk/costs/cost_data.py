@@ -148,6 +148,14 @@ class CostData:
             raise missing(f'cost law of {kind}', f'#law,{service.value},{materials},FIXED,FACTOR,EXPONENT,m2')
         return next((law for law in laws if law.service is service), laws[0])
 
+    @cached_property
+    def target_law(self) -> CostLaw:
+        """The cost law of a target: that of the material of all streams where they have one, else that of exchangers
+        without a material."""
+        found = {row.source: row.material for row in self.rows(Material)}
+        names = {found.get(stream.name, '') for stream in self.case.streams}
+        return self.law(Service.EXCHANGER, names.pop() if len(names) == 1 else '')
+
     def materials(self, hot: Source, cold: Source) -> str:
         """The material of an exchanger of two sources: empty, one, or two."""
         found = {row.source: row.material for row in self.rows(Material)}

@@ -63,7 +63,7 @@ def cost_target(case: CaseText, pinch: Pinch | None = None) -> CostTarget | Cut:
 def priced_target(data: CostData, flow: HeatFlow, area: AreaTarget, found: UnitTarget) -> CostTarget:
     """The targets with their price: the area is spread evenly, as in the books, which is the dearest way where the
     exponent of the law is below 1."""
-    build, law = data.build(Service.EXCHANGER), data.law(Service.EXCHANGER)
+    build, law = data.build(Service.EXCHANGER), data.target_law
     units = found.units
     shells = shell_target(data, build, area, found.regions, units) if build.flow is Flow.ONE_TWO else None
     built = shells.area if shells else area.area

@@ -166,7 +166,7 @@ def point_of(data: CostData, difference: Fraction, uses: Mapping[str, Fraction],
     """The point of an area, with its price."""
     build = data.build(Service.EXCHANGER)
     parts = priced_parts(build, built.units, max(built.shells or built.units, at_most(build, built.area)))
-    cost = annual_cost(data, price_of(data, data.law(Service.EXCHANGER), built.area, parts), program_cost)
+    cost = annual_cost(data, price_of(data, data.target_law, built.area, parts), program_cost)
     hot, cold = (side_use(data, uses, side) for side in (Side.HOT, Side.COLD))
     return SupertargetPoint(difference, uses, hot, cold, built.area, built.units, built.shells, parts, program_cost,
                             cost, found)
