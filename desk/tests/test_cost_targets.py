@@ -10,12 +10,12 @@ from costed import AROMATICS, ONE_TWO, SMALL, costed_case, data_of, law_rows, ne
 from hypothesis import given
 from hypothesis import strategies as st
 
-from pinchdesk import Pinch, Refused, Side, Stream, print_case, read_case
+from pinchdesk import Pinch, Refused, Side, Stream, completed, print_case, read_case
 from pinchdesk.analysis.least_units import Units, least_units
 from pinchdesk.costs.area_floor import area_floor
 from pinchdesk.costs.area_target import AreaTarget, area_target, interval_area, target_of
 from pinchdesk.costs.balanced import Carrier, HeatInterval, carriers, intervals_of
-from pinchdesk.costs.cost_data import EndTemperatures
+from pinchdesk.costs.cost_data import CostData, EndTemperatures
 from pinchdesk.costs.enclosure import Enclosure, total
 from pinchdesk.costs.quick_area import quick_area
 from pinchdesk.costs.shells import Duty, correction, correction_at, shells_of, whole_shells
@@ -356,6 +356,30 @@ def test_a_target_has_the_law_of_the_material_that_all_streams_have(pinch: Pinch
     assert meet(found.cost.capital, found.area.area) and near(found.cost.capital, '39.704')
     assert near(targets(steel.replace('C,SS', 'C,CU'), pinch).cost.capital, '39474')
     assert meet(supertarget(steel, 50, 50, 1, pinch).points[0].cost.capital, found.cost.capital)
+
+
+def test_a_case_in_units_of_its_own_has_the_same_area(pinch: Pinch) -> None:
+    """The small case in tenths of °F and in Btu/h with the same numbers for CPs, so that all heats are 1.8 times as
+    many, in Btu/h."""
+    def fahrenheit(tenths: str) -> str:
+        return str(int(tenths) * 18 // 10 + 320)
+
+    rows = [row.split(',') for row in SMALL.split('\n') if row]
+    for row in rows:
+        if row[0] in ('hot', 'cold'):
+            row[2:4] = fahrenheit(row[2]), fahrenheit(row[3])
+        elif row[0] in ('heater', 'cooler'):
+            row[2] = fahrenheit(row[2])
+        elif row[0] == 'contribution':
+            row[2] = str(int(row[2]) * 18 // 10)
+    text = ''.join(f'{",".join(row)}\n' for row in [['#units', '°F', 'Btu/h', '65941/225000', '10', '0', '1'], *rows])
+    case = completed(read_case(text, own_units=True))
+    flow = pinch.uses(case)
+    assert isinstance(flow, HeatFlow)
+    data, uses = CostData(case), {use.name: use.heat for use in flow.uses}
+    share = Fraction(65941, 225000) * Fraction(9, 5)
+    assert meet(area_target(data, uses).area, targets(SMALL, pinch).area.area * share)
+    assert data.kelvins(18) == 1 and data.tenths(2120) == 1000
 
 
 # The formula as an integral, by floats and in a way of its own.
