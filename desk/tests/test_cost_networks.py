@@ -7,7 +7,8 @@ import pytest
 from conftest import example
 from costed import AROMATICS, NETWORK, SMALL, near
 
-from pinchdesk import Pinch, Refused
+from pinchdesk import Pinch, Refused, completed, read_case
+from pinchdesk.costs.area_target import asked_area
 from pinchdesk.costs.network_areas import NetworkAreas, NoAreas, network_areas
 from pinchdesk.costs.network_costs import NetworkCosts, network_costs
 from pinchdesk.formats.cost_rows import Service
@@ -110,3 +111,14 @@ def test_only_pairs_that_meet_need_a_coefficient(pinch: Pinch) -> None:
 
 def without_films() -> str:
     return ''.join(f'{row}\n' for row in SMALL.split('\n') if row and not row.startswith('#film'))
+
+
+@pytest.mark.parametrize(('name', 'area', 'formula', 'bound'), [('aromatics', '17672', '16984', False),
+                                                                ('10sp1', '285.49', '229.18', True)])
+def test_examples_have_their_published_coefficients(name: str, area: str, formula: str, bound: bool,
+                                                    pinch: Pinch) -> None:
+    """The coefficients, and the real ends of the utilities that the program adds, are comments of the cases."""
+    case = completed(read_case(example(f'{name}.csv')))
+    found = network_areas(case, example(f'{name}-network.txt'), pinch)
+    target = asked_area(pinch, case)
+    assert near(found.area, area) and near(target.area, formula) and target.bound is bound

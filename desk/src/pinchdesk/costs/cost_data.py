@@ -112,10 +112,10 @@ class CostData:
 
     def ends(self, source: Source) -> EndTemperatures:
         """Where a source enters and leaves; `Refused` of a utility that the program added, since it is none of a
-        plant."""
+        plant, unless its real ends are given."""
         if isinstance(source, Stream):
             return EndTemperatures(self.tenths(source.supply), self.tenths(source.target))
-        if source.invented:
+        if source.invented and source.name not in self.ranges:
             row = 'heater' if source.side is Side.HOT else 'cooler'
             raise refused(source.name, f'the program added this utility, and it has no temperature of a plant: enter '
                           f'a row `{row},NAME,LEVEL,LEAST,MOST,PRICE,`')

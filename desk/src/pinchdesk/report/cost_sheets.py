@@ -20,8 +20,9 @@ from ..text import printable
 from .facts import Fact, FactRow, FactTable
 from .sheet import Sheet
 
-NO_BOUND = 'films differ, so the area by the formula is no bound: a network that crosses the curves may have less'
-BOUND = 'all films are equal: no network with the same utilities has less area than the formula'
+NO_BOUND = 'coefficients differ, so the area by the formula is no bound: a network that crosses the curves may have ' \
+           'less'
+BOUND = 'all coefficients are equal: no network with the same utilities has less area than the formula'
 
 
 def metres(area: Enclosure) -> Decimal:
