@@ -10,7 +10,7 @@ from fractions import Fraction
 from ..analysis.follow import PinchPoint, PinchSide
 from ..analysis.unfinished import OPEN
 from ..errors import DeskError
-from ..formats.case import Side, Utility
+from ..formats.case import ANY_HEAT, Side, Utility
 from ..formats.shown import Shown
 from ..search.reduce.structure import Course, Lane, Parting, Through, throughs
 from .pieces import (HandPlan, changed, cut, fresh_open, merged, named, pair_with, reaches, replaced, side_at,
@@ -138,8 +138,12 @@ def anchorings(plan: HandPlan, exchanger: str, pinches: Sequence[PinchPoint]) ->
 
 
 def room_of(plan: HandPlan, exchanger: str) -> Fraction:
-    """The largest duty for which there is heat: its own and what is open beside it, on each stream."""
+    """The largest duty for which there is heat: its own and what is open beside it, on each stream, and what a utility
+    still has."""
     rooms = []
+    utility = plan.utility_of(exchanger)
+    if utility is not None and utility.most != ANY_HEAT:
+        rooms.append(utility.most - plan.used(True)[utility.name] + plan.duties[exchanger])
     for stream in plan.streams_of(exchanger):
         before, behind = neighbours(plan, plan.structure.courses[stream.name], exchanger)
         rooms.append(plan.duties[exchanger] + sum((plan.duties[name] for name in (before, behind) if name),

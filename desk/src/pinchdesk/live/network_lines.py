@@ -172,7 +172,7 @@ def keys_of(case: Case, network: Network) -> tuple[list[Key], dict[Key, str]]:
     passed: dict[str, tuple[str, ...]] = {stream.name: (stream.name,) for stream in case.streams}
     keys: list[Key] = []
     branches: dict[Key, str] = {}
-    behind = lanes_behind(network)
+    behind, seen = lanes_behind(network), set[Key]()
     for statement in network.statements:
         match statement:
             case Exchanger(name):
@@ -184,19 +184,27 @@ def keys_of(case: Case, network: Network) -> tuple[list[Key], dict[Key, str]]:
                 passed[to] = (*passed[branch], exchanger)
             case Split(branch, first, _, second):
                 stream = passed[branch][0]
-                keys.append(('split', stream, behind[first]))
+                keys.append(told_apart(('split', stream, behind[first]), seen))
                 for part in (first, second):
-                    branches['lane', stream, behind[part]] = part
-                    passed[part] = (stream,)
+                    branches[told_apart(('lane', stream, behind[part]), seen)] = part
+                    passed[part] = passed[branch]
             case Mix(first, second, to):
                 stream = passed[first][0]
                 met = tuple(sorted({*passed[first][1:], *passed[second][1:]}))
-                keys.append(('mix', stream, *met))
-                branches['mix', stream, *met] = to
+                keys.append(told_apart(('mix', stream, *met), seen))
+                branches[keys[-1]] = to
                 passed[to] = (stream, *met)
             case End(branch):
                 keys.append(('end', passed[branch][0]))
     return keys, branches
+
+
+def told_apart(key: Key, seen: set[Key]) -> Key:
+    """A key that was not there yet: the second of its kind has a sign more."""
+    while key in seen:
+        key = (*key, '+')
+    seen.add(key)
+    return key
 
 
 def lanes_behind(network: Network) -> dict[str, str]:
@@ -228,6 +236,9 @@ class LineWriter:
         self.statements: list[Statement] = []
         self.taken = {stream.name for stream in plan.case.streams} | set(layout.branches.values())
         self.used: set[str] = set()
+        self.seen: set[Key] = set()
+        # What each branch has passed since its stream began.
+        self.passed: dict[str, frozenset[str]] = {stream.name: frozenset() for stream in plan.case.streams}
 
     def written(self) -> list[Statement]:
         plan = self.plan
@@ -241,7 +252,7 @@ class LineWriter:
 
     def name(self, stream: Stream, key: Key) -> str:
         """The name that a branch had, else a new one."""
-        known = self.layout.branches.get(key)
+        known = self.layout.branches.get(told_apart(key, self.seen))
         if known is not None and known not in self.used and self.is_free(known):
             self.used.add(known)
             return known
@@ -257,6 +268,7 @@ class LineWriter:
             if isinstance(step, Through):
                 to = self.name(stream, ('pass', stream.name, step.exchanger))
                 self.statements.append(Pass(branch, step.exchanger, to))
+                self.passed[to] = self.passed[branch] | {step.exchanger}
                 branch = to
             else:
                 branch = self.divided(stream, branch, size, step)
@@ -269,15 +281,17 @@ class LineWriter:
             rest = '+'.join(first_of(other.course) for other in parting.lanes[at + 1:])
             second = self.name(stream, ('lane', stream.name, rest))
             self.statements.append(Split(branch, first, size * lane.share, second))
+            self.passed[first] = self.passed[second] = self.passed[branch]
             begun.append(first)
             branch = second
         ended = [self.led(stream, lane_branch, size * lane.share, lane.course)
                  for lane_branch, lane in zip((*begun, branch), parting.lanes)]
-        joined, met = ended[0], set(throughs(parting.lanes[0].course))
-        for other, lane in zip(ended[1:], parting.lanes[1:]):
-            met |= set(throughs(lane.course))
+        joined = ended[0]
+        for other in ended[1:]:
+            met = self.passed[joined] | self.passed[other]
             to = self.name(stream, ('mix', stream.name, *sorted(met)))
             self.statements.append(Mix(joined, other, to))
+            self.passed[to] = met
             joined = to
         return joined
 
