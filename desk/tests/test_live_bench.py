@@ -7,12 +7,13 @@ from dataclasses import asdict
 from pathlib import Path
 
 import pytest
-from conftest import EXAMPLES
+from conftest import EXAMPLES, pinchdesk
 from live_desk import Hand, bench_of, opened
 
 from pinchdesk import Pinch
 from pinchdesk.formats import written_files
 from pinchdesk.live.own_files import ChangedOutside, OpenedTwice, OwnFile, claimed
+from pinchdesk.live.view import Slider
 from pinchdesk.program.verdicts import Accepted
 
 
@@ -205,3 +206,17 @@ def test_a_case_begins_with_nothing(tmp_path: Path) -> None:
     view = hand.does('add', what='stream', name='B', side='cold', supply='20', target='120', flow='1')
     assert view.verdict.kind == 'nothing-placed' and len(view.grid.pieces if view.grid else ()) > 1
     hand.drops(hand.piece('A', view.grid.pieces[0].where if view.grid else ''), 'COLD')
+
+
+@pytest.mark.long
+def test_areas_stand_beside_a_network_and_beside_the_slider(tmp_path: Path) -> None:
+    bench = bench_of(tmp_path, 'reactors-cost', 'reactors-cost-network.txt')
+    view = bench.view()
+    printed = pinchdesk('cost', str(tmp_path / 'case.csv'), str(tmp_path / 'network.txt')).out
+    assert all(row.area and row.area in printed for row in view.exchangers)
+    slider = bench.slider(view.version, '10')
+    assert isinstance(slider, Slider) and slider.area.endswith(' m²') and slider.cost.endswith(' $/a')
+    assert slider.network.startswith('Accepted: ')
+    after = bench.slider(view.version, '12')
+    assert isinstance(after, Slider) and after.network.startswith('Rejected: E2 is too close at its cold end')
+    assert view.texts == bench.view().texts

@@ -4,16 +4,19 @@ from __future__ import annotations
 
 import threading
 from collections.abc import Mapping
-from dataclasses import dataclass
+from dataclasses import dataclass, replace
 
 from ..errors import DeskError, OutputError
 from ..program.run import Pinch
 from ..program.verdicts import TooFine
+from .areas import area_targets
 from .asked import Fields, Made, made_by
 from .case_lines import with_difference
 from .gestures import NotDone
-from .known import Knowing, Known, Snapshot, as_text, begun, completed_live, told
+from .judgement import Whole, judged_stand
+from .known import Knowing, Known, Snapshot, as_content, as_text, begun, completed_live, told
 from .offers import offers_of
+from .network_view import Standing, judgement_of
 from .own_files import ChangedOutside, OwnFile
 from .seen import seen, slid
 from .view import Mark, Offer, Refusal, Slider, View, WayOffer
@@ -176,6 +179,15 @@ class Bench:
             known = self.now
         return told_ways(known.plan, ways_of(known.plan)) if known.plan else ()
 
+    def network_at(self, known: Known, whole: Whole, case: str) -> str:
+        """What the network would be with another least approach, in words: as much of it as an audit says."""
+        if known.plan is None or not known.plan.placed:
+            return ''
+        pinch, plan = self.knowing.pinch, replace(known.plan, case=whole.case)
+        stand = judged_stand(pinch, plan, pinch.audit(as_content(case), known.snapshot.network_bytes))
+        judged = judgement_of(Standing(whole, plan, stand, None, 0, 0))
+        return f'{judged.title}: {judged.text}'
+
     def report(self) -> str:
         """The page for the reviewer, of both texts as they are."""
         from ..report.page import Given, page_of, review_of
@@ -195,6 +207,7 @@ class Bench:
             if known.case is None:
                 raise NotDone(f'The case cannot be read: {known.fault}')
             text = with_difference(known.snapshot.case, known.case, difference)
-            return slid(self.knowing.whole(completed_live(text), text))
+            whole = self.knowing.whole(completed_live(text), text)
+            return slid(whole, area_targets(self.knowing.pinch, whole.case), self.network_at(known, whole, text))
         except DeskError as fault:
             return GestureDone(self.view(), Refusal(told(fault)))

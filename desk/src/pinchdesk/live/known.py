@@ -4,7 +4,7 @@ from __future__ import annotations
 
 from collections import OrderedDict
 from concurrent.futures import ThreadPoolExecutor
-from dataclasses import dataclass, field
+from dataclasses import dataclass, field, replace
 
 from ..analysis.least_units import rule_between_pinches
 from ..errors import DeskError, Refused
@@ -13,6 +13,7 @@ from ..program.answers import HeatFlow
 from ..program.causes import lines_of
 from ..program.run import Pinch
 from ..program.verdicts import PlaceKind, Rejected, Verdict
+from .areas import areas_of_network
 from .judgement import Reachable, Stand, Whole, asked_whole, judged_stand, left_case, reachable
 from .network_lines import TextLayout, begun_plan, read_plan, write_plan
 from .network_view import Standing
@@ -136,7 +137,10 @@ class Knowing:
         stand = self.pool.submit(judged_stand, self.pinch, plan, verdict)
         rule = self.pool.submit(self.rule, snapshot.case, whole.case)
         left = self.pool.submit(self.rule_of_left, plan)
-        return Standing(whole, plan, stand.result(), reach.result(), rule.result(), left.result())
+        known = Standing(whole, plan, stand.result(), reach.result(), rule.result(), left.result())
+        if plan.open or known.stand.accepted is None:
+            return known
+        return replace(known, areas=areas_of_network(self.pinch, whole.case, snapshot.network_bytes))
 
     def rule(self, text: str, case: Case) -> int:
         """The rule's number of exchangers between the pinches of a case; 0 where it has no heat flow."""

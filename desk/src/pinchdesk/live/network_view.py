@@ -1,13 +1,14 @@
 """The network as the page shows it beside the grid: the verdict in words, the score, the table of exchangers."""
 from __future__ import annotations
 
-from dataclasses import dataclass
+from dataclasses import dataclass, field
 from fractions import Fraction
 
 from ..analysis.findings import REASONS
 from ..formats.case import Side
 from ..formats.shown import Shown
 from ..program.verdicts import Accepted, Place, PlaceKind, Rejected, TooFine, Verdict
+from .areas import Areas
 from .grid_view import Lines, place_of
 from .judgement import Reachable, Stand, Whole
 from .pieces import HandPlan
@@ -27,6 +28,7 @@ class Standing:
     reach: Reachable | None
     rule: int
     left: int
+    areas: Areas = field(default_factory=Areas)
 
 
 def judgement_of(standing: Standing) -> Judgement:
@@ -129,7 +131,9 @@ def money(shown: Shown, cost: Fraction | int) -> str:
 
 
 def notes_of(standing: Standing, known: bool) -> tuple[str, ...]:
-    notes = []
+    areas = standing.areas
+    notes = [f'area {areas.area}, {areas.cost} with the utilities'] if areas.area else []
+    notes += [areas.missing] if areas.missing else []
     if standing.reach is not None and not standing.reach.exact:
         notes.append('what can be reached is rounded up: what is left has finer numbers than a case can hold')
     if standing.reach is None and known is False and standing.plan.open:
@@ -145,12 +149,13 @@ def bar_of_score(whole: Whole, reached: Fraction | None, stands: Fraction | None
     return first, second, third
 
 
-def exchanger_rows(lines: Lines, stand: Stand) -> tuple[ExchangerRow, ...]:
+def exchanger_rows(lines: Lines, standing: Standing) -> tuple[ExchangerRow, ...]:
     """The exchangers that stand, as a table."""
-    return tuple(exchanger_row(lines, name, stand.verdict) for name in lines.plan.placed)
+    return tuple(exchanger_row(lines, name, standing.stand.verdict, standing.areas.of.get(name, ''))
+                 for name in lines.plan.placed)
 
 
-def exchanger_row(lines: Lines, name: str, verdict: Verdict) -> ExchangerRow:
+def exchanger_row(lines: Lines, name: str, verdict: Verdict, area: str) -> ExchangerRow:
     plan, shown = lines.plan, lines.shown
     hot, cold = plan.pairs[name]
     ends = [*side_ends(plan, name, Side.HOT, shown), *side_ends(plan, name, Side.COLD, shown)]
@@ -159,8 +164,8 @@ def exchanger_row(lines: Lines, name: str, verdict: Verdict) -> ExchangerRow:
     where, _ = place_of(lines, name)
     return ExchangerRow(name, hot, cold, shown.heat(plan.duties[name]), ends[0], ends[1], ends[2], ends[3],
                         '' if invented else shown.difference(min(plan.differences(name))),
-                        shown.difference(plan.approach(name)), where, shown.heat(loss) if loss is not None else '', '',
-                        lines.faults.get(name, ''))
+                        shown.difference(plan.approach(name)), where, shown.heat(loss) if loss is not None else '',
+                        area, lines.faults.get(name, ''))
 
 
 def side_ends(plan: HandPlan, name: str, side: Side, shown: Shown) -> list[str]:

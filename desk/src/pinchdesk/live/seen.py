@@ -7,6 +7,7 @@ from ..formats.case import Case
 from ..formats.shown import Shown
 from ..program.answers import Targets
 from ..program.verdicts import Accepted, Rejected
+from .areas import Areas
 from .case_view import (curve_picture, difference_of, forbid_rows, pinch_marks, stream_rows, unit_names, utility_rows)
 from .grid_view import Lines, grid_picture, laid_out
 from .judgement import Whole
@@ -29,7 +30,7 @@ def seen(known: Known, version: int, names: tuple[str, str, str], steps: Sequenc
         stream_rows(case) if case else (), utility_rows(plan or case) if case else (),
         forbid_rows(case) if case else (),
         curve_picture(known.whole) if known.whole else None, None, grid_picture(lines) if lines else None,
-        exchanger_rows(lines, standing.stand) if lines and standing else (),
+        exchanger_rows(lines, standing) if lines and standing else (),
         tuple(StepMade(step, number == at) for number, step in enumerate(steps)), at > 0, at < len(steps) - 1,
         Texts(known.snapshot.case, known.snapshot.network), known.read_only)
 
@@ -73,8 +74,9 @@ def targets_told(case: Case, targets: Targets) -> tuple[str, str]:
     return shown.heat(targets.hot), shown.heat(targets.cold)
 
 
-def slid(whole: Whole) -> Slider:
-    """What the slider shows of a case."""
+def slid(whole: Whole, areas: Areas, network: str) -> Slider:
+    """What the slider shows of a case, and what the network would be there."""
     hot, cold = targets_told(whole.case, whole.targets)
     pinches = '; '.join(mark.text for mark in pinch_marks(whole)) or 'no pinch'
-    return Slider(difference_of(whole.case), hot, cold, pinches, curve_picture(whole))
+    return Slider(difference_of(whole.case), hot, cold, pinches, curve_picture(whole), areas.area,
+                  areas.cost, network)

@@ -118,8 +118,8 @@ class LiveDesk:
         return Response(content, media_type=kind)
 
     async def reported(self) -> Response:
-        """The page for the reviewer, as `pinchdesk page` writes it; its styles are inside of it, and it has no script.
-        """
+        """The page for the reviewer, as `pinchdesk page` writes it; its styles are inside of it, and it has no
+        script."""
         try:
             content = await run_in_threadpool(self.bench.report)
         except DeskError as fault:
