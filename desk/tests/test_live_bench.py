@@ -5,15 +5,19 @@ import errno
 import json
 from dataclasses import asdict
 from pathlib import Path
+from tempfile import TemporaryDirectory
 
 import pytest
 from conftest import EXAMPLES, pinchdesk
+from hypothesis import given
+from hypothesis import strategies as some
 from live_desk import Hand, bench_of, opened
 
 from pinchdesk import Pinch
 from pinchdesk.formats import written_files
+from pinchdesk.live.asked import ON_PLAN, ON_TEXTS
 from pinchdesk.live.own_files import ChangedOutside, OpenedTwice, OwnFile, claimed
-from pinchdesk.live.view import Slider
+from pinchdesk.live.view import Slider, View
 from pinchdesk.program.verdicts import Accepted
 
 
@@ -220,3 +224,38 @@ def test_areas_stand_beside_a_network_and_beside_the_slider(tmp_path: Path) -> N
     after = bench.slider(view.version, '12')
     assert isinstance(after, Slider) and after.network.startswith('Rejected: E2 is too close at its cold end')
     assert view.texts == bench.view().texts
+
+
+TYPED = ['', '0', '-1', '1', '20', '150.5', '1/3', '1e30', 'nan', '12,5', 'x', None, 3, [], ['50', '50']]
+
+
+def named_in(view: View) -> dict[str, list[object]]:
+    """For fields of gestures what they may name in a view."""
+    grid = view.grid
+    assert grid is not None
+    utilities = [utility.name for utility in view.utilities]
+    pieces = [pill.id for pill in grid.pieces]
+    seats = ['begin', 'end', 'lane', 'level']
+    return {'piece': [*pieces], 'partner': [*pieces, *utilities], 'utility': [*utilities],
+            'exchanger': [bar.name for bar in grid.exchangers], 'joint': [joint.id for joint in grid.joints],
+            'row': [row.row for row in (*view.streams, *view.utilities, *view.forbids)], 'hot_seat': [*seats],
+            'cold_seat': [*seats], 'field': ['name', 'supply', 'flow', 'most', 'hot'], 'side': ['hot', 'cold'],
+            'what': ['stream', 'utility', 'forbid'], 'name': ['A', 'E1', 'HOT'], 'at': [0, 1, -1]}
+
+
+@pytest.mark.long
+@given(some.sampled_from([('tc3', 'tc3-network.txt'), ('column', None), ('two-reactors-steam', None)]), some.data())
+def test_no_gesture_fails_and_one_that_is_refused_changes_nothing(example: tuple[str, str | None],
+                                                                  data: some.DataObject) -> None:
+    with TemporaryDirectory() as folder:
+        bench = bench_of(Path(folder), *example)
+        for _ in range(6):
+            before = bench.view()
+            known = named_in(before)
+            fields = ('heat', 'share', 'text', 'supply', 'target', 'flow', 'difference', 'shares', 'way', *known)
+            kind = data.draw(some.sampled_from([*ON_PLAN, *ON_TEXTS, 'undo', 'redo', 'step']), 'kind')
+            gesture = {field: data.draw(some.sampled_from([*known.get(field, []), *TYPED]), field) for field in fields}
+            done = bench.gesture(before.version, {'kind': kind, **gesture})
+            assert done.refused is None or done.refused.text and done.view.texts == before.texts
+            content = (Path(folder) / 'case.csv').read_bytes()
+            assert content == done.view.texts.case.encode()

@@ -49,7 +49,10 @@ class Guard:
 
     def path(self, scope: Scope) -> str | None:
         """The path behind the token; None where the request is not one of the page's own."""
-        _, first, rest = (scope.get('path', '').split('/', 2) + ['', '', ''])[:3]
+        parts = scope.get('path', '').split('/', 2)
+        if len(parts) < 3:
+            return None
+        first, rest = parts[1:]
         token = compare_digest(first.encode('utf-8', 'replace'), self.token.encode())
         headers = one_each(scope)
         if not token or headers is None or not compare_digest(headers.get('host', '').encode(), self.host.encode()):

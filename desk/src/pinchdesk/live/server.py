@@ -18,14 +18,15 @@ from starlette.responses import Response
 from starlette.websockets import WebSocket, WebSocketDisconnect
 
 from ..errors import DeskError
+from ..failures import failure_of
 from ..program.causes import lines_of
 from .bench import Bench, GestureDone
 from .guard import HEADERS, HOST, OF_REPORT, Guard, Scope, fresh_token
 from .view import Refusal, Slider, View
 
 PAGE = Path(__file__).resolve().parent / 'page'
-KINDS = {'.html': 'text/html; charset=utf-8', '.css': 'text/css; charset=utf-8',
-         '.js': 'text/javascript; charset=utf-8', '.svg': 'image/svg+xml'}
+KINDS = {'.html': 'text/html', '.css': 'text/css',
+         '.js': 'text/javascript', '.svg': 'image/svg+xml'}
 # How often it is looked whether somebody else has written a file, in seconds.
 LOOKS = 0.5
 Receive = Callable[[], Awaitable[Any]]
@@ -65,7 +66,7 @@ class LiveDesk:
         if scope['type'] == 'websocket':
             await self.changes(WebSocket(scope, receive, send), path)
             return
-        response = nothing() if path is None else await self.responded(Request(scope, receive), path)
+        response = nothing() if path is None else await self.tried(Request(scope, receive), path)
         for name, value in HEADERS.items():
             response.headers.setdefault(name, value)
         await response(scope, receive, send)
@@ -94,6 +95,13 @@ class LiveDesk:
         """All windows ask anew."""
         for event in self.waiting:
             event.set()
+
+    async def tried(self, request: Request, path: str) -> Response:
+        """The answer; where the desk itself fails, the line that is to be reported, and the desk goes on."""
+        try:
+            return await self.responded(request, path)
+        except Exception as fault:  # Whatever it is, the next gesture is answered.
+            return Response(failure_of(fault)[1], 500, media_type='text/plain')
 
     async def responded(self, request: Request, path: str) -> Response:
         if request.method == 'GET':
@@ -124,7 +132,7 @@ class LiveDesk:
             content = await run_in_threadpool(self.bench.report)
         except DeskError as fault:
             return Response(' '.join(lines_of(fault)), media_type='text/plain')
-        response = Response(content, media_type='text/html; charset=utf-8')
+        response = Response(content, media_type='text/html')
         response.headers['Content-Security-Policy'] = OF_REPORT
         return response
 
