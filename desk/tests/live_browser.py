@@ -26,6 +26,11 @@ CHROMIUM, DRIVER = (shutil.which(name) for name in ('chromium', 'chromedriver'))
 WAIT = 20.0
 WORDS = ('--headless=new', '--no-sandbox', '--disable-gpu', '--disable-dev-shm-usage')
 Found = TypeVar('Found')
+# The marks that the page sets: the last one of each name.
+LAST = "const last = name => performance.getEntriesByName(name).pop()?.startTime ?? 0;"
+LATER = LAST + "return last('painted') > last('answered') && last('answered') > last('asked')"
+TIMES = LAST + """const from = Math.max(last('dropped'), 0) || last('asked');
+return {asked: last('asked') - from, answered: last('answered') - from, painted: last('painted') - from};"""
 
 
 @contextmanager
@@ -118,6 +123,12 @@ class LivePage:
     def exchanger(self, name: str) -> WebElement:
         return self.one(f'[data-exchanger="{name}"]')
 
+    def choose(self, name: str) -> None:
+        """Chooses an exchanger, wherever the diagram is scrolled to."""
+        self.driver.execute_script('arguments[0].dispatchEvent(new MouseEvent("click", {bubbles: true}))',
+                                   self.exchanger(name))
+        self.until(lambda: self.all('[data-key=duty]'))
+
     def exchangers(self) -> list[str]:
         return sorted(str(bar.get_attribute('data-exchanger')) for bar in self.all('[data-exchanger]'))
 
@@ -125,6 +136,12 @@ class LivePage:
         """The first button whose text begins so."""
         return self.until(lambda: [button for button in self.all(f'{inside} button')
                                    if button.text.startswith(text)])[0]
+
+    def middle(self, element: WebElement) -> tuple[float, float]:
+        """Where an element is in the window."""
+        x, y = self.driver.execute_script('const box = arguments[0].getBoundingClientRect();'
+                                          'return [box.x + box.width / 2, box.y + box.height / 2]', element)
+        return (float(x), float(y))
 
     def drag(self, source: WebElement, target: WebElement, *, drop: bool = True) -> None:
         chain = ActionChains(self.driver, duration=20)
@@ -150,6 +167,12 @@ class LivePage:
     def says(self, *words: str) -> None:
         """Waits until the verdict has these words."""
         self.until(lambda: all(word in self.text('#verdict') for word in words))
+
+    def painted(self) -> dict[str, float]:
+        """How long the last gesture took from the pointer's release or the key, in ms: until it was asked, answered and
+        painted."""
+        self.until(lambda: self.driver.execute_script(LATER))
+        return dict(self.driver.execute_script(TIMES))
 
     def errors(self) -> list[str]:
         """What went wrong in scripts or was kept from loading."""

@@ -3,6 +3,8 @@ from __future__ import annotations
 
 import ast
 import re
+import shutil
+import subprocess
 from collections.abc import Iterator
 
 import pytest
@@ -71,3 +73,50 @@ def test_a_module_is_short_and_imports_what_is_there(name: str) -> None:
     assert max(len(line) for line in text.splitlines()) <= 120
     named = {name for pair in re.findall(r"from '\./(.*?)'|import\('\./(.*?)'\)", text) for name in pair if name}
     assert named <= set(page_files())
+
+
+@pytest.mark.long
+@pytest.mark.skipif(not shutil.which('tsc'), reason='no tsc to look at the types of the page')
+def test_the_types_of_the_page_are_sound() -> None:
+    words = ['--checkJs', '--allowJs', '--strict', '--noEmit', '--target', 'es2022', '--module', 'es2022',
+             '--moduleResolution', 'node', '--lib', 'es2022,dom,dom.iterable']
+    files = [name for name in page_files() if name.endswith('.js')]
+    done = subprocess.run(['tsc', *words, *files], cwd=PAGE, capture_output=True, text=True, check=False)
+    assert (done.stdout, done.returncode) == ('', 0)
+
+
+def colours(text: str) -> dict[str, tuple[int, ...]]:
+    """The colours of a block of the style sheet, by their names."""
+    return {name: tuple(int(digits[at:at + 2], 16) for at in (0, 2, 4))
+            for name, digits in re.findall(r'--([a-z-]+): #([0-9a-f]{6})', text)}
+
+
+STYLE = (PAGE / 'style.css').read_text(encoding='utf-8')
+SCHEMES = [colours(block) for block in re.findall(r':root \{(.*?)\}', STYLE, re.DOTALL)]
+
+
+def contrast(one: tuple[int, ...], other: tuple[int, ...]) -> float:
+    """How much two colours differ, from 1 to 21, as WCAG has it."""
+    def light(colour: tuple[int, ...]) -> float:
+        red, green, blue = (part / 3294.6 if part <= 10 else ((part / 255 + 0.055) / 1.055) ** 2.4 for part in colour)
+        return 0.2126 * red + 0.7152 * green + 0.0722 * blue
+    dark, bright = sorted((light(one), light(other)))
+    return (bright + 0.05) / (dark + 0.05)
+
+
+TEXTS = {'panel': ('ink', 'pale', 'hot', 'cold', 'fault', 'good', 'blue'), 'page': ('ink', 'pale'),
+         'field': ('ink', 'fault', 'pale'), 'chosen-fill': ('ink', 'blue'), 'hot-fill': ('ink',), 'cold-fill': ('ink',),
+         'hot-piece': ('ink', 'fault'), 'cold-piece': ('ink', 'fault'), 'partner-fill': ('ink',),
+         'band': ('ink', 'pale'), 'faint': ('ink',), 'shade': ('on-shade',), 'good': ('on-badge',),
+         'fault': ('on-badge',), 'warn': ('on-badge',), 'blue': ('on-badge',)}
+LINES = {'panel': ('hot', 'cold', 'above', 'below', 'between', 'across', 'nowhere', 'fault', 'good', 'blue', 'warn'),
+         'band': ('hot', 'cold', 'above', 'below', 'across', 'fault')}
+
+
+@pytest.mark.parametrize('scheme', SCHEMES, ids=['light', 'dark'])
+def test_texts_and_lines_stand_out(scheme: dict[str, tuple[int, ...]]) -> None:
+    assert len(SCHEMES) == 2 and SCHEMES[0].keys() == SCHEMES[1].keys()
+    low = [(least, ground, name, round(contrast(scheme[ground], scheme[name]), 2))
+           for least, pairs in ((4.5, TEXTS), (3.0, LINES)) for ground, names in pairs.items() for name in names
+           if contrast(scheme[ground], scheme[name]) < least]
+    assert not low

@@ -3,6 +3,7 @@ from __future__ import annotations
 
 import shutil
 from collections.abc import Iterator
+from itertools import product
 from pathlib import Path
 
 import pytest
@@ -66,6 +67,7 @@ def test_a_drag_makes_an_exchanger_and_the_verdict_follows(page: LivePage, desk:
     assert not page.errors()
 
 
+@pytest.mark.long
 def test_the_cost_stands_beside_the_pointer_before_the_drop(page: LivePage) -> None:
     page.drag(page.piece('S1', '120'), page.piece('S3', '137.5'), drop=False)
     page.until(lambda: '120 kW, finishes S1' in page.text('#hint') and 'costs nothing' in page.text('#hint'))
@@ -149,6 +151,7 @@ def focused_name(page: LivePage) -> str:
     return str(page.driver.execute_script('return document.activeElement.getAttribute("aria-label")'))
 
 
+@pytest.mark.long
 def test_the_slider_changes_nothing_until_enter(page: LivePage, desk: OpenDesk) -> None:
     before = desk.case.read_bytes()
     slider = page.one('#curves input[type=range]')
@@ -168,6 +171,7 @@ def test_the_slider_changes_nothing_until_enter(page: LivePage, desk: OpenDesk) 
     page.undo()
 
 
+@pytest.mark.long
 def test_what_is_wrong_is_said_in_its_cell(page: LivePage, desk: OpenDesk) -> None:
     before = desk.case.read_bytes()
     cell = page.one('#streams input[aria-label="supply of S1"]')
@@ -180,6 +184,7 @@ def test_what_is_wrong_is_said_in_its_cell(page: LivePage, desk: OpenDesk) -> No
     page.until(lambda: not page.all('#streams input[aria-invalid]'))
 
 
+@pytest.mark.long
 def test_a_page_that_is_loaded_again_is_the_same(page: LivePage, desk: OpenDesk) -> None:
     page.place(('S1', '120'), ('S3', '137.5'))
     names, steps = page.names(), page.text('#steps')
@@ -197,6 +202,7 @@ def test_two_windows_follow_each_other(page: LivePage, desk: OpenDesk) -> None:
         page.until(lambda: len(page.exchangers()) == 2)
 
 
+@pytest.mark.long
 def test_a_change_from_outside_is_shown_as_a_step(page: LivePage, desk: OpenDesk) -> None:
     shutil.copy(EXAMPLES / 'tc3-network.txt', desk.network)
     page.until(lambda: len(page.exchangers()) == 7)
@@ -205,6 +211,7 @@ def test_a_change_from_outside_is_shown_as_a_step(page: LivePage, desk: OpenDesk
     page.until(lambda: page.exchangers() == [])
 
 
+@pytest.mark.long
 def test_a_desk_that_is_gone_is_told_and_nothing_is_lost(page: LivePage, desk: OpenDesk) -> None:
     page.place(('S1', '120'), ('S3', '137.5'))
     text = desk.network.read_bytes()
@@ -217,6 +224,79 @@ def test_a_desk_that_is_gone_is_told_and_nothing_is_lost(page: LivePage, desk: O
         assert len(page.exchangers()) == 1
     finally:
         again.kill()
+
+
+@pytest.mark.long
+def test_nothing_is_wider_than_the_window(driver: Chrome, tmp_path: Path) -> None:
+    """In narrow windows, and with letters of twice the size, all can be reached without scrolling to the side."""
+    desk, page, wider = opened_example(tmp_path), LivePage(driver), []
+    try:
+        for letters, width in product((16, 32), (400, 620, 900, 1180, 1500)):
+            driver.set_window_size(width, 900)
+            driver.execute_cdp_cmd('Page.setFontSizes', {'fontSizes': {'standard': letters, 'fixed': letters}})
+            page.go(desk.address).choose('E4')
+            page.until(lambda: page.all('#ways .ways'))
+            if driver.execute_script('const page = document.documentElement;'
+                                     'return page.scrollWidth > page.clientWidth'):
+                wider.append((letters, width))
+        assert not wider
+    finally:
+        driver.execute_cdp_cmd('Page.setFontSizes', {'fontSizes': {'standard': 16, 'fixed': 13}})
+        driver.set_window_size(1500, 960)
+        driver.get('about:blank')
+        desk.kill()
+
+
+def opened_example(folder: Path, name: str = 'tc3') -> OpenDesk:
+    """A case with its published network."""
+    for ending in ('.csv', '-network.txt'):
+        shutil.copy(EXAMPLES / f'{name}{ending}', folder)
+    return open_desk(folder / f'{name}.csv', folder / f'{name}-network.txt')
+
+
+SPOKEN = {'button', 'textbox', 'slider', 'combobox', 'spinbutton', 'img', 'DisclosureTriangle'}
+
+
+@pytest.mark.long
+def test_a_screen_reader_has_a_name_for_all_that_can_be_done(driver: Chrome, tmp_path: Path) -> None:
+    """What the browser tells a screen reader: each control with its own name, the verdict as what changes."""
+    desk = opened_example(tmp_path)
+    try:
+        page = LivePage(driver).go(desk.address)
+        page.choose('E4')
+        page.until(lambda: page.all('#ways .ways'))
+        tree = driver.execute_cdp_cmd('Accessibility.getFullAXTree', {})['nodes']
+        nodes = [(node['role']['value'], node.get('name', {}).get('value', '')) for node in tree
+                 if not node['ignored'] and 'role' in node]
+        assert not [role for role, name in nodes if role in SPOKEN and not name.strip()]
+        names = {name for _, name in nodes}
+        assert ('status', '') in nodes and 'Grid diagram' in names
+        assert 'exchanger E4, S1 to S3, 20 kW, below the pinch' in names
+        assert 'parting of S2: 43.75 %, 56.25 %' in names
+        assert {'supply of S1', 'duty of E4 in kW', 'least approach ΔTmin', 'remove S1'} <= names
+        assert any(name.startswith('Composite curves: utilities hot 107.5 kW, cold 40 kW') for name in names)
+    finally:
+        driver.get('about:blank')
+        desk.kill()
+
+
+@pytest.mark.long
+def test_a_finger_places_an_exchanger(page: LivePage) -> None:
+    source, target = (page.middle(page.piece(*named)) for named in (('S1', '120'), ('S3', '137.5')))
+    for kind, points in (('touchStart', [source]), ('touchMove', [(source[0] + 9, source[1] + 9)]),
+                         ('touchMove', [target]), ('touchEnd', [])):
+        page.driver.execute_cdp_cmd('Input.dispatchTouchEvent', {
+            'type': kind, 'touchPoints': [{'x': x, 'y': y} for x, y in points]})
+    page.until(lambda: len(page.exchangers()) == 1)
+
+
+@pytest.mark.long
+def test_a_gesture_is_painted_soon(page: LivePage) -> None:
+    """From the release of the pointer; on a busy machine it may take some times as long as on a quiet one."""
+    page.place(('S1', '120'), ('S3', '137.5'))
+    page.place(('S2', '240'), ('S4', '135'))
+    times = page.painted()
+    assert 0 <= times['asked'] < times['answered'] < times['painted'] < 2000
 
 
 @pytest.mark.long

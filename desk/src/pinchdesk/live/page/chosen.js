@@ -21,15 +21,17 @@ export class ChosenPart {
     this.panel = panel;
     this.actions = actions;
     this.back = back;
+    this.scrolled = 0;
     panel.addEventListener('keydown', event => this.pressed(event));
+    panel.addEventListener('scroll', () => { this.scrolled = panel.scrollTop; });
   }
 
   /** @type {import('./state.js').Renderer} */
   render = (state, before) => {
     if (!changed(state, before, 'view', 'chosen', 'offers', 'instead')) return;
-    const scrolled = before && before.chosen === state.chosen ? this.panel.scrollTop : 0;
+    const scrolled = before && before.chosen === state.chosen ? this.scrolled : 0;
     fill(this.panel, ...this.content(state));
-    this.panel.scrollTop = scrolled;
+    if (scrolled !== this.scrolled || scrolled) this.panel.scrollTop = scrolled;
   };
 
   /**

@@ -2,7 +2,7 @@
 
 import { draw, fill, letterScale, make } from './dom.js';
 import { linear, tickText, ticks } from './scale.js';
-import { changed } from './state.js';
+import { changed, viewChanged } from './state.js';
 
 /** @typedef {import('./actions.js').Actions} Actions */
 /** @typedef {import('./contract.js').CurvePicture} CurvePicture */
@@ -48,10 +48,13 @@ export class CurvesPart {
 
   /** @type {import('./state.js').Renderer} */
   render = (state, before) => {
-    if (!changed(state, before, 'view', 'slider')) return;
-    this.choose(state);
-    this.show(state);
-    this.approach(state);
+    if (changed(state, before, 'slider') || viewChanged(state, before, 'curves', 'curves_left')) {
+      this.choose(state);
+      this.show(state);
+    }
+    if (changed(state, before, 'slider') || viewChanged(state, before, 'difference', 'units', 'score')) {
+      this.approach(state);
+    }
   };
 
   /** @param {State} state */

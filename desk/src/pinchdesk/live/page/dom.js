@@ -99,11 +99,22 @@ export function keyed(parent, key) {
   return found instanceof HTMLElement || found instanceof SVGElement ? found : null;
 }
 
+let scale = 0;
+
 /** How much larger than usual the reader has the letters: pictures grow with them. */
 export function letterScale() {
-  return parseFloat(getComputedStyle(document.documentElement).fontSize) / 16 || 1;
+  if (!scale) lettersChanged();
+  return scale;
 }
 
+/** Measures the letters again, and says whether they are larger or smaller than before. */
+export function lettersChanged() {
+  const before = scale;
+  scale = parseFloat(getComputedStyle(document.documentElement).fontSize) / 16 || 1;
+  return scale !== before;
+}
+
+let letters = '';
 const ruler = document.createElement('canvas').getContext('2d');
 
 /**
@@ -114,6 +125,7 @@ const ruler = document.createElement('canvas').getContext('2d');
  */
 export function textWidth(text, size, bold = false) {
   if (!ruler) return text.length * size * 0.62;
-  ruler.font = `${bold ? 'bold ' : ''}${size}px ${getComputedStyle(document.body).fontFamily}`;
+  letters ||= getComputedStyle(document.body).fontFamily;
+  ruler.font = `${bold ? 'bold ' : ''}${size}px ${letters}`;
   return ruler.measureText(text).width;
 }

@@ -1,12 +1,12 @@
 // The grid diagram: it is drawn anew with each view, and marked as the user points and chooses.
 
-import { draw, fill, keyed, make } from './dom.js';
+import { draw, fill, keyed, lettersChanged, make } from './dom.js';
 import { Geometry } from './geometry.js';
 import { exchangerShape, jointShape, lineShape, nameShape, pieceShape, pinchShape, rowShape } from './grid_shapes.js';
 import { GridKeys } from './grid_keys.js';
 import { chosenAt, markOne } from './grid_marks.js';
 import { Drag } from './drag.js';
-import { changed } from './state.js';
+import { viewChanged } from './state.js';
 
 /** @typedef {import('./actions.js').Actions} Actions */
 /** @typedef {import('./contract.js').GridPicture} GridPicture */
@@ -34,18 +34,21 @@ export class GridPart {
     this.at = null;
     this.keys = new GridKeys(this);
     this.drag = new Drag(this);
-    this.room = 0;
+    this.room = panel.clientWidth;
+    this.scrolled = 0;
     new ResizeObserver(() => this.resized()).observe(panel);
   }
 
   /** @type {import('./state.js').Renderer} */
   render = (state, before) => {
-    if (changed(state, before, 'view')) this.redraw(state);
+    if (viewChanged(state, before, 'grid', 'read_only')) this.redraw(state);
     this.mark(state);
   };
 
   resized() {
-    if (this.panel.clientWidth === this.room) return;
+    const room = this.panel.clientWidth;
+    if (room === this.room && !lettersChanged()) return;
+    this.room = room;
     this.redraw(this.actions.state);
     this.mark(this.actions.state);
   }
@@ -54,19 +57,19 @@ export class GridPart {
   redraw(state) {
     const { view } = state;
     this.drag.stop();
-    this.room = this.panel.clientWidth;
     if (!view.grid) {
       this.picture = null;
       fill(this.panel, make('p', { class: 'none' }, view.read_only || 'There is no network to be shown.'));
       return;
     }
     const focused = this.panel.contains(document.activeElement);
-    const scrolled = this.panel.querySelector('.wide')?.scrollLeft ?? 0;
     this.at = new Geometry(view.grid, this.room - PADDING);
     this.picture = this.drawn(view.grid, this.at);
-    const wide = make('div', { class: 'wide' }, namesPicture(view.grid, this.at), this.picture);
+    const wide = make('div', { class: 'wide', scroll: () => { this.scrolled = wide.scrollLeft; } },
+      namesPicture(view.grid, this.at), this.picture);
     fill(this.panel, view.read_only && make('p', { class: 'note' }, view.read_only), wide);
-    wide.scrollLeft = scrolled;
+    // Nothing is asked of the layout here unless it must be: that would cost more than all the drawing.
+    if (this.scrolled) wide.scrollLeft = this.scrolled;
     this.keys.renew(this.picture, focused);
   }
 
@@ -100,6 +103,10 @@ export class GridPart {
     picture.addEventListener('focusin', event => this.keys.entered(event));
     picture.addEventListener('pointerdown', event => this.drag.down(event));
     picture.addEventListener('click', event => this.clicked(event));
+    // A finger that drags a piece does not move the page.
+    picture.addEventListener('touchmove', event => {
+      if (this.drag.pull) event.preventDefault();
+    }, { passive: false });
   }
 
   /** @param {MouseEvent} event */

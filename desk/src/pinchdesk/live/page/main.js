@@ -63,8 +63,8 @@ async function begin() {
   /** @type {GridPart} */
   const grid = new GridPart(part('grid'), actions, () => chosen.enter());
   for (const renderer of [
-    topPart(actions, help), toastPart(), lostPart(), new StreamsPart(part('streams'), actions).render,
-    new CurvesPart(part('curves'), actions).render, grid.render, chosen.render,
+    grid.render, topPart(actions, help), toastPart(), lostPart(), new StreamsPart(part('streams'), actions).render,
+    new CurvesPart(part('curves'), actions).render, chosen.render,
     new WaysPart(part('ways'), actions).render, scorePart(part('score'), actions), stepsPart(part('steps'), actions),
     tablePart(part('table'), actions), textsPart(part('texts'), actions), measured,
   ]) store.add(renderer);

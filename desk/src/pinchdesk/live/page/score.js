@@ -1,7 +1,7 @@
 // How good the network is, and the steps that led to it.
 
 import { draw, fill, make } from './dom.js';
-import { changed } from './state.js';
+import { viewChanged } from './state.js';
 
 /** @typedef {import('./actions.js').Actions} Actions */
 /** @typedef {import('./contract.js').ScoreView} ScoreView */
@@ -14,7 +14,7 @@ import { changed } from './state.js';
  */
 export function scorePart(panel, actions) {
   return (state, before) => {
-    if (!changed(state, before, 'view')) return;
+    if (!viewChanged(state, before, 'score', 'units', 'grid')) return;
     const { view } = state, { score, units } = view, open = view.grid !== null && view.grid.pieces.length > 0;
     /** @type {(text: string) => Node} */
     const heat = text => make('p', { class: 'large' }, make('b', {}, text || '–'), ` ${units.heat}`);
@@ -69,7 +69,7 @@ function bar(score, view) {
  */
 export function stepsPart(panel, actions) {
   return (state, before) => {
-    if (!changed(state, before, 'view')) return;
+    if (!viewChanged(state, before, 'steps')) return;
     fill(panel, make('h2', { id: 'steps-title' }, 'Steps'), make('ol', { class: 'steps' },
       ...state.view.steps.map((step, at) => make('li', {}, make('button', {
         type: 'button', 'data-key': `step ${at}`, 'aria-current': step.present ? 'step' : null,

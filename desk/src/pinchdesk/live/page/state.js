@@ -50,9 +50,35 @@ export class Store {
   /** @param {Partial<State>} changes */
   set(changes) {
     const before = this.state;
+    if (changes.view) changes = { ...changes, view: shared(changes.view, before.view) };
     this.state = { ...before, ...changes };
     for (const renderer of this.renderers) renderer(this.state, before);
   }
+}
+
+/**
+ * A view whose parts are those of the one before where they say the same: what is the same is not drawn again.
+ * @param {View} view
+ * @param {View} before
+ * @returns {View}
+ */
+function shared(view, before) {
+  /** @type {Record<string, unknown>} */
+  const parts = { ...view };
+  for (const [name, old] of Object.entries(before)) {
+    if (JSON.stringify(parts[name]) === JSON.stringify(old)) parts[name] = old;
+  }
+  return /** @type {View} */ (/** @type {unknown} */ (parts));
+}
+
+/**
+ * Whether one of these parts of the view is another than before.
+ * @param {State} state
+ * @param {State | null} before
+ * @param {...keyof View} names
+ */
+export function viewChanged(state, before, ...names) {
+  return before === null || names.some(name => state.view[name] !== before.view[name]);
 }
 
 /**

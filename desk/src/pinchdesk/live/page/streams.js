@@ -1,7 +1,7 @@
 // The table of streams, utilities and forbidden matches: each cell is typed in place, in the units of the case.
 
 import { fill, make } from './dom.js';
-import { changed } from './state.js';
+import { changed, viewChanged } from './state.js';
 
 /** @typedef {import('./actions.js').Actions} Actions */
 /** @typedef {import('./contract.js').Mark} Mark */
@@ -40,7 +40,8 @@ export class StreamsPart {
 
   /** @type {import('./state.js').Renderer} */
   render = (state, before) => {
-    if (!changed(state, before, 'view', 'refusal')) return;
+    if (!changed(state, before, 'refusal')
+      && !viewChanged(state, before, 'streams', 'utilities', 'forbids', 'units', 'verdict')) return;
     const { view } = state, { temperature, flow, heat, difference } = view.units;
     this.longest = Math.max(...[...view.streams, ...view.utilities].map(source => source.name.length), 3);
     const marks = [...state.refusal?.places ?? [], ...view.verdict.places].filter(mark => mark.kind === 'cell');

@@ -1,7 +1,7 @@
 // What is folded away below the diagram: all exchangers as a table, and both files as they are saved.
 
 import { fill, make } from './dom.js';
-import { changed } from './state.js';
+import { viewChanged } from './state.js';
 
 /** @typedef {import('./actions.js').Actions} Actions */
 /** @typedef {import('./contract.js').ExchangerRow} ExchangerRow */
@@ -22,7 +22,7 @@ const COLUMNS = [
  */
 export function tablePart(place, actions) {
   return (state, before) => {
-    if (!changed(state, before, 'view')) return;
+    if (!viewChanged(state, before, 'exchangers', 'units')) return;
     const { exchangers, units } = state.view;
     const columns = COLUMNS.filter(([name]) => exchangers.some(row => row[name]) || name === 'name');
     fill(place, make('summary', { 'data-key': 'table' }, 'All exchangers as a table'),
@@ -56,7 +56,7 @@ function tableRow(row, columns, actions) {
  */
 export function textsPart(place, actions) {
   return (state, before) => {
-    if (!changed(state, before, 'view')) return;
+    if (!viewChanged(state, before, 'texts', 'files')) return;
     const { texts, files } = state.view;
     /** @type {(name: string, text: string, file: string) => HTMLTextAreaElement} */
     const area = (name, text, file) => make('textarea', {

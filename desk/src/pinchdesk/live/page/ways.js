@@ -15,6 +15,8 @@ export class WaysPart {
   constructor(panel, actions) {
     this.panel = panel;
     this.actions = actions;
+    this.scrolled = 0;
+    panel.addEventListener('scroll', () => { this.scrolled = panel.scrollTop; });
   }
 
   /** @type {import('./state.js').Renderer} */
@@ -22,11 +24,11 @@ export class WaysPart {
     this.panel.classList.toggle('stale', state.waysAsked);
     this.panel.setAttribute('aria-busy', String(state.waysAsked));
     if (!changed(state, before, 'ways')) return;
-    const scrolled = this.panel.scrollTop;
+    const { scrolled } = this;
     fill(this.panel, make('h2', { id: 'ways-title' }, 'Loops and paths'), state.ways.length
       ? make('ol', { class: 'ways' }, ...state.ways.map(way => this.item(way, state.view)))
       : make('p', {}, 'None yet. A path goes from a heater to a cooler, a loop comes back to where it began.'));
-    this.panel.scrollTop = scrolled;
+    if (scrolled) this.panel.scrollTop = scrolled;
   };
 
   /**
