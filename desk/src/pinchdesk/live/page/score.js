@@ -85,7 +85,8 @@ export function stepsPart(panel, actions) {
  * @param {Actions} actions
  */
 export function restPart(panel, actions) {
-  fill(panel, make('button', { type: 'button', click: () => actions.close() }, 'Close the desk'));
+  fill(panel, make('p', {}, make('a', { href: 'report', target: '_blank', rel: 'noopener' }, 'Page for the reviewer')),
+    make('button', { type: 'button', click: () => actions.close() }, 'Close the desk'));
 }
 
 /**
