@@ -150,7 +150,7 @@ def test_a_closed_or_full_output_is_no_traceback(line: str, status: int, said: s
     assert ended.status == status and said in ended.err and ended.err.count('\n') <= 2 and 'Trace' not in ended.err
     if 'out.csv' in line:
         # What was to be told was not; what it would have been told of stands.
-        assert (tmp_path / 'out.csv').read_text().startswith('contribution')
+        assert (tmp_path / 'out.csv').read_text().endswith('contribution,,50,,,,\nhot,H1,1500,600,200,,\n')
     if 'out.svg' in line:
         assert (tmp_path / 'out.svg').read_text().startswith('<?xml')
 
