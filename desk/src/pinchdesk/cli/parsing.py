@@ -20,7 +20,7 @@ Words = Sequence[Word[Any] | WordGroup]
 # What is done with what was parsed of a word with these names.
 Doing = Callable[[Word[Any], tuple[str, ...], Namespace], int]
 MANY_LIST = 'examples/list.txt'
-VERSION = '--version'
+VERSION, LIVE = '--version', 'open'
 MANY = WordGroup('many', 'one word over many cases: a table with the answer of each',
                  f'pinchdesk many audit {MANY_LIST} -o audits.xlsx', ())
 
@@ -52,11 +52,12 @@ def parser(answered: Doing, done_over_many: Doing, arguments: Sequence[str]) -> 
     if first == VERSION:
         return top
     words = top.add_subparsers(dest='word', metavar='WORD', required=True)
-    if first != MANY.name:
+    is_none = first not in (*PLACES, LIVE, MANY.name)
+    if is_none or first in PLACES:
         add_words(words, asked_words(arguments), (), add_word, answered)
-    if first != MANY.name and first not in PLACES:
+    if is_none or first == LIVE:
         add_live(words)
-    if first not in PLACES:
+    if is_none or first == MANY.name:
         many = add_parser(words, MANY.name, MANY.summary, MANY.example)
         after = arguments[1:] if first == MANY.name else ()
         add_words(many.add_subparsers(dest='part', metavar='PART', required=True), asked_words(after), (),
@@ -67,7 +68,7 @@ def parser(answered: Doing, done_over_many: Doing, arguments: Sequence[str]) -> 
 def add_live(words: Any) -> None:
     """Adds the live desk, which is loaded only where it may be asked for."""
     from .open_desk import EXAMPLE, SUMMARY, add_open
-    add_open(add_parser(words, 'open', SUMMARY, EXAMPLE))
+    add_open(add_parser(words, LIVE, SUMMARY, EXAMPLE))
 
 
 def asked_words(arguments: Sequence[str]) -> Words:
