@@ -146,6 +146,15 @@ def test_a_page_says_where_the_least_difference_comes_from(head: str, options: t
     assert difference_told(read_case(changed)).startswith('12 K, by the contribution row of the case: each ')
 
 
+def test_the_least_difference_of_a_case_in_its_own_units_is_in_these(tmp_path: Path) -> None:
+    (tmp_path / 't.csv').write_text('name;supply (°F);target (°F);CP (Btu/(h °F));contribution (°F)\n'
+                                    'H;260;160;30000;\nC;120;235;20000;15\n')
+    words = ('case', '-d', '18 °F', '--units', 'table', 't.csv', '-o', 'c.csv')
+    assert pinchdesk(*words, cwd=tmp_path).status == 0
+    told = difference_told(read_case((tmp_path / 'c.csv').read_bytes(), own_units=True))
+    assert told == '18 °F, by -d 18 °F: each stream and utility contributes 9 °F, but C 15 °F'
+
+
 def test_of_many_own_contributions_the_page_says_how_many_there_are() -> None:
     told = difference_told(completed(read_case(example('refinery.csv'))))
     assert told.endswith('contributes 10 K, but 21 of 36 have one of their own, 5 to 25 K')

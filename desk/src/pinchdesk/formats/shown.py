@@ -57,6 +57,14 @@ class Shown:
         """A difference of temperatures in the unit of the case."""
         return decimal(self.units.shown_difference(number), places)
 
+    def with_degrees(self, difference: Number) -> str:
+        """A difference of temperatures with its unit beside it."""
+        return f'{self.difference(difference)} {self.units.difference}'
+
+    def least_difference(self, contribution: int) -> str:
+        """The least difference of a contribution, with its unit."""
+        return self.with_degrees(2 * contribution)
+
     def heat(self, number: Number, places: int = 3) -> str:
         """A heat in the unit of the case, divided by the scale."""
         return decimal(self.units.shown_heat(Fraction(number) / self.basis.scale), places)

@@ -52,21 +52,21 @@ def head_sheet(head: PageHead, case: Case) -> Sheet:
 def difference_told(case: Case) -> str:
     """The least difference of a case, where it comes from, and which sources have a contribution of their own."""
     shown = Shown(case.basis)
-    whole, part = shown.celsius(2 * case.contribution), shown.celsius(case.contribution)
+    whole, part = shown.least_difference(case.contribution), shown.with_degrees(case.contribution)
     # What the case says of another difference was right before somebody changed its row.
-    said = case.basis.difference.removeprefix(f'{whole} K, ')
+    said = case.basis.difference.removeprefix(f'{whole}, ')
     origin = 'by the contribution row of the case' if said == case.basis.difference else said
     own = [source for source in case.sources if source.contribution != case.contribution]
-    told = f'{whole} K, {origin}: each stream and utility contributes {part} K'
+    told = f'{whole}, {origin}: each stream and utility contributes {part}'
     return f'{told}, but {own_told(own, len(case.sources), shown)}' if own else told
 
 
 def own_told(own: Sequence[Source], count: int, shown: Shown) -> str:
     """The sources that have a contribution of their own, of so many in all."""
     if len(own) <= MOST_NAMED:
-        return ', '.join(f'{source.name} {shown.celsius(source.contribution)} K' for source in own)
-    low, high = (shown.celsius(bound(source.contribution for source in own)) for bound in (min, max))
-    return f'{len(own)} of {count} have one of their own, {low} to {high} K'
+        return ', '.join(f'{source.name} {shown.with_degrees(source.contribution)}' for source in own)
+    low, high = (bound(source.contribution for source in own) for bound in (min, max))
+    return f'{len(own)} of {count} have one of their own, {shown.difference(low)} to {shown.with_degrees(high)}'
 
 
 def digests_sheet(own: Digests, inputs: Sequence[tuple[str, str, bytes]]) -> Sheet:

@@ -65,7 +65,7 @@ class Maker:
             case = in_own_units(case, self.numbers(exact_share), self.reader, body.lines, self.told)
             rows = [share_row, *rows]
         return Converted(case, self.told.table, tuple(rows), tuple(self.told.notes), body.comments, exact, self.blocks,
-                         body, f'{Shown().celsius(2 * share)} K, {self.origin(share_row)}')
+                         body, f'{Shown(case.basis).least_difference(case.contribution)}, {self.origin(share_row)}')
 
     def origin(self, row: int) -> str:
         """Where the least difference comes from: the words, or this row of the table."""
