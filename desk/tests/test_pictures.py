@@ -21,7 +21,7 @@ from pinchdesk.analysis.joined import joined
 from pinchdesk.costs.area_target import asked_area
 from pinchdesk.costs.network_areas import asked_duties
 from pinchdesk.figures import grid_figure, prices_figure, rendered, site_figure, sweep_figure
-from pinchdesk.figures.area_curves import driving_forces_figure
+from pinchdesk.figures.area_curves import area_figure, driving_forces_figure
 from pinchdesk.figures.axes import plain
 from pinchdesk.figures.grid.diagram import BARS
 from pinchdesk.figures.grid.layout import plan_of
@@ -270,6 +270,17 @@ def test_of_driving_forces_each_exchanger_has_its_name_and_no_line_passes_throug
     assert_readable(figure)
     assert {exchanger.name for exchanger in read_network(text).exchangers} <= set(svg_texts(figure))
     assert on_lines(figure, [line.get_xydata() for line in figure.axes[0].get_lines()]) == []
+
+
+def test_areas_of_intervals_have_room_or_are_not_written(pinch: Pinch) -> None:
+    content = example('crude.csv')
+    case = completed(read_case(content))
+    films = ''.join(f'#film,{source.name},0.8,kW/m2K,,,\n' for source in case.sources)
+    ranges = '#range,FURN,430,429,C,,\n#range,AIR,60,61,C,,\n#range,CW,25,26,C,,\n'
+    figure = area_figure(asked_area(pinch, completed(read_case((films + ranges).encode() + content))))
+    assert_readable(figure)
+    written = [text for text in svg_texts(figure) if text.endswith(' m²')]
+    assert 3 <= len(written) <= 6 and written[0].startswith('Area by the formula: ')
 
 
 def test_a_picture_is_the_same_each_time_in_each_form(pinch: Pinch) -> None:

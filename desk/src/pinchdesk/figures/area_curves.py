@@ -30,6 +30,7 @@ def area_figure(target: AreaTarget) -> Figure:
         legend_below(bars, [*curves.get_legend_handles_labels()[0], *bars.get_legend_handles_labels()[0]])
         fitted(figure)
         spaced(bars)
+        put_areas(bars, target.intervals)
     return figure
 
 
@@ -52,11 +53,17 @@ def put_bars(axes: Axes, intervals: Sequence[IntervalArea]) -> None:
     areas = [float(area.area.middle) for area in intervals]
     axes.bar(lefts, [area / width for area, width in zip(areas, wide)], wide, align='edge', color=ACROSS, alpha=0.35,
              edgecolor=ACROSS, linewidth=0.5, label='area of an interval')
-    for at in sorted(range(len(areas)), key=lambda place: -areas[place])[:WRITTEN]:
-        axes.annotate(f'{intervals[at].area.shown(1)} m²', (lefts[at] + wide[at] / 2, areas[at] / wide[at]),
-                      xytext=(0, 2), textcoords='offset points', ha='center', fontsize=7.5)
     axes.margins(y=0.15)
     framed(axes)
+
+
+def put_areas(axes: Axes, intervals: Sequence[IntervalArea]) -> None:
+    """The area of the largest intervals above their bars, where there is room; the scales have to be set."""
+    labels = Labels(axes)
+    for area in sorted(intervals, key=lambda area: -area.area.middle)[:WRITTEN]:
+        middle = float((area.interval.begin + area.interval.end) / 2000)
+        top = float(area.area.middle / area.interval.heat * 1000)
+        labels.put_above(f'{area.area.shown(1)} m²', (middle, top), fontsize=8)
 
 
 def driving_forces_figure(target: AreaTarget, exchangers: Mapping[str, Duty] | None = None) -> Figure:

@@ -58,6 +58,12 @@ class Labels:
         best = self.best(((at, place) for place in PLACES[:16]), wide, high)
         return None if best[0] else self.written(text, *best[1:], style)
 
+    def put_above(self, text: str, at: Xy, **style: Any) -> Annotation | None:
+        """Writes a label in the middle above a point, or nothing where another label is."""
+        place: Place = (0.0, 2.0, 0, -1)
+        box = self.box(at, place, *self.size(text, style))
+        return None if any(box.overlaps(other) for other in self.taken) else self.written(text, at, place, box, style)
+
     def best(self, places: Iterable[tuple[Xy, Place]], wide: float, high: float) -> tuple[float, Xy, Place, Bbox]:
         """The place that costs least, the first of equal ones; none is tried behind one that is free."""
         found: tuple[float, Xy, Place, Bbox] | None = None

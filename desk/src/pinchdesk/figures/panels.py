@@ -192,7 +192,7 @@ def put_grand(axes: Axes, drawn: Drawn) -> None:
     put_curve(axes, net, INK, 'grand composite curve')
     steps = [net[0], *[point for span in spans for point in ends_of(span, shown)], net[-1]]
     if spans:
-        axes.plot(*zip(*steps), color=PALE, linewidth=1.1, linestyle=':', gid='stairs',
+        axes.plot(*zip(*steps), color=PALE, linewidth=1.1, linestyle=':', gid='stairs', zorder=1.5,
                   label='heat flows down between this line and the curve')
     for span in spans:
         put_span(axes, span, shown)
