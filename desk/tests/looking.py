@@ -68,7 +68,7 @@ def pale(figure: Figure) -> list[str]:
 
 def luminance(colour: Any) -> float:
     parts = (part / 12.92 if part <= 0.04045 else ((part + 0.055) / 1.055) ** 2.4 for part in to_rgb(colour))
-    return sum(weight * part for weight, part in zip((0.2126, 0.7152, 0.0722), parts))
+    return float(sum(weight * part for weight, part in zip((0.2126, 0.7152, 0.0722), parts)))
 
 
 def on_lines(figure: Figure, lines: Iterable[Any]) -> list[str]:

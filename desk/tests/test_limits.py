@@ -5,6 +5,7 @@ from __future__ import annotations
 from dataclasses import replace
 from fractions import Fraction
 from pathlib import Path
+from typing import Any
 
 import openpyxl
 import pytest
@@ -198,8 +199,9 @@ def test_each_answer_and_picture_in_a_notebook_says_how_far_the_targets_are_off(
     for asked, said in ((plant, True), (whole, False)):
         network = asked.pinch.design(asked.text).text
         swept = asked.sweep(10, 20, 10)
-        for answer in (asked.targets(), asked.flow(), swept, asked.audit(network), asked.table(network),
-                       asked.units(network), asked.rest(network), asked.what_if(), asked.curves(),
-                       asked.grid(network), swept.figure()):
+        answers: list[Any] = [
+            asked.targets(), asked.flow(), swept, asked.audit(network), asked.table(network), asked.units(network),
+            asked.rest(network), asked.what_if(), asked.curves(), asked.grid(network), swept.figure()]
+        for answer in answers:
             assert answer.notes.count(ROUNDED_SAID) == said
             assert (f'<li>{ROUNDED_SAID}</li>' in (answer._repr_html_() or '')) == said

@@ -88,7 +88,7 @@ def test_a_title_holds_for_what_stands_below_it() -> None:
     bare = 'Stream;Tin;Tout;CP (kW/K)\n{};{}\n'
     kelvins = bare.format('B', '300;400;2')
     assert 'names a unit' in refusal(bare.format('A', '150;60;2') + 'Temperatures in K\n' + kelvins)
-    utilities = [['Temperatures in K'], ['Utility', 'Tin', 'Tout', 'Price'], ['Steam', 500, 499, 3]]
+    utilities: list[list[object]] = [['Temperatures in K'], ['Utility', 'Tin', 'Tout', 'Price'], ['Steam', 500, 499, 3]]
     book = workbook([[*'ab'], ['Stream', 'Tin', 'Tout', 'CP (kW/K)'], ['H', 150, 60, 2]], Utilities=utilities)
     assert 'and none is given for' in refusal(book)
 
