@@ -24,6 +24,7 @@ from pinchdesk.analysis.what_if import what_if
 from pinchdesk.costs.network_areas import network_areas
 from pinchdesk.figures import grid_figure
 from pinchdesk.formats.case import print_case
+from pinchdesk.formats.network import Mix, Split
 from pinchdesk.formats.segments import SegmentedStream
 from pinchdesk.formats.whole_streams import WholeStream
 from pinchdesk.program.verdicts import Accepted
@@ -79,8 +80,7 @@ def test_a_stream_that_does_not_end_is_shown_in_its_segments() -> None:
     assert exchanger_count(followed_of(FEED, open_network)) == 5
 
 
-def test_branches_that_are_mixed_and_split_again_are_as_the_program_has_them(pinch: Pinch) -> None:
-    case = '''contribution,,0,,,,
+TWO_TRAINS = '''contribution,,0,,,,
 #segment,C,C1,,,,
 #segment,C,C2,,,,
 cold,C1,100,200,100,,
@@ -88,7 +88,7 @@ cold,C2,200,300,100,,
 hot,H,500,300,50,,
 hot,K,500,300,50,,
 '''
-    network = '''exchanger E1 H C1 5000
+TRAINS = '''exchanger E1 H C1 5000
 exchanger E2 K C1 5000
 exchanger E3 H C2 5000
 exchanger E4 K C2 5000
@@ -98,8 +98,8 @@ pass b E2 b2
 mix a2 b2 c
 end c
 split C2 d 50 e
-pass d E3 d2
-pass e E4 e2
+pass d E4 d2
+pass e E3 e2
 mix d2 e2 f
 end f
 pass H E3 h
@@ -109,10 +109,36 @@ pass K E4 k
 pass k E2 k2
 end k2
 '''
-    assert isinstance(pinch.audit(case, network), Accepted)
-    plant = joined(followed_of(case, network))
+
+
+def test_branches_that_pass_a_kink_side_by_side_go_on(pinch: Pinch) -> None:
+    verdict = pinch.audit(TWO_TRAINS, TRAINS)
+    assert isinstance(verdict, Accepted)
+    plant = joined(followed_of(TWO_TRAINS, TRAINS))
+    assert [passage.exchanger.name for passage in plant.followed.passages] == ['E3+E1', 'E4+E2']
+    assert sum(isinstance(statement, (Split, Mix)) for statement in plant.followed.network.statements) == 2
+    assert {(kink.exchanger, kink.temperature) for kink in plant.kinks} == {('E3+E1', 200), ('E4+E2', 200)}
+    assert plant.notes == ()
+    figure = grid_figure(followed_of(TWO_TRAINS, TRAINS), (), verdict)
+    assert overlapping(figure) == [] and cut_off(figure) == []
+
+
+def test_branches_that_are_mixed_and_split_again_are_as_the_program_has_them(pinch: Pinch) -> None:
+    """The second time the parts of the stream are others."""
+    apart = TRAINS.replace('split C2 d 50 e', 'split C2 d 40 e')
+    assert isinstance(pinch.audit(TWO_TRAINS, apart), Accepted)
+    plant = joined(followed_of(TWO_TRAINS, apart))
     assert len(plant.followed.passages) == 4 and len(plant.kinks) == 1
     assert plant.notes[0].startswith('C is mixed and split again at 20 °C, as the program has it')
+
+
+def test_a_branch_may_go_on_beside_others_that_are_split_once_more(pinch: Pinch) -> None:
+    more = TRAINS.replace('exchanger E3 H C2 5000', 'exchanger E3 H C2 2000\nexchanger E5 H C2 3000').replace(
+        'pass e E3 e2\n', 'split e e3 20 e4\npass e3 E3 e5\npass e4 E5 e6\nmix e5 e6 e2\n').replace(
+        'pass H E3 h\n', 'pass H E3 h0\npass h0 E5 h\n')
+    assert isinstance(pinch.audit(TWO_TRAINS, more), Accepted)
+    plant = joined(followed_of(TWO_TRAINS, more))
+    assert [passage.exchanger.name for passage in plant.followed.passages] == ['E1', 'E3', 'E5', 'E4+E2']
 
 
 def test_the_order_of_statements_is_open() -> None:

@@ -2,9 +2,9 @@
 across a kink is one exchanger.
 
 In the program's network a segment ends where the next one begins. Two exchangers are one where they follow one another
-on both sides, against each other's course, without a split or a mix between them, and at least one side passes a kink
-there. A network that does not end each segment of a stream at its target has that stream in its segments, as the
-program has it."""
+on both sides, against each other's course, without a split or a mix between them that the plant needs (`crossings`),
+and at least one side passes a kink there. A network that does not end each segment of a stream at its target has that
+stream in its segments, as the program has it."""
 from __future__ import annotations
 
 from collections.abc import Iterable, Iterator, Mapping, Sequence
@@ -15,6 +15,7 @@ from ..formats.case import Case, Side, Stream
 from ..formats.network import End, Exchanger, Mix, Network, Pass, Split, Statement
 from ..formats.shown import Shown
 from ..formats.whole_streams import WholeStream, parts_of, whole_streams
+from .crossings import Crossing, CrossingFinder
 from .findings import Finding
 from .follow import Branch, Followed, Passage, PinchPoint, SideState, StreamEnd, follow
 from .unfinished import placed
@@ -129,6 +130,9 @@ class Joiner:
         # The names of branches: that with which a segment begins is that with which the one before it ends.
         self.renamed: dict[str, str] = {}
         self.kinks: dict[str, tuple[WholeStream, int]] = {}
+        # Mixes and splits at kinks that branches pass side by side, with what they have beside these branches.
+        self.dropped: set[Statement] = set()
+        self.gone: set[str] = set()
         self.name_branches()
         self.passages = [self.passage(passage) for passage in followed.passages]
 
@@ -137,13 +141,23 @@ class Joiner:
         for branch in self.followed.branches:
             if branch in names:
                 self.renamed[branch] = free_name(branch, {*self.followed.branches, *names})
+        finder = CrossingFinder(self.followed, {name: whole.name for name, whole in self.whole_of.items()})
         for whole in self.wholes:
             self.renamed[whole.segments[0].name] = whole.name
             for before, segment in zip(whole.segments, whole.segments[1:]):
                 if is_done(before, self.followed.ends[before.name]):
-                    last = self.named(self.followed.ends[before.name][0].branch.name)
-                    self.renamed[segment.name] = last
-                    self.kinks[last] = (whole, before.target)
+                    self.name_kink(whole, before, segment, finder.crossing(before, segment))
+
+    def name_kink(self, whole: WholeStream, before: Stream, segment: Stream, crossing: Crossing | None) -> None:
+        """Gives the branches with which a segment begins the names of those with which the one before it ends."""
+        pairs = ((self.followed.ends[before.name][0].branch.name, segment.name),)
+        for last, first in crossing.pairs if crossing else pairs:
+            name = self.named(last)
+            self.renamed[first] = name
+            self.kinks[name] = (whole, before.target)
+        if crossing:
+            self.dropped |= crossing.statements
+            self.gone |= crossing.branches
 
     def named(self, branch: str) -> str:
         return self.renamed.get(branch, branch)
@@ -174,7 +188,7 @@ class Joiner:
         passages = tuple(one_passage(chain) for chain in chains)
         names = {part.exchanger.name: passage.exchanger.name for passage in passages for part in passage.parts}
         branches = {self.named(name): self.branch(branch) for name, branch in self.followed.branches.items()
-                    if self.named(name) not in inner}
+                    if self.named(name) not in inner and name not in self.gone}
         case = replace(self.followed.case, streams=self.streams())
         statements = (*(passage.exchanger for passage in passages), *self.led(passages, names, inner))
         ends = {stream.name: self.ends(stream) for stream in case.streams}
@@ -191,7 +205,10 @@ class Joiner:
 
     def chains(self) -> Iterator[list[JoinedPassage]]:
         """The exchangers of the program that are one in the plant, each from its hot end on."""
-        following = {before.exchanger.name: behind for before in self.passages for behind in self.passages
+        pairs: dict[tuple[str, str], list[JoinedPassage]] = {}
+        for passage in self.passages:
+            pairs.setdefault((passage.exchanger.hot, passage.exchanger.cold), []).append(passage)
+        following = {before.exchanger.name: behind for same in pairs.values() for before in same for behind in same
                      if before is not behind and self.goes_on(before, behind)}
         followers = {behind.exchanger.name for behind in following.values()}
         for passage in self.passages:
@@ -203,9 +220,8 @@ class Joiner:
             yield chain
 
     def goes_on(self, before: Passage, behind: Passage) -> bool:
-        """Whether the second exchanger is what the first one goes on as, seen from the hot end: at a kink."""
-        if before.hot.source.name != behind.hot.source.name or before.cold.source.name != behind.cold.source.name:
-            return False
+        """Whether the second exchanger, of the same sources, is what the first one goes on as at a kink, seen from the
+        hot end."""
         joints = [(before.hot.behind, behind.hot.before), (behind.cold.behind, before.cold.before)]
         led = [(last.name, first.name) for last, first in joints if last and first]
         return bool(led) and all(last == first for last, first in led) and any(last in self.kinks for last, _ in led)
@@ -216,7 +232,7 @@ class Joiner:
         order = [segment.name for stream in self.streams() for segment in parts_of(stream)]
         by_stream: dict[str, list[Statement]] = {name: [] for name in order}
         for statement in self.followed.network.statements:
-            if not isinstance(statement, Exchanger):
+            if not isinstance(statement, Exchanger) and statement not in self.dropped:
                 branch = statement.first if isinstance(statement, Mix) else statement.branch
                 by_stream[self.followed.branches[branch].stream.name].append(statement)
         ways = {(passage.exchanger.name, side.source.name): side for passage in passages
@@ -258,7 +274,8 @@ class Joiner:
         split = {statement.branch for statement in self.followed.network.statements if isinstance(statement, Split)}
         for whole in self.wholes:
             places = [shown.celsius(before.target) for before, segment in zip(whole.segments, whole.segments[1:])
-                      if self.followed.ends[before.name][0].branch.name in mixed and segment.name in split]
+                      if self.followed.ends[before.name][0].branch.name in mixed and segment.name in split
+                      and segment.name not in self.gone]
             if places:
                 yield f'{whole.name} is mixed and split again at {enumerated(places)} °C, as the program has it: an ' \
                       'exchanger of a branch that goes on there is shown as two'
