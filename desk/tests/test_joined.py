@@ -6,6 +6,7 @@ from functools import lru_cache
 from typing import Any
 
 import pytest
+from branched import THREE, THREE_NETWORK
 from conftest import EXAMPLES, few_of
 from cutting import can_be_cut, cut_network, cut_stream
 from hypothesis import given
@@ -121,6 +122,37 @@ def test_branches_that_pass_a_kink_side_by_side_go_on(pinch: Pinch) -> None:
     assert plant.notes == ()
     figure = grid_figure(followed_of(TWO_TRAINS, TRAINS), (), verdict)
     assert overlapping(figure) == [] and cut_off(figure) == []
+
+
+def three_trains(place: int) -> tuple[str, str]:
+    """The case and the network of `branched`, whose stream H has three branches, with H cut at a temperature."""
+    case = THREE.decode().replace('hot,H,2000,1000,100,,', f'#segment,H,H1,,,,\n#segment,H,H2,,,,\n'
+                                  f'hot,H1,2000,{place},100,,\nhot,H2,{place},1000,100,,')
+    lines: list[str] = []
+    led: list[str] = []
+    for name, cold, size in (('E1', 'A', 50), ('E2', 'B', 30), ('E3', 'D', 20)):
+        lines += [f'exchanger {name}h H1 {cold} {size * (2000 - place)}',
+                  f'exchanger {name}c H2 {cold} {size * (place - 1000)}']
+        led += [f'pass {cold} {name}c {cold}x', f'pass {cold}x {name}h {cold}y', f'end {cold}y']
+    for stream, end, end_name in (('H1', 'h', 'p'), ('H2', 'c', 'q')):
+        led += [f'split {stream} {end_name}a 50 {end_name}r', f'split {end_name}r {end_name}b 30 {end_name}d',
+                *(f'pass {end_name}{branch} {name}{end} {end_name}{branch}2'
+                  for branch, name in (('a', 'E1'), ('b', 'E2'), ('d', 'E3'))),
+                f'mix {end_name}a2 {end_name}b2 {end_name}m', f'mix {end_name}m {end_name}d2 {end_name}n',
+                f'end {end_name}n']
+    return case, '\n'.join([*lines, *led]) + '\n'
+
+
+@given(some.integers(1001, 1999))
+def test_a_cut_through_three_branches_changes_nothing(pinch: Pinch, place: int) -> None:
+    case, network = three_trains(place)
+    assert isinstance(pinch.audit(case, network), Accepted)
+    uncut_one, plant = followed_of(THREE.decode(), THREE_NETWORK.decode()), joined(followed_of(case, network))
+    pinches = pinches_of(pinch.targets(case), pinch.curves(case))
+    assert sorted(seen(plant.followed, pinches)) == sorted(seen(uncut_one, pinches)) and plant.notes == ()
+    kinds = [[type(statement).__name__ for statement in followed.network.statements]
+             for followed in (plant.followed, uncut_one)]
+    assert sorted(kinds[0]) == sorted(kinds[1])
 
 
 def test_branches_that_are_mixed_and_split_again_are_as_the_program_has_them(pinch: Pinch) -> None:
