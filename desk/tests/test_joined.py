@@ -22,6 +22,7 @@ from pinchdesk.analysis.joined import Kink, exchanger_count, joined, network_cou
 from pinchdesk.analysis.least_units import Units, least_units
 from pinchdesk.analysis.rest import remaining, written_case
 from pinchdesk.analysis.what_if import what_if
+from pinchdesk.costs.cost_data import CostData
 from pinchdesk.costs.network_areas import network_areas
 from pinchdesk.figures import grid_figure
 from pinchdesk.formats.case import print_case
@@ -344,3 +345,8 @@ def test_areas_of_exchangers_that_are_one_in_the_plant_say_so(pinch: Pinch) -> N
     areas = network_areas(case, FEED_NETWORK.replace('COLD', 'CW'), pinch)
     assert [exchanger.name for exchanger in areas.exchangers] == ['E1', 'E2', 'E3', 'E4', 'E5', 'E6']
     assert network_notes(areas)[-1] == OF_THE_PROGRAM
+    # A row of the stream holds for its segments, but where one has its own.
+    short = case.replace('#film,FEED-1,', '#film,FEED,').replace('#film,FEED-2,0.5,kW/m2K,,,\n', '')
+    assert network_areas(short, FEED_NETWORK.replace('COLD', 'CW'), pinch).area.shown(6) == areas.area.shown(6)
+    own = CostData(read_case(short.replace('#film,FEED-3,0.5', '#film,FEED-3,0.25'))).films
+    assert own['FEED-1'] == own['FEED-2'] == Fraction(1, 500) and own['FEED-3'] == Fraction(1, 250)

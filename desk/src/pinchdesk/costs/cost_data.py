@@ -16,6 +16,7 @@ from ..formats.cost_rows import (Annual, AnnualForm, Build, Capital, CostLaw, Co
 from ..tables.money import two_moneys
 from ..tables.units import Kind, UnknownUnit, unit_of
 from .cost_units import NoUnit, area_factor, coefficient_factor, fouling_resistance
+from .segment_rows import rows_of
 
 Row = TypeVar('Row', bound=CostRow)
 Result = TypeVar('Result')
@@ -85,7 +86,7 @@ class CostData:
 
     def rows(self, kind: type[Row]) -> list[Row]:
         """The rows of a kind; `Refused` where one names a source that is not in the case."""
-        found = [cast(Row, row) for row in self.case.basis.cost_rows if type(row) is kind]
+        found = [cast(Row, row) for row in rows_of(self.case) if type(row) is kind]
         known = {source.name for source in self.case.sources}
         for row in found:
             for name in names_of(row):
