@@ -15,7 +15,7 @@ from pinchdesk.costs.area_floor import area_floor, planned, proof_of, sliced
 from pinchdesk.costs.area_target import area_target
 from pinchdesk.costs.balanced import carriers
 from pinchdesk.costs.enclosure import total
-from pinchdesk.costs.network_areas import duty_of, exchanger_area, network_areas, uses_in
+from pinchdesk.costs.network_areas import exchanger_area, network_areas, uses_in
 from pinchdesk.formats.case import Side
 from pinchdesk.program.answers import Design
 
@@ -77,7 +77,7 @@ def test_no_network_of_the_program_is_under_the_floor(pinch: Pinch, case: str) -
     data, design = data_of(case), pinch.design(case)
     assert isinstance(design, Design)
     passages = follow(whole, read_network(design.text)).passages
-    area = total(exchanger_area(data, passage, duty_of(data, passage)).area for passage in passages)
+    area = total(exchanger_area(data, passage).area for passage in passages)
     floor = area_floor(data, uses_in(passages), 20, Fraction(40))
     assert floor.area <= area.high and floor.area <= area_target(data, uses_in(passages)).area.high
 

@@ -5,11 +5,13 @@ from fractions import Fraction
 
 import pytest
 from conftest import example
-from costed import AROMATICS, NETWORK, SMALL, near
+from costed import AROMATICS, NETWORK, SMALL, law_rows, near
 
 from pinchdesk import Pinch, Refused, completed, read_case
 from pinchdesk.costs.area_target import asked_area
-from pinchdesk.costs.network_areas import NetworkAreas, NoAreas, network_areas
+from pinchdesk.costs.cost_data import CostData
+from pinchdesk.costs.network_areas import (NetworkAreas, NoAreas, accepted_network, network_areas, part_duties,
+                                           passages_of)
 from pinchdesk.costs.network_costs import NetworkCosts, network_costs
 from pinchdesk.formats.cost_rows import Service
 
@@ -122,3 +124,48 @@ def test_examples_have_their_published_coefficients(name: str, area: str, formul
     found = network_areas(case, example(f'{name}-network.txt'), pinch)
     target = asked_area(pinch, case)
     assert near(found.area, area) and near(target.area, formula) and target.bound is bound
+
+
+MONEY_ROWS = '\n'.join(['#price,$/(kW a),1,,,,', '#cost,$/a,1000,,,,',
+                        *law_rows('10000', '400', '0.8', 'factor', '0.2')])
+
+
+def crude(*rows: str) -> str:
+    """The example whose crude is in segments, with these rows too."""
+    return '\n'.join([example('crude-curve.csv').decode().rstrip('\n'), MONEY_ROWS, *rows]) + '\n'
+
+
+def test_an_exchanger_that_goes_on_across_a_kink_is_one(pinch: Pinch) -> None:
+    """It has the area of its parts together, and pays one charge."""
+    case, network = crude('#overall,,500,W/m2K,,,'), example('crude-curve-network.txt')
+    alone = ''.join(f'{row}\n' for row in case.split('\n') if row and not row.startswith('#segment'))
+    found, parts = (network_costs(text, network, pinch) for text in (case, alone))
+    assert len(found.prices) < len(parts.prices) and any('+' in priced.exchanger.name for priced in found.prices)
+    assert found.areas.area.low <= parts.areas.area.high and parts.areas.area.low <= found.areas.area.high
+    assert found.cost.capital.high < parts.cost.capital.low
+    one = next(priced.exchanger for priced in found.prices if '+' in priced.exchanger.name)
+    assert one.coefficient == 500 and one.factor.low <= 1 <= one.factor.high
+    assert (one.duty / (500 * one.mean)).low <= one.area.high and one.area.low <= (one.duty / (500 * one.mean)).high
+
+
+def test_a_row_may_speak_of_a_stream_in_segments(pinch: Pinch) -> None:
+    names = [row.split(',')[1] for row in crude().split('\n') if row.startswith(('hot', 'heater', 'cooler'))]
+    films = [f'#film,{name},1,kW/m2K,,,' for name in names]
+    segments = [f'#film,CRUDE-{at},0.5,kW/m2K,,,' for at in range(1, 9)]
+    network = example('crude-curve-network.txt')
+    whole, parted = (network_areas(crude(*films, *rows), network, pinch)
+                     for rows in (['#film,CRUDE,0.5,kW/m2K,,,'], segments))
+    assert whole.area.told == parted.area.told
+    with pytest.raises(Refused, match='film coefficient of CRUDE is missing: enter a row `#film,CRUDE,'):
+        network_areas(crude(*films), network, pinch)
+
+
+def test_a_utility_with_real_ends_runs_through_an_exchanger_with_a_kink(pinch: Pinch) -> None:
+    """Its parts have shares of the range by their duties, from the hot end on."""
+    case = completed(read_case(crude('#overall,,500,W/m2K,,,', '#range,FURN,600,430,C,,')))
+    followed, _ = accepted_network(pinch, case, example('crude-curve-network.txt'))
+    passage = next(passage for passage in passages_of(followed) if passage.hot.source.name == 'FURN'
+                   and len(passage.parts) > 1)
+    duties = list(part_duties(CostData(case), passage))
+    assert (duties[0].hot.inlet, duties[-1].hot.outlet) == (6000, 4300)
+    assert all(before.hot.outlet == behind.hot.inlet for before, behind in zip(duties, duties[1:]))

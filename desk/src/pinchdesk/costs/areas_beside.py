@@ -16,7 +16,7 @@ from ..program.verdicts import Accepted
 from .area_target import AreaTarget, area_target
 from .cost_data import CostData
 from .cost_target import CostTarget, priced_target
-from .network_areas import ApproachFault, NetworkAreas, areas_of, faults_of
+from .network_areas import ApproachFault, NetworkAreas, areas_of, faults_of, passages_of
 from .network_costs import NetworkCosts, costs_of
 from .unit_target import unit_target
 
@@ -66,7 +66,7 @@ def asked_cost(data: CostData, targets: Targets, flow: HeatFlow, area: AreaTarge
 
 def areas_beside(followed: Followed, verdict: Accepted, target: TargetBeside) -> AreasBeside:
     """The areas and costs of an accepted network beside the targets of its completed case."""
-    data, passages = CostData(followed.case), followed.passages
+    data, passages = CostData(followed.case), passages_of(followed)
     faults, lacking = tried(lambda: faults_of(data, passages))
     areas, needed = tried(lambda: areas_of(data, passages, verdict))
     if areas is None:

@@ -2,10 +2,11 @@
 asked for; nothing is assumed."""
 from __future__ import annotations
 
-from collections.abc import Callable
+from collections.abc import Callable, Mapping
 from dataclasses import dataclass
 from fractions import Fraction
 from functools import cached_property
+from itertools import product
 from typing import TypeVar, cast
 
 from ..errors import Refused
@@ -13,10 +14,10 @@ from ..formats.case import Case, Side, Source, Stream, Utility
 from ..formats.case_units import TEMPERATURES
 from ..formats.cost_rows import (Annual, AnnualForm, Build, Capital, CostLaw, CostRow, Film, Material, Measured,
                                  Overall, UtilityRange, Service, printed_cost_row)
+from ..formats.whole_streams import whole_names
 from ..tables.money import two_moneys
 from ..tables.units import Kind, UnknownUnit, unit_of
 from .cost_units import NoUnit, area_factor, coefficient_factor, fouling_resistance
-from .segment_rows import rows_of
 
 Row = TypeVar('Row', bound=CostRow)
 Result = TypeVar('Result')
@@ -73,12 +74,23 @@ class CostData:
         return {row.utility: self.resolved(f'#range of {row.utility}', self.range_of, row)
                 for row in self.rows(UtilityRange)}
 
+    @cached_property
+    def wholes(self) -> Mapping[str, str]:
+        """The stream of the plant that each segment is of."""
+        return whole_names(self.case)
+
+    def names_of(self, source: Source) -> tuple[str, ...]:
+        """The names by which rows may speak of a source: of a segment its own, then that of its stream."""
+        whole = self.wholes.get(source.name)
+        return (source.name,) if whole is None else (source.name, whole)
+
     def check(self) -> None:
         """`Refused` where something is missing that the annual cost of every network needs."""
         if frozenset() not in self.overalls:
             named = frozenset(name for names in self.overalls for name in names)
             for source in self.case.sources:
-                if source.name not in named and not (isinstance(source, Utility) and source.invented):
+                is_added = isinstance(source, Utility) and source.invented
+                if not named.intersection(self.names_of(source)) and not is_added:
                     self.resistance(source)
         if not self.rows(CostLaw):
             self.law(Service.EXCHANGER)
@@ -86,8 +98,8 @@ class CostData:
 
     def rows(self, kind: type[Row]) -> list[Row]:
         """The rows of a kind; `Refused` where one names a source that is not in the case."""
-        found = [cast(Row, row) for row in rows_of(self.case) if type(row) is kind]
-        known = {source.name for source in self.case.sources}
+        found = [cast(Row, row) for row in self.case.basis.cost_rows if type(row) is kind]
+        known = {source.name for source in self.case.sources} | set(self.wholes.values())
         for row in found:
             for name in names_of(row):
                 if name and name not in known:
@@ -124,16 +136,22 @@ class CostData:
 
     def resistance(self, source: Source) -> Fraction:
         """The resistance of a source's film, in m² K/W."""
-        if source.name not in self.films:
-            raise missing(f'film coefficient of {source.name}', f'#film,{source.name},VALUE,kW/m2K,,,')
-        return self.films[source.name]
+        name = next((name for name in self.names_of(source) if name in self.films), None)
+        if name is None:
+            whole = self.names_of(source)[-1]
+            raise missing(f'film coefficient of {whole}', f'#film,{whole},VALUE,kW/m2K,,,')
+        return self.films[name]
 
     def coefficient(self, hot: Source, cold: Source) -> Fraction:
         """The overall coefficient of a pair in W/(m² K): the one that is given for it, for one of both, or for all;
         else that of both films."""
-        pair = self.overalls.get(frozenset((hot.name, cold.name)))
-        own = {self.overalls[frozenset((source.name,))] for source in (hot, cold)
-               if frozenset((source.name,)) in self.overalls}
+        if not self.overalls:
+            return 1 / (self.resistance(hot) + self.resistance(cold))
+        names = self.names_of(hot), self.names_of(cold)
+        pair = next((self.overalls[one_pair] for one_pair in map(frozenset, product(*names))
+                     if one_pair in self.overalls), None)
+        own = {self.overalls[frozenset((name,))] for name in (*names[0], *names[1])
+               if frozenset((name,)) in self.overalls}
         if pair is None and len(own) > 1:
             raise refused(f'#overall of {hot.name} and {cold.name}', 'they have two: enter a row '
                           f'`#overall,{hot.name},VALUE,kW/m2K,{cold.name},,`')
@@ -153,15 +171,17 @@ class CostData:
     def target_law(self) -> CostLaw:
         """The cost law of a target: that of the material of all streams where they have one, else that of exchangers
         without a material."""
+        materials = {self.material(stream) for stream in self.case.streams}
+        return self.law(Service.EXCHANGER, materials.pop() if len(materials) == 1 else '')
+
+    def material(self, source: Source) -> str:
+        """The material of the exchangers of a source; empty where none is given."""
         found = {row.source: row.material for row in self.rows(Material)}
-        names = {found.get(stream.name, '') for stream in self.case.streams}
-        return self.law(Service.EXCHANGER, names.pop() if len(names) == 1 else '')
+        return next((found[name] for name in self.names_of(source) if name in found), '')
 
     def materials(self, hot: Source, cold: Source) -> str:
         """The material of an exchanger of two sources: empty, one, or two."""
-        found = {row.source: row.material for row in self.rows(Material)}
-        both = sorted({found[source.name] for source in (hot, cold) if source.name in found})
-        return '+'.join(both)
+        return '+'.join(sorted({self.material(hot), self.material(cold)} - {''}))
 
     def build(self, service: Service) -> Build:
         """How exchangers of a kind are built."""

@@ -12,8 +12,9 @@ from functools import cached_property
 
 from ..analysis.findings import headline
 from ..analysis.follow import Followed, Passage, SideState, follow
+from ..analysis.joined import joined
 from ..errors import DeskError, Refused
-from ..formats.case import Case, Utility, completed, read_case
+from ..formats.case import Case, Side, Utility, completed, read_case
 from ..formats.cost_rows import Flow, Service
 from ..formats.network import Network, read_network
 from ..formats.shown import decimal
@@ -52,13 +53,14 @@ class ApproachFault:
 @dataclass(frozen=True)
 class ExchangerArea:
     """An exchanger with its area in m². `duty` is in W of the plant, `coefficient` in W/(m² K), `mean` in K; `factor`
-    is Ft, 1 where the flow is counter-current or a side is flat."""
+    is Ft, 1 where the flow is counter-current or a side is flat. Where streams are in segments it may have several
+    parts; its area is the sum of theirs, and the coefficient is None where they have several."""
 
     name: str
     service: Service
     ends: Duty
     duty: Fraction
-    coefficient: Fraction
+    coefficient: Fraction | None
     mean: Enclosure
     factor: Enclosure
     shells: int
@@ -95,7 +97,7 @@ def network_areas(case: CaseText, network: NetworkText, pinch: Pinch | None = No
     need."""
     whole = completed(case if isinstance(case, Case) else read_case(case))
     followed, verdict = accepted_network(pinch or Pinch(), whole, network)
-    return areas_of(CostData(whole), followed.passages, verdict)
+    return areas_of(CostData(whole), passages_of(followed), verdict)
 
 
 def asked_duties(pinch: Pinch, case: Case, network: NetworkText) -> dict[str, Duty]:
@@ -113,9 +115,14 @@ def accepted_network(pinch: Pinch, case: Case, network: NetworkText) -> tuple[Fo
     return followed, verdict
 
 
+def passages_of(followed: Followed) -> tuple[Passage, ...]:
+    """The exchangers as the plant has them: one that goes on across a kink of a stream in segments is one."""
+    return joined(followed).followed.passages
+
+
 def areas_of(data: CostData, passages: Sequence[Passage], verdict: Accepted) -> NetworkAreas:
     """The areas of the exchangers of an accepted network."""
-    exchangers = tuple(exchanger_area(data, passage, duty_of(data, passage)) for passage in passages)
+    exchangers = tuple(exchanger_area(data, passage) for passage in passages)
     return NetworkAreas(data, verdict, exchangers, target_beside(data, passages), faults_of(data, passages))
 
 
@@ -128,10 +135,14 @@ def duty_of(data: CostData, passage: Passage) -> Duty:
     return Duty(side_ends(data, passage.hot), side_ends(data, passage.cold))
 
 
-def side_ends(data: CostData, side: SideState) -> EndTemperatures:
-    """Where a side enters and leaves; a utility with real ends runs through all of them."""
+def side_ends(data: CostData, side: SideState, shares: tuple[Fraction, Fraction] = (Fraction(0), Fraction(1)),
+              ) -> EndTemperatures:
+    """Where a side enters and leaves, of a utility with real ends between these shares of its duty, from the hot end
+    on."""
     if isinstance(side.source, Utility):
-        return data.ends(side.source)
+        ends = data.ends(side.source)
+        high, low = (ends.high - share * (ends.high - ends.low) for share in shares)
+        return EndTemperatures(high, low) if side.source.side is Side.HOT else EndTemperatures(low, high)
     assert side.inlet is not None and side.outlet is not None
     return EndTemperatures(data.tenths(side.inlet), data.tenths(side.outlet))
 
@@ -149,14 +160,39 @@ def approach_faults(data: CostData, passage: Passage) -> Iterator[ApproachFault]
     """Where the real ends of a utility come closer than the approach."""
     wanted = data.kelvins(passage.approach)
     if any(side.source.name in data.ranges for side in (passage.hot, passage.cold)):
-        for end, found in differences(duty_of(data, passage)):
-            if found < wanted:
-                yield ApproachFault(passage.exchanger.name, end, found, wanted)
+        for duty in part_duties(data, passage):
+            for end, found in differences(duty):
+                if found < wanted:
+                    yield ApproachFault(passage.exchanger.name, end, found, wanted)
 
 
-def exchanger_area(data: CostData, passage: Passage, duty: Duty, warmer: int = 0) -> ExchangerArea:
+def part_duties(data: CostData, passage: Passage) -> Iterator[Duty]:
+    """The ends of the parts of an exchanger, from its hot end on; a utility with real ends runs through all of them."""
+    done, whole = Fraction(0), passage.exchanger.duty
+    for part in passage.parts:
+        shares = done / whole, (done + part.exchanger.duty) / whole
+        yield Duty(side_ends(data, part.hot, shares), side_ends(data, part.cold, shares))
+        done += part.exchanger.duty
+
+
+def exchanger_area(data: CostData, passage: Passage, warmer: int = 0) -> ExchangerArea:
     """An exchanger with its area. `warmer` is by how many K both differences are taken larger."""
-    name = passage.exchanger.name
+    name, service = passage.exchanger.name, service_of(passage)
+    parts = [part_area(data, name, part, duty, warmer)
+             for part, duty in zip(passage.parts, part_duties(data, passage))]
+    heat, area = sum((part.duty for part in parts), Fraction(0)), total(part.area for part in parts)
+    coefficients = {part.coefficient for part in parts}
+    mean, factor = parts[0].mean, parts[0].factor
+    if len(parts) > 1:
+        mean = heat / total(part.duty / part.mean for part in parts)
+        factor = total(part.area * part.factor for part in parts) / area
+    shells = max(sum(part.shells for part in parts), at_most(data.build(service), area))
+    return ExchangerArea(name, service, duty_of(data, passage), heat, coefficients.pop() if len(coefficients) == 1
+                         else None, mean, factor, shells, area)
+
+
+def part_area(data: CostData, name: str, passage: Passage, duty: Duty, warmer: int) -> ExchangerArea:
+    """A part of an exchanger, or the whole of it, with its area; `name` is that of the whole."""
     for end, found in differences(duty):
         if found <= 0:
             raise refused(f'exchanger {name}', f'at its {end} end the difference is {decimal(found, 2)} K: no area is '
@@ -175,7 +211,7 @@ def exchanger_area(data: CostData, passage: Passage, duty: Duty, warmer: int = 0
         factor = found_factor
     mean = log_mean(*(difference for _, difference in differences(wide)))
     area = heat / (coefficient * factor * mean)
-    return ExchangerArea(name, service, duty, heat, coefficient, mean, factor, max(shells, at_most(build, area)), area)
+    return ExchangerArea(name, service, duty, heat, coefficient, mean, factor, shells, area)
 
 
 def service_of(passage: Passage) -> Service:

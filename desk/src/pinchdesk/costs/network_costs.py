@@ -11,7 +11,7 @@ from ..program.run import CaseText, NetworkText, Pinch
 from .annual import AnnualCost, annual_cost, price_of, priced_parts
 from .cost_data import CostData
 from .enclosure import Enclosure, total
-from .network_areas import ExchangerArea, NetworkAreas, accepted_network, areas_of, exchanger_area
+from .network_areas import ExchangerArea, NetworkAreas, accepted_network, areas_of, exchanger_area, passages_of
 
 # Of so many of the costliest exchangers it is said what a kelvin would gain.
 COSTLIEST = 5
@@ -51,7 +51,8 @@ def network_costs(case: CaseText, network: NetworkText, pinch: Pinch | None = No
     they need."""
     whole = completed(case if isinstance(case, Case) else read_case(case))
     followed, verdict = accepted_network(pinch or Pinch(), whole, network)
-    return costs_of(areas_of(CostData(whole), followed.passages, verdict), followed.passages)
+    passages = passages_of(followed)
+    return costs_of(areas_of(CostData(whole), passages, verdict), passages)
 
 
 def costs_of(areas: NetworkAreas, passages: Sequence[Passage]) -> NetworkCosts:
@@ -59,7 +60,7 @@ def costs_of(areas: NetworkAreas, passages: Sequence[Passage]) -> NetworkCosts:
     data = areas.data
     prices = [price_in(data, passage, exchanger) for passage, exchanger in zip(passages, areas.exchangers)]
     costliest = sorted(range(len(prices)), key=lambda at: -prices[at].middle)[:COSTLIEST]
-    gains = {at: gain_of(data, passages[at], areas.exchangers[at], prices[at]) for at in costliest}
+    gains = {at: gain_of(data, passages[at], prices[at]) for at in costliest}
     priced = tuple(ExchangerPrice(exchanger, price, gains.get(at))
                    for at, (exchanger, price) in enumerate(zip(areas.exchangers, prices)))
     return NetworkCosts(areas, priced, annual_cost(data, total(prices), areas.verdict.cost))
@@ -67,12 +68,13 @@ def costs_of(areas: NetworkAreas, passages: Sequence[Passage]) -> NetworkCosts:
 
 def price_in(data: CostData, passage: Passage, exchanger: ExchangerArea) -> Enclosure:
     """The installed price of an exchanger."""
-    law = data.law(exchanger.service, data.materials(passage.hot.source, passage.cold.source))
+    part = passage.parts[0]
+    law = data.law(exchanger.service, data.materials(part.hot.source, part.cold.source))
     parts = priced_parts(data.build(exchanger.service), 1, exchanger.shells)
     return price_of(data, law, exchanger.area, parts)
 
 
-def gain_of(data: CostData, passage: Passage, exchanger: ExchangerArea, price: Enclosure) -> Enclosure:
+def gain_of(data: CostData, passage: Passage, price: Enclosure) -> Enclosure:
     """By how much the cost of a year would fall with 1 K more at both ends."""
-    wider = exchanger_area(data, passage, exchanger.ends, 1)
+    wider = exchanger_area(data, passage, 1)
     return (price - price_in(data, passage, wider)) * data.annual_factor

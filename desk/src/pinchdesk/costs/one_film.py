@@ -36,8 +36,10 @@ def with_film(case: Case, film: Measured) -> tuple[Case, str]:
     reported of it; nothing where there is none."""
     data = CostData(case)
     named = {name for names in data.overalls for name in names} | set(data.films)
-    without = [source.name for source in case.sources if source.name not in named and frozenset() not in data.overalls
-               and not (isinstance(source, Utility) and source.invented)]
+    without = list(dict.fromkeys(
+        data.names_of(source)[-1] for source in case.sources
+        if not named.intersection(data.names_of(source)) and frozenset() not in data.overalls
+        and not (isinstance(source, Utility) and source.invented and source.name not in data.ranges)))
     if not without:
         return case, ''
     rows = (*case.basis.cost_rows, *(Film(name, film) for name in without))

@@ -12,7 +12,7 @@ from ..costs.areas_beside import tried
 from ..costs.cost_data import CostData
 from ..costs.cost_target import CostTarget, cost_target
 from ..costs.enclosure import Enclosure
-from ..costs.network_areas import NetworkAreas, accepted_network, areas_of
+from ..costs.network_areas import NetworkAreas, accepted_network, areas_of, passages_of
 from ..costs.network_costs import NetworkCosts, costs_of
 from ..costs.supertarget import Supertarget
 from ..formats.amounts import seconds_of
@@ -56,8 +56,9 @@ def asked_areas(pinch: Pinch, case: Case, network: bytes) -> PlantAreas:
     """The areas of a network of a completed case; `NoAreas` where it is not accepted, `Refused` where a coefficient is
     missing."""
     followed, verdict = accepted_network(pinch, case, network)
-    areas = areas_of(CostData(case), followed.passages, verdict)
-    costs, lacking = tried(lambda: costs_of(areas, followed.passages))
+    passages = passages_of(followed)
+    areas = areas_of(CostData(case), passages, verdict)
+    costs, lacking = tried(lambda: costs_of(areas, passages))
     return plant_areas(areas, costs, lacking)
 
 

@@ -22,7 +22,8 @@ def area_facts(exchanger: ExchangerArea) -> FactRow:
     """An exchanger with its area and what that is made of."""
     return (Fact('exchanger', exchanger.name), Fact('kind', exchanger.service.value),
             Fact('duty', Decimal(decimal(exchanger.duty / 1000, 3)), 'kW'),
-            Fact('U', Decimal(decimal(exchanger.coefficient / 1000, 6)), 'kW/m²K'),
+            Fact('U', None if exchanger.coefficient is None else Decimal(decimal(exchanger.coefficient / 1000, 6)),
+                 'kW/m²K'),
             Fact('mean difference', Decimal(exchanger.mean.shown(3)), 'K'),
             Fact('Ft', Decimal(exchanger.factor.shown(4))), Fact('shells', Decimal(exchanger.shells)),
             Fact('area', metres(exchanger.area), 'm²'))

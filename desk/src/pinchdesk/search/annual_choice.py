@@ -7,7 +7,7 @@ from dataclasses import dataclass
 
 from ..analysis.follow import follow
 from ..costs.cost_data import MISSING, CostData
-from ..costs.network_areas import areas_of
+from ..costs.network_areas import areas_of, passages_of
 from ..costs.network_costs import NetworkCosts, costs_of
 from ..errors import Refused
 from ..formats.case import Case
@@ -35,7 +35,7 @@ class AnnualChoice:
 
 def costs_in(case: Case, found: AcceptedNetwork) -> NetworkCosts:
     """The costs of an accepted network of a completed case; `Refused` where something is missing that they need."""
-    passages = follow(case, found.network).passages
+    passages = passages_of(follow(case, found.network))
     return costs_of(areas_of(CostData(case), passages, found.verdict), passages)
 
 
